@@ -1,0 +1,31 @@
+//! Items that a QUIC implementation has below its loss recovery.
+use std::alloc::{AllocError, AllocFailed};
+use thiserror::Error;
+
+/// A packet number space (RFC 9000, 12.3).
+#[derive(Clone, Copy, Debug, PartialEq, Eq, PartialOrd, Ord, Hash)]
+pub enum SpaceId {
+    /// Initial packets.
+    Initial,
+    /// Handshake packets.
+    Handshake,
+    /// 0-RTT and 1-RTT packets.
+    Data,
+}
+
+/// The one answer for want of memory: a growth was refused by the allocator.
+#[derive(Clone, Copy, Debug, PartialEq, Eq, Error)]
+#[error("out of memory")]
+pub struct NoMemory;
+
+impl<T: Drop> From<AllocFailed<T>> for NoMemory {
+    fn from(_refused: AllocFailed<T>) -> Self {
+        NoMemory
+    }
+}
+
+impl From<AllocError> for NoMemory {
+    fn from(_refused: AllocError) -> Self {
+        NoMemory
+    }
+}

@@ -1,0 +1,124 @@
+//! The words of a line, read one after the other.
+ghost use Rattle.std.specs.Prelude.{◌≡◌, ◌^◌};
+ghost use Rattle.recovery_replay.specs.Words.{Reads, words_of, words_left, first_word, field, flag_of, space_of, timer_of, number_of};
+
+use quic_recovery::below::SpaceId;
+use quic_recovery::time::Instant;
+use quic_recovery::timer::Timer;
+
+/// The number that a word spells: digits without a sign and without leading zeros.
+pub fn number_in(word: &str) -> Option<u64>
+    ensures { result ≡ number_of (2 ^ 64) word.now }
+{
+    if word.starts_with('+') || (word.len() > 1 && word.starts_with('0')) {
+        return None;
+    }
+    word.parse().ok()
+}
+
+#[tactic(auto, unfolding(crate::specs::Words::flag_of))]
+fn flag_in(word: &str) -> Option<bool>
+    ensures { result ≡ flag_of word.now }
+{
+    match word {
+        "0" => Some(false),
+        "1" => Some(true),
+        _ => None,
+    }
+}
+
+#[tactic(auto, unfolding(crate::specs::Words::space_of))]
+fn space_in(word: &str) -> Option<SpaceId>
+    ensures { result ≡ space_of word.now }
+{
+    match word {
+        "initial" => Some(SpaceId::Initial),
+        "handshake" => Some(SpaceId::Handshake),
+        "data" => Some(SpaceId::Data),
+        _ => None,
+    }
+}
+
+#[tactic(auto, unfolding(crate::specs::Words::timer_of))]
+fn timer_in(word: &str) -> Option<Timer>
+    ensures { result ≡ timer_of word.now }
+{
+    match word {
+        "loss-detection" => Some(Timer::LossDetection),
+        "idle" => Some(Timer::Idle),
+        "close" => Some(Timer::Close),
+        "key-discard" => Some(Timer::KeyDiscard),
+        "path-validation" => Some(Timer::PathValidation),
+        "keep-alive" => Some(Timer::KeepAlive),
+        "pacing" => Some(Timer::Pacing),
+        "push-new-cid" => Some(Timer::PushNewCid),
+        "max-ack-delay" => Some(Timer::MaxAckDelay),
+        _ => None,
+    }
+}
+
+/// The words of a line that are left to read.
+#[derive(Drop)]
+pub struct Words<'a> {
+    rest: Option<&'a str>,
+}
+
+impl<'a> Words<'a> {
+    pub fn new(line: &'a str) -> Self
+        ensures { words_left result ≡ words_of line.now }
+    {
+        Words { rest: Some(line) }
+    }
+
+    /// The next word.
+    pub fn next(&mut self) -> Option<&'a str>
+        ensures { Reads (λ s. s.now) result (words_left self.new) (first_word (words_left self.old)) }
+    {
+        let rest = self.rest?;
+        match rest.split_once(' ') {
+            None => {
+                self.rest = None;
+                Some(rest)
+            }
+            Some((word, rest)) => {
+                self.rest = Some(rest);
+                Some(word)
+            }
+        }
+    }
+
+    #[tactic(auto, unfolding(crate::specs::Words::field))]
+    pub fn number(&mut self) -> Option<u64>
+        ensures { Reads (λ n. n) result (words_left self.new) (field (number_of (2 ^ 64)) (words_left self.old)) }
+    {
+        number_in(self.next()?)
+    }
+
+    #[tactic(auto, unfolding(crate::specs::Words::field))]
+    pub fn moment(&mut self) -> Option<Instant>
+        ensures { Reads (λ n. n) result (words_left self.new) (field (number_of (2 ^ 64)) (words_left self.old)) }
+    {
+        Some(Instant::from_nanos(self.number()?))
+    }
+
+    #[tactic(auto, unfolding(crate::specs::Words::field))]
+    pub fn flag(&mut self) -> Option<bool>
+        ensures { Reads (λ n. n) result (words_left self.new) (field flag_of (words_left self.old)) }
+    {
+        flag_in(self.next()?)
+    }
+
+    #[tactic(auto, unfolding(crate::specs::Words::field))]
+    pub fn space(&mut self) -> Option<SpaceId>
+        ensures { Reads (λ n. n) result (words_left self.new) (field space_of (words_left self.old)) }
+    {
+        space_in(self.next()?)
+    }
+
+    #[tactic(auto, unfolding(crate::specs::Words::field))]
+    pub fn timer(&mut self) -> Option<Timer>
+        ensures { Reads (λ n. n) result (words_left self.new) (field timer_of (words_left self.old)) }
+    {
+        timer_in(self.next()?)
+    }
+}
