@@ -1,4 +1,10 @@
 //! Items that a QUIC implementation has below its loss recovery.
+mod frames;
+mod ranges;
+
+pub use frames::{AckFrequency, TransportError, TransportParameters, VarInt, VarIntBoundsExceeded};
+pub use ranges::ArrayRangeSet;
+
 use std::alloc::{AllocError, AllocFailed};
 use thiserror::Error;
 

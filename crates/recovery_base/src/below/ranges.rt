@@ -1,0 +1,226 @@
+//! A set of numbers kept as ranges.
+ghost use Rattle.std.specs.Prelude.{◌≡◌, ℕ, ◌+◌, ◌<◌, ◌^◌, ◌==◌, ◌++◌, List, [], length, IsSome, IsTrue, IfOk, OnOk, OnErr, IsErr, IsOk, MatchBool, ⊤};
+ghost use Rattle.std.specs.Option.{option_to_list};
+ghost use Rattle.std.specs.Slice.Iter.{iter_rest};
+ghost use Rattle.std.specs.declared.ops.Range.{Range};
+ghost use Rattle.recovery_base.specs.Ranges.{InRanges, AreApart, InsertsOne, Removes, IsBetween, IsPlace, clipped, cut_ranges};
+
+use super::NoMemory;
+use std::alloc::Global;
+use std::marker::Model;
+use std::ops::Range;
+use std::slice::Iter;
+
+/// A set of numbers, kept as ranges in ascending order that neither overlap nor touch.
+///
+/// Contracts see the list of the ranges.
+#[derive(Debug, Drop)]
+pub struct ArrayRangeSet {
+    ranges: Vec<Range<u64>>,
+}
+
+impl Model for ArrayRangeSet {
+    ghost use Rattle.std.specs.Prelude.{ℕ, List};
+    ghost use Rattle.std.specs.declared.ops.Range.{Range};
+    ghost use Rattle.recovery_base.specs.Ranges.{AreApart};
+
+    ghost Value = { List (Range ℕ) };
+
+    ghost view = { λ set. set.ranges.items };
+
+    ghost invariant = { λ set. AreApart 0 set.ranges.items };
+}
+
+impl ArrayRangeSet {
+    /// The empty set. It takes no memory.
+    pub fn new(alloc: Global) -> Self
+        ensures { result ≡ [] }
+    {
+        ArrayRangeSet {
+            ranges: Vec::new(alloc),
+        }
+    }
+
+    /// Adds a number below 2^62, and says whether it is new.
+    ///
+    /// `NoMemory` changes nothing; a number that is in the set takes no memory. It costs a binary search of the ranges,
+    /// and a move of those above where one comes or goes.
+    pub fn insert_one(&mut self, x: u64) -> Result<bool, NoMemory>
+        requires { x < 2 ^ 62 }
+        ensures inserts { IfOk result (λ new. InsertsOne self.old x new self.new) }
+        ensures known_changes_nothing { IfOk result (λ new. MatchBool new ⊤ (self.new ≡ self.old)) }
+        ensures only_new_takes_memory { IsErr result → ¬ InRanges self.old x }
+        ensures err { OnErr result (self.new ≡ self.old) }
+    {
+        insert(&mut self.ranges, x)
+    }
+
+    /// Takes the numbers of a range out, and says whether one went.
+    ///
+    /// `NoMemory` changes nothing. Memory is taken only where one of the ranges holds numbers on both sides of those that
+    /// go: a removal that starts at 0 takes none. It costs one pass over the ranges.
+    pub fn remove(&mut self, range: Range<u64>) -> Result<bool, NoMemory>
+        ensures removes { IfOk result (λ some. Removes self.old range.start range.end some self.new) }
+        ensures none_changes_nothing { IfOk result (λ some. MatchBool some ⊤ (self.new ≡ self.old)) }
+        ensures no_memory_from_zero { range.start ≡ 0 → IsOk result }
+        ensures err { OnErr result (self.new ≡ self.old) }
+    {
+        remove(&mut self.ranges, range.start, range.end)
+    }
+
+    /// Takes the lowest range out.
+    pub fn pop_min(&mut self) -> Option<Range<u64>>
+        ensures lowest { self.old ≡ option_to_list result ++ self.new }
+        ensures apart { AreApart 0 self.old }
+    {
+        if self.ranges.is_empty() {
+            return None;
+        }
+        Some(self.ranges.remove(0))
+    }
+
+    /// The number of ranges.
+    pub fn len(&self) -> usize
+        ensures { result ≡ length self.now }
+    {
+        self.ranges.len()
+    }
+
+    /// Whether no number is in the set.
+    pub fn is_empty(&self) -> bool
+        ensures numbers { MatchBool result ((n : ℕ) → ¬ InRanges self.now n) ((n : ℕ) × InRanges self.now n) }
+    {
+        self.ranges.is_empty()
+    }
+
+    /// The ranges in order.
+    pub fn iter(&self) -> Iter<'_, Range<u64>>
+        ensures rest { iter_rest result ≡ self.now }
+        ensures apart { AreApart 0 self.now }
+    {
+        self.ranges.iter()
+    }
+}
+
+/// The place of the first range that ends at a number or above it.
+fn place(ranges: &[Range<u64>], x: u64) -> usize
+    requires { AreApart 0 ranges.now }
+    ensures { IsPlace ranges.now x result }
+{
+    ranges.partition_point(|range| range.end < x)
+}
+
+fn insert(ranges: &mut Vec<Range<u64>>, x: u64) -> Result<bool, NoMemory>
+    requires small { x < 2 ^ 62 }
+    requires apart { AreApart 0 ranges.old.items }
+    ensures inserts { IfOk result (λ new. InsertsOne ranges.old.items x new ranges.new.items) }
+    ensures known_changes_nothing { IfOk result (λ new. MatchBool new ⊤ (ranges.new.items ≡ ranges.old.items)) }
+    ensures only_new_takes_memory { IsErr result → ¬ InRanges ranges.old.items x }
+    ensures err { OnErr result (ranges.new.items ≡ ranges.old.items) }
+{
+    let at = place(ranges, x);
+    if at == ranges.len() {
+        ranges.push(x..x + 1)?;
+        return Ok(true);
+    }
+    let (start, end) = (ranges[at].start, ranges[at].end);
+    if x + 1 < start {
+        ranges.insert(at, x..x + 1)?;
+    } else if x + 1 == start {
+        ranges[at].start = x;
+    } else if x < end {
+        return Ok(false);
+    } else if at + 1 < ranges.len() && ranges[at + 1].start == x + 1 {
+        let next = ranges.remove(at + 1);
+        ranges[at].end = next.end;
+    } else {
+        ranges[at].end = x + 1;
+    }
+    Ok(true)
+}
+
+fn remove(ranges: &mut Vec<Range<u64>>, start: u64, end: u64) -> Result<bool, NoMemory>
+    requires { AreApart 0 ranges.old.items }
+    ensures removes { IfOk result (λ some. Removes ranges.old.items start end some ranges.new.items) }
+    ensures none_changes_nothing { IfOk result (λ some. MatchBool some ⊤ (ranges.new.items ≡ ranges.old.items)) }
+    ensures no_memory_from_zero { start ≡ 0 → IsOk result }
+    ensures err { OnErr result (ranges.new.items ≡ ranges.old.items) }
+{
+    if start >= end {
+        return Ok(false);
+    }
+    let at = place(ranges, start + 1);
+    if at == ranges.len() {
+        return Ok(false);
+    }
+    let (first, last) = (ranges[at].start, ranges[at].end);
+    if end <= first {
+        return Ok(false);
+    }
+    if first < start && end < last {
+        ranges.insert(at + 1, end..last)?;
+        ranges[at].end = start;
+    } else {
+        cut(ranges, start, end);
+    }
+    Ok(true)
+}
+
+/// Takes the numbers from `start` up to `end` out of each range, none of which holds numbers on both sides.
+fn cut(ranges: &mut Vec<Range<u64>>, start: u64, end: u64)
+    ensures { ranges.new.items ≡ cut_ranges start end ranges.old.items }
+{
+    for range in ranges.iter_mut() {
+        clip(range, start, end);
+    }
+    ranges.retain(|range| range.start < range.end);
+}
+
+fn clip(range: &mut Range<u64>, start: u64, end: u64)
+    ensures { range.new ≡ clipped start end range.old }
+{
+    if range.start < start {
+        range.end = range.end.min(start);
+    } else {
+        range.start = range.start.max(end);
+    }
+}
+
+#[cfg(test)]
+mod tests {
+    use super::*;
+    use std::test::Fail;
+
+    #[test]
+    fn removes_from_the_middle(rt: HostRuntime) -> Result<(), Fail> {
+        let mut set = ArrayRangeSet::new(rt.alloc());
+        assert!(rt; set.is_empty());
+        for number in 0..10 {
+            assert!(rt; set.insert_one(number)?, "at {number}");
+        }
+        assert!(rt; !set.insert_one(4)?);
+        assert!(rt; set.remove(3..5)?);
+        assert!(rt; !set.remove(3..5)?);
+        assert_eq!(rt; set.len(), 2);
+        assert_eq!(rt; set.pop_min().ok_or("no range")?, 0..3);
+        assert_eq!(rt; set.pop_min().ok_or("no range")?, 5..10);
+        assert!(rt; set.pop_min().is_none());
+        Ok(())
+    }
+
+    #[test]
+    fn joins_and_splits(rt: HostRuntime) -> Result<(), Fail> {
+        let mut set = ArrayRangeSet::new(rt.alloc());
+        for number in [7, 3, 5, 4, 9, 2] {
+            assert!(rt; set.insert_one(number)?, "at {number}");
+        }
+        let mut bounds = [(2, 6), (7, 8), (9, 10)].iter();
+        for range in set.iter() {
+            assert_eq!(rt; bounds.next().copied(), Some((range.start, range.end)));
+        }
+        assert!(rt; bounds.next().is_none());
+        assert!(rt; set.remove(0..8)?);
+        assert_eq!(rt; set.len(), 1);
+        Ok(())
+    }
+}

@@ -1,0 +1,2 @@
+-- What the calls on acknowledgements leave.
+use Rattle.std.proofs.Common.{◌≡◌, ℕ}

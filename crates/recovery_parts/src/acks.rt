@@ -1,0 +1,6 @@
+//! Acknowledgements: what is to be acknowledged and when, and how often the peer is asked to.
+mod frequency;
+mod pending;
+
+pub use frequency::AckFrequencyState;
+pub use pending::PendingAcks;

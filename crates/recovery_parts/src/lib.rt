@@ -1,0 +1,4 @@
+//! Parts of QUIC loss recovery, each by itself.
+#![tactic(auto)]
+
+pub mod acks;
