@@ -1,5 +1,6 @@
 -- What is to be acknowledged, and what each event does to it (RFC 9000, 13.2 and 19.3).
-use Rattle.std.specs.Prelude.{ℕ, ◌≡◌, ◌+◌, ◌-◌, ◌<◌, ◌≤◌, ◌^◌, ◌⊎◌, ◌↔◌, min, max, List, length, Bool, true, false, cond, nat_lt, IsTrue, Option, None, Some, IsSome, MatchOption, ⊤}
+use Rattle.std.specs.Prelude.{ℕ, ◌≡◌, ◌+◌, ◌-◌, ◌<◌, ◌≤◌, ◌^◌, ◌⊎◌, ◌↔◌, min, max, List, length, Bool, true, false, cond, nat_lt, IsTrue, Option, None, Some, IsSome, ⊤}
+use Rattle.std.specs.Option.{unwrap_or}
 use Rattle.std.specs.declared.ops.Range.{Range}
 use Rattle.recovery_base.specs.Numbers.{IsLeastMissing, With}
 use Rattle.recovery_base.specs.Ranges.{InRanges, AreApart}
@@ -31,8 +32,7 @@ abbrev pub CanSend : Acks → Type 0
 CanSend acks = IsTrue acks.required × ((n : ℕ) × IsPending acks n)
 
 abbrev pub number_or_zero : Option ℕ → ℕ
-number_or_zero None = 0
-number_or_zero (Some n) = n
+number_or_zero number = unwrap_or number 0
 
 -- one is at most another, where there is one
 abbrev pub IsUpTo : Option ℕ → Option ℕ → Type 0
@@ -68,18 +68,24 @@ counted n = min (n + 1) (2 ^ 64 - 1)
 abbrev pub silent_received : Acks → Acks
 silent_received old = record { required = old.required; eliciting = old.eliciting; silent = counted old.silent; threshold = old.threshold; reordering = old.reordering; base = old.base; ranges = old.ranges; largest = old.largest; greatest = old.greatest; acknowledged = old.acknowledged }
 
+-- above the numbers that the last ACK lets the peer call lost, the least one missing lies a threshold below the greatest
+abbrev pub IsReported : (ℕ → Type 0) → ℕ → ℕ → Option ℕ → Type 0
+IsReported Known threshold greatest None = ⊥
+IsReported Known threshold greatest (Some k) =
+    (threshold ≤ k) × ((m : ℕ) × IsLeastMissing Known (k - threshold + 1) greatest (Some m) × (threshold ≤ greatest - m))
+
 -- an ack-eliciting packet is out of order (RFC 9000, 13.2.1; the QUIC ACK frequency extension, section 6.2)
-abbrev pub IsOutOfOrder : (ℕ → Type 0) → ℕ → Option ℕ → ℕ → Option ℕ → ℕ → Type 0
+abbrev pub IsOutOfOrder : (ℕ → Type 0) → ℕ → Option ℕ → ℕ → ℕ → ℕ → Type 0
 IsOutOfOrder Known threshold acknowledged before greatest number =
-    ((threshold ≡ 1) × ((number < number_or_zero before) ⊎ ((m : ℕ) × IsLeastMissing Known (number_or_zero before) number (Some m))))
-    ⊎ ((1 < threshold) × MatchOption acknowledged ⊥ (λ k. (threshold ≤ k) × ((m : ℕ) × IsLeastMissing Known (k - threshold + 1) (number_or_zero greatest) (Some m) × (threshold ≤ number_or_zero greatest - m))))
+    ((threshold ≡ 1) × ((number < before) ⊎ ((m : ℕ) × IsLeastMissing Known before number (Some m))))
+    ⊎ ((1 < threshold) × IsReported Known threshold greatest acknowledged)
 
 -- an ack-eliciting packet came
 pub record ReceivesEliciting (Known : ℕ → Type 0) (old : Acks) (now number : ℕ) (arm : Bool) (new : Acks) : Type 0 where
   pub greatest : new.greatest ≡ Some (max (number_or_zero old.greatest) number)
   pub eliciting : new.eliciting ≡ counted old.eliciting
-  pub required : IsTrue new.required ↔ (IsTrue old.required ⊎ ((old.threshold < new.eliciting) ⊎ IsOutOfOrder Known old.reordering old.acknowledged old.greatest new.greatest number))
-  pub arm : IsTrue arm ↔ ((old.base ≡ None) × ¬ CanSend new)
+  pub required : IsTrue new.required ↔ (IsTrue old.required ⊎ ((old.threshold < new.eliciting) ⊎ IsOutOfOrder Known old.reordering old.acknowledged (number_or_zero old.greatest) (number_or_zero new.greatest) number))
+  pub armed : IsTrue arm ↔ ((old.base ≡ None) × ¬ CanSend new)
   pub base : new.base ≡ cond arm (Some now) old.base
   pub others : (new.silent ≡ old.silent) × (new.threshold ≡ old.threshold) × (new.reordering ≡ old.reordering) × (new.ranges ≡ old.ranges) × (new.largest ≡ old.largest) × (new.acknowledged ≡ old.acknowledged)
 

@@ -4,3 +4,6 @@ mod pending;
 
 pub use frequency::AckFrequencyState;
 pub use pending::PendingAcks;
+
+#[cfg(test)]
+mod tests;

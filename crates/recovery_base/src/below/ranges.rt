@@ -1,5 +1,5 @@
 //! A set of numbers kept as ranges.
-ghost use Rattle.std.specs.Prelude.{◌≡◌, ℕ, ◌+◌, ◌<◌, ◌^◌, ◌==◌, ◌++◌, List, [], length, IsSome, IsTrue, IfOk, OnOk, OnErr, IsErr, IsOk, MatchBool, ⊤};
+ghost use Rattle.std.specs.Prelude.{◌≡◌, ℕ, ◌+◌, ◌<◌, ◌^◌, ◌==◌, ◌++◌, List, [], length, IsSome, IsTrue, IfNone, IfOk, OnOk, OnErr, IsErr, IsOk, MatchBool, ⊤};
 ghost use Rattle.std.specs.Option.{option_to_list};
 ghost use Rattle.std.specs.Slice.Iter.{iter_rest};
 ghost use Rattle.std.specs.declared.ops.Range.{Range};
@@ -71,6 +71,7 @@ impl ArrayRangeSet {
     /// Takes the lowest range out.
     pub fn pop_min(&mut self) -> Option<Range<u64>>
         ensures lowest { self.old ≡ option_to_list result ++ self.new }
+        ensures none { IfNone result (self.old ≡ []) }
         ensures apart { AreApart 0 self.old }
     {
         if self.ranges.is_empty() {

@@ -38,7 +38,12 @@ impl AckFrequencyState {
 
     /// The delay to ask the peer for: the configured one or else the peer's, at most the RTT, which counts as 25 ms at
     /// least, and at least the least that the peer takes.
-    pub fn candidate_max_ack_delay(&self, rtt: Duration, config: &AckFrequencyConfig, peer_params: &TransportParameters) -> Duration
+    pub fn candidate_max_ack_delay(
+        &self,
+        rtt: Duration,
+        config: &AckFrequencyConfig,
+        peer_params: &TransportParameters,
+    ) -> Duration
         ensures { result ≡ candidate_delay config.now.max_ack_delay self.now.peer_max_ack_delay rtt peer_params.now.min_ack_delay }
     {
         let wanted = match config.max_ack_delay {
@@ -49,7 +54,10 @@ impl AckFrequencyState {
             Some(micros) => Duration::from_micros(micros.into_inner()),
             None => Duration::ZERO,
         };
-        longer(shorter(wanted, longer(rtt, Duration::from_millis(25))), least)
+        longer(
+            shorter(wanted, longer(rtt, Duration::from_millis(25))),
+            least,
+        )
     }
 
     /// The longest delay that the peer may use: its own, or the one asked for while that request is on its way.
@@ -78,7 +86,12 @@ impl AckFrequencyState {
 
     /// Whether a request is worth sending: none was made yet, or the delay wanted is more than a fifth away from the
     /// one asked for last.
-    pub fn should_send_ack_frequency(&self, rtt: Duration, config: &AckFrequencyConfig, peer_params: &TransportParameters) -> bool
+    pub fn should_send_ack_frequency(
+        &self,
+        rtt: Duration,
+        config: &AckFrequencyConfig,
+        peer_params: &TransportParameters,
+    ) -> bool
         ensures { MatchBool result (IsWorthSending (next_of self.now) (candidate_delay config.now.max_ack_delay self.now.peer_max_ack_delay rtt peer_params.now.min_ack_delay) (current_delay (pending_of self.now) self.now.peer_max_ack_delay)) (¬ IsWorthSending (next_of self.now) (candidate_delay config.now.max_ack_delay self.now.peer_max_ack_delay rtt peer_params.now.min_ack_delay) (current_delay (pending_of self.now) self.now.peer_max_ack_delay)) }
     {
         if self.next_outgoing_sequence_number == 0 {
@@ -88,7 +101,9 @@ impl AckFrequencyState {
             Some((_, requested)) => requested.as_nanos(),
             None => self.peer_max_ack_delay.as_nanos(),
         };
-        let desired = self.candidate_max_ack_delay(rtt, config, peer_params).as_nanos();
+        let desired = self
+            .candidate_max_ack_delay(rtt, config, peer_params)
+            .as_nanos();
         5 * (desired.saturating_sub(current) + current.saturating_sub(desired)) > current
     }
 
@@ -115,7 +130,11 @@ impl AckFrequencyState {
     /// An ACK_FREQUENCY frame came. The answer is whether it is newer than the last and was taken.
     ///
     /// A delay below 1 ms is refused: the number of the frame is kept, and nothing else changes.
-    pub fn ack_frequency_received(&mut self, frame: &AckFrequency, pending_acks: &mut PendingAcks) -> Result<bool, TransportError>
+    pub fn ack_frequency_received(
+        &mut self,
+        frame: &AckFrequency,
+        pending_acks: &mut PendingAcks,
+    ) -> Result<bool, TransportError>
         ensures { FrequencyReceived (view_of self.old) pending_acks.old frame.now result (view_of self.new) pending_acks.new }
     {
         let sequence = frame.sequence.into_inner();

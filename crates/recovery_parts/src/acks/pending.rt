@@ -1,8 +1,10 @@
 //! The packets of one space that are to be acknowledged.
-ghost use Rattle.std.specs.Prelude.{◌≡◌, ℕ, ◌<◌, ◌≤◌, ◌^◌, ◌⊎◌, IsTrue, IsSome, IfSome, OnOk, OnErr, IsErr, MatchBool, nat_lt, true, false, length};
+ghost use Rattle.std.specs.Prelude.{◌≡◌, ℕ, ◌<◌, ◌≤◌, ◌^◌, ◌⊎◌, IsTrue, IsSome, IfSome, OnOk, OnErr, IsErr, MatchBool, nat_lt, true, false, length, [], ◌↔◌, None, Some};
+ghost use Rattle.recovery_base.specs.Numbers.{With};
 ghost use Rattle.recovery_base.specs.Received.{Has};
-ghost use Rattle.recovery_base.specs.Ranges.{InRanges};
-ghost use Rattle.recovery_parts.specs.Acks.{IsPending, CanSend, new_acks, with_thresholds, with_required, acks_sent, Receives, Inserts, SubtractsBelow, delay_at, timeout_at, HasReached, IsOutOfOrder, IsUpTo, number_or_zero};
+ghost use Rattle.recovery_base.specs.Ranges.{InRanges, AreApart};
+ghost use Rattle.recovery_parts.specs.Acks.{IsPending, CanSend, new_acks, with_thresholds, with_required, acks_sent, Receives, Inserts, SubtractsBelow, delay_at, timeout_at, HasReached, IsOutOfOrder, IsReported, IsUpTo, largest_with};
+ghost use Rattle.recovery_parts.specs.Runs.{IsInHighest};
 
 use recovery_base::below::{AckFrequency, ArrayRangeSet, NoMemory};
 use recovery_base::dedup::Dedup;
@@ -36,35 +38,31 @@ impl Model for PendingAcks {
 
     ghost Value = { Acks };
 
-    ghost view = {
-        λ acks. record {
-            required = acks.immediate_ack_required;
-            eliciting = acks.ack_eliciting_since_last_ack_sent;
-            silent = acks.non_ack_eliciting_since_last_ack_sent;
-            threshold = acks.ack_eliciting_threshold;
-            reordering = acks.reordering_threshold;
-            base = acks.earliest_ack_eliciting_since_last_ack_sent;
-            ranges = acks.ranges;
-            largest = acks.largest_packet;
-            greatest = acks.largest_ack_eliciting_packet;
-            acknowledged = acks.largest_acked
-        }
-    };
+    ghost view = { λ acks. record {
+      required = acks.immediate_ack_required;
+      eliciting = acks.ack_eliciting_since_last_ack_sent;
+      silent = acks.non_ack_eliciting_since_last_ack_sent;
+      threshold = acks.ack_eliciting_threshold;
+      reordering = acks.reordering_threshold;
+      base = acks.earliest_ack_eliciting_since_last_ack_sent;
+      ranges = acks.ranges;
+      largest = acks.largest_packet;
+      greatest = acks.largest_ack_eliciting_packet;
+      acknowledged = acks.largest_acked;
+    } };
 
-    ghost invariant = {
-        λ acks. IsSound (record {
-            required = acks.immediate_ack_required;
-            eliciting = acks.ack_eliciting_since_last_ack_sent;
-            silent = acks.non_ack_eliciting_since_last_ack_sent;
-            threshold = acks.ack_eliciting_threshold;
-            reordering = acks.reordering_threshold;
-            base = acks.earliest_ack_eliciting_since_last_ack_sent;
-            ranges = acks.ranges;
-            largest = acks.largest_packet;
-            greatest = acks.largest_ack_eliciting_packet;
-            acknowledged = acks.largest_acked
-        })
-    };
+    ghost invariant = { λ acks. IsSound (record {
+      required = acks.immediate_ack_required;
+      eliciting = acks.ack_eliciting_since_last_ack_sent;
+      silent = acks.non_ack_eliciting_since_last_ack_sent;
+      threshold = acks.ack_eliciting_threshold;
+      reordering = acks.reordering_threshold;
+      base = acks.earliest_ack_eliciting_since_last_ack_sent;
+      ranges = acks.ranges;
+      largest = acks.largest_packet;
+      greatest = acks.largest_ack_eliciting_packet;
+      acknowledged = acks.largest_acked;
+    }) };
 }
 
 impl PendingAcks {
@@ -122,7 +120,7 @@ impl PendingAcks {
     pub fn can_send(&self) -> bool
         ensures { MatchBool result (CanSend self.now) (¬ CanSend self.now) }
     {
-        self.immediate_ack_required && !self.ranges.is_empty()
+        may_send(self.immediate_ack_required, &self.ranges)
     }
 
     /// Whether an ACK may be sent with other frames: a number is to be acknowledged.
@@ -143,7 +141,13 @@ impl PendingAcks {
     }
 
     /// A packet came, after its number went into `dedup`. The answer is whether the delay timer is to be armed.
-    pub fn packet_received(&mut self, now: Instant, packet_number: u64, ack_eliciting: bool, dedup: &Dedup) -> bool
+    pub fn packet_received(
+        &mut self,
+        now: Instant,
+        packet_number: u64,
+        ack_eliciting: bool,
+        dedup: &Dedup,
+    ) -> bool
         requires number { HasReached (Has dedup.now) packet_number }
         requires earlier { IfSome self.old.greatest (HasReached (Has dedup.now)) }
         ensures receives { Receives (Has dedup.now) self.old now packet_number ack_eliciting result self.new }
@@ -151,18 +155,29 @@ impl PendingAcks {
         ensures within_threshold { IsTrue ack_eliciting → ¬ IsTrue self.new.required → self.new.eliciting ≤ self.new.threshold }
     {
         if !ack_eliciting {
-            self.non_ack_eliciting_since_last_ack_sent = self.non_ack_eliciting_since_last_ack_sent.saturating_add(1);
+            self.non_ack_eliciting_since_last_ack_sent = self
+                .non_ack_eliciting_since_last_ack_sent
+                .saturating_add(1);
             return false;
         }
-        let before = self.largest_ack_eliciting_packet;
-        let greatest = before.unwrap_or(0).max(packet_number);
+        let before = self.largest_ack_eliciting_packet.unwrap_or(0);
+        let greatest = before.max(packet_number);
         self.largest_ack_eliciting_packet = Some(greatest);
-        self.ack_eliciting_since_last_ack_sent = self.ack_eliciting_since_last_ack_sent.saturating_add(1);
-        self.immediate_ack_required = self.immediate_ack_required
-            || self.ack_eliciting_since_last_ack_sent > self.ack_eliciting_threshold
-            || is_out_of_order(self.reordering_threshold, self.largest_acked, before, greatest, packet_number, dedup);
-        let can_send = self.immediate_ack_required && !self.ranges.is_empty();
-        if self.earliest_ack_eliciting_since_last_ack_sent.is_some() || can_send {
+        self.ack_eliciting_since_last_ack_sent = self
+            .ack_eliciting_since_last_ack_sent
+            .saturating_add(1);
+        let out_of_order = is_out_of_order(
+            self.reordering_threshold,
+            self.largest_acked,
+            before,
+            greatest,
+            packet_number,
+            dedup,
+        );
+        let many = self.ack_eliciting_since_last_ack_sent > self.ack_eliciting_threshold;
+        self.immediate_ack_required = is_any(self.immediate_ack_required, many, out_of_order);
+        let can_send = may_send(self.immediate_ack_required, &self.ranges);
+        if is_noticed(self.earliest_ack_eliciting_since_last_ack_sent, can_send) {
             return false;
         }
         self.earliest_ack_eliciting_since_last_ack_sent = Some(now);
@@ -189,14 +204,8 @@ impl PendingAcks {
         ensures only_new_takes_memory { IsErr result → ¬ IsPending self.old packet }
         ensures err { OnErr result (self.new ≡ self.old) }
     {
-        self.ranges.insert_one(packet)?;
-        if self.ranges.len() > MAX_ACK_BLOCKS {
-            let _ = self.ranges.pop_min();
-        }
-        self.largest_packet = match self.largest_packet {
-            Some((largest, received)) if largest >= packet => Some((largest, received)),
-            _ => Some((packet, now)),
-        };
+        insert(&mut self.ranges, packet)?;
+        self.largest_packet = Some(larger(self.largest_packet, packet, now));
         Ok(())
     }
 
@@ -229,27 +238,90 @@ impl PendingAcks {
     }
 }
 
+fn may_send(required: bool, ranges: &ArrayRangeSet) -> bool
+    ensures { MatchBool result (IsTrue required × ((n : ℕ) × InRanges ranges.now n)) (¬ (IsTrue required × ((n : ℕ) × InRanges ranges.now n))) }
+{
+    required && !ranges.is_empty()
+}
+
+fn is_any(first: bool, second: bool, third: bool) -> bool
+    ensures { MatchBool result (IsTrue first ⊎ (IsTrue second ⊎ IsTrue third)) (¬ (IsTrue first ⊎ (IsTrue second ⊎ IsTrue third))) }
+{
+    first || second || third
+}
+
+/// Whether an ack-eliciting packet needs no timer of its own.
+fn is_noticed(base: Option<Instant>, can_send: bool) -> bool
+    ensures { MatchBool result ((¬ (base ≡ None)) ⊎ IsTrue can_send) ((base ≡ None) × ¬ IsTrue can_send) }
+{
+    base.is_some() || can_send
+}
+
+/// The largest packet, once another came.
+fn larger(largest: Option<(u64, Instant)>, packet: u64, now: Instant) -> (u64, Instant)
+    ensures { Some result ≡ largest_with largest packet now }
+{
+    match largest {
+        Some((number, received)) if number >= packet => (number, received),
+        _ => (packet, now),
+    }
+}
+
+/// Adds a number, and drops the lowest range where more than 64 stand.
+fn insert(ranges: &mut ArrayRangeSet, packet: u64) -> Result<(), NoMemory>
+    requires small { packet < 2 ^ 62 }
+    requires count { length ranges.old ≤ 64 }
+    ensures pending { OnOk result ((n : ℕ) → InRanges ranges.new n ↔ IsInHighest 64 (With packet (InRanges ranges.old)) n) }
+    ensures kept { OnOk result ((length ranges.new ≤ 64) × AreApart 0 ranges.new) }
+    ensures only_new_takes_memory { IsErr result → ¬ InRanges ranges.old packet }
+    ensures err { OnErr result (ranges.new ≡ ranges.old) }
+{
+    ranges.insert_one(packet)?;
+    if ranges.len() > MAX_ACK_BLOCKS {
+        let _ = ranges.pop_min();
+    }
+    Ok(())
+}
+
 /// Whether an ack-eliciting packet requires an ACK at once by its place among the others.
-fn is_out_of_order(threshold: u64, acknowledged: Option<u64>, before: Option<u64>, greatest: u64, number: u64, dedup: &Dedup) -> bool
+fn is_out_of_order(
+    threshold: u64,
+    acknowledged: Option<u64>,
+    before: u64,
+    greatest: u64,
+    number: u64,
+    dedup: &Dedup,
+) -> bool
     requires reached { HasReached (Has dedup.now) greatest }
     requires above { number ≤ greatest }
     requires order { IsUpTo acknowledged (Some greatest) }
-    ensures { MatchBool result (IsOutOfOrder (Has dedup.now) threshold acknowledged before (Some greatest) number) (¬ IsOutOfOrder (Has dedup.now) threshold acknowledged before (Some greatest) number) }
+    ensures { MatchBool result (IsOutOfOrder (Has dedup.now) threshold acknowledged before greatest number) (¬ IsOutOfOrder (Has dedup.now) threshold acknowledged before greatest number) }
 {
     if threshold == 0 {
         return false;
     }
     if threshold == 1 {
-        let before = before.unwrap_or(0);
         return number < before || dedup.missing_in_interval(before, number);
     }
-    match acknowledged {
-        Some(acknowledged) if threshold <= acknowledged => {
-            match dedup.smallest_missing_in_interval(acknowledged - threshold + 1, greatest) {
-                Some(missing) => greatest - missing >= threshold,
-                None => false,
-            }
-        }
-        _ => false,
+    is_reported(threshold, greatest, acknowledged, dedup)
+}
+
+/// Whether the peer would call a packet lost, if it knew what came.
+fn is_reported(threshold: u64, greatest: u64, acknowledged: Option<u64>, dedup: &Dedup) -> bool
+    requires some { 1 < threshold }
+    requires reached { HasReached (Has dedup.now) greatest }
+    requires order { IsUpTo acknowledged (Some greatest) }
+    ensures { MatchBool result (IsReported (Has dedup.now) threshold greatest acknowledged) (¬ IsReported (Has dedup.now) threshold greatest acknowledged) }
+{
+    let acknowledged = match acknowledged {
+        Some(acknowledged) => acknowledged,
+        None => return false,
+    };
+    if threshold > acknowledged {
+        return false;
+    }
+    match dedup.smallest_missing_in_interval(acknowledged - threshold + 1, greatest) {
+        Some(missing) => greatest - missing >= threshold,
+        None => false,
     }
 }
