@@ -233,7 +233,7 @@ impl PendingAcks {
         ensures few { self.old.silent ≤ 10 → self.new ≡ self.old }
     {
         if self.non_ack_eliciting_since_last_ack_sent > LAZY_ACK_THRESHOLD {
-            self.immediate_ack_required = true;
+            self.set_immediate_ack_required();
         }
     }
 }

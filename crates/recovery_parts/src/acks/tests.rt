@@ -1,6 +1,10 @@
 //! The worked rows on acknowledgements.
+ghost use Rattle.std.specs.Prelude.{◌≡◌, ◌<◌, ◌≤◌, ◌^◌, None};
+ghost use Rattle.recovery_base.specs.Received.{Has};
+ghost use Rattle.recovery_parts.specs.Acks.{number_or_zero};
+
 use super::*;
-use recovery_base::below::{AckFrequency, TransportParameters, VarInt};
+use recovery_base::below::{AckFrequency, NoMemory, TransportParameters, VarInt};
 use recovery_base::config::AckFrequencyConfig;
 use recovery_base::dedup::Dedup;
 use recovery_base::time::{Duration, Instant};
@@ -13,7 +17,7 @@ fn keeps_the_64_highest_ranges(rt: HostRuntime) -> Result<(), Fail> {
         acks.insert_one(2 * half, Instant::from_nanos(0))?;
     }
     for number in [0, 1] {
-        let mut start = 2;
+        let mut start = 2u64;
         for range in acks.ranges().iter() {
             assert_eq!(rt; (range.start, range.end), (start, start.saturating_add(1)));
             start = start.saturating_add(2);
@@ -44,16 +48,24 @@ fn measures_the_delay_of_the_largest(rt: HostRuntime) -> Result<(), Fail> {
     Ok(())
 }
 
+/// A packet that asks for no ACK.
+fn receive_silent(acks: &mut PendingAcks, dedup: &Dedup) -> bool
+    requires known { Has dedup.now 0 }
+    requires none { acks.old.greatest ≡ None }
+    ensures { acks.new.greatest ≡ None }
+{
+    acks.packet_received(Instant::from_nanos(0), 0, false, dedup)
+}
+
 #[test]
 fn acknowledges_many_silent_packets(rt: HostRuntime) -> Result<(), Fail> {
     let mut dedup = Dedup::new();
     let mut acks = PendingAcks::new(rt.alloc());
     acks.acks_sent();
+    acks.insert_one(0, Instant::from_nanos(0))?;
     assert!(rt; !dedup.insert(0));
-    let now = Instant::from_nanos(0);
-    acks.insert_one(0, now)?;
     for _ in 0..11u8 {
-        assert!(rt; !acks.packet_received(now, 0, false, &dedup));
+        assert!(rt; !receive_silent(&mut acks, &dedup));
         assert!(rt; !acks.can_send());
     }
     acks.maybe_ack_non_eliciting();
@@ -62,6 +74,47 @@ fn acknowledges_many_silent_packets(rt: HostRuntime) -> Result<(), Fail> {
     assert!(rt; !acks.can_send());
     acks.set_immediate_ack_required();
     assert!(rt; acks.can_send());
+    Ok(())
+}
+
+/// An ack-eliciting packet of a new number above the others.
+fn receive(acks: &mut PendingAcks, dedup: &mut Dedup, number: u64) -> Result<bool, NoMemory>
+    requires small { number < 2 ^ 62 }
+    requires above { number_or_zero acks.old.greatest ≤ number }
+    ensures { number_or_zero acks.new.greatest ≤ number }
+{
+    let now = Instant::from_nanos(number);
+    if dedup.insert(number) {
+        return Ok(false);
+    }
+    acks.insert_one(number, now)?;
+    Ok(acks.packet_received(now, number, true, dedup))
+}
+
+#[test]
+fn arms_the_timer_unless_out_of_order(rt: HostRuntime) -> Result<(), Fail> {
+    for (last, arms) in [(5, false), (4, true)] {
+        assert!(rt; last > 2 && last < 100);
+        let mut dedup = Dedup::new();
+        let mut acks = PendingAcks::new(rt.alloc());
+        let frame = AckFrequency {
+            sequence: VarInt::from_u32(0),
+            ack_eliciting_threshold: VarInt::from_u32(3),
+            request_max_ack_delay: VarInt::from_u32(1000),
+            reordering_threshold: VarInt::from_u32(2),
+        };
+        acks.set_ack_frequency_params(&frame);
+        assert!(rt; receive(&mut acks, &mut dedup, 0)?);
+        assert!(rt; !receive(&mut acks, &mut dedup, 1)?);
+        assert!(rt; !receive(&mut acks, &mut dedup, 2)?);
+        assert_eq!(rt;
+            acks.max_ack_delay_timeout(Duration::from_micros(1)),
+            Some(Instant::from_nanos(1000))
+        );
+        acks.acks_sent();
+        assert_eq!(rt; receive(&mut acks, &mut dedup, last)?, arms, "at {last}");
+        assert_eq!(rt; acks.can_send(), !arms);
+    }
     Ok(())
 }
 
