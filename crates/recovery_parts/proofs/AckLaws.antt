@@ -1,10 +1,10 @@
 -- What an ack-eliciting packet leaves.
-use Rattle.std.proofs.Common.{◌≡◌, ℕ, ◌+◌, ◌-◌, ◌<◌, ◌≤◌, max, min, inl, inr, ◌⊎◌, ◌↔◌, Bool, true, false, nat_lt, Option, None, Some, refl, sym, ◌∙◌, ap, subst, arith}
+use Rattle.std.proofs.Common.{◌≡◌, ℕ, ◌<◌, ◌≤◌, max, inl, inr, ◌⊎◌, ◌↔◌, Bool, true, false, nat_lt, Option, None, Some, refl, ap, subst, arith}
 use Rattle.std.specs.Prelude.{IsTrue, IfSome, MatchBool}
 use Rattle.std.specs.Option.{unwrap_or}
-use Rattle.std.proofs.lemmas.Bool.{false≢true, true≢false, ltb-true, lt-ltb, cases_lt}
+use Rattle.std.proofs.lemmas.Bool.{false≢true, ltb-true, lt-ltb, cases_lt}
 use Rattle.recovery_base.specs.Ranges.{InRanges}
-use Rattle.recovery_parts.specs.Acks.{Acks, CanSend, HasReached, IsOutOfOrder, Receives, ReceivesEliciting, counted, number_or_zero}
+use Rattle.recovery_parts.specs.Acks.{Acks, HasReached, IsOutOfOrder, Receives, ReceivesEliciting, counted, number_or_zero}
 
 pub tells : (b : Bool) (P : Type 0) → MatchBool b P (¬ P) → IsTrue b ↔ P
 tells true P h = (λ _. h, λ _. refl)

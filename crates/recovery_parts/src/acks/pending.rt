@@ -3,7 +3,7 @@ ghost use Rattle.std.specs.Prelude.{◌≡◌, ℕ, ◌<◌, ◌≤◌, ◌^◌,
 ghost use Rattle.recovery_base.specs.Numbers.{With};
 ghost use Rattle.recovery_base.specs.Received.{Has};
 ghost use Rattle.recovery_base.specs.Ranges.{InRanges, AreApart};
-ghost use Rattle.recovery_parts.specs.Acks.{IsPending, CanSend, new_acks, with_thresholds, with_required, acks_sent, Receives, Inserts, SubtractsBelow, delay_at, timeout_at, HasReached, IsOutOfOrder, IsReported, IsUpTo, largest_with};
+ghost use Rattle.recovery_parts.specs.Acks.{IsPending, CanSend, new_acks, with_thresholds, with_required, acks_sent, Receives, AddsPending, SubtractsBelow, delay_at, timeout_at, HasReached, IsOutOfOrder, IsReported, IsUpTo, largest_with};
 ghost use Rattle.recovery_parts.specs.Runs.{IsInHighest};
 
 use recovery_base::below::{AckFrequency, ArrayRangeSet, NoMemory};
@@ -200,7 +200,7 @@ impl PendingAcks {
     /// `NoMemory` changes nothing.
     pub fn insert_one(&mut self, packet: u64, now: Instant) -> Result<(), NoMemory>
         requires { packet < 2 ^ 62 }
-        ensures inserts { OnOk result (Inserts self.old packet now self.new) }
+        ensures inserts { OnOk result (AddsPending self.old packet now self.new) }
         ensures only_new_takes_memory { IsErr result → ¬ IsPending self.old packet }
         ensures err { OnErr result (self.new ≡ self.old) }
     {

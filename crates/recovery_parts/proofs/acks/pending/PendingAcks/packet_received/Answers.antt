@@ -1,7 +1,7 @@
-use Rattle.std.proofs.Common.{◌≡◌, ℕ, ◌+◌, ◌<◌, ◌≤◌, max, true, false, Some, refl, sym, ◌∙◌, ap, subst, arith}
+use Rattle.std.proofs.Common.{ℕ, max, sym, ◌∙◌, ap, subst}
 use Rattle.std.specs.Prelude.{IfSome, MatchBool}
 use Rattle.recovery_base.specs.Received.{Has}
-use Rattle.recovery_parts.specs.Acks.{Acks, HasReached, Receives, IsOutOfOrder, number_or_zero}
+use Rattle.recovery_parts.specs.Acks.{Acks, HasReached, IsOutOfOrder, number_or_zero}
 use Rattle.recovery_parts.proofs.AckLaws.{reaches, eliciting_receives, unarmed, armed_now}
 use Rattle.recovery_parts.proofs.acks.pending.PendingAcks.packet_received.Goals as goal
 
