@@ -1,6 +1,7 @@
 pub mod History
 pub mod Received
 pub mod Refusals
+pub mod Replies
 pub mod Spaces
 pub mod State
 pub mod Steps

@@ -6,7 +6,9 @@ use std::marker::Model;
 use std::ops::{Add, Sub};
 
 const NANOS_PER_MICRO: u128 = 1_000;
+
 const NANOS_PER_MILLI: u128 = 1_000_000;
+
 const NANOS_PER_SEC: u128 = 1_000_000_000;
 
 /// A moment: nanoseconds since an epoch that the caller chooses, 0 to `u64::MAX`.
