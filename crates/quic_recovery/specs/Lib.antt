@@ -1,4 +1,6 @@
+pub mod Counts
 pub mod History
+pub mod Packets
 pub mod Received
 pub mod Refusals
 pub mod Replies
