@@ -3,9 +3,9 @@ use Rattle.std.proofs.Common.{◌≡◌, ℕ, ◌+◌, ◌-◌, ◌<◌, ◌≤�
 use Rattle.std.specs.Prelude.{sum_by}
 use Rattle.std.proofs.lemmas.List.Sums.{sum_by_push}
 use Rattle.quic_recovery.specs.declared.spaces.SentPacket.{SentPacket}
-use Rattle.quic_recovery.specs.Packets.{Packets, Tracking, packet_at, without, AreBelow, HasSize, is_above, silent_above, first_number, forgotten_silent, forgotten_number, without_some, after_sending}
+use Rattle.quic_recovery.specs.Packets.{Packets, Tracking, IsAboveLast, packet_at, without, HasSize, is_above, silent_above, first_number, forgotten_silent, forgotten_number, without_some, after_sending}
 use Rattle.quic_recovery.specs.Counts.{silent_count, eliciting_count, size_count, AreCounted}
-use Rattle.quic_recovery.proofs.PacketLaws.{sum-without, none_counted, silent_found, sized_from_count, count_from_sized, silent_count-length, sizes-le-length, all_silent, first_above_found}
+use Rattle.quic_recovery.proofs.PacketLaws.{AllBelow, sum-without, none_counted, silent_found, sized_from_count, count_from_sized, silent_count-length, sizes-le-length, all_silent, first_above_found}
 
 not_silent_above : (last number : ℕ) (packet : SentPacket) → number ≤ last → silent_count (Some last) (number, packet) ≡ 0
 not_silent_above last number packet below = ap (λ b. cond (b && not packet.ack_eliciting) 1 0) (le-ltb last number below)
@@ -13,13 +13,13 @@ not_silent_above last number packet below = ap (λ b. cond (b && not packet.ack_
 not_eliciting_above : (last number : ℕ) (packet : SentPacket) → number ≤ last → eliciting_count (Some last) (number, packet) ≡ 0
 not_eliciting_above last number packet below = ap (λ b. cond (b && packet.ack_eliciting) 1 0) (le-ltb last number below)
 
-above_last : (last : Option ℕ) (number : ℕ) → IfSome last (λ m. m < number) → is_above last number ≡ true
+above_last : (last : Option ℕ) (number : ℕ) → IsAboveLast last number → is_above last number ≡ true
 above_last None number above = refl
-above_last (Some last) number above = lt-ltb last number above
+above_last (Some last) number above = lt-ltb last number (above last refl)
 
 module _ (packets : Packets) (last : Option ℕ) (silent sized : ℕ) (counted : AreCounted packets last silent sized) where
   -- one more packet that elicits an ACK
-  pub counted_eliciting : (number : ℕ) (packet : SentPacket) → AreBelow packets number → AreCounted (packets ++ (number, packet) ∷ []) (Some number) 0 (sized + size_count packet)
+  pub counted_eliciting : (number : ℕ) (packet : SentPacket) → AllBelow packets number → AreCounted (packets ++ (number, packet) ∷ []) (Some number) 0 (sized + size_count packet)
   counted_eliciting number packet below =
       let silent_push = sum_by_push (silent_count (Some number)) packets (number, packet) in
       let eliciting_push = sum_by_push (eliciting_count (Some number)) packets (number, packet) in
@@ -37,7 +37,7 @@ module _ (packets : Packets) (last : Option ℕ) (silent sized : ℕ) (counted :
       }
 
   -- one more silent packet
-  pub counted_silent : (number : ℕ) (packet : SentPacket) → IfSome last (λ m. m < number) → packet.ack_eliciting ≡ false → silent ≤ 1000 → AreCounted (packets ++ (number, packet) ∷ []) last (silent + 1) (sized + size_count packet)
+  pub counted_silent : (number : ℕ) (packet : SentPacket) → IsAboveLast last number → packet.ack_eliciting ≡ false → silent ≤ 1000 → AreCounted (packets ++ (number, packet) ∷ []) last (silent + 1) (sized + size_count packet)
   counted_silent number packet above is_silent room =
       let silent_push = sum_by_push (silent_count last) packets (number, packet) in
       let eliciting_push = sum_by_push (eliciting_count last) packets (number, packet) in
@@ -89,7 +89,7 @@ module _ (packets : Packets) (last : Option ℕ) (silent sized : ℕ) (counted :
         ap (λ b. cond (b && not packet.ack_eliciting) 1 0) above ∙ ap (λ b. cond (not b) 1 0) is_silent
 
 -- one more silent packet, for one that is forgotten
-pub counted_forgetting : (packets : Packets) (last : Option ℕ) (silent sized : ℕ) (counted : AreCounted packets last silent sized) (number : ℕ) (packet : SentPacket) → IfSome last (λ m. m < number) → packet.ack_eliciting ≡ false
+pub counted_forgetting : (packets : Packets) (last : Option ℕ) (silent sized : ℕ) (counted : AreCounted packets last silent sized) (number : ℕ) (packet : SentPacket) → IsAboveLast last number → packet.ack_eliciting ≡ false
     → (least : ℕ) (gone : SentPacket) → packet_at packets least ≡ Some gone → is_above last least ≡ true
     → AreCounted (without packets least ++ (number, packet) ∷ []) last silent (sized + size_count packet - size_count gone)
 counted_forgetting packets last silent sized counted number packet above is_silent least gone found found_above =

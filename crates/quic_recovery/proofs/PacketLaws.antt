@@ -31,8 +31,32 @@ both_true : (a b : Bool) → (a && b) ≡ true → (a ≡ true) × (b ≡ true)
 both_true true b e = (refl, e)
 both_true false b e = cc
 
+-- every number of the list is below another
+abbrev pub AllBelow : Packets → ℕ → Type 0
+AllBelow [] limit = Unit {0}
+AllBelow (entry ∷ packets) limit = (entry.0 < limit) × AllBelow packets limit
+
+pub all_below : (packets : Packets) (limit : ℕ) → AreBelow packets limit → AllBelow packets limit
+all_below [] limit below = tt
+all_below (entry ∷ packets) limit below = (below entry.0 entry.1 (ap (λ b. cond b (Some entry.1) (packet_at packets entry.0)) (at_itself entry.0)), all_below packets limit later)
+  where
+    later : AreBelow packets limit
+    later number packet found = go (is_at (nat_cmp number) entry.0) refl
+      where
+        go : (b : Bool) → is_at (nat_cmp number) entry.0 ≡ b → number < limit
+        go true at = below number entry.1 (ap (λ b. cond b (Some entry.1) (packet_at packets number)) at)
+        go false at = below number packet (ap (λ b. cond b (Some entry.1) (packet_at packets number)) at ∙ found)
+
+pub are_below : (packets : Packets) (limit : ℕ) → AllBelow packets limit → AreBelow packets limit
+are_below [] limit below number packet found = no_packet packet found
+are_below (entry ∷ packets) limit below number packet found = go (is_at (nat_cmp number) entry.0) refl found (are_below packets limit below.1 number packet)
+  where
+    go : (b : Bool) → is_at (nat_cmp number) entry.0 ≡ b → cond b (Some entry.1) (packet_at packets number) ≡ Some packet → (packet_at packets number ≡ Some packet → number < limit) → number < limit
+    go true at e later = let h : entry.0 ≡ number = number_at number entry.0 at in let below_first : entry.0 < limit = below.0 in omega arith
+    go false at e later = later e
+
 -- a number above all others goes to the end
-pub insert_at_end : (packets : Packets) (number : ℕ) (packet : SentPacket) → AreBelow packets number → insert_entry nat_cmp packets number packet ≡ packets ++ (number, packet) ∷ []
+pub insert_at_end : (packets : Packets) (number : ℕ) (packet : SentPacket) → AllBelow packets number → insert_entry nat_cmp packets number packet ≡ packets ++ (number, packet) ∷ []
 insert_at_end [] number packet below = refl
 insert_at_end (entry ∷ packets) number packet below =
     let above : nat_cmp number entry.0 ≡ Greater = sym (nat_cmp_is number entry.0 Greater below.0) in
@@ -59,17 +83,17 @@ packet_at-append (entry ∷ packets) more number packet found = go (is_at (nat_c
 
 -- ---- numbers below another
 
-pub AreBelow-without : (packets : Packets) (number limit : ℕ) → AreBelow packets limit → AreBelow (without packets number) limit
-AreBelow-without [] number limit below = tt
-AreBelow-without (entry ∷ packets) number limit below = go (is_at (nat_cmp number) entry.0) (AreBelow-without packets number limit below.1)
+pub AllBelow-without : (packets : Packets) (number limit : ℕ) → AllBelow packets limit → AllBelow (without packets number) limit
+AllBelow-without [] number limit below = tt
+AllBelow-without (entry ∷ packets) number limit below = go (is_at (nat_cmp number) entry.0) (AllBelow-without packets number limit below.1)
   where
-    go : (b : Bool) → AreBelow (without packets number) limit → AreBelow (cond b packets (entry ∷ without packets number)) limit
+    go : (b : Bool) → AllBelow (without packets number) limit → AllBelow (cond b packets (entry ∷ without packets number)) limit
     go true later = below.1
     go false later = (below.0, later)
 
-pub AreBelow-push : (packets : Packets) (number : ℕ) (packet : SentPacket) → AreBelow packets number → AreBelow (packets ++ (number, packet) ∷ []) (number + 1)
-AreBelow-push [] number packet below = (omega arith, tt)
-AreBelow-push (entry ∷ packets) number packet below = (let h : entry.0 < number = below.0 in omega arith, AreBelow-push packets number packet below.1)
+pub AllBelow-push : (packets : Packets) (number : ℕ) (packet : SentPacket) → AllBelow packets number → AllBelow (packets ++ (number, packet) ∷ []) (number + 1)
+AllBelow-push [] number packet below = (omega arith, tt)
+AllBelow-push (entry ∷ packets) number packet below = (let h : entry.0 < number = below.0 in omega arith, AllBelow-push packets number packet below.1)
 
 -- ---- sums
 
@@ -94,7 +118,7 @@ sum-without f (entry ∷ packets) number packet found = go (is_at (nat_cmp numbe
 pub found-le-sum : (f : ℕ × SentPacket → ℕ) (packets : Packets) (number : ℕ) (packet : SentPacket) → packet_at packets number ≡ Some packet → f (number, packet) ≤ sum_by f packets
 found-le-sum f packets number packet found = let h = sum-without f packets number packet found in omega (arith, h)
 
-pub none_counted : (f : ℕ × SentPacket → ℕ) (packets : Packets) (limit : ℕ) → ((number : ℕ) (packet : SentPacket) → number < limit → f (number, packet) ≡ 0) → AreBelow packets limit → sum_by f packets ≡ 0
+pub none_counted : (f : ℕ × SentPacket → ℕ) (packets : Packets) (limit : ℕ) → ((number : ℕ) (packet : SentPacket) → number < limit → f (number, packet) ≡ 0) → AllBelow packets limit → sum_by f packets ≡ 0
 none_counted f [] limit none below = refl
 none_counted f (entry ∷ packets) limit none below =
     let cons = sum_by-cons f entry packets in
@@ -206,3 +230,15 @@ silent_found last packets number packet none found above = go packet.ack_eliciti
         let one : eliciting_count last (number, packet) ≡ 1 = ap (λ b. cond (b && packet.ack_eliciting) 1 0) above ∙ ap (λ b. cond b 1 0) e in
         let some = found-le-sum (eliciting_count last) packets number packet found in
         absurd (omega (arith, one, some, none))
+
+pub AllBelow-more : (packets : Packets) (limit more : ℕ) → limit ≤ more → AllBelow packets limit → AllBelow packets more
+AllBelow-more [] limit more le below = tt
+AllBelow-more (entry ∷ packets) limit more le below = (let h : entry.0 < limit = below.0 in omega arith, AllBelow-more packets limit more le below.1)
+
+pub without-absent : (packets : Packets) (number : ℕ) → packet_at packets number ≡ None → without packets number ≡ packets
+without-absent [] number absent = refl
+without-absent (entry ∷ packets) number absent = go (is_at (nat_cmp number) entry.0) absent (without-absent packets number)
+  where
+    go : (b : Bool) → cond b (Some entry.1) (packet_at packets number) ≡ None → (packet_at packets number ≡ None → without packets number ≡ packets) → cond b packets (entry ∷ without packets number) ≡ entry ∷ packets
+    go true e later = no_packet entry.1 (sym e)
+    go false e later = ap (λ (es : Packets). entry ∷ es) (later e)

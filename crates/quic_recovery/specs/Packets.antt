@@ -1,5 +1,5 @@
 -- Tracked packets of one space, in the order of their numbers (RFC 9002, A.1).
-use Rattle.std.specs.Prelude.{◌≡◌, ◌≢◌, ℕ, ◌<◌, ◌⊎◌, Bool, true, false, not, ◌&&◌, nat_lt, List, [], ◌∷◌, ◌++◌, length, filter, Option, None, Some, if◌then◌else◌}
+use Rattle.std.specs.Prelude.{◌≡◌, ◌≢◌, ℕ, ◌<◌, ◌≤◌, ◌^◌, IsSomeAnd, ◌⊎◌, Bool, true, false, not, ◌&&◌, nat_lt, List, [], ◌∷◌, ◌++◌, length, filter, Option, None, Some, if◌then◌else◌}
 use Rattle.std.specs.Ordering.{nat_cmp}
 use Rattle.std.specs.BTreeMap.{is_at}
 use Rattle.std.specs.Map.{lookup, remove_entry}
@@ -18,8 +18,11 @@ without packets number = remove_entry (is_at (nat_cmp number)) packets
 
 -- every packet has a number below this one
 abbrev pub AreBelow : Packets → ℕ → Type 0
-AreBelow [] number = Unit {0}
-AreBelow (entry ∷ packets) number = (entry.0 < number) × AreBelow packets number
+AreBelow packets limit = (number : ℕ) (packet : SentPacket) → packet_at packets number ≡ Some packet → number < limit
+
+-- a number above another, where there is one
+abbrev pub IsAboveLast : Option ℕ → ℕ → Type 0
+IsAboveLast last number = (m : ℕ) → last ≡ Some m → m < number
 
 -- some packet has a size
 abbrev pub HasSize : Packets → Type 0
@@ -68,6 +71,14 @@ numbered number (Some packet) = Some (number, packet)
 abbrev pub entry_at : Packets → Option ℕ → Option (ℕ × SentPacket)
 entry_at packets None = None
 entry_at packets (Some number) = numbered number (packet_at packets number)
+
+abbrev pub entry_number : Option (ℕ × SentPacket) → Option ℕ
+entry_number None = None
+entry_number (Some entry) = Some entry.0
+
+-- a number that is none of a packet (RFC 9000, 12.3)
+abbrev pub IsTooLarge : Option ℕ → Type 0
+IsTooLarge number = IsSomeAnd number (λ n. 2 ^ 62 ≤ n)
 
 -- ---- what a space tracks
 

@@ -1,6 +1,6 @@
 //! The packets that a packet number space tracks (RFC 9002, A.1), by number.
 ghost use Rattle.std.specs.Prelude.{◌≡◌, ℕ, ◌<◌, ◌≤◌, ◌↔◌, [], ◌∷◌, IfOk, OnOk, OnErr, IsTrue, IfSome, IfNone, MatchOption, length, filter};
-ghost use Rattle.quic_recovery.specs.Packets.{Packets, Tracking, no_packets, packet_at, AreBelow, HasSize, is_above, first_number, silent_above, forgotten_number, entry_at, after_sending, after_taking};
+ghost use Rattle.quic_recovery.specs.Packets.{Packets, Tracking, no_packets, packet_at, AreBelow, IsAboveLast, HasSize, is_above, first_number, silent_above, forgotten_number, entry_at, after_sending, after_taking};
 ghost use Rattle.quic_recovery.specs.Counts.{silent_count, size_count};
 
 use crate::spaces::SentPacket;
@@ -70,7 +70,7 @@ impl SentPackets {
         packet: SentPacket,
     ) -> Result<Option<(u64, SentPacket)>, NoMemory>
         requires above { AreBelow self.old.packets number }
-        requires above_last { IfSome self.old.last_eliciting (λ last. last < number) }
+        requires above_last { IsAboveLast self.old.last_eliciting number }
         ensures ok { OnOk result (self.new ≡ after_sending number packet self.old) }
         ensures forgotten { IfOk result (λ gone. gone ≡ entry_at self.old.packets (forgotten_number self.old.last_eliciting packet self.old.packets)) }
         ensures bound { length (silent_above self.new.last_eliciting self.new.packets) ≤ 1001 }
@@ -102,6 +102,7 @@ impl SentPackets {
     pub fn remove(&mut self, number: u64) -> Option<SentPacket>
         ensures value { result ≡ packet_at self.old.packets number }
         ensures after { self.new ≡ after_taking number self.old }
+        ensures none { IfNone result (self.new ≡ self.old) }
     {
         let packet = self.packets.remove(&number)?;
         self.silent -= silent_count(self.last_eliciting, number, &packet);

@@ -2,9 +2,9 @@ use Rattle.std.proofs.Common.{◌≡◌, ℕ, ◌≤◌, List, [], ◌∷◌, �
 use Rattle.std.specs.Ordering.{nat_cmp}
 use Rattle.std.specs.BTreeMap.{insert_entry}
 use Rattle.quic_recovery.specs.declared.spaces.SentPacket.{SentPacket}
-use Rattle.quic_recovery.specs.Packets.{Packets, Tracking, packet_at, without, AreBelow, silent_above, is_above, forgotten_silent, forgotten_number, without_some, after_sending, entry_at, numbered}
+use Rattle.quic_recovery.specs.Packets.{Packets, Tracking, IsAboveLast, packet_at, without, AreBelow, silent_above, is_above, forgotten_silent, forgotten_number, without_some, after_sending, entry_at, numbered}
 use Rattle.quic_recovery.specs.Counts.{AreCounted, size_count}
-use Rattle.quic_recovery.proofs.PacketLaws.{insert_at_end, without-append, packet_at-append}
+use Rattle.quic_recovery.proofs.PacketLaws.{insert_at_end, all_below, without-append, packet_at-append}
 use Rattle.quic_recovery.proofs.CountLaws.{counted_eliciting, counted_silent, counted_forgetting, counted_enough, silent_bound, silent_few, sized_fits, forgotten_found, forgotten_eliciting, forgotten_of_silent, sent_eliciting, sent_silent}
 use Rattle.quic_recovery.proofs.sent_packets.SentPackets.insert.Goals as goal
 
@@ -12,7 +12,7 @@ use Rattle.quic_recovery.proofs.sent_packets.SentPackets.insert.Goals as goal
 pushed : (entries mid : Packets) (last : Option ℕ) (old : Tracking) (number : ℕ) (packet : SentPacket) → record { packets = entries; last_eliciting = last } ≡ old → AreBelow old.packets number
     → mid ≡ insert_entry nat_cmp entries number packet → mid ≡ entries ++ (number, packet) ∷ []
 pushed entries mid last old number packet view below inserted =
-    inserted ∙ insert_at_end entries number packet (subst (λ (t : Tracking). AreBelow t.packets number) (sym view) below)
+    inserted ∙ insert_at_end entries number packet (all_below entries number (subst (λ (t : Tracking). AreBelow t.packets number) (sym view) below))
 
 pub returns-in_err-insert-clause-bound : goal.returns-in_err-insert-clause-bound
 returns-in_err-insert-clause-bound c =
@@ -27,7 +27,7 @@ pub invariant_of-self-then-is_eliciting : goal.invariant_of-self-then-is_eliciti
 invariant_of-self-then-is_eliciting c =
     let mid = pushed _ _ _ _ c.args.number c.args.packet c.self.view_is c.requires.above c.in_ok-insert.ensures.entries in
     let below = subst (λ (t : Tracking). AreBelow t.packets c.args.number) (sym c.self.view_is) c.requires.above in
-    rw (mid, c.size_count-count.ensures) (counted_eliciting _ _ _ _ c.self.invariant c.args.number c.args.packet below)
+    rw (mid, c.size_count-count.ensures) (counted_eliciting _ _ _ _ c.self.invariant c.args.number c.args.packet (all_below _ _ below))
 
 pub returns-then-is_eliciting-clause-ok : goal.returns-then-is_eliciting-clause-ok
 returns-then-is_eliciting-clause-ok c =
@@ -45,8 +45,8 @@ forgotten_inside : (entries : Packets) (last : Option ℕ) (old : Tracking) (pac
 forgotten_inside entries last old packet forgotten view is_silent is =
     sym (forgotten_of_silent entries last 0 packet is_silent) ∙ ap (λ (t : Tracking). forgotten_number t.last_eliciting packet t.packets) view ∙ sym is
 
-above_inside : (entries : Packets) (last : Option ℕ) (old : Tracking) (number : ℕ) → record { packets = entries; last_eliciting = last } ≡ old → IfSome old.last_eliciting (λ m. m < number) → IfSome last (λ m. m < number)
-above_inside entries last old number view above = subst (λ (t : Tracking). IfSome t.last_eliciting (λ m. m < number)) (sym view) above
+above_inside : (entries : Packets) (last : Option ℕ) (old : Tracking) (number : ℕ) → record { packets = entries; last_eliciting = last } ≡ old → IsAboveLast old.last_eliciting number → IsAboveLast last number
+above_inside entries last old number view above = subst (λ (t : Tracking). IsAboveLast t.last_eliciting number) (sym view) above
 
 pub invariant_of-self-in_default : goal.invariant_of-self-in_default
 invariant_of-self-in_default c =
