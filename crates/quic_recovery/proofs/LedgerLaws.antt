@@ -11,12 +11,12 @@ use Rattle.quic_recovery.specs.declared.paths.PathData.{PathData}
 use Rattle.quic_recovery.specs.declared.spaces.PacketSpace.{PacketSpace}
 use Rattle.quic_recovery.specs.declared.spaces.PacketSpaces.{PacketSpaces}
 use Rattle.quic_recovery.specs.declared.spaces.SentPacket.{SentPacket}
-use Rattle.quic_recovery.specs.InFlight.{size_in, eliciting_in, over_spaces, in_flight, eliciting_one, without_packet, IsCounted, IsCountedIn}
+use Rattle.quic_recovery.specs.InFlight.{size_in, eliciting_in, over_spaces, in_flight, eliciting_one, with_packet, without_packet, IsCounted, IsCountedIn}
 use Rattle.quic_recovery.specs.Ledger.{tracked_by, IsBalanced}
-use Rattle.quic_recovery.specs.Packets.{Packets, Tracking, packet_at, without, without_some, forgotten_number, sent_onto, entry_at, numbered, AreBelow, IsAboveLast, after_sending, after_taking}
-use Rattle.quic_recovery.specs.Paths.{generation_of, counters_of, counters_left, after_leaving, path_after_sending}
-use Rattle.quic_recovery.specs.Spaces.{space_of, with_space, tracking_of, packets_of, next_number_of, IsNumbered}
-use Rattle.quic_recovery.proofs.PacketLaws.{sum-without, found-le-sum, AllBelow, all_below, are_below, AllBelow-without, AllBelow-push, AllBelow-more}
+use Rattle.quic_recovery.specs.Packets.{Packets, Tracking, no_packets, packet_at, without, without_some, forgotten_number, sent_onto, entry_at, numbered, AreBelow, IsAboveLast, after_sending, after_taking}
+use Rattle.quic_recovery.specs.Paths.{generation_of, counters_of, with_counters, counters_left, after_leaving, path_after_sending}
+use Rattle.quic_recovery.specs.Spaces.{space_of, with_space, tracking_of, packets_of, next_number_of, IsNumbered, space_empties}
+use Rattle.quic_recovery.proofs.PacketLaws.{sum-without, found-le-sum, AllBelow, all_below, are_below, AllBelow-without, AllBelow-push, without-absent}
 
 -- ---- one packet
 
@@ -178,3 +178,155 @@ module _ (spaces : PacketSpaces) (path : PathData) (balanced : IsBalanced spaces
       let here_elicitings = ap (λ (es : Packets). sum_by (eliciting_in (generation_of path)) es) packets in
       balanced_by space here new (sum_by (size_in (generation_of path)) (tracked_by spaces space)) 0 (sum_by (eliciting_in (generation_of path)) (tracked_by spaces space)) 0 same
       (omega (arith, here_sizes)) (omega (arith, here_elicitings)) (omega (arith, bytes)) (omega (arith, count)) numbered
+
+-- ---- a packet that is sent
+
+-- what a packet that is forgotten takes from a sum
+abbrev pub gone : (ℕ × SentPacket → ℕ) → Option (ℕ × SentPacket) → ℕ
+gone f None = 0
+gone f (Some entry) = f entry
+
+sum-without_some : (f : ℕ × SentPacket → ℕ) (packets : Packets) (forgotten : Option ℕ) → sum_by f (without_some packets forgotten) + gone f (entry_at packets forgotten) ≡ sum_by f packets
+sum-without_some f packets None = omega arith
+sum-without_some f packets (Some number) = go (packet_at packets number) refl
+  where
+    go : (found : Option SentPacket) → packet_at packets number ≡ found → sum_by f (without packets number) + gone f (numbered number found) ≡ sum_by f packets
+    go None absent = let same = ap (λ (es : Packets). sum_by f es) (without-absent packets number absent) in omega (arith, same)
+    go (Some packet) found = sum-without f packets number packet found
+
+pub sum-sent_onto : (f : ℕ × SentPacket → ℕ) (last : Option ℕ) (number : ℕ) (packet : SentPacket) (packets : Packets)
+    → sum_by f (sent_onto last number packet packets) + gone f (entry_at packets (forgotten_number last packet packets)) ≡ sum_by f packets + f (number, packet)
+sum-sent_onto f last number packet packets =
+    let push = sum_by_push f (without_some packets (forgotten_number last packet packets)) (number, packet) in
+    let left = sum-without_some f packets (forgotten_number last packet packets) in
+    omega (arith, push, left)
+
+AllBelow-without_some : (packets : Packets) (forgotten : Option ℕ) (limit : ℕ) → AllBelow packets limit → AllBelow (without_some packets forgotten) limit
+AllBelow-without_some packets None limit below = below
+AllBelow-without_some packets (Some number) limit below = AllBelow-without packets number limit below
+
+some_last : (m n : ℕ) → Some m ≡ Some n → m ≡ n
+some_last m n e = cc
+
+-- the numbers are below the next one when a packet was sent under it
+pub sent_numbered : (old here : PacketSpace) (packet : SentPacket) → IsNumbered old → tracking_of here ≡ after_sending (next_number_of old) packet (tracking_of old) → next_number_of here ≡ next_number_of old + 1 → IsNumbered here
+sent_numbered old here packet numbered tracking next = record {
+  packets =
+      let P : ℕ → Type 0 = AreBelow (packets_of here) in
+      let Q : Packets → Type 0 = λ es. AreBelow es (next_number_of old + 1) in
+      let below = AllBelow-without_some (packets_of old) (forgotten_number (tracking_of old).last_eliciting packet (packets_of old)) (next_number_of old) (all_below _ _ numbered.packets) in
+      subst P (sym next) (subst Q (sym (ap (λ (t : Tracking). t.packets) tracking)) (are_below _ _ (AllBelow-push _ (next_number_of old) packet below)));
+  last = λ m is. let h : m < next_number_of old + 1 = go packet.ack_eliciting m (sym (ap (λ (t : Tracking). t.last_eliciting) tracking) ∙ is) in omega (arith, h, next);
+}
+  where
+    go : (b : Bool) (m : ℕ) → cond b (Some (next_number_of old)) (tracking_of old).last_eliciting ≡ Some m → m < next_number_of old + 1
+    go true m e = let h : next_number_of old ≡ m = some_last (next_number_of old) m e in omega arith
+    go false m e = let h : m < next_number_of old = numbered.last m e in omega arith
+
+pub emptied_numbered : (old here : PacketSpace) → IsNumbered old → here ≡ space_empties old → IsNumbered here
+emptied_numbered old here numbered is =
+    let P : PacketSpace → Type 0 = IsNumbered in
+    subst P (sym is) (record { packets = λ number packet found. none_found number packet found; last = numbered.last })
+  where
+    none_found : (number : ℕ) (packet : SentPacket) → None ≡ Some packet → number < next_number_of old
+    none_found number packet e = cc
+
+module _ (spaces : PacketSpaces) (path : PathData) (balanced : IsBalanced spaces path) (space : SpaceId) (packet : SentPacket) (own : packet.path_generation ≡ generation_of path) where
+  -- what the counters are when a packet was sent, and one perhaps forgotten
+  path_sent : (number : ℕ) (forgotten : Option (ℕ × SentPacket)) → ((entry : ℕ × SentPacket) → forgotten ≡ Some entry → (size_in (generation_of path) entry ≤ (counters_of path).bytes) × (eliciting_in (generation_of path) entry ≤ (counters_of path).ack_eliciting))
+      → ((counters_of (path_after_sending path packet forgotten)).bytes + gone (size_in (generation_of path)) forgotten ≡ (counters_of path).bytes + size_in (generation_of path) (number, packet))
+      × ((counters_of (path_after_sending path packet forgotten)).ack_eliciting + gone (eliciting_in (generation_of path)) forgotten ≡ (counters_of path).ack_eliciting + eliciting_in (generation_of path) (number, packet))
+      × (generation_of (path_after_sending path packet forgotten) ≡ generation_of path)
+  path_sent number None enough =
+      let same : (packet.path_generation == generation_of path) ≡ true = eq-eqb packet.path_generation (generation_of path) own in
+      let size : size_in (generation_of path) (number, packet) ≡ packet.size = ap (λ b. cond b packet.size 0) same in
+      let one : eliciting_in (generation_of path) (number, packet) ≡ eliciting_one packet = ap (λ b. cond (b && packet.ack_eliciting) 1 0) same in
+      (omega (arith, size), omega (arith, one), refl)
+  path_sent number (Some entry) enough =
+      let same : (packet.path_generation == generation_of path) ≡ true = eq-eqb packet.path_generation (generation_of path) own in
+      let size : size_in (generation_of path) (number, packet) ≡ packet.size = ap (λ b. cond b packet.size 0) same in
+      let one : eliciting_in (generation_of path) (number, packet) ≡ eliciting_one packet = ap (λ b. cond (b && packet.ack_eliciting) 1 0) same in
+      let counted = enough entry refl in
+      let h = counted.0 in
+      let k = counted.1 in
+      let left = leaves (with_counters (with_packet (counters_of path) packet) path) entry.0 entry.1 (omega (arith, h)) (omega (arith, k)) in
+      let bytes = left.0 in
+      let count = left.1 in
+      (omega (arith, size, bytes), omega (arith, one, count), refl)
+
+  forgotten_enough : (forgotten : Option ℕ) (entry : ℕ × SentPacket) → entry_at (tracked_by spaces space) forgotten ≡ Some entry → (size_in (generation_of path) entry ≤ (counters_of path).bytes) × (eliciting_in (generation_of path) entry ≤ (counters_of path).ack_eliciting)
+  forgotten_enough None entry e = none_is_some entry e
+    where
+      none_is_some : (x : ℕ × SentPacket) → None ≡ Some x → (size_in (generation_of path) x ≤ (counters_of path).bytes) × (eliciting_in (generation_of path) x ≤ (counters_of path).ack_eliciting)
+      none_is_some x e = cc
+  forgotten_enough (Some number) entry e = go (packet_at (tracked_by spaces space) number) refl e
+    where
+      none_is_some : (x : ℕ × SentPacket) → None ≡ Some x → (size_in (generation_of path) x ≤ (counters_of path).bytes) × (eliciting_in (generation_of path) x ≤ (counters_of path).ack_eliciting)
+      none_is_some x e = cc
+
+      same_entry : (x y : ℕ × SentPacket) → Some x ≡ Some y → x ≡ y
+      same_entry x y e = cc
+
+      go : (found : Option SentPacket) → packet_at (tracked_by spaces space) number ≡ found → numbered number found ≡ Some entry → (size_in (generation_of path) entry ≤ (counters_of path).bytes) × (eliciting_in (generation_of path) entry ≤ (counters_of path).ack_eliciting)
+      go None absent f = none_is_some entry f
+      go (Some p) found f =
+          let P : ℕ × SentPacket → Type 0 = λ x. (size_in (generation_of path) x ≤ (counters_of path).bytes) × (eliciting_in (generation_of path) x ≤ (counters_of path).ack_eliciting) in
+          subst P (same_entry (number, p) entry f) (packet_enough spaces path balanced space number p found)
+
+  -- what is forgotten is among what is counted
+  pub forgotten_counted : (forgotten : Option ℕ) (entry : ℕ × SentPacket) → entry_at (tracked_by spaces space) forgotten ≡ Some entry → entry.1.path_generation ≡ generation_of path → IsCounted (counters_of path) entry.1
+  forgotten_counted forgotten entry e = let enough = forgotten_enough forgotten entry e in own_counted path entry.0 entry.1 enough.0 enough.1
+
+  pub balanced_sent : (here : PacketSpace) (forgotten : Option (ℕ × SentPacket)) → tracking_of here ≡ after_sending (next_number_of (space_of space spaces)) packet (tracking_of (space_of space spaces))
+      → next_number_of here ≡ next_number_of (space_of space spaces) + 1
+      → forgotten ≡ entry_at (tracked_by spaces space) (forgotten_number (tracking_of (space_of space spaces)).last_eliciting packet (tracked_by spaces space))
+      → IsBalanced (with_space spaces space here) (path_after_sending path packet forgotten)
+  balanced_sent here forgotten tracking next is =
+      let last = (tracking_of (space_of space spaces)).last_eliciting in
+      let number = next_number_of (space_of space spaces) in
+      let packets : packets_of here ≡ sent_onto last number packet (tracked_by spaces space) = ap (λ (t : Tracking). t.packets) tracking in
+      let sent = path_sent number forgotten (λ entry e. forgotten_enough (forgotten_number last packet (tracked_by spaces space)) entry (sym is ∙ e)) in
+      let sizes = sum-sent_onto (size_in (generation_of path)) last number packet (tracked_by spaces space) in
+      let elicitings = sum-sent_onto (eliciting_in (generation_of path)) last number packet (tracked_by spaces space) in
+      let here_sizes = ap (λ (es : Packets). sum_by (size_in (generation_of path)) es) packets in
+      let here_elicitings = ap (λ (es : Packets). sum_by (eliciting_in (generation_of path)) es) packets in
+      let gone_sizes = ap (gone (size_in (generation_of path))) is in
+      let gone_elicitings = ap (gone (eliciting_in (generation_of path))) is in
+      balanced_by spaces path balanced space here (path_after_sending path packet forgotten)
+      (gone (size_in (generation_of path)) forgotten) (size_in (generation_of path) (number, packet)) (gone (eliciting_in (generation_of path)) forgotten) (eliciting_in (generation_of path) (number, packet))
+      sent.2 (omega (arith, sizes, here_sizes, gone_sizes)) (omega (arith, elicitings, here_elicitings, gone_elicitings)) sent.0 sent.1
+      (sent_numbered (space_of space spaces) here packet (balanced.numbers space) tracking next)
+
+pub generation_after_sending : (path : PathData) (packet : SentPacket) (forgotten : Option (ℕ × SentPacket)) → generation_of (path_after_sending path packet forgotten) ≡ generation_of path
+generation_after_sending path packet None = refl
+generation_after_sending path packet (Some entry) = refl
+
+-- ---- a fresh start
+
+pub fresh_balanced : (spaces : PacketSpaces) (path : PathData) → ((space : SpaceId) → tracking_of (space_of space spaces) ≡ no_packets) → counters_of path ≡ record { bytes = 0; ack_eliciting = 0 } → IsBalanced spaces path
+fresh_balanced spaces path none zero = record {
+  counters = zero ∙ sym (same_counters (in_flight (generation_of path) (tracked_by spaces)) (record { bytes = 0; ack_eliciting = 0 }) (no_sum (size_in (generation_of path))) (no_sum (eliciting_in (generation_of path))));
+  numbers = λ space. record { packets = λ number packet found. no_packet_found space number packet found; last = λ m is. no_last space m is };
+}
+  where
+    empty : (space : SpaceId) → tracked_by spaces space ≡ []
+    empty space = ap (λ (t : Tracking). t.packets) (none space)
+
+    no_sum : (f : ℕ × SentPacket → ℕ) → over_spaces (λ s. sum_by f (tracked_by spaces s)) ≡ 0
+    no_sum f =
+        let a = ap (λ (es : Packets). sum_by f es) (empty Initial) in
+        let b = ap (λ (es : Packets). sum_by f es) (empty Handshake) in
+        let c = ap (λ (es : Packets). sum_by f es) (empty Data) in
+        omega (arith, a, b, c)
+
+    nothing : {A : Type 0} (packet : SentPacket) → None ≡ Some packet → A
+    nothing packet e = cc
+
+    nothing_last : {A : Type 0} (m : ℕ) → None ≡ Some m → A
+    nothing_last m e = cc
+
+    no_packet_found : (space : SpaceId) (number : ℕ) (packet : SentPacket) → packet_at (tracked_by spaces space) number ≡ Some packet → number < next_number_of (space_of space spaces)
+    no_packet_found space number packet found = nothing packet (ap (λ (es : Packets). packet_at es number) (sym (empty space)) ∙ found)
+
+    no_last : (space : SpaceId) (m : ℕ) → (tracking_of (space_of space spaces)).last_eliciting ≡ Some m → m < next_number_of (space_of space spaces)
+    no_last space m is = nothing_last m (ap (λ (t : Tracking). t.last_eliciting) (sym (none space)) ∙ is)

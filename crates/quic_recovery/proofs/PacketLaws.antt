@@ -10,7 +10,7 @@ use Rattle.std.specs.Map.{lookup, remove_entry}
 use Rattle.std.proofs.lemmas.List.Sums.{sum_by-cons, sum_by_push}
 use Rattle.std.proofs.lemmas.Map.Lookups.{exact_unsigned}
 use Rattle.quic_recovery.specs.declared.spaces.SentPacket.{SentPacket}
-use Rattle.quic_recovery.specs.Packets.{Packets, packet_at, without, AreBelow, HasSize, is_above, is_silent_above, silent_above, first_number}
+use Rattle.quic_recovery.specs.Packets.{Packets, packet_at, without, AreBelow, HasSize, is_above, is_silent_above, silent_above, first_number, forgotten_silent, forgotten_number, entry_at, entry_number, numbered}
 use Rattle.quic_recovery.specs.Counts.{silent_count, eliciting_count, size_count, AreCounted}
 
 -- ---- look-ups
@@ -20,6 +20,9 @@ number_at number other e = sym (exact_unsigned number other ((Equal-is (nat_cmp 
 
 at_itself : (number : ℕ) → is_at (nat_cmp number) number ≡ true
 at_itself number = ap is_eq (tied_itself nat_cmp_total number)
+
+no_number : {A : Type 0} (number : ℕ) → None ≡ Some number → A
+no_number number e = cc
 
 some_packet : (first second : SentPacket) → Some first ≡ Some second → first ≡ second
 some_packet first second e = cc
@@ -242,3 +245,43 @@ without-absent (entry ∷ packets) number absent = go (is_at (nat_cmp number) en
     go : (b : Bool) → cond b (Some entry.1) (packet_at packets number) ≡ None → (packet_at packets number ≡ None → without packets number ≡ packets) → cond b packets (entry ∷ without packets number) ≡ entry ∷ packets
     go true e later = no_packet entry.1 (sym e)
     go false e later = ap (λ (es : Packets). entry ∷ es) (later e)
+
+-- ---- the number that is forgotten is that of a packet
+
+pub first_found : (test : ℕ × SentPacket → Bool) (packets : Packets) (number : ℕ) → first_number (filter test packets) ≡ Some number → (packet : SentPacket) × (packet_at packets number ≡ Some packet)
+first_found test [] number e = no_number number e
+first_found test (entry ∷ packets) number e = go (test entry) e (first_found test packets number)
+  where
+    some_number : (m n : ℕ) → Some m ≡ Some n → m ≡ n
+    some_number m n e = cc
+
+    either : (b : Bool) → (packet : SentPacket) × (packet_at packets number ≡ Some packet) → (packet : SentPacket) × (cond b (Some entry.1) (packet_at packets number) ≡ Some packet)
+    either true found = (entry.1, refl)
+    either false found = found
+
+    go : (b : Bool) → first_number (cond b (entry ∷ filter test packets) (filter test packets)) ≡ Some number → (first_number (filter test packets) ≡ Some number → (packet : SentPacket) × (packet_at packets number ≡ Some packet))
+        → (packet : SentPacket) × (packet_at (entry ∷ packets) number ≡ Some packet)
+    go true f later =
+        let same : entry.0 ≡ number = some_number entry.0 number f in
+        let here : is_at (nat_cmp number) entry.0 ≡ true = ap (λ (n : ℕ). is_at (nat_cmp number) n) same ∙ at_itself number in
+        (entry.1, ap (λ b. cond b (Some entry.1) (packet_at packets number)) here)
+    go false f later = either (is_at (nat_cmp number) entry.0) (later f)
+
+forgotten_silent_found : (last : Option ℕ) (packets : Packets) (number : ℕ) → forgotten_silent last packets ≡ Some number → (packet : SentPacket) × (packet_at packets number ≡ Some packet)
+forgotten_silent_found last packets number e = go (nat_lt 1000 (length (silent_above last packets))) e
+  where
+    go : (b : Bool) → cond b (first_number (silent_above last packets)) None ≡ Some number → (packet : SentPacket) × (packet_at packets number ≡ Some packet)
+    go true f = first_found (is_silent_above last) packets number f
+    go false f = no_number number f
+
+-- the number that is handed back is the one that is forgotten
+pub entry_number_of : (last : Option ℕ) (packet : SentPacket) (packets : Packets) → entry_number (entry_at packets (forgotten_number last packet packets)) ≡ forgotten_number last packet packets
+entry_number_of last packet packets = eliciting packet.ack_eliciting
+  where
+    silent : (forgotten : Option ℕ) → forgotten_silent last packets ≡ forgotten → entry_number (entry_at packets forgotten) ≡ forgotten
+    silent None e = refl
+    silent (Some number) e = let found = forgotten_silent_found last packets number e in ap (λ r. entry_number (numbered number r)) found.1
+
+    eliciting : (b : Bool) → entry_number (entry_at packets (cond b None (forgotten_silent last packets))) ≡ cond b None (forgotten_silent last packets)
+    eliciting true = refl
+    eliciting false = silent (forgotten_silent last packets) refl
