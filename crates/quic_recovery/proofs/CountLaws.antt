@@ -1,6 +1,5 @@
 -- The counts beside the tracked packets, when one is sent or taken.
-use Rattle.std.proofs.Common.{◌≡◌, ℕ, ◌+◌, ◌-◌, ◌<◌, ◌≤◌, ◌==◌, ◌↔◌, IsTrue, subst, sym, ne_eqb, Bool, true, false, not, cond, ◌&&◌, nat_lt, List, [], ◌∷◌, ◌++◌, length, ◌^◌, Option, None, Some, IfSome, refl, ap, ◌∙◌, arith, lt-ltb, le-ltb, ltb-true, ltb-false, filter}
-use Rattle.std.specs.Prelude.{sum_by}
+use Rattle.std.proofs.Common.{◌≡◌, ℕ, ◌+◌, ◌-◌, ◌<◌, ◌≤◌, ◌==◌, ◌↔◌, IsTrue, subst, sym, ne_eqb, Bool, true, false, not, cond, ◌&&◌, nat_lt, [], ◌∷◌, ◌++◌, length, ◌^◌, Option, None, Some, refl, ap, ◌∙◌, arith, lt-ltb, le-ltb, ltb-true, ltb-false, filter}
 use Rattle.std.proofs.lemmas.List.Sums.{sum_by_push}
 use Rattle.quic_recovery.specs.declared.spaces.SentPacket.{SentPacket}
 use Rattle.quic_recovery.specs.Packets.{Packets, Tracking, IsAboveLast, packet_at, without, HasSize, is_above, silent_above, first_number, forgotten_silent, forgotten_number, without_some, after_sending}

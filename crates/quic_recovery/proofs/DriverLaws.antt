@@ -1,13 +1,12 @@
 -- What an event does to one space is a step of all three.
-use Rattle.std.proofs.Common.{◌≡◌, ℕ, ◌≤◌, ◌<◌, ◌^◌, ap₂, arith, Bool, true, false, IsTrue, Option, None, Some, IfOk, OnErr, Ok, Err, refl, sym, ap, subst, ◌∙◌}
+use Rattle.std.proofs.Common.{◌≡◌, ℕ, ◌<◌, ◌^◌, ap₂, arith, Bool, false, IsTrue, Option, IfOk, OnErr, Ok, Err, refl, sym, ap, subst, ◌∙◌}
 use Rattle.recovery_base.specs.declared.below.SpaceId.{SpaceId}
 use Rattle.recovery_base.specs.declared.below.SpaceId.TheVariants.{Initial, Handshake, Data}
 use Rattle.recovery_base.specs.Received.{Has}
 use Rattle.quic_recovery.specs.declared.driver.Recovery.{Recovery}
-use Rattle.quic_recovery.specs.declared.event.Event.{Event}
 use Rattle.quic_recovery.specs.declared.event.Event.TheVariants.{Received, Send}
 use Rattle.quic_recovery.specs.declared.event.Answer.TheVariants.{New, Sent}
-use Rattle.quic_recovery.specs.declared.event.Refusal.TheVariants.{NoMemory, NumberTooLarge, SpaceDiscarded}
+use Rattle.quic_recovery.specs.declared.event.Refusal.TheVariants.{NoMemory, NumberTooLarge}
 use Rattle.quic_recovery.specs.declared.spaces.PacketSpace.{PacketSpace}
 use Rattle.quic_recovery.specs.declared.spaces.PacketSpaces.{PacketSpaces}
 use Rattle.quic_recovery.specs.History.{Reply}
@@ -18,7 +17,7 @@ use Rattle.quic_recovery.specs.Tracked.{packet_sent}
 use Rattle.quic_recovery.specs.Paths.{generation_of}
 use Rattle.quic_recovery.specs.Received.{ReceivedReply}
 use Rattle.quic_recovery.specs.Spaces.{space_of, with_space, tracking_of, next_number_of, SpaceReceives, space_sends}
-use Rattle.quic_recovery.specs.State.{Changes, IsUnchanged, spaces_of, discarded_of, path_of, timers_of, known_to}
+use Rattle.quic_recovery.specs.State.{Changes, spaces_of, discarded_of, path_of, timers_of, known_to}
 use Rattle.quic_recovery.specs.Steps.{ChangesOne, SpacesStep}
 use Rattle.quic_recovery.specs.Discarded.{is_discarded}
 use Rattle.quic_recovery.specs.Told.{ToldBy}

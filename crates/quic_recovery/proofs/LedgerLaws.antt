@@ -1,8 +1,6 @@
 -- The path's counters stay the sums over the tracked packets.
-use Rattle.std.proofs.Common.{◌≡◌, ℕ, ◌+◌, ◌-◌, ◌<◌, ◌≤◌, ◌==◌, Bool, true, false, cond, ◌&&◌, List, [], ◌∷◌, ◌++◌, Option, None, Some, refl, sym, ap, ap₂, subst, ◌∙◌, arith, eq-eqb}
+use Rattle.std.proofs.Common.{◌≡◌, ℕ, ◌+◌, ◌<◌, ◌≤◌, ◌==◌, Bool, true, false, cond, ◌&&◌, [], ◌∷◌, Option, None, Some, refl, sym, ap, ap₂, subst, ◌∙◌, arith, eq-eqb}
 use Rattle.std.specs.Prelude.{sum_by}
-use Rattle.std.specs.Ordering.{nat_cmp}
-use Rattle.std.specs.BTreeMap.{is_at}
 use Rattle.std.proofs.lemmas.List.Sums.{sum_by-cons, sum_by_push}
 use Rattle.recovery_base.specs.declared.below.SpaceId.{SpaceId}
 use Rattle.recovery_base.specs.declared.below.SpaceId.TheVariants.{Initial, Handshake, Data}
@@ -13,7 +11,7 @@ use Rattle.quic_recovery.specs.declared.spaces.PacketSpaces.{PacketSpaces}
 use Rattle.quic_recovery.specs.declared.spaces.SentPacket.{SentPacket}
 use Rattle.quic_recovery.specs.InFlight.{size_in, eliciting_in, over_spaces, in_flight, eliciting_one, with_packet, without_packet, IsCounted, IsCountedIn}
 use Rattle.quic_recovery.specs.Ledger.{tracked_by, IsBalanced}
-use Rattle.quic_recovery.specs.Packets.{Packets, Tracking, no_packets, packet_at, without, without_some, forgotten_number, sent_onto, entry_at, numbered, AreBelow, IsAboveLast, after_sending, after_taking}
+use Rattle.quic_recovery.specs.Packets.{Packets, Tracking, no_packets, packet_at, without, without_some, forgotten_number, sent_onto, entry_at, numbered, AreBelow, after_sending, after_taking}
 use Rattle.quic_recovery.specs.Paths.{generation_of, counters_of, with_counters, counters_left, after_leaving, path_after_sending}
 use Rattle.quic_recovery.specs.Spaces.{space_of, with_space, tracking_of, packets_of, next_number_of, IsNumbered, space_empties}
 use Rattle.quic_recovery.proofs.PacketLaws.{sum-without, found-le-sum, AllBelow, all_below, are_below, AllBelow-without, AllBelow-push, without-absent}

@@ -1,17 +1,15 @@
 -- Tracked packets: what sums over them and look-ups among them do when one is sent or taken.
-use Rattle.std.proofs.Common.{◌≡◌, ◌≢◌, ℕ, ◌+◌, ◌-◌, ◌*◌, ◌<◌, ◌≤◌, ◌==◌, ◌⊎◌, inl, inr, ◌↔◌, Bool, true, false, not, cond, ◌&&◌, nat_lt, List, [], ◌∷◌, ◌++◌, length, filter, Option, None, Some, IfSome, refl, sym, ap, subst, ◌∙◌, arith, ltb-true, lt-ltb, le-ltb, eqb-true, ne_eqb}
+use Rattle.std.proofs.Common.{◌≡◌, ◌≢◌, ℕ, ◌+◌, ◌<◌, ◌≤◌, ◌==◌, inl, inr, Bool, true, false, not, cond, ◌&&◌, nat_lt, [], ◌∷◌, ◌++◌, length, filter, Option, None, Some, refl, sym, ap, ◌∙◌, arith, ne_eqb}
 use Rattle.std.specs.Prelude.{sum_by}
 use Rattle.std.specs.Ordering.{nat_cmp, is_eq, match_ordering}
-use Rattle.std.specs.declared.cmp.Ordering.{Ordering}
-use Rattle.std.specs.declared.cmp.Ordering.TheVariants.{Less, Equal, Greater}
+use Rattle.std.specs.declared.cmp.Ordering.TheVariants.{Greater}
 use Rattle.std.specs.Cmp.{nat_cmp_is, nat_cmp_total, Equal-is, tied_itself}
 use Rattle.std.specs.BTreeMap.{is_at, insert_entry}
-use Rattle.std.specs.Map.{lookup, remove_entry}
-use Rattle.std.proofs.lemmas.List.Sums.{sum_by-cons, sum_by_push}
+use Rattle.std.proofs.lemmas.List.Sums.{sum_by-cons}
 use Rattle.std.proofs.lemmas.Map.Lookups.{exact_unsigned}
 use Rattle.quic_recovery.specs.declared.spaces.SentPacket.{SentPacket}
 use Rattle.quic_recovery.specs.Packets.{Packets, packet_at, without, AreBelow, HasSize, is_above, is_silent_above, silent_above, first_number, forgotten_silent, forgotten_number, entry_at, entry_number, numbered}
-use Rattle.quic_recovery.specs.Counts.{silent_count, eliciting_count, size_count, AreCounted}
+use Rattle.quic_recovery.specs.Counts.{silent_count, eliciting_count, size_count}
 
 -- ---- look-ups
 

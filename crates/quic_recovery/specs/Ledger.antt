@@ -1,5 +1,5 @@
 -- What ties the parts of a recovery together.
-use Rattle.std.specs.Prelude.{◌≡◌, ℕ, ◌<◌, Some}
+use Rattle.std.specs.Prelude.{◌≡◌}
 use Rattle.recovery_base.specs.declared.below.SpaceId.{SpaceId}
 use Rattle.quic_recovery.specs.declared.paths.PathData.{PathData}
 use Rattle.quic_recovery.specs.declared.spaces.PacketSpaces.{PacketSpaces}

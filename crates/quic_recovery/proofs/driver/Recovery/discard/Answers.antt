@@ -1,4 +1,4 @@
-use Rattle.std.proofs.Common.{sym, ap, subst, ◌∙◌}
+use Rattle.std.proofs.Common.{ap, subst, ◌∙◌}
 use Rattle.quic_recovery.specs.declared.spaces.PacketSpace.{PacketSpace}
 use Rattle.quic_recovery.specs.InFlight.{SumsLeave}
 use Rattle.quic_recovery.specs.Paths.{generation_of, counters_of}

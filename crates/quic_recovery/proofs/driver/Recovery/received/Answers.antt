@@ -2,7 +2,7 @@ use Rattle.std.proofs.Common.{refl, sym, ap, subst, ◌∙◌, IsTrue, IfOk, OnE
 use Rattle.recovery_base.specs.Received.{Has}
 use Rattle.quic_recovery.specs.declared.spaces.PacketSpace.{PacketSpace}
 use Rattle.quic_recovery.specs.Received.{ReceivedReply}
-use Rattle.quic_recovery.specs.Spaces.{space_of, tracking_of, next_number_of, SpaceReceives}
+use Rattle.quic_recovery.specs.Spaces.{tracking_of, next_number_of, SpaceReceives}
 use Rattle.quic_recovery.proofs.DriverLaws.{received_changes, received_keeps}
 use Rattle.quic_recovery.proofs.LedgerLaws.{balanced_kept}
 use Rattle.quic_recovery.proofs.driver.Recovery.received.Goals as goal

@@ -1,4 +1,4 @@
-use Rattle.std.proofs.Common.{ℕ, arith, sym, ap, ◌∙◌}
+use Rattle.std.proofs.Common.{arith, sym, ap, ◌∙◌}
 use Rattle.quic_recovery.specs.declared.paths.InFlight.{InFlight}
 use Rattle.quic_recovery.proofs.paths.PathData.sent.Goals as goal
 

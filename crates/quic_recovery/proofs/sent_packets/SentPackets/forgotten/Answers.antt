@@ -1,4 +1,4 @@
-use Rattle.std.proofs.Common.{ℕ, sym, ap, ◌∙◌, arith}
+use Rattle.std.proofs.Common.{sym, ap, ◌∙◌, arith}
 use Rattle.quic_recovery.specs.Packets.{Tracking, forgotten_number}
 use Rattle.quic_recovery.proofs.CountLaws.{forgotten_is, none_forgotten, forgotten_eliciting, forgotten_of_silent}
 use Rattle.quic_recovery.proofs.sent_packets.SentPackets.forgotten.Goals as goal

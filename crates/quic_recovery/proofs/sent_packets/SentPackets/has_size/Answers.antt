@@ -1,4 +1,3 @@
-use Rattle.std.proofs.Common.{◌≡◌, ℕ, sym, ap, ◌∙◌}
 use Rattle.quic_recovery.proofs.CountLaws.{has_size_counted}
 use Rattle.quic_recovery.proofs.sent_packets.SentPackets.has_size.Goals as goal
 

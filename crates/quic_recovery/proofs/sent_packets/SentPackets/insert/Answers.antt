@@ -1,11 +1,11 @@
-use Rattle.std.proofs.Common.{◌≡◌, ℕ, ◌≤◌, List, [], ◌∷◌, ◌++◌, length, Option, None, Some, IfSome, true, false, ◌<◌, refl, sym, ap, subst, ◌∙◌, arith}
+use Rattle.std.proofs.Common.{◌≡◌, ℕ, ◌≤◌, [], ◌∷◌, ◌++◌, length, Option, None, Some, true, false, sym, ap, subst, ◌∙◌, arith}
 use Rattle.std.specs.Ordering.{nat_cmp}
 use Rattle.std.specs.BTreeMap.{insert_entry}
 use Rattle.quic_recovery.specs.declared.spaces.SentPacket.{SentPacket}
-use Rattle.quic_recovery.specs.Packets.{Packets, Tracking, IsAboveLast, packet_at, without, AreBelow, silent_above, is_above, forgotten_silent, forgotten_number, without_some, after_sending, entry_at, numbered}
+use Rattle.quic_recovery.specs.Packets.{Packets, Tracking, IsAboveLast, packet_at, without, AreBelow, silent_above, is_above, forgotten_silent, forgotten_number, after_sending, entry_at, numbered}
 use Rattle.quic_recovery.specs.Counts.{AreCounted, size_count}
 use Rattle.quic_recovery.proofs.PacketLaws.{insert_at_end, all_below, without-append, packet_at-append}
-use Rattle.quic_recovery.proofs.CountLaws.{counted_eliciting, counted_silent, counted_forgetting, counted_enough, silent_bound, silent_few, sized_fits, forgotten_found, forgotten_eliciting, forgotten_of_silent, sent_eliciting, sent_silent}
+use Rattle.quic_recovery.proofs.CountLaws.{counted_eliciting, counted_silent, counted_forgetting, counted_enough, silent_bound, silent_few, sized_fits, forgotten_found, forgotten_of_silent, sent_eliciting, sent_silent}
 use Rattle.quic_recovery.proofs.sent_packets.SentPackets.insert.Goals as goal
 
 -- the packets with one more at their end
