@@ -1,10 +1,11 @@
 //! The words of a line, read one after the other.
 ghost use Rattle.std.specs.Prelude.{◌≡◌, ◌^◌};
-ghost use Rattle.recovery_replay.specs.Words.{Reads, words_of, words_left, first_word, field, flag_of, space_of, timer_of, number_of};
+ghost use Rattle.recovery_replay.specs.Words.{words_of};
+ghost use Rattle.recovery_replay.specs.Reading.{Reads, words_left, first_word, field, flag_of, space_of, timer_of, number_of};
 
-use quic_recovery::below::SpaceId;
-use quic_recovery::time::Instant;
-use quic_recovery::timer::Timer;
+use recovery_base::below::SpaceId;
+use recovery_base::time::Instant;
+use recovery_base::timer::Timer;
 
 /// The number that a word spells: digits without a sign and without leading zeros.
 pub fn number_in(word: &str) -> Option<u64>
@@ -16,7 +17,7 @@ pub fn number_in(word: &str) -> Option<u64>
     word.parse().ok()
 }
 
-#[tactic(auto, unfolding(crate::specs::Words::flag_of))]
+#[tactic(auto, unfolding(crate::specs::Reading::flag_of))]
 fn flag_in(word: &str) -> Option<bool>
     ensures { result ≡ flag_of word.now }
 {
@@ -27,7 +28,7 @@ fn flag_in(word: &str) -> Option<bool>
     }
 }
 
-#[tactic(auto, unfolding(crate::specs::Words::space_of))]
+#[tactic(auto, unfolding(crate::specs::Reading::space_of))]
 fn space_in(word: &str) -> Option<SpaceId>
     ensures { result ≡ space_of word.now }
 {
@@ -39,7 +40,7 @@ fn space_in(word: &str) -> Option<SpaceId>
     }
 }
 
-#[tactic(auto, unfolding(crate::specs::Words::timer_of))]
+#[tactic(auto, unfolding(crate::specs::Reading::timer_of))]
 fn timer_in(word: &str) -> Option<Timer>
     ensures { result ≡ timer_of word.now }
 {
@@ -87,35 +88,35 @@ impl<'a> Words<'a> {
         }
     }
 
-    #[tactic(auto, unfolding(crate::specs::Words::field))]
+    #[tactic(auto, unfolding(crate::specs::Reading::field))]
     pub fn number(&mut self) -> Option<u64>
         ensures { Reads (λ n. n) result (words_left self.new) (field (number_of (2 ^ 64)) (words_left self.old)) }
     {
         number_in(self.next()?)
     }
 
-    #[tactic(auto, unfolding(crate::specs::Words::field))]
+    #[tactic(auto, unfolding(crate::specs::Reading::field))]
     pub fn moment(&mut self) -> Option<Instant>
         ensures { Reads (λ n. n) result (words_left self.new) (field (number_of (2 ^ 64)) (words_left self.old)) }
     {
         Some(Instant::from_nanos(self.number()?))
     }
 
-    #[tactic(auto, unfolding(crate::specs::Words::field))]
+    #[tactic(auto, unfolding(crate::specs::Reading::field))]
     pub fn flag(&mut self) -> Option<bool>
         ensures { Reads (λ n. n) result (words_left self.new) (field flag_of (words_left self.old)) }
     {
         flag_in(self.next()?)
     }
 
-    #[tactic(auto, unfolding(crate::specs::Words::field))]
+    #[tactic(auto, unfolding(crate::specs::Reading::field))]
     pub fn space(&mut self) -> Option<SpaceId>
         ensures { Reads (λ n. n) result (words_left self.new) (field space_of (words_left self.old)) }
     {
         space_in(self.next()?)
     }
 
-    #[tactic(auto, unfolding(crate::specs::Words::field))]
+    #[tactic(auto, unfolding(crate::specs::Reading::field))]
     pub fn timer(&mut self) -> Option<Timer>
         ensures { Reads (λ n. n) result (words_left self.new) (field timer_of (words_left self.old)) }
     {
