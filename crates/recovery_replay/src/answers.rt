@@ -6,7 +6,7 @@ use quic_recovery::event::{Answer, Refusal};
 use recovery_base::below::NoMemory;
 use std::alloc::{AllocError, Global};
 
-/// Appends the line of what an event came to. Where memory is refused an unfinished line may stand behind the text.
+/// Appends the line of what an event came to. The one refusal is want of memory; nothing is then promised of the text.
 pub fn write_reply(text: &mut String, reply: &Result<Answer, Refusal>) -> Result<(), AllocError>
     ensures { OnOk result (string_bytes text.new ≡ string_bytes text.old ++ answer_line reply.now) }
 {

@@ -7,7 +7,7 @@ use recovery_base::below::SpaceId;
 use recovery_base::time::Instant;
 use recovery_base::timer::Timer;
 
-/// The number that a word spells: digits without a sign and without leading zeros.
+/// The number that a word spells, 0 to `u64::MAX`: digits without a sign and without leading zeros.
 pub fn number_in(word: &str) -> Option<u64>
     ensures { result ≡ number_of (2 ^ 64) word.now }
 {
@@ -65,13 +65,14 @@ pub struct Words<'a> {
 }
 
 impl<'a> Words<'a> {
+    /// The words of a line: what stands between its spaces. A line with no byte has one word, the empty one.
     pub fn new(line: &'a str) -> Self
         ensures { words_left result ≡ words_of line.now }
     {
         Words { rest: Some(line) }
     }
 
-    /// The next word.
+    /// The next word; `None` behind the last one.
     pub fn next(&mut self) -> Option<&'a str>
         ensures { Reads (λ s. s.now) result (words_left self.new) (first_word (words_left self.old)) }
     {
@@ -88,6 +89,7 @@ impl<'a> Words<'a> {
         }
     }
 
+    /// The next word as a number, 0 to `u64::MAX`.
     #[tactic(auto, unfolding(crate::specs::Reading::field))]
     pub fn number(&mut self) -> Option<u64>
         ensures { Reads (λ n. n) result (words_left self.new) (field (number_of (2 ^ 64)) (words_left self.old)) }
@@ -95,6 +97,7 @@ impl<'a> Words<'a> {
         number_in(self.next()?)
     }
 
+    /// The next word as a moment: nanoseconds, 0 to `u64::MAX`.
     #[tactic(auto, unfolding(crate::specs::Reading::field))]
     pub fn moment(&mut self) -> Option<Instant>
         ensures { Reads (λ n. n) result (words_left self.new) (field (number_of (2 ^ 64)) (words_left self.old)) }
@@ -102,6 +105,7 @@ impl<'a> Words<'a> {
         Some(Instant::from_nanos(self.number()?))
     }
 
+    /// The next word as a flag: 0 or 1.
     #[tactic(auto, unfolding(crate::specs::Reading::field))]
     pub fn flag(&mut self) -> Option<bool>
         ensures { Reads (λ n. n) result (words_left self.new) (field flag_of (words_left self.old)) }
@@ -109,6 +113,7 @@ impl<'a> Words<'a> {
         flag_in(self.next()?)
     }
 
+    /// The next word as a packet number space: `initial`, `handshake` or `data`.
     #[tactic(auto, unfolding(crate::specs::Reading::field))]
     pub fn space(&mut self) -> Option<SpaceId>
         ensures { Reads (λ n. n) result (words_left self.new) (field space_of (words_left self.old)) }
@@ -116,6 +121,7 @@ impl<'a> Words<'a> {
         space_in(self.next()?)
     }
 
+    /// The next word as a timer, by its name in small letters with hyphens.
     #[tactic(auto, unfolding(crate::specs::Reading::field))]
     pub fn timer(&mut self) -> Option<Timer>
         ensures { Reads (λ n. n) result (words_left self.new) (field timer_of (words_left self.old)) }
