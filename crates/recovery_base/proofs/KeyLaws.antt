@@ -1,15 +1,13 @@
 -- A tree of numbers, as the set of its keys.
-use Rattle.std.proofs.Common.{◌≡◌, ℕ, ◌+◌, ◌-◌, ◌≤◌, inl, inr, ◌↔◌, Bool, true, false, cond, ◌&&◌, ◌||◌, IsTrue, List, [], ◌∷◌, filter, nat_le, sym, ◌∙◌, ap, subst, refl, arith}
+use Rattle.std.proofs.Common.{◌≡◌, ℕ, ◌+◌, ◌-◌, ◌≤◌, ◌<◌, inl, inr, ◌↔◌, Bool, true, false, cond, ◌||◌, IsTrue, if◌then◌else◌, Option, None, Some, IsSome, IfSome, List, [], ◌∷◌, length, sym, ◌∙◌, ap, subst, refl, arith}
 use Rattle.std.specs.Ordering.{nat_cmp, eq_by_cmp, is_eq}
 use Rattle.std.specs.BTreeMap.{is_at}
 use Rattle.std.specs.List.{list_any}
-use Rattle.std.specs.BTreeSet.{BTreeSet, contains, IsUpperBound}
+use Rattle.std.specs.BTreeSet.{BTreeSet, contains, IsLowerBound, IsUpperBound, Updates}
 use Rattle.std.specs.FinSet as set
-use Rattle.std.specs.Cmp.{nat_cmp_total, Equal-is, tied_itself, eq_by_cmp_equiv}
-use Rattle.std.proofs.lemmas.Map.Keys.{ge_from_not_lt}
-use Rattle.std.proofs.lemmas.Map.Made.{is_member-filter}
+use Rattle.std.specs.Cmp.{nat_cmp_total, Equal-is, tied_itself}
+use Rattle.std.proofs.lemmas.Map.Keys.{ge_from_not_lt, le_from_not_gt}
 use Rattle.std.proofs.lemmas.Map.Lookups.{exact_unsigned}
-use Rattle.std.proofs.lemmas.Bool.{leb-true, le-leb}
 use Rattle.recovery_base.specs.Numbers.{IsNew, IsInWindow, Recent, With}
 use Rattle.recovery_base.specs.Keys.{Keys}
 use Rattle.recovery_base.proofs.WindowLaws.{HasGreatest, greatest_alike, greatest_with, flip, recent_where_alike}
@@ -20,31 +18,63 @@ keys_of tree value is q =
     let e : set.contains value q ≡ contains nat_cmp tree q = ap (λ v. set.contains v q) (sym is) ∙ set.contains-from_list nat_cmp_total tree.keys q in
     (λ h. subst IsTrue (sym e) h, λ h. subst IsTrue e h)
 
-and_true : (a b : Bool) → (a && b) ≡ true → (a ≡ true) × (b ≡ true)
-and_true true b e = (refl, e)
-and_true false b e = cc
+-- what a cut from below has left so far: only numbers of the tree, and all of those from the floor on
+pub record CutSoFar (old : BTreeSet ℕ) (floor : ℕ) (left : BTreeSet ℕ) : Type 0 where
+  pub only : (q : ℕ) → Keys left q → Keys old q
+  pub all : (q : ℕ) → Keys old q → floor ≤ q → Keys left q
 
--- what a retain of the numbers at most 128 below the greatest leaves
-pub cut_leaves : (old new : BTreeSet ℕ) (greatest : ℕ) → new.keys ≡ filter (λ m. nat_le (greatest - m) 128) old.keys → Keys old greatest → IsUpperBound nat_cmp old greatest → (q : ℕ) → Keys new q ↔ Recent (Keys old) q
-cut_leaves old new greatest kept in_set upper q = (λ h. (old_has h, λ m here. within h m here), λ r. back r.0 (r.1 greatest in_set))
+pub uncut : (old : BTreeSet ℕ) (floor : ℕ) → CutSoFar old floor old
+uncut old floor = record { only = λ q here. here; all = λ q here above. here }
+
+-- a number below the floor goes
+pub cut_one : (old mid new : BTreeSet ℕ) (floor least : ℕ) → CutSoFar old floor mid → least < floor → ((q : ℕ) → contains nat_cmp new q ≡ cond (is_at (nat_cmp least) q) false (contains nat_cmp mid q)) → CutSoFar old floor new
+cut_one old mid new floor least so_far below updates = record {
+  only = λ q here. so_far.only q (kept q (is_at (nat_cmp least) q) refl here);
+  all = λ q here above. stays q above (is_at (nat_cmp least) q) refl (so_far.all q here above);
+}
   where
-    test : ℕ → Bool
-    test = λ m. nat_le (greatest - m) 128
+    kept : (q : ℕ) (b : Bool) → is_at (nat_cmp least) q ≡ b → Keys new q → Keys mid q
+    kept q true e here = absurd (false_is_not_true (sym (updates q ∙ ap (λ b. cond b false (contains nat_cmp mid q)) e) ∙ here))
+      where
+        false_is_not_true : false ≡ true → ⊥
+        false_is_not_true e = cc
+    kept q false e here = sym (updates q ∙ ap (λ b. cond b false (contains nat_cmp mid q)) e) ∙ here
 
-    is : contains nat_cmp new q ≡ (contains nat_cmp old q && nat_le (greatest - q) 128)
-    is = ap (λ ks. list_any (eq_by_cmp nat_cmp q) ks) kept ∙ is_member-filter (eq_by_cmp_equiv nat_cmp_total) (λ m. nat_le (greatest - m) 128) q (λ x e. ap (λ m. nat_le (greatest - m) 128) (exact_unsigned q x ((Equal-is (nat_cmp q x)).0 e))) old.keys
+    stays : (q : ℕ) → floor ≤ q → (b : Bool) → is_at (nat_cmp least) q ≡ b → Keys mid q → Keys new q
+    stays q above true e here = let same : least ≡ q = exact_unsigned least q ((Equal-is (nat_cmp least q)).0 e) in absurd (omega arith)
+    stays q above false e here = updates q ∙ ap (λ b. cond b false (contains nat_cmp mid q)) e ∙ here
 
-    both : Keys new q → (contains nat_cmp old q ≡ true) × (nat_le (greatest - q) 128 ≡ true)
-    both h = and_true (contains nat_cmp old q) (nat_le (greatest - q) 128) (sym is ∙ h)
+-- what is left is the window, where the floor lies 128 below the greatest
+pub cut_leaves : (old left : BTreeSet ℕ) (greatest : ℕ) → CutSoFar old (greatest - 128) left → ((q : ℕ) → Keys left q → greatest - 128 ≤ q) → Keys old greatest → IsUpperBound nat_cmp old greatest → (q : ℕ) → Keys left q ↔ Recent (Keys old) q
+cut_leaves old left greatest so_far from_floor in_set upper q = (
+  λ here. (so_far.only q here, λ m there. within (from_floor q here) m there),
+  λ r. let close : greatest ≤ q + 128 = r.1 greatest in_set in so_far.all q r.0 (omega arith),
+)
+  where
+    within : greatest - 128 ≤ q → (m : ℕ) → Keys old m → m ≤ q + 128
+    within above m there = let b : m ≤ greatest = ge_from_not_lt greatest m (upper m there) in omega arith
 
-    old_has : Keys new q → Keys old q
-    old_has h = (both h).0
+-- all numbers lie at or above the least
+pub from_least : (tree : BTreeSet ℕ) (least floor : ℕ) → IsLowerBound nat_cmp tree least → floor ≤ least → (q : ℕ) → Keys tree q → floor ≤ q
+from_least tree least floor lower above q here = let b : least ≤ q = le_from_not_gt least q (lower q here) in omega arith
 
-    within : Keys new q → (m : ℕ) → Keys old m → m ≤ q + 128
-    within h m here = let a : greatest - q ≤ 128 = leb-true (greatest - q) 128 (both h).1 in let b : m ≤ greatest = ge_from_not_lt greatest m (upper m here) in omega arith
+-- the least number goes, where it lies below the floor
+pub cut_popped : (old mid new : BTreeSet ℕ) (floor least : ℕ) (popped : Option ℕ) → CutSoFar old floor mid → Keys mid least → least < floor → IsSome popped → IfSome popped (IsLowerBound nat_cmp mid) → IfSome popped (λ k. Updates nat_cmp mid new k false) → CutSoFar old floor new
+cut_popped old mid new floor least None so_far member below some lower updates = cc
+cut_popped old mid new floor least (Some k) so_far member below some lower updates =
+    let at_most : k ≤ least = le_from_not_gt k least (lower least member) in cut_one old mid new floor k so_far (omega arith) updates.0
 
-    back : Keys old q → greatest ≤ q + 128 → Keys new q
-    back here close = let a : greatest - q ≤ 128 = omega arith in is ∙ ap (λ b. b && nat_le (greatest - q) 128) here ∙ le-leb (greatest - q) 128 a
+pub pop_shrinks : (less more : ℕ) (some : Bool) → some ≡ true → less + (if some then 1 else 0) ≡ more → less < more
+pop_shrinks less more true e sum = omega arith
+pop_shrinks less more false e sum = cc
+
+-- a tree without numbers
+pub no_number : (tree : BTreeSet ℕ) (floor : ℕ) → (¬ (0 < length tree.keys)) → (q : ℕ) → Keys tree q → floor ≤ q
+no_number tree floor none q here = absurd (go tree.keys none here)
+  where
+    go : (ks : List ℕ) → (¬ (0 < length ks)) → IsTrue (list_any (eq_by_cmp nat_cmp q) ks) → ⊥
+    go [] none here = cc
+    go (k ∷ ks) none here = none (omega arith)
 
 -- a number that the tree lacks, and that is not too old, is new
 pub lacking_is_new : (tree : BTreeSet ℕ) (n : ℕ) (found : Bool) → found ≡ contains nat_cmp tree n → found ≡ false → IsInWindow (Keys tree) n → IsNew (Keys tree) n
