@@ -1,5 +1,5 @@
 -- How the parser goes over the words of a line. What a line means is said by the grammar in Lines.antt alone.
-use Rattle.std.specs.Prelude.{◌≡◌, ℕ, ◌<◌, ◌^◌, ◌==◌, nat_lt, ◌&&◌, Bool, true, false, List, [], ◌∷◌, ◌++◌, length, Option, Some, None, option_and_then, if◌then◌else◌, bytes_eq, decimal}
+use Rattle.std.specs.Prelude.{◌≡◌, ℕ, ◌<◌, ◌^◌, ◌==◌, nat_lt, ◌&&◌, Bool, true, false, List, [], ◌∷◌, ◌++◌, length, IfSome, Option, Some, None, option_and_then, if◌then◌else◌, bytes_eq, decimal}
 use Rattle.std.specs.Str.Parse.{digits_value}
 use lib.Chars.{codes}
 use Rattle.recovery_base.specs.declared.below.SpaceId.{SpaceId}
@@ -7,9 +7,11 @@ use Rattle.recovery_base.specs.declared.below.SpaceId.TheVariants.{Initial, Hand
 use Rattle.recovery_base.specs.declared.timer.Timer.{Timer}
 use Rattle.recovery_base.specs.declared.timer.Timer.TheVariants.{LossDetection, Idle, Close, KeyDiscard, PathValidation, KeepAlive, Pacing, PushNewCid, MaxAckDelay}
 use Rattle.quic_recovery.specs.declared.event.Event.{Event}
-use Rattle.quic_recovery.specs.declared.event.Event.TheVariants.{Received, SetTimer, StopTimer, NextTimeout}
+use Rattle.quic_recovery.specs.declared.event.Event.TheVariants.{Received, Send, Acked, Lost, SetTimer, StopTimer, NextTimeout, DiscardSpace, InFlight}
+use Rattle.quic_recovery.specs.declared.event.PathName.{PathName}
+use Rattle.quic_recovery.specs.declared.event.PathName.TheVariants.{Current, Previous}
 use Rattle.recovery_replay.specs.declared.words.Words.{Words}
-use Rattle.recovery_replay.specs.Words.{words_of, flag_word, space_word, timer_word}
+use Rattle.recovery_replay.specs.Words.{words_of, flag_word, space_word, timer_word, path_word, largest_word}
 
 -- ---- a field
 
@@ -41,9 +43,19 @@ timer_names = (codes "loss-detection", LossDetection) ∷ (codes "idle", Idle) �
 unfoldable pub timer_of : List ℕ → Option Timer
 timer_of = named timer_names
 
+abbrev pub path_names : List (List ℕ × PathName)
+path_names = (codes "current", Current) ∷ (codes "previous", Previous) ∷ []
+
+unfoldable pub path_of : List ℕ → Option PathName
+path_of = named path_names
+
 -- the number below a limit whose decimal digits the word is
 unfoldable pub number_of : ℕ → List ℕ → Option ℕ
 number_of limit word = let n = digits_value 10 word in if nat_lt n limit && bytes_eq (decimal n) word then Some n else None
+
+-- a number, or none
+unfoldable pub largest_of : List ℕ → Option (Option ℕ)
+largest_of word = if bytes_eq word (codes "-") then Some None else (number_of (2 ^ 64) word >>= λ n. Some (Some n))
 
 -- ---- reading words from the left
 
@@ -105,12 +117,30 @@ timer_part = word_part timer_word (λ x. Unit {0}) timer_of
 abbrev pub u64_part : Part ℕ
 u64_part = word_part decimal (λ n. n < 2 ^ 64) (number_of (2 ^ 64))
 
+abbrev pub u16_part : Part ℕ
+u16_part = word_part decimal (λ n. n < 2 ^ 16) (number_of (2 ^ 16))
+
+abbrev pub path_part : Part PathName
+path_part = word_part path_word (λ x. Unit {0}) path_of
+
+abbrev pub largest_part : Part (Option ℕ)
+largest_part = word_part largest_word (λ l. IfSome l (λ n. n < 2 ^ 64)) largest_of
+
 -- the event that is made of what a part reads
 abbrev pub reading : {A : Type 0} → (A → Event) → Part A → List (List ℕ) → Option (Event × List (List ℕ))
 reading make part words = part.read words >>= λ x. Some (make x.0, x.1)
 
 unfoldable pub received_at : List (List ℕ) → Option (Event × List (List ℕ))
 received_at = reading (λ x. Received x.0 x.1.0 x.1.1.0 x.1.1.1) (both space_part (both u64_part (both u64_part flag_part)))
+
+unfoldable pub send_at : List (List ℕ) → Option (Event × List (List ℕ))
+send_at = reading (λ x. Send x.0 x.1.0 x.1.1.0 x.1.1.1.0 x.1.1.1.1) (both space_part (both u64_part (both u16_part (both flag_part largest_part))))
+
+unfoldable pub acked_at : List (List ℕ) → Option (Event × List (List ℕ))
+acked_at = reading (λ x. Acked x.0 x.1.0 x.1.1.0 x.1.1.1) (both space_part (both u64_part (both u64_part flag_part)))
+
+unfoldable pub lost_at : List (List ℕ) → Option (Event × List (List ℕ))
+lost_at = reading (λ x. Lost x.0 x.1) (both space_part u64_part)
 
 unfoldable pub set_timer_at : List (List ℕ) → Option (Event × List (List ℕ))
 set_timer_at = reading (λ x. SetTimer x.0 x.1) (both timer_part u64_part)
@@ -121,8 +151,23 @@ stop_timer_at = reading (λ x. StopTimer x) timer_part
 unfoldable pub next_timeout_at : List (List ℕ) → Option (Event × List (List ℕ))
 next_timeout_at = reading (λ x. NextTimeout) nothing
 
+unfoldable pub discard_at : List (List ℕ) → Option (Event × List (List ℕ))
+discard_at = reading (λ x. DiscardSpace x) space_part
+
+unfoldable pub in_flight_at : List (List ℕ) → Option (Event × List (List ℕ))
+in_flight_at = reading (λ x. InFlight x) path_part
+
 abbrev pub forms : List (List ℕ × (List (List ℕ) → Option (Event × List (List ℕ))))
-forms = (codes "received", received_at) ∷ (codes "set-timer", set_timer_at) ∷ (codes "stop-timer", stop_timer_at) ∷ (codes "next-timeout", next_timeout_at) ∷ []
+forms = (codes "received", received_at)
+    ∷ (codes "send", send_at)
+    ∷ (codes "acked", acked_at)
+    ∷ (codes "lost", lost_at)
+    ∷ (codes "set-timer", set_timer_at)
+    ∷ (codes "stop-timer", stop_timer_at)
+    ∷ (codes "next-timeout", next_timeout_at)
+    ∷ (codes "discard", discard_at)
+    ∷ (codes "in-flight", in_flight_at)
+    ∷ []
 
 unfoldable pub event_at : List (List ℕ) → Option (Event × List (List ℕ))
 event_at words = do

@@ -2,7 +2,7 @@
 ghost use Rattle.std.specs.Prelude.{◌≡◌, IfSome, Some};
 ghost use Rattle.quic_recovery.specs.declared.event.Event.{Event};
 ghost use Rattle.recovery_replay.specs.Lines.{Spells};
-ghost use Rattle.recovery_replay.specs.Reading.{Reads, words_left, received_at, set_timer_at, stop_timer_at, event_at, event_of};
+ghost use Rattle.recovery_replay.specs.Reading.{Reads, words_left, received_at, send_at, acked_at, lost_at, set_timer_at, stop_timer_at, discard_at, in_flight_at, event_at, event_of};
 
 use crate::words::Words;
 use quic_recovery::event::Event;
@@ -19,6 +19,41 @@ fn received(words: &mut Words<'_>) -> Option<Event>
         now: words.moment()?,
         number: words.number()?,
         ack_eliciting: words.flag()?,
+    })
+}
+
+#[tactic(auto, unfolding(crate::specs::Reading::send_at))]
+fn send(words: &mut Words<'_>) -> Option<Event>
+    ensures { Reads (λ e. e) result (words_left words.new) (send_at (words_left words.old)) }
+{
+    Some(Event::Send {
+        space: words.space()?,
+        now: words.moment()?,
+        size: words.size()?,
+        ack_eliciting: words.flag()?,
+        largest_acked: words.largest()?,
+    })
+}
+
+#[tactic(auto, unfolding(crate::specs::Reading::acked_at))]
+fn acked(words: &mut Words<'_>) -> Option<Event>
+    ensures { Reads (λ e. e) result (words_left words.new) (acked_at (words_left words.old)) }
+{
+    Some(Event::Acked {
+        space: words.space()?,
+        now: words.moment()?,
+        number: words.number()?,
+        app_limited: words.flag()?,
+    })
+}
+
+#[tactic(auto, unfolding(crate::specs::Reading::lost_at))]
+fn lost(words: &mut Words<'_>) -> Option<Event>
+    ensures { Reads (λ e. e) result (words_left words.new) (lost_at (words_left words.old)) }
+{
+    Some(Event::Lost {
+        space: words.space()?,
+        number: words.number()?,
     })
 }
 
@@ -41,15 +76,38 @@ fn stop_timer(words: &mut Words<'_>) -> Option<Event>
     })
 }
 
+#[tactic(auto, unfolding(crate::specs::Reading::discard_at))]
+fn discard(words: &mut Words<'_>) -> Option<Event>
+    ensures { Reads (λ e. e) result (words_left words.new) (discard_at (words_left words.old)) }
+{
+    Some(Event::DiscardSpace {
+        space: words.space()?,
+    })
+}
+
+#[tactic(auto, unfolding(crate::specs::Reading::in_flight_at))]
+fn in_flight(words: &mut Words<'_>) -> Option<Event>
+    ensures { Reads (λ e. e) result (words_left words.new) (in_flight_at (words_left words.old)) }
+{
+    Some(Event::InFlight {
+        path: words.path()?,
+    })
+}
+
 #[tactic(auto, unfolding(crate::specs::Reading::event_at, crate::specs::Reading::next_timeout_at))]
 fn event_in(words: &mut Words<'_>) -> Option<Event>
     ensures { Reads (λ e. e) result (words_left words.new) (event_at (words_left words.old)) }
 {
     match words.next()? {
         "received" => received(words),
+        "send" => send(words),
+        "acked" => acked(words),
+        "lost" => lost(words),
         "set-timer" => set_timer(words),
         "stop-timer" => stop_timer(words),
         "next-timeout" => Some(Event::NextTimeout),
+        "discard" => discard(words),
+        "in-flight" => in_flight(words),
         _ => None,
     }
 }

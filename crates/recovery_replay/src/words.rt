@@ -1,8 +1,9 @@
 //! The words of a line, read one after the other.
 ghost use Rattle.std.specs.Prelude.{◌≡◌, ◌^◌};
 ghost use Rattle.recovery_replay.specs.Words.{words_of};
-ghost use Rattle.recovery_replay.specs.Reading.{Reads, words_left, first_word, field, flag_of, space_of, timer_of, number_of};
+ghost use Rattle.recovery_replay.specs.Reading.{Reads, words_left, first_word, field, flag_of, space_of, timer_of, path_of, largest_of, number_of};
 
+use quic_recovery::event::PathName;
 use recovery_base::below::SpaceId;
 use recovery_base::time::Instant;
 use recovery_base::timer::Timer;
@@ -15,6 +16,25 @@ pub fn number_in(word: &str) -> Option<u64>
         return None;
     }
     word.parse().ok()
+}
+
+/// The size that a word spells, 0 to `u16::MAX`, as a number is spelled.
+fn size_in(word: &str) -> Option<u16>
+    ensures { result ≡ number_of (2 ^ 16) word.now }
+{
+    let number = number_in(word)?;
+    u16::try_from(number).ok()
+}
+
+/// The number that a word spells, or `Some(None)` for the word that spells none.
+#[tactic(auto, unfolding(crate::specs::Reading::largest_of))]
+fn largest_in(word: &str) -> Option<Option<u64>>
+    ensures { result ≡ largest_of word.now }
+{
+    match word {
+        "-" => Some(None),
+        _ => Some(Some(number_in(word)?)),
+    }
 }
 
 #[tactic(auto, unfolding(crate::specs::Reading::flag_of))]
@@ -54,6 +74,17 @@ fn timer_in(word: &str) -> Option<Timer>
         "pacing" => Some(Timer::Pacing),
         "push-new-cid" => Some(Timer::PushNewCid),
         "max-ack-delay" => Some(Timer::MaxAckDelay),
+        _ => None,
+    }
+}
+
+#[tactic(auto, unfolding(crate::specs::Reading::path_of))]
+fn path_in(word: &str) -> Option<PathName>
+    ensures { result ≡ path_of word.now }
+{
+    match word {
+        "current" => Some(PathName::Current),
+        "previous" => Some(PathName::Previous),
         _ => None,
     }
 }
@@ -103,6 +134,30 @@ impl<'a> Words<'a> {
         ensures { Reads (λ n. n) result (words_left self.new) (field (number_of (2 ^ 64)) (words_left self.old)) }
     {
         Some(Instant::from_nanos(self.number()?))
+    }
+
+    /// The next word as a size in bytes, 0 to `u16::MAX`.
+    #[tactic(auto, unfolding(crate::specs::Reading::field))]
+    pub fn size(&mut self) -> Option<u16>
+        ensures { Reads (λ n. n) result (words_left self.new) (field (number_of (2 ^ 16)) (words_left self.old)) }
+    {
+        size_in(self.next()?)
+    }
+
+    /// The next word as a packet number, 0 to `u64::MAX`, or as none, which is spelled `-`.
+    #[tactic(auto, unfolding(crate::specs::Reading::field))]
+    pub fn largest(&mut self) -> Option<Option<u64>>
+        ensures { Reads (λ n. n) result (words_left self.new) (field largest_of (words_left self.old)) }
+    {
+        largest_in(self.next()?)
+    }
+
+    /// The next word as a path: `current` or `previous`.
+    #[tactic(auto, unfolding(crate::specs::Reading::field))]
+    pub fn path(&mut self) -> Option<PathName>
+        ensures { Reads (λ n. n) result (words_left self.new) (field path_of (words_left self.old)) }
+    {
+        path_in(self.next()?)
     }
 
     /// The next word as a flag: 0 or 1.
