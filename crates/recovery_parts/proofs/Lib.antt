@@ -1,0 +1,2 @@
+pub mod QueueLaws
+pub mod WindowLaws

@@ -1,0 +1,6 @@
+//! Connection ids: those that the peer issued, and those that this end issued (RFC 9000, 5.1).
+
+mod queue;
+mod window;
+
+pub use queue::{CidQueue, InsertError};
