@@ -1,2 +1,3 @@
+pub mod IterLaws
 pub mod QueueLaws
 pub mod WindowLaws

@@ -1,7 +1,7 @@
 -- What a `CidQueue` holds.
 use Rattle.std.specs.Prelude.{ℕ, Option}
 use Rattle.recovery_parts.specs.RemoteIds.{Entry, RemoteIds}
-use Rattle.recovery_parts.specs.Window.{entry_at}
+use Rattle.recovery_parts.specs.Window.{entry_at, ids_in}
 use Rattle.recovery_parts.specs.declared.cids.queue.CidQueue.{CidQueue}
 
 -- what is held for a number
@@ -14,4 +14,4 @@ active_of queue = queue.start
 
 -- what is held for each number, with the active one
 abbrev pub remote_ids : CidQueue → RemoteIds
-remote_ids queue = record { active = active_of queue; held = held queue }
+remote_ids queue = ids_in queue

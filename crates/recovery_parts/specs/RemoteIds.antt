@@ -1,6 +1,7 @@
 -- The ids that the peer issued and that are held (RFC 9000, 5.1.1 and 19.15): a table from numbers to ids with their
 -- tokens, and the number of the active id.
-use Rattle.std.specs.Prelude.{ℕ, ◌≡◌, ◌+◌, ◌<◌, ◌≤◌, ◌==◌, nat_lt, max, min, List, Option, Some, None, IsSome, IsSomeAnd, if◌then◌else◌}
+use Rattle.std.specs.Prelude.{ℕ, ◌≡◌, ◌+◌, ◌-◌, ◌<◌, ◌≤◌, ◌==◌, nat_lt, max, min, List, Option, Some, None, IsSome, IsSomeAnd, option_map, if◌then◌else◌}
+use Rattle.std.specs.List.{filter_map, range_with_len}
 use Rattle.std.specs.declared.ops.Range.{Range}
 use Rattle.recovery_base.specs.declared.below.ids.NewConnectionId.{NewConnectionId}
 use Rattle.recovery_parts.specs.declared.cids.window.TheConstants.{LEN}
@@ -78,3 +79,11 @@ pub record IsRetirement (old : RemoteIds) (range : Range ℕ) (new : RemoteIds) 
 pub record AreInWindow (ids : RemoteIds) : Type 0 where
   pub active_held : IsSome (ids.held ids.active)
   pub within : (n : ℕ) → IsSome (ids.held n) → (ids.active ≤ n) × (n < ids.active + LEN)
+
+-- what is held a number of steps above the active number
+abbrev pub item_at : RemoteIds → ℕ → Option (ℕ × Entry)
+item_at ids step = option_map (λ entry. (step, entry)) (ids.held (ids.active + step))
+
+-- what is held from a step on, in order
+abbrev pub items_from : ℕ → RemoteIds → List (ℕ × Entry)
+items_from step ids = filter_map (item_at ids) (range_with_len step (LEN - step))

@@ -1,6 +1,6 @@
 -- What a window holds for each number.
 use Rattle.std.specs.Prelude.{ℕ, ◌≡◌, ◌+◌, ◌%◌, ◌^◌, ◌<◌, ◌≤◌, ◌&&◌, nat_lt, nat_le, List, Option, None, Some, IsSome, IfSome, slice_index_or, if◌then◌else◌}
-use Rattle.recovery_parts.specs.RemoteIds.{Entry, IsLeastHeld, without_below}
+use Rattle.recovery_parts.specs.RemoteIds.{Entry, RemoteIds, IsLeastHeld, without_below}
 use Rattle.recovery_parts.specs.declared.cids.window.TheConstants.{LEN}
 use Rattle.recovery_parts.specs.declared.cids.window.Window.{Window}
 
@@ -12,6 +12,10 @@ IsWithin window n = (window.start ≤ n) × (n < window.start + LEN)
 abbrev pub entry_at : Window → ℕ → Option Entry
 entry_at window n =
     if nat_le window.start n && nat_lt n (window.start + LEN) then slice_index_or window.entries (n % LEN) None else None
+
+-- what a window holds, the active number being its start
+abbrev pub ids_in : Window → RemoteIds
+ids_in window = record { active = window.start; held = entry_at window }
 
 -- the least number of the window is held, each number above it that is held has a token, and all lie below 2^62
 pub record IsSound (window : Window) : Type 0 where

@@ -1,6 +1,8 @@
 //! Connection ids: those that the peer issued, and those that this end issued (RFC 9000, 5.1).
 
+mod iter;
 mod queue;
 mod window;
 
+pub use iter::CidIter;
 pub use queue::{CidQueue, InsertError};

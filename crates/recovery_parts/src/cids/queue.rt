@@ -1,9 +1,10 @@
 //! The ids of the peer that packets may be sent to.
-ghost use Rattle.std.specs.Prelude.{◌≡◌, ℕ, ◌+◌, ◌<◌, ◌≤◌, ◌^◌, ◌==◌, Some, None, IsSome, IfSome, IfOk, OnErr, IfNone, IsSomeAnd, MatchOption, MatchResult, if◌then◌else◌};
+ghost use Rattle.std.specs.Prelude.{◌≡◌, ℕ, ◌+◌, ◌<◌, ◌≤◌, ◌^◌, ◌==◌, Some, None, IsSome, IfSome, IfOk, OnErr, IfNone, IsSomeAnd, MatchOption, MatchResult, length, if◌then◌else◌};
 ghost use Rattle.recovery_parts.specs.CidQueue.{held, active_of, remote_ids};
-ghost use Rattle.recovery_parts.specs.RemoteIds.{AcceptsFrame, RefusesFrame, TakesNext, IsRetirement, AreInWindow, with_entry};
+ghost use Rattle.recovery_parts.specs.RemoteIds.{AcceptsFrame, RefusesFrame, TakesNext, IsRetirement, AreInWindow, with_entry, items_from};
 ghost use Rattle.recovery_parts.specs.Window.{entry_at, Advances, IsSound};
 
+use crate::cids::iter::{self, CidIter};
 use crate::cids::window::{self, CidData, Window};
 use recovery_base::below::{ConnectionId, NewConnectionId, ResetToken};
 use std::marker::Model;
@@ -118,6 +119,14 @@ impl CidQueue {
         ensures window { AreInWindow (remote_ids self.new) }
     {
         self.window.set(0, (cid, None));
+    }
+
+    /// The ids held, each with its steps from the active number: the active one first, at most `LEN`.
+    pub fn iter(&self) -> CidIter<'_>
+        ensures items { result ≡ items_from 0 (remote_ids self.now) }
+        ensures few { length result ≤ Self.LEN }
+    {
+        iter::items(&self.window)
     }
 
     /// The active id.
