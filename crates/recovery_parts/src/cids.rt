@@ -2,7 +2,9 @@
 
 mod iter;
 mod queue;
+mod state;
 mod window;
 
 pub use iter::CidIter;
 pub use queue::{CidQueue, InsertError};
+pub use state::{CidState, RetireError};
