@@ -1,5 +1,5 @@
 -- The ids from a step on are the one there, if any, and those from the next step on.
-use Rattle.std.proofs.Common.{◌≡◌, ℕ, ◌+◌, ◌-◌, ◌<◌, ◌≤◌, List, [], ◌∷◌, Option, Some, None, length, refl, ap, ◌∙◌, suc, arith}
+use Rattle.std.proofs.Common.{◌≡◌, ℕ, ◌+◌, ◌-◌, ◌<◌, ◌≤◌, List, [], ◌∷◌, Option, Some, None, length, refl, ◌∙◌, suc, arith}
 use Rattle.std.specs.List.{filter_map, cons_option, range_with_len}
 use Rattle.std.proofs.lemmas.List.FromFn.{length-range_with_len}
 use Rattle.recovery_parts.specs.declared.cids.window.TheConstants.{LEN}
@@ -11,11 +11,11 @@ step_first ids step below =
     rw one_more refl
 
 pub items_where_held : (ids : RemoteIds) (step : ℕ) (entry : Entry) → step < LEN → ids.held (ids.active + step) ≡ Some entry →
-  items_from step ids ≡ (step, entry) ∷ items_from (step + 1) ids
+    items_from step ids ≡ (step, entry) ∷ items_from (step + 1) ids
 items_where_held ids step entry below held = step_first ids step below ∙ rw held refl
 
 pub items_where_none : (ids : RemoteIds) (step : ℕ) → step < LEN → ids.held (ids.active + step) ≡ None →
-  items_from step ids ≡ items_from (step + 1) ids
+    items_from step ids ≡ items_from (step + 1) ids
 items_where_none ids step below none = step_first ids step below ∙ rw none refl
 
 length-cons_option : {X : Type 0} (item : Option X) (xs : List X) → length (cons_option item xs) ≤ suc (length xs)

@@ -1,12 +1,12 @@
 -- What the ids of the peer become when the active number moves.
-use Rattle.std.proofs.Common.{◌≡◌, ℕ, ◌+◌, ◌-◌, ◌<◌, ◌≤◌, ◌≢◌, max, min, List, Option, Some, None, IsSome, IfSome, arith, ap, sym, ◌∙◌, subst}
+use Rattle.std.proofs.Common.{◌≡◌, ℕ, ◌+◌, ◌-◌, ◌<◌, ◌≤◌, ◌≢◌, max, min, List, Some, None, IsSome, arith, ◌∙◌}
 use Rattle.std.specs.declared.ops.Range.{Range}
 use Rattle.std.proofs.lemmas.Bool.Decides.{nat_tests}
 use Rattle.recovery_base.specs.declared.below.ids.NewConnectionId.{NewConnectionId}
 use Rattle.recovery_parts.specs.declared.cids.window.TheConstants.{LEN}
 use Rattle.recovery_parts.specs.declared.cids.window.Window.{Window}
-use Rattle.recovery_parts.specs.RemoteIds.{Entry, Table, IsLeastHeld, with_entry, without_below, with_frame, AcceptsFrame, TellsMove, IsRetirement}
-use Rattle.recovery_parts.specs.Window.{entry_at, IsSound, Advances}
+use Rattle.recovery_parts.specs.RemoteIds.{Entry, Table, IsLeastHeld, with_entry, without_below, with_frame, AcceptsFrame, IsRetirement}
+use Rattle.recovery_parts.specs.Window.{entry_at, Advances}
 use Rattle.recovery_parts.specs.CidQueue.{remote_ids}
 
 pub without_below-kept : (low : ℕ) (held : Table) (n : ℕ) → low ≤ n → without_below low held n ≡ held n
@@ -26,9 +26,9 @@ least_at_most held low least number entry is_least there above =
 
 -- a table to which a frame's number is added, and whose numbers below the least are dropped
 frame_table : (number low least : ℕ) (entry : Entry) (old mid new : Table) →
-  ((n : ℕ) → mid n ≡ with_entry number entry (without_below low old) n) → IsLeastHeld mid low least →
-  ((n : ℕ) → new n ≡ without_below least mid n) → low ≤ number →
-  (n : ℕ) → new n ≡ with_entry number entry (without_below low old) n
+    ((n : ℕ) → mid n ≡ with_entry number entry (without_below low old) n) → IsLeastHeld mid low least →
+    ((n : ℕ) → new n ≡ without_below least mid n) → low ≤ number →
+    (n : ℕ) → new n ≡ with_entry number entry (without_below low old) n
 frame_table number low least entry old mid new adds is_least drops ahead n =
     let added = adds n in
     let dropped = drops n in
@@ -38,7 +38,7 @@ frame_table number low least entry old mid new adds is_least drops ahead n =
     grind (arith, nat_tests, added, dropped, none, at_most, bound)
 
 pub with_entry-alike : (number : ℕ) (entry : Entry) (held other : Table) → ((n : ℕ) → held n ≡ other n) →
-  (n : ℕ) → with_entry number entry held n ≡ with_entry number entry other n
+    (n : ℕ) → with_entry number entry held n ≡ with_entry number entry other n
 with_entry-alike number entry held other alike n = let same = alike n in grind (arith, nat_tests, same)
 
 -- what the window holds lies in it
@@ -51,7 +51,6 @@ module _ (old lower mid new : Window) (frame : NewConnectionId) (token : List �
     (below : frame.sequence - low < LEN) (drops : (n : ℕ) → entry_at lower n ≡ without_below low (entry_at old) n)
     (adds : (n : ℕ) → entry_at mid n ≡ with_entry frame.sequence (frame.id, Some frame.reset_token) (entry_at lower) n)
     (moves : Advances mid low token new) where
-
   mid_table : (n : ℕ) → entry_at mid n ≡ with_entry frame.sequence (frame.id, Some frame.reset_token) (without_below low (entry_at old)) n
   mid_table n = adds n ∙ with_entry-alike frame.sequence (frame.id, Some frame.reset_token) (entry_at lower) (without_below low (entry_at old)) drops n
 
@@ -74,7 +73,7 @@ module _ (old lower mid new : Window) (frame : NewConnectionId) (token : List �
   }
 
   pub accepts_move : (range : Range ℕ) → range.start ≡ old.start → range.end ≡ min new.start (old.start + LEN) →
-    AcceptsFrame (remote_ids old) frame (Some (range, token)) (remote_ids new)
+      AcceptsFrame (remote_ids old) frame (Some (range, token)) (remote_ids new)
   accepts_move range begins ends = record {
     in_window = (above, omega (arith, low_is));
     held = held_after;
@@ -84,18 +83,18 @@ module _ (old lower mid new : Window) (frame : NewConnectionId) (token : List �
   }
 
   pub retires_move : (range : Range ℕ) → range.start ≡ old.start → range.end ≡ min new.start (old.start + LEN) →
-    IsRetirement (remote_ids old) range (remote_ids new)
+      IsRetirement (remote_ids old) range (remote_ids new)
   retires_move range begins ends =
-    let ahead : low ≤ new.start = moves.least.bound in
-    record {
-      begins = begins;
-      not_empty = omega arith;
-      ends = omega arith;
-      cut = omega arith;
-      dropped = λ n here gone.
-        let within = entry_within old n here in
-        let after = held_after n in
-        let kept : frame.retire_prior_to ≤ new.start = omega (arith, low_is) in
-        let lower : n < new.start = grind (arith, nat_tests, after, gone, here, kept) in
-        (omega arith, omega arith);
-    }
+      let ahead : low ≤ new.start = moves.least.bound in
+      record {
+        begins = begins;
+        not_empty = omega arith;
+        ends = omega arith;
+        cut = omega arith;
+        dropped = λ n here gone.
+            let within = entry_within old n here in
+            let after = held_after n in
+            let kept : frame.retire_prior_to ≤ new.start = omega (arith, low_is) in
+            let lower : n < new.start = grind (arith, nat_tests, after, gone, here, kept) in
+            (omega arith, omega arith);
+      }

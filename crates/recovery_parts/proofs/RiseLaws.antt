@@ -1,5 +1,5 @@
 -- Lists of numbers that rise.
-use Rattle.std.proofs.Common.{◌≡◌, ◌≢◌, ℕ, zero, suc, ◌+◌, ◌-◌, ◌<◌, ◌≤◌, ◌==◌, ◌&&◌, ◌||◌, nat_lt, nat_le, nat_eq, not, cond, Bool, true, false, List, [], ◌∷◌, ◌++◌, length, filter, take, drop, get_or, map, refl, ap, sym, ◌∙◌, arith}
+use Rattle.std.proofs.Common.{◌≡◌, ◌≢◌, ℕ, zero, suc, ◌+◌, ◌<◌, ◌≤◌, ◌==◌, ◌&&◌, ◌||◌, nat_lt, nat_le, nat_eq, not, cond, Bool, true, false, List, [], ◌∷◌, ◌++◌, length, filter, take, drop, get_or, refl, ap, sym, ◌∙◌, arith}
 use Rattle.std.specs.List.{list_any, range_with_len}
 use Rattle.std.proofs.lemmas.Bool.Decides.{nat_tests}
 use Rattle.recovery_parts.specs.LocalIds.{Rise}
@@ -60,7 +60,7 @@ list_any-front low high n end ns rise = front_decides (nat_lt n end) high n end 
 
 -- all numbers lie at or above the low end
 pub list_any-between : (low high from end : ℕ) (ns : List ℕ) → Rise low high ns → from ≤ low →
-  list_any (λ n. nat_le from n && nat_lt n end) ns ≡ list_any (λ n. nat_lt n end) ns
+    list_any (λ n. nat_le from n && nat_lt n end) ns ≡ list_any (λ n. nat_lt n end) ns
 list_any-between low high from end [] rise below = refl
 list_any-between low high from end (n ∷ ns) rise below =
     let first = rise.0 in
@@ -103,7 +103,7 @@ nth_above low high (suc i) (n ∷ ns) rise inside =
 
 -- what stands at a place leaves by its number
 pub filter-found : (low high x i : ℕ) (ns : List ℕ) → Rise low high ns → i < length ns → get_or ns i 0 ≡ x →
-  take i ns ++ drop (suc i) ns ≡ filter (λ n. not (n == x)) ns
+    take i ns ++ drop (suc i) ns ≡ filter (λ n. not (n == x)) ns
 filter-found low high x i [] rise inside there = absurd (omega arith)
 filter-found low high x zero (n ∷ ns) rise inside there =
     let here : nat_eq n x ≡ true = grind (arith, nat_tests, there) in
@@ -133,6 +133,6 @@ Rise-non_decreasing low high (n ∷ ns) rise (suc i) (suc j) ordered inside = Ri
 
 -- the least number by its place
 pub front_below : (low high end least : ℕ) (ns : List ℕ) → Rise low high ns → 0 < length ns → least ≡ get_or ns 0 least →
-  nat_lt least end ≡ list_any (λ n. nat_lt n end) ns
+    nat_lt least end ≡ list_any (λ n. nat_lt n end) ns
 front_below low high end least [] rise some there = absurd (omega arith)
 front_below low high end least (n ∷ ns) rise some there = rw there (sym (list_any-front low high n end ns rise))

@@ -10,5 +10,5 @@ local_ids state = record {
   unretired = state.active_seq.items;
   retired_below = state.prev_retire_seq;
   retire_prior_to = state.retire_seq;
-  deadlines = state.retire_timestamp.items
+  deadlines = state.retire_timestamp.items;
 }

@@ -1,6 +1,6 @@
 -- The ids that this end issued (RFC 9000, 5.1.2 and 19.16): those that the peer did not retire, and when the peer is to
 -- be asked to retire them.
-use Rattle.std.specs.Prelude.{ℕ, zero, suc, ◌≡◌, ◌≢◌, ◌+◌, ◌-◌, ◌^◌, ◌<◌, ◌≤◌, ◌==◌, ◌&&◌, nat_lt, nat_le, not, Bool, IsTrue, ◌↔◌, List, [], ◌∷◌, ◌++◌, length, map, filter, drop, Option, None, Some, if◌then◌else◌}
+use Rattle.std.specs.Prelude.{ℕ, zero, suc, ◌≡◌, ◌≢◌, ◌+◌, ◌^◌, ◌<◌, ◌≤◌, ◌==◌, ◌&&◌, nat_lt, nat_le, not, Bool, IsTrue, ◌↔◌, List, [], ◌∷◌, ◌++◌, length, map, filter, drop, Option, None, Some, if◌then◌else◌}
 use Rattle.std.specs.List.{list_any, range_with_len}
 use Rattle.recovery_parts.specs.declared.cids.state.CidTimestamp.{CidTimestamp}
 use Rattle.recovery_parts.specs.declared.cids.state.RetireError.{RetireError}
@@ -52,7 +52,7 @@ first_issued cid_len lifetime now issued = record {
   unretired = range_with_len 0 issued;
   retired_below = 0;
   retire_prior_to = 0;
-  deadlines = tracked_each lifetime now (range_with_len 0 issued) []
+  deadlines = tracked_each lifetime now (range_with_len 0 issued) [];
 }
 
 -- this many ids more, with a deadline for the last of them alone
@@ -61,7 +61,7 @@ with_issued zero now ids = ids
 with_issued (suc count) now ids = record ids {
   issued = ids.issued + suc count;
   unretired = ids.unretired ++ range_with_len ids.issued (suc count);
-  deadlines = tracked ids.cid_lifetime now (ids.issued + count) ids.deadlines
+  deadlines = tracked ids.cid_lifetime now (ids.issued + count) ids.deadlines;
 }
 
 -- whether one of the numbers low to high - 1 is not retired

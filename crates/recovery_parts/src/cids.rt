@@ -3,6 +3,8 @@
 mod iter;
 mod queue;
 mod state;
+#[cfg(test)]
+mod tests;
 mod window;
 
 pub use iter::CidIter;

@@ -66,7 +66,10 @@ impl CidQueue {
     /// active id's token.
     ///
     /// A refusal changes nothing: `Retired` below the active number, `ExceedsLimit` past the window.
-    pub fn insert(&mut self, cid: NewConnectionId) -> Result<Option<(Range<u64>, ResetToken)>, InsertError>
+    pub fn insert(
+        &mut self,
+        cid: NewConnectionId,
+    ) -> Result<Option<(Range<u64>, ResetToken)>, InsertError>
         requires ordered { cid.retire_prior_to ≤ cid.sequence }
         requires small { cid.sequence < 2 ^ 62 }
         ensures reply { MatchResult result (λ answer. AcceptsFrame (remote_ids self.old) cid answer (remote_ids self.new)) (RefusesFrame (remote_ids self.old) cid) }
@@ -83,7 +86,8 @@ impl CidQueue {
             return Err(InsertError::ExceedsLimit);
         }
         self.window.drop_below(low);
-        self.window.set(cid.sequence, (cid.id, Some(cid.reset_token)));
+        self.window
+            .set(cid.sequence, (cid.id, Some(cid.reset_token)));
         if low == active {
             return Ok(None);
         }

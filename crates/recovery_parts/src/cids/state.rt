@@ -66,7 +66,13 @@ impl CidState {
     /// `now`. Without a lifetime, or where the deadline would pass the clock's end, none is stored.
     ///
     /// `NoMemory` is answered before anything is written where there is no room for so many numbers.
-    pub fn new(alloc: Global, cid_len: usize, cid_lifetime: Option<Duration>, now: Instant, issued: u64) -> Result<Self, NoMemory>
+    pub fn new(
+        alloc: Global,
+        cid_len: usize,
+        cid_lifetime: Option<Duration>,
+        now: Instant,
+        issued: u64,
+    ) -> Result<Self, NoMemory>
         requires { issued ≤ 2 ^ 62 }
         ensures ids { IfOk result (λ ids. ids ≡ first_issued cid_len cid_lifetime now issued) }
         ensures sound { IfOk result AreSound }
@@ -194,7 +200,12 @@ fn issue(numbers: &mut VecDeque<u64>, first: u64, end: u64)
 }
 
 /// Stores a deadline for the last number issued, if there is one and a lifetime, and the clock goes so far.
-fn track_lifetime(deadlines: &mut VecDeque<CidTimestamp>, cid_lifetime: Option<Duration>, issued: u64, now: Instant)
+fn track_lifetime(
+    deadlines: &mut VecDeque<CidTimestamp>,
+    cid_lifetime: Option<Duration>,
+    issued: u64,
+    now: Instant,
+)
     requires room { deque_len deadlines.old < deque_capacity deadlines.old }
     ensures { deadlines.new.items ≡ tracked_last cid_lifetime now issued deadlines.old.items }
 {
@@ -207,7 +218,13 @@ fn track_lifetime(deadlines: &mut VecDeque<CidTimestamp>, cid_lifetime: Option<D
     let Some(timestamp) = now.checked_add(lifetime) else {
         return;
     };
-    store(deadlines, CidTimestamp { sequence, timestamp });
+    store(
+        deadlines,
+        CidTimestamp {
+            sequence,
+            timestamp,
+        },
+    );
 }
 
 /// Stores a deadline. It replaces the last one where the moments are equal.

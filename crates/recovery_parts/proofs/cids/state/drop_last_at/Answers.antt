@@ -1,4 +1,4 @@
-use Rattle.std.proofs.Common.{rules, refl, sym, ◌∙◌, ap, ◌+◌, ◌-◌, ◌^◌, ◌≡◌, ◌≢◌, ◌<◌, ◌≤◌, ℕ, length, get_or, append_assoc, arith}
+use Rattle.std.proofs.Common.{refl, sym, ◌∙◌, ◌-◌, ◌≡◌, ◌<◌, length, arith}
 use Rattle.recovery_parts.proofs.DeadlineLaws.{last_at}
 use Rattle.recovery_parts.proofs.cids.state.drop_last_at.Goals as goal
 

@@ -1,4 +1,4 @@
-use Rattle.std.proofs.Common.{rules, refl, sym, ◌∙◌, ap, ◌+◌, ◌-◌, ◌^◌, ◌≡◌, ◌<◌, ◌≤◌, length, get_or, arith}
+use Rattle.std.proofs.Common.{refl, sym, ◌^◌, ◌≡◌, ◌<◌, length, arith}
 use Rattle.recovery_parts.proofs.RiseLaws.{front_below}
 use Rattle.recovery_parts.proofs.cids.state.is_any_below.Goals as goal
 

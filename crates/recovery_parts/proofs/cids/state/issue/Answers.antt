@@ -1,4 +1,4 @@
-use Rattle.std.proofs.Common.{rules, refl, sym, ◌∙◌, ap, ◌+◌, ◌-◌, ◌^◌, ◌≡◌, ◌≢◌, ◌<◌, ◌≤◌, ℕ, length, get_or, append_assoc, suc, arith}
+use Rattle.std.proofs.Common.{rules, ◌+◌, ◌-◌, ◌≡◌, append_assoc, suc, arith}
 use Rattle.recovery_parts.proofs.RiseLaws.{range_more}
 use Rattle.recovery_parts.proofs.cids.state.issue.Goals as goal
 

@@ -1,4 +1,4 @@
-use Rattle.std.proofs.Common.{rules, refl, sym, ◌∙◌, ap, ◌+◌, ◌-◌, ◌^◌, ◌≡◌, ◌<◌, ◌≤◌, length, get_or, arith}
+use Rattle.std.proofs.Common.{arith}
 use Rattle.recovery_parts.proofs.RiseLaws.{Rise-bound}
 use Rattle.recovery_parts.proofs.cids.state.pop_mark.Goals as goal
 

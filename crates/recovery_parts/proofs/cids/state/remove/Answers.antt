@@ -1,4 +1,4 @@
-use Rattle.std.proofs.Common.{rules, refl, sym, ◌∙◌, ap, ◌+◌, ◌-◌, ◌^◌, ◌≡◌, ◌≢◌, ◌<◌, ◌≤◌, ℕ, length, get_or, append_assoc, arith}
+use Rattle.std.proofs.Common.{sym, ◌∙◌, ◌^◌, arith}
 use Rattle.std.proofs.lemmas.List.Sorted.{searched}
 use Rattle.recovery_parts.proofs.RiseLaws.{filter-found, filter-absent, Rise-non_decreasing}
 use Rattle.recovery_parts.proofs.cids.state.remove.Goals as goal
@@ -17,6 +17,6 @@ returns-in_default c =
     let found = searched numbers.items c.args.number c.binary_search.result c.binary_search.ensures.position (Rise-non_decreasing 0 (2 ^ 62) numbers.items c.requires) in
     let here = rw c.in_default.is at found in
     sym (filter-absent c.args.number numbers.items (λ k inside.
-      let below = here.1 k in
-      let above = here.2 k in
-      grind (arith, below, above, inside)))
+    let below = here.1 k in
+    let above = here.2 k in
+    grind (arith, below, above, inside)))

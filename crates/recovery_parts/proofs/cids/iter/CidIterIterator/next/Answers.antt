@@ -1,4 +1,4 @@
-use Rattle.std.proofs.Common.{sym, ◌∙◌, rules, refl}
+use Rattle.std.proofs.Common.{sym, ◌∙◌, rules}
 use Rattle.recovery_parts.specs.Window.{ids_in}
 use Rattle.recovery_parts.proofs.IterLaws.{items_where_held, items_where_none}
 use Rattle.recovery_parts.proofs.cids.iter.CidIterIterator.next.Goals as goal

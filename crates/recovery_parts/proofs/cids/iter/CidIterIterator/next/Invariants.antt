@@ -8,7 +8,7 @@ use Rattle.recovery_parts.proofs.cids.iter.CidIterIterator.next.Given as goal
 abbrev pub invariant-loop-self : goal.invariant-loop-self
 invariant-loop-self l = record {
   small : l.self-inside.window.now.start < 2 ^ 62;
-  same : items_from l.self-inside.step (ids_in l.self-inside.window.now) ≡ l.fn.self
+  same : items_from l.self-inside.step (ids_in l.self-inside.window.now) ≡ l.fn.self;
 }
 
 abbrev pub decreases-loop-self : goal.decreases-loop-self

@@ -1,8 +1,5 @@
-use Rattle.std.proofs.Common.{rules, refl, sym, ◌∙◌, ap, subst, List, [], ◌++◌, ◌+◌, ◌-◌, ◌^◌, ◌≡◌, ◌<◌, ◌≤◌, ℕ, length, map, arith}
-use Rattle.std.proofs.lemmas.Bool.Decides.{nat_tests}
+use Rattle.std.proofs.Common.{refl, List, [], ◌++◌, ◌-◌, ◌≡◌, ℕ, arith}
 use Rattle.std.specs.List.{range_with_len}
-use Rattle.recovery_parts.specs.LocalIds.{LocalIds, AreSound, Rise, tracked_last}
-use Rattle.recovery_parts.specs.CidState.{local_ids}
 use Rattle.recovery_parts.proofs.StateLaws.{first_sound}
 use Rattle.recovery_parts.proofs.DeadlineLaws.{tracked_each-tracked_last}
 use Rattle.recovery_parts.proofs.cids.state.CidState.new.Goals as goal

@@ -1,7 +1,6 @@
-use Rattle.std.proofs.Common.{rules, refl, sym, ◌∙◌, ap, subst, List, [], ◌++◌, ◌+◌, ◌-◌, ◌^◌, ◌≡◌, ◌<◌, ◌≤◌, ℕ, length, nat_eq, false, arith}
+use Rattle.std.proofs.Common.{sym, ◌∙◌, List, ◌++◌, ◌+◌, ◌-◌, ◌≡◌, ◌<◌, ℕ, length, nat_eq, false, arith}
 use Rattle.std.proofs.lemmas.Bool.Decides.{nat_tests}
 use Rattle.std.specs.List.{range_with_len}
-use Rattle.recovery_parts.specs.LocalIds.{LocalIds, AreSound, Rise, tracked_last}
 use Rattle.recovery_parts.specs.CidState.{local_ids}
 use Rattle.recovery_parts.proofs.StateLaws.{issued_more, issued_sound}
 use Rattle.recovery_parts.proofs.cids.state.CidState.new_cids.Goals as goal

@@ -1,5 +1,4 @@
-use Rattle.std.proofs.Common.{rules, refl, sym, ◌∙◌, ap, subst, ◌+◌, ◌-◌, ◌^◌, ◌≡◌, ◌<◌, ◌≤◌, ℕ, length, map, arith}
-use Rattle.recovery_parts.specs.LocalIds.{LocalIds, AreSound, Rise}
+use Rattle.std.proofs.Common.{◌^◌, arith}
 use Rattle.recovery_parts.specs.CidState.{local_ids}
 use Rattle.recovery_parts.proofs.RiseLaws.{Rise-wider}
 use Rattle.recovery_parts.proofs.StateLaws.{retired_sound}

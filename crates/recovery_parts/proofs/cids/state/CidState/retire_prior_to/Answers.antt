@@ -1,6 +1,3 @@
-use Rattle.std.proofs.Common.{rules, refl, sym, ◌∙◌, ap, subst, ◌+◌, ◌-◌, ◌^◌, ◌≡◌, ◌<◌, ◌≤◌, ℕ, length, map, arith}
-use Rattle.recovery_parts.specs.LocalIds.{LocalIds, AreSound, Rise}
-use Rattle.recovery_parts.specs.CidState.{local_ids}
 use Rattle.recovery_parts.proofs.RiseLaws.{Rise-bound}
 use Rattle.recovery_parts.proofs.cids.state.CidState.retire_prior_to.Goals as goal
 

@@ -7,5 +7,5 @@ returns-clause-entries c =
     let old = c.args.self.now in
     let kept = c.loop-number.invariant in
     drops_below old.entries c.loop-number.self.entries old.start c.args.low c.requires.ahead
-      (λ m above below. kept.dropped m above (omega arith))
-      (λ m above below. kept.kept m (omega arith) below)
+    (λ m above below. kept.dropped m above (omega arith))
+    (λ m above below. kept.kept m (omega arith) below)

@@ -6,5 +6,5 @@ abbrev pub invariant-loop-number : goal.invariant-loop-number
 invariant-loop-number l = record {
   start : l.self.start ≡ l.fn.self.start;
   dropped : (n : ℕ) → l.fn.self.start ≤ n → n < l.number → get_or l.self.entries (n % LEN) None ≡ None;
-  kept : (n : ℕ) → l.number ≤ n → n < l.fn.self.start + LEN → get_or l.self.entries (n % LEN) None ≡ get_or l.fn.self.entries (n % LEN) None
+  kept : (n : ℕ) → l.number ≤ n → n < l.fn.self.start + LEN → get_or l.self.entries (n % LEN) None ≡ get_or l.fn.self.entries (n % LEN) None;
 }
