@@ -110,9 +110,9 @@ impl CidQueue {
         ensures range { IfSome result (λ told. IsRetirement (remote_ids self.old) told.1 (remote_ids self.new)) }
         ensures window { AreInWindow (remote_ids self.new) }
     {
-        let active = self.window.start();
-        let token = advance(&mut self.window, active + 1)?;
-        Some((token, active..self.window.start()))
+        let retired = self.window.start();
+        let token = advance(&mut self.window, retired + 1)?;
+        Some((token, retired..self.window.start()))
     }
 
     /// Replaces the initial id, which the peer may do before it issues any other (RFC 9000, 7.2).
