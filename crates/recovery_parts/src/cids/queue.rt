@@ -115,7 +115,7 @@ impl CidQueue {
         Some((token, retired..self.window.start()))
     }
 
-    /// Replaces the initial id, which the peer may do before it issues any other (RFC 9000, 7.2).
+    /// Replaces the initial id while it is the active one, as a server may do (RFC 9000, 7.2). It has no token.
     pub fn update_initial_cid(&mut self, cid: ConnectionId)
         requires { active_of self.old ≡ 0 }
         ensures active { active_of self.new ≡ 0 }

@@ -65,7 +65,8 @@ impl CidState {
     /// Counts the numbers 0 to `issued - 1` as issued, none of them retired, each with a deadline one lifetime from
     /// `now`. Without a lifetime, or where the deadline would pass the clock's end, none is stored.
     ///
-    /// `NoMemory` is answered before anything is written where there is no room for so many numbers.
+    /// `NoMemory` is answered before anything is written where there is no room for so many numbers. The time is that of
+    /// writing each number once.
     pub fn new(
         alloc: Global,
         cid_len: usize,
@@ -102,7 +103,8 @@ impl CidState {
 
     /// Takes the oldest deadline. Where the peer retired all numbers below the last retire-prior-to, that becomes the
     /// deadline's number and one: the answer is whether it asks for the retirement of a number that is not retired
-    /// yet, so that a NEW_CONNECTION_ID frame should tell the peer (RFC 9000, 5.1.2).
+    /// yet, so that a NEW_CONNECTION_ID frame should tell the peer (RFC 9000, 5.1.2). It takes no memory, and its time
+    /// does not depend on how many ids there are.
     pub fn on_cid_timeout(&mut self) -> bool
         ensures after { self.new ≡ timed_out self.old }
         ensures answer { result ≡ holds_unretired self.old.retire_prior_to self.new.retire_prior_to self.new }
@@ -148,6 +150,9 @@ impl CidState {
     ///
     /// A refusal changes nothing: `CidsNotInUse` where the ids have no bytes, else `UnissuedCid` where the number was
     /// not issued.
+    ///
+    /// It takes no memory. It finds the number by halving, and moves at most half of the unretired numbers; the least
+    /// one leaves at once.
     pub fn on_cid_retirement(&mut self, sequence: u64, limit: u64) -> Result<bool, RetireError>
         ensures reply { MatchResult result (λ more. AcceptsRetirement self.old sequence limit more self.new) (RefusesRetirement self.old sequence) }
         ensures err { OnErr result (self.new ≡ self.old) }
