@@ -29,3 +29,7 @@ impl From<AllocError> for NoMemory {
         NoMemory
     }
 }
+
+mod ids;
+
+pub use ids::{ConnectionId, IssuedCid, NewConnectionId, ResetToken};
