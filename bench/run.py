@@ -69,7 +69,33 @@ def mixed(count):
         yield next(kinds[i % 2])
 
 
-INPUTS = [in_order, reordered, timers, mixed]
+def tracked(window, order):
+    """Packets are sent and acknowledged with `window` of them in flight, acknowledged in the order given in blocks."""
+    def lines(count):
+        chance = random.Random(2)
+        for number in range(window):
+            yield f"send data {moment(number)} 1200 1 -"
+        acked, sent = [], window
+        for i in range(max(0, count - window)):
+            if i % 2 == 1:
+                yield f"send data {moment(sent)} 1200 1 -"
+                sent += 1
+                continue
+            if not acked:
+                start = i // 2
+                acked = list(range(start, start + window))
+                if order == "reversed":
+                    acked.reverse()
+                if order == "shuffled":
+                    chance.shuffle(acked)
+                acked.reverse()
+            yield f"acked data {moment(i)} {acked.pop()} 0"
+    lines.__name__ = f"tracked_{window}_{order}"
+    return lines
+
+
+INPUTS = [in_order, reordered, timers, mixed] + [tracked(window, order) for window in [100, 1000, 10000]
+                                                  for order in ["in_order", "reversed", "shuffled"]]
 
 
 def seconds(path):

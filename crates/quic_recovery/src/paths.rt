@@ -150,3 +150,6 @@ impl PathData {
         }
     }
 }
+
+#[cfg(test)]
+mod tests;

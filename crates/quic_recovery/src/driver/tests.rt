@@ -1,4 +1,5 @@
 use super::*;
+use crate::paths::InFlight;
 use recovery_base::below::SpaceId;
 use recovery_base::timer::Timer;
 use std::test::Fail;
@@ -24,6 +25,44 @@ fn set(timer: Timer, nanos: u64) -> Event {
         time: at(nanos),
     }
 }
+
+fn send(space: SpaceId, size: u16, ack_eliciting: bool) -> Event {
+    Event::Send {
+        space,
+        now: at(7),
+        size,
+        ack_eliciting,
+        largest_acked: None,
+    }
+}
+
+fn acked(space: SpaceId, number: u64) -> Event {
+    Event::Acked {
+        space,
+        now: at(9),
+        number,
+        app_limited: false,
+    }
+}
+
+fn in_flight(bytes: u64, ack_eliciting: u64) -> Result<Answer, Refusal> {
+    Ok(Answer::InFlight {
+        bytes,
+        ack_eliciting,
+    })
+}
+
+fn sent(number: u64, forgotten: Option<u64>) -> Result<Answer, Refusal> {
+    Ok(Answer::Sent { number, forgotten })
+}
+
+const CURRENT: Event = Event::InFlight {
+    path: PathName::Current,
+};
+
+const PREVIOUS: Event = Event::InFlight {
+    path: PathName::Previous,
+};
 
 fn new(arm: bool) -> Result<Answer, Refusal> {
     Ok(Answer::New { arm })
@@ -88,6 +127,78 @@ fn run_answers_with_memory(rt: HostRuntime) -> Result<(), Fail> {
 }
 
 #[test]
+fn packets_are_tracked_until_they_leave(rt: HostRuntime) -> Result<(), Fail> {
+    let (initial, data) = (SpaceId::Initial, SpaceId::Data);
+    let discard = Event::DiscardSpace { space: initial };
+    let lost = Event::Lost {
+        space: data,
+        number: 1,
+    };
+    let events = [
+        send(initial, 500, true),
+        send(data, 0, false),
+        CURRENT,
+        discard,
+        CURRENT,
+        send(initial, 500, true),
+        acked(data, 9),
+        PREVIOUS,
+        send(data, 700, true),
+        lost,
+        lost,
+        acked(data, 0),
+        discard,
+    ];
+    let want = [
+        sent(0, None),
+        sent(0, None),
+        in_flight(500, 1),
+        Ok(Answer::Done),
+        in_flight(0, 0),
+        Err(Refusal::SpaceDiscarded),
+        Err(Refusal::NotTracked),
+        Err(Refusal::NoSuchPath),
+        sent(1, None),
+        Ok(Answer::Lost { probe: false }),
+        Err(Refusal::NotTracked),
+        Ok(Answer::Acked { probe: false }),
+        Err(Refusal::SpaceDiscarded),
+    ];
+    let (recovery, replies) = run(rt.alloc(), &events)?;
+    assert_eq!(rt; replies.as_slice(), want.as_slice());
+    assert_eq!(rt; recovery.current().in_flight(), InFlight::default());
+    assert_eq!(rt; recovery.current().generation(), 0);
+    assert!(rt; recovery.space(initial).is_none());
+    let space = recovery.space(data).ok_or("discarded")?;
+    assert_eq!(rt; space.next_packet_number(), 2);
+    assert_eq!(rt; space.largest_ack_eliciting_sent(), Some(1));
+    assert_eq!(rt; space.largest_acked_packet, Some(0));
+    assert!(rt; !space.has_in_flight());
+    Ok(())
+}
+
+#[test]
+fn the_least_of_1001_silent_packets_is_forgotten(rt: HostRuntime) -> Result<(), Fail> {
+    let mut recovery = Recovery::new(rt.alloc(), RecoveryConfig::default(), at(0))?;
+    for number in 0..1001 {
+        let reply = recovery.apply(send(SpaceId::Data, 40, false));
+        assert_eq!(rt; reply, sent(number, None));
+    }
+    let reply = recovery.apply(send(SpaceId::Data, 40, false));
+    assert_eq!(rt; reply, sent(1001, Some(0)));
+    assert_eq!(rt; recovery.apply(CURRENT), in_flight(40040, 0));
+    let large = Event::Send {
+        space: SpaceId::Data,
+        now: at(0),
+        size: 1,
+        ack_eliciting: true,
+        largest_acked: Some(1 << 62),
+    };
+    assert_eq!(rt; recovery.apply(large), REFUSED);
+    Ok(())
+}
+
+#[test]
 fn timers_are_as_the_events_left_them(rt: HostRuntime) -> Result<(), Fail> {
     let events = [
         Event::NextTimeout,
@@ -131,6 +242,36 @@ fn refusals_have_numbers_names_and_texts(rt: HostRuntime) -> Result<(), Fail> {
             2,
             "NumberTooLarge",
             "a number is 2^62 or more",
+        ),
+        (
+            Refusal::NumbersExhausted,
+            3,
+            "NumbersExhausted",
+            "no packet number is left",
+        ),
+        (
+            Refusal::NotTracked,
+            4,
+            "NotTracked",
+            "the packet is not tracked",
+        ),
+        (
+            Refusal::SpaceDiscarded,
+            5,
+            "SpaceDiscarded",
+            "the space is discarded",
+        ),
+        (
+            Refusal::NoSuchPath,
+            6,
+            "NoSuchPath",
+            "there is no such path",
+        ),
+        (
+            Refusal::Overflow,
+            9,
+            "Overflow",
+            "a counter passes 2^64 - 1",
         ),
     ];
     for (refusal, number, name, text) in rows {
