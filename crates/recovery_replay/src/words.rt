@@ -22,8 +22,10 @@ pub fn number_in(word: &str) -> Option<u64>
 fn size_in(word: &str) -> Option<u16>
     ensures { result ≡ number_of (2 ^ 16) word.now }
 {
-    let number = number_in(word)?;
-    u16::try_from(number).ok()
+    match number_in(word) {
+        Some(number) => u16::try_from(number).ok(),
+        None => None,
+    }
 }
 
 /// The number that a word spells, or `Some(None)` for the word that spells none.
