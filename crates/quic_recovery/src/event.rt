@@ -7,11 +7,20 @@ use recovery_base::time::Instant;
 use recovery_base::timer::Timer;
 use thiserror::Error;
 
+/// Which path an event is about.
+#[derive(Clone, Copy, Debug, PartialEq, Eq)]
+pub enum PathName {
+    /// The path in use.
+    Current,
+    /// The path in use before it.
+    Previous,
+}
+
 /// What happens.
 #[derive(Clone, Copy, Debug, PartialEq, Eq)]
 pub enum Event {
-    /// A packet came in (RFC 9000, 12.3). Refused by `NumberTooLarge` where the number is 2^62 or more, then by
-    /// `NoMemory`; a duplicate takes no memory.
+    /// A packet came in (RFC 9000, 12.3). Refused by `SpaceDiscarded`, by `NumberTooLarge` where the number is 2^62 or
+    /// more, then by `NoMemory`; a duplicate takes no memory.
     Received {
         /// The packet number space.
         space: SpaceId,
@@ -21,6 +30,42 @@ pub enum Event {
         number: u64,
         /// Whether it holds a frame that elicits an ACK (RFC 9002, 2).
         ack_eliciting: bool,
+    },
+    /// A packet goes out on the current path, under the next number of its space (RFC 9002, A.5). Refused by
+    /// `SpaceDiscarded`, by `NumberTooLarge` where the largest acknowledged number is 2^62 or more, by `NumbersExhausted`,
+    /// by `Overflow` where the bytes in flight would pass `u64::MAX`, then by `NoMemory`. Cost: logarithmic in the packets
+    /// tracked.
+    Send {
+        /// The packet number space.
+        space: SpaceId,
+        /// When it is sent.
+        now: Instant,
+        /// Its size in bytes; 0 where congestion control does not count it.
+        size: u16,
+        /// Whether it holds a frame that elicits an ACK (RFC 9002, 2).
+        ack_eliciting: bool,
+        /// The largest packet number that its ACK frame acknowledges, where it holds one.
+        largest_acked: Option<u64>,
+    },
+    /// A packet that was sent is acknowledged (RFC 9002, A.7). Refused by `SpaceDiscarded`, then by `NotTracked`. Cost:
+    /// logarithmic in the packets tracked.
+    Acked {
+        /// The packet number space.
+        space: SpaceId,
+        /// When the ACK came in.
+        now: Instant,
+        /// The packet's number.
+        number: u64,
+        /// Whether the sender had too little to send to fill its window (RFC 9002, 7.8).
+        app_limited: bool,
+    },
+    /// A packet that was sent is declared lost (RFC 9002, A.10). Refused by `SpaceDiscarded`, then by `NotTracked`. Cost:
+    /// logarithmic in the packets tracked.
+    Lost {
+        /// The packet number space.
+        space: SpaceId,
+        /// The packet's number.
+        number: u64,
     },
     /// A timer is set to a moment. Never refused.
     SetTimer {
@@ -36,6 +81,17 @@ pub enum Event {
     },
     /// When does the next timer expire? Never refused.
     NextTimeout,
+    /// The keys of a space are dropped, and with them all that it tracks (RFC 9002, 6.4). Every later event on the space is
+    /// refused by `SpaceDiscarded`, and so is this one. Cost: linear in the packets that the space tracks.
+    DiscardSpace {
+        /// The packet number space.
+        space: SpaceId,
+    },
+    /// What is in flight on a path? Refused by `NoSuchPath`.
+    InFlight {
+        /// The path.
+        path: PathName,
+    },
 }
 
 /// What an event that is not refused is answered.
@@ -48,8 +104,32 @@ pub enum Answer {
     },
     /// The packet may have come before: it is to be dropped.
     Duplicate,
+    /// The packet is sent.
+    Sent {
+        /// The number that it was given.
+        number: u64,
+        /// The number of the silent packet that is forgotten for it, if any.
+        forgotten: Option<u64>,
+    },
+    /// The packet is no longer tracked.
+    Acked {
+        /// Whether it was the probe of the path's MTU.
+        probe: bool,
+    },
+    /// The packet is no longer tracked.
+    Lost {
+        /// Whether it was the probe of the path's MTU.
+        probe: bool,
+    },
     /// The least moment that a timer is set to, if any.
     Timeout(Option<Instant>),
+    /// What is in flight on a path (RFC 9002, B.2).
+    InFlight {
+        /// The sum of the packets' sizes, in bytes.
+        bytes: u64,
+        /// How many of the packets elicit an ACK.
+        ack_eliciting: u64,
+    },
     /// The event has no other answer.
     Done,
 }
@@ -63,6 +143,21 @@ pub enum Refusal {
     /// A packet number is 2^62 or more (RFC 9000, 12.3).
     #[error("a number is 2^62 or more")]
     NumberTooLarge,
+    /// The space has given out all packet numbers below 2^62 (RFC 9000, 12.3).
+    #[error("no packet number is left")]
+    NumbersExhausted,
+    /// The packet is not tracked: it was not sent, or it was acknowledged, lost or forgotten.
+    #[error("the packet is not tracked")]
+    NotTracked,
+    /// The keys of the space were dropped.
+    #[error("the space is discarded")]
+    SpaceDiscarded,
+    /// There is no such path.
+    #[error("there is no such path")]
+    NoSuchPath,
+    /// A counter would pass the end of its type.
+    #[error("a counter passes 2^64 - 1")]
+    Overflow,
 }
 
 impl Refusal {
@@ -73,6 +168,11 @@ impl Refusal {
         match self {
             Refusal::NoMemory => 1,
             Refusal::NumberTooLarge => 2,
+            Refusal::NumbersExhausted => 3,
+            Refusal::NotTracked => 4,
+            Refusal::SpaceDiscarded => 5,
+            Refusal::NoSuchPath => 6,
+            Refusal::Overflow => 9,
         }
     }
 
@@ -83,6 +183,11 @@ impl Refusal {
         match self {
             Refusal::NoMemory => "NoMemory",
             Refusal::NumberTooLarge => "NumberTooLarge",
+            Refusal::NumbersExhausted => "NumbersExhausted",
+            Refusal::NotTracked => "NotTracked",
+            Refusal::SpaceDiscarded => "SpaceDiscarded",
+            Refusal::NoSuchPath => "NoSuchPath",
+            Refusal::Overflow => "Overflow",
         }
     }
 }

@@ -11,7 +11,7 @@ use Rattle.std.proofs.lemmas.Bool.{cases_lt, cases_eq}
 use Rattle.std.proofs.lemmas.Nat.Bits.{bit_at_cat_low, bit_at_cat_high, bit_at_above, bit_at-zero, bit_at_or, bit_at_and, bit_at_not, bit_at_ones, bit_at_ones_above, bit_at-pow_same, bit_at-pow_other, bit_at-lt, ones_shr, and_pow, bit_at_set_same, bit_at_set_other}
 use Rattle.recovery_base.specs.Numbers.{IsNew, IsInWindow, IsMissing, IsLeastMissing, Inserts, Recent, With}
 use Rattle.recovery_base.specs.Received.{IsKnown}
-use Rattle.recovery_base.proofs.Numbers.{member_is_not_new, old_is_not_new, old_adds_nothing, member_adds_nothing}
+use Rattle.recovery_base.proofs.WindowLaws.{member_is_not_new, old_is_not_new, old_adds_nothing, member_adds_nothing}
 
 -- ---- bits after a shift to the left
 

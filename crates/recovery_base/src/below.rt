@@ -35,3 +35,7 @@ impl From<AllocError> for NoMemory {
         NoMemory
     }
 }
+
+mod ids;
+
+pub use ids::{ConnectionId, IssuedCid, NewConnectionId, ResetToken};

@@ -1,2 +1,8 @@
 pub mod AckLaws
+pub mod DeadlineLaws
+pub mod IterLaws
+pub mod QueueLaws
+pub mod RiseLaws
 pub mod RunLaws
+pub mod StateLaws
+pub mod WindowLaws

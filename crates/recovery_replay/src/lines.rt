@@ -1,22 +1,16 @@
-//! Lines of a script: what each says, and what is written in answer.
-ghost use Rattle.std.specs.Prelude.{◌≡◌};
-ghost use Rattle.recovery_replay.specs.Words.{Reads, words_left};
-ghost use Rattle.recovery_replay.specs.Lines.{received_at, set_timer_at, stop_timer_at, event_at, event_of};
-ghost use Rattle.std.specs.Prelude.{IfSome, Some, OnOk};
-ghost use Rattle.std.specs.Io.KnownBytes.{Appends};
-ghost use Rattle.recovery_replay.specs.Answers.{answer_line, refusal_text};
+//! The event that a line of a script spells.
+ghost use Rattle.std.specs.Prelude.{◌≡◌, IfSome, Some};
 ghost use Rattle.quic_recovery.specs.declared.event.Event.{Event};
 ghost use Rattle.recovery_replay.specs.Lines.{Spells};
+ghost use Rattle.recovery_replay.specs.Reading.{Reads, words_left, received_at, send_at, acked_at, lost_at, set_timer_at, stop_timer_at, discard_at, in_flight_at, event_at, event_of};
 
 use crate::words::Words;
-use quic_recovery::event::{Answer, Event, Refusal};
-use std::io;
-use std::io::Write;
+use quic_recovery::event::Event;
 
-/// The longest line.
+/// The most bytes of a line, without its line feed.
 pub const LINE_LIMIT: usize = 4096;
 
-#[tactic(auto, unfolding(crate::specs::Lines::received_at))]
+#[tactic(auto, unfolding(crate::specs::Reading::received_at))]
 fn received(words: &mut Words<'_>) -> Option<Event>
     ensures { Reads (λ e. e) result (words_left words.new) (received_at (words_left words.old)) }
 {
@@ -28,7 +22,42 @@ fn received(words: &mut Words<'_>) -> Option<Event>
     })
 }
 
-#[tactic(auto, unfolding(crate::specs::Lines::set_timer_at))]
+#[tactic(auto, unfolding(crate::specs::Reading::send_at))]
+fn send(words: &mut Words<'_>) -> Option<Event>
+    ensures { Reads (λ e. e) result (words_left words.new) (send_at (words_left words.old)) }
+{
+    Some(Event::Send {
+        space: words.space()?,
+        now: words.moment()?,
+        size: words.size()?,
+        ack_eliciting: words.flag()?,
+        largest_acked: words.largest()?,
+    })
+}
+
+#[tactic(auto, unfolding(crate::specs::Reading::acked_at))]
+fn acked(words: &mut Words<'_>) -> Option<Event>
+    ensures { Reads (λ e. e) result (words_left words.new) (acked_at (words_left words.old)) }
+{
+    Some(Event::Acked {
+        space: words.space()?,
+        now: words.moment()?,
+        number: words.number()?,
+        app_limited: words.flag()?,
+    })
+}
+
+#[tactic(auto, unfolding(crate::specs::Reading::lost_at))]
+fn lost(words: &mut Words<'_>) -> Option<Event>
+    ensures { Reads (λ e. e) result (words_left words.new) (lost_at (words_left words.old)) }
+{
+    Some(Event::Lost {
+        space: words.space()?,
+        number: words.number()?,
+    })
+}
+
+#[tactic(auto, unfolding(crate::specs::Reading::set_timer_at))]
 fn set_timer(words: &mut Words<'_>) -> Option<Event>
     ensures { Reads (λ e. e) result (words_left words.new) (set_timer_at (words_left words.old)) }
 {
@@ -38,7 +67,7 @@ fn set_timer(words: &mut Words<'_>) -> Option<Event>
     })
 }
 
-#[tactic(auto, unfolding(crate::specs::Lines::stop_timer_at))]
+#[tactic(auto, unfolding(crate::specs::Reading::stop_timer_at))]
 fn stop_timer(words: &mut Words<'_>) -> Option<Event>
     ensures { Reads (λ e. e) result (words_left words.new) (stop_timer_at (words_left words.old)) }
 {
@@ -47,21 +76,44 @@ fn stop_timer(words: &mut Words<'_>) -> Option<Event>
     })
 }
 
-#[tactic(auto, unfolding(crate::specs::Lines::event_at, crate::specs::Lines::next_timeout_at))]
+#[tactic(auto, unfolding(crate::specs::Reading::discard_at))]
+fn discard(words: &mut Words<'_>) -> Option<Event>
+    ensures { Reads (λ e. e) result (words_left words.new) (discard_at (words_left words.old)) }
+{
+    Some(Event::DiscardSpace {
+        space: words.space()?,
+    })
+}
+
+#[tactic(auto, unfolding(crate::specs::Reading::in_flight_at))]
+fn in_flight(words: &mut Words<'_>) -> Option<Event>
+    ensures { Reads (λ e. e) result (words_left words.new) (in_flight_at (words_left words.old)) }
+{
+    Some(Event::InFlight {
+        path: words.path()?,
+    })
+}
+
+#[tactic(auto, unfolding(crate::specs::Reading::event_at, crate::specs::Reading::next_timeout_at))]
 fn event_in(words: &mut Words<'_>) -> Option<Event>
     ensures { Reads (λ e. e) result (words_left words.new) (event_at (words_left words.old)) }
 {
     match words.next()? {
         "received" => received(words),
+        "send" => send(words),
+        "acked" => acked(words),
+        "lost" => lost(words),
         "set-timer" => set_timer(words),
         "stop-timer" => stop_timer(words),
         "next-timeout" => Some(Event::NextTimeout),
+        "discard" => discard(words),
+        "in-flight" => in_flight(words),
         _ => None,
     }
 }
 
 /// The event that the words of a line say, all of them.
-#[tactic(auto, unfolding(crate::specs::Lines::event_of))]
+#[tactic(auto, unfolding(crate::specs::Reading::event_of))]
 fn event(line: &str) -> Option<Event>
     ensures { result ≡ event_of line.now }
 {
@@ -73,7 +125,7 @@ fn event(line: &str) -> Option<Event>
     Some(event)
 }
 
-/// The event that a line spells.
+/// The event that a line, given without its line feed, spells; `None` where it spells none.
 pub fn read_event(line: &[u8]) -> Option<Event>
     // What is read is spelled so.
     ensures found { IfSome result (λ event. Spells line.now event) }
@@ -86,30 +138,5 @@ pub fn read_event(line: &[u8]) -> Option<Event>
     match str::from_utf8(line) {
         Ok(text) => event(text),
         Err(_) => None,
-    }
-}
-
-/// The number and the name of a refusal.
-fn refusal_text(refusal: Refusal) -> &'static str
-    ensures { result.now ≡ refusal_text refusal }
-{
-    match refusal {
-        Refusal::NoMemory => "1 NoMemory",
-        Refusal::NumberTooLarge => "2 NumberTooLarge",
-    }
-}
-
-/// Writes what an event came to.
-pub fn write_reply<W: Write>(output: &mut W, reply: &Result<Answer, Refusal>) -> io::Result<()>
-    ensures { OnOk result (Appends (W.contents output.old) (W.contents output.new) (answer_line reply.now)) }
-{
-    match reply {
-        Ok(Answer::New { arm: true }) => writeln!(output, "new arm"),
-        Ok(Answer::New { arm: false }) => writeln!(output, "new"),
-        Ok(Answer::Duplicate) => writeln!(output, "duplicate"),
-        Ok(Answer::Timeout(Some(time))) => writeln!(output, "timeout {}", time.as_nanos()),
-        Ok(Answer::Timeout(None)) => writeln!(output, "timeout none"),
-        Ok(Answer::Done) => writeln!(output, "done"),
-        Err(refusal) => writeln!(output, "refused {}", refusal_text(*refusal)),
     }
 }

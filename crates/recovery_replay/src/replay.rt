@@ -1,17 +1,20 @@
 //! Events in, answers out.
-ghost use Rattle.std.specs.Prelude.{◌≡◌, IfOk, IfSome, OnOk, Decides, Some};
+ghost use Rattle.std.specs.Prelude.{◌≡◌, IfOk, OnOk, Decides, string_bytes};
 ghost use Rattle.std.specs.Io.KnownBytes.{Appends};
 ghost use Rattle.quic_recovery.specs.History.{Throughout};
 ghost use Rattle.quic_recovery.specs.Told.{Told};
-ghost use Rattle.recovery_replay.specs.Answers.{answer_lines};
-ghost use Rattle.recovery_replay.specs.Replay.{status_of, error_text, Answered, AreArguments, Plays, EndsSo, IsQuiet};
+ghost use Rattle.recovery_replay.specs.Replay.{status_of, error_text, AreArguments, Session, Plays, Tells, EndsSo};
 
-use crate::script::{Ending, Script};
-use crate::{lines, words};
-use quic_recovery::below::NoMemory;
+use crate::answers::render;
+use crate::script::{Ending, read_script};
+use crate::words::number_in;
+use crate::writing::deliver;
+use arrayvec::ArrayString;
+use itoa::Buffer;
 use quic_recovery::driver::{Recovery, RecoveryConfig};
 use quic_recovery::event::{Answer, Event, Refusal};
-use quic_recovery::time::Instant;
+use recovery_base::below::NoMemory;
+use recovery_base::time::Instant;
 use std::alloc::Global;
 use std::io;
 use std::io::{Read, Write};
@@ -21,13 +24,17 @@ use std::io::{Read, Write};
 pub enum Outcome {
     /// The answers were written, and the input ended so.
     Ended(Ending),
+    /// A write of the answers failed; a beginning of them was written.
     WriteFailed,
+    /// Memory was refused before anything was written.
     OutOfMemory,
+    /// The arguments are wrong; nothing was read or written.
     WrongArguments,
 }
 
 impl Outcome {
-    /// The exit status.
+    /// The exit status: 0 where all went well, 2 where the arguments or a line are wrong, 1 where reading, writing or
+    /// memory failed.
     pub fn status(self) -> u8
         ensures { result ≡ status_of self }
     {
@@ -38,120 +45,119 @@ impl Outcome {
         }
     }
 
-    /// Writes what is wrong, if anything is.
-    pub fn report<E: Write>(self, errors: &mut E) -> io::Result<()>
-        ensures text { OnOk result (Appends (E.contents errors.old) (E.contents errors.new) (error_text self)) }
-        ensures quiet { IsQuiet self (E.contents errors.old) (E.contents errors.new) }
+    /// What is wrong, with a line feed behind; empty where all went well. It takes no memory.
+    pub fn text(self) -> ArrayString<64>
+        ensures { result.bytes ≡ error_text self }
     {
+        let mut text = ArrayString::new();
         match self {
-            Outcome::Ended(Ending::Whole) => Ok(()),
+            Outcome::Ended(Ending::Whole) => {}
             Outcome::Ended(Ending::BadLine(number)) => {
-                writeln!(errors, "line {number}: cannot be read")
+                text.push_str("line ");
+                text.push_str(Buffer::new().format(number));
+                text.push_str(": cannot be read\n");
             }
-            Outcome::Ended(Ending::ReadFailed) => writeln!(errors, "replay: read failed"),
-            Outcome::WriteFailed => writeln!(errors, "replay: write failed"),
-            Outcome::OutOfMemory => writeln!(errors, "replay: out of memory"),
-            Outcome::WrongArguments => writeln!(errors, "usage: recovery-replay [SEED]"),
+            Outcome::Ended(Ending::ReadFailed) => text.push_str("replay: read failed\n"),
+            Outcome::WriteFailed => text.push_str("replay: write failed\n"),
+            Outcome::OutOfMemory => text.push_str("replay: out of memory\n"),
+            Outcome::WrongArguments => text.push_str("usage: recovery-replay [SEED]\n"),
         }
+        text
+    }
+
+    /// Writes the text. After a failure a beginning of it was written.
+    pub fn report<E: Write>(self, errors: &mut E) -> io::Result<()>
+        ensures whole { OnOk result (Appends (E.contents errors.old) (E.contents errors.new) (error_text self)) }
+        ensures front { Tells self (E.contents errors.old) (E.contents errors.new) }
+    {
+        deliver(errors, self.text().as_str().as_bytes())
     }
 }
 
-/// The answers to the events that were read.
-fn answers(alloc: Global, events: Vec<Event>) -> Result<Vec<Result<Answer, Refusal>>, NoMemory>
-    ensures { IfOk result (λ answers. Throughout Told events.items answers.items) }
+/// What a run answers to the events.
+fn replies(alloc: Global, events: Vec<Event>) -> Result<Vec<Result<Answer, Refusal>>, NoMemory>
+    ensures { IfOk result (λ replies. Throughout Told events.items replies.items) }
 {
-    let (_, answers) = Recovery::run(
-        alloc,
-        RecoveryConfig::default(),
-        Instant::from_nanos(0),
-        events,
-    )?;
-    Ok(answers)
+    let start = Instant::from_nanos(0);
+    let (_, replies) = Recovery::run(alloc, RecoveryConfig::default(), start, events)?;
+    Ok(replies)
 }
 
-/// The answers to the events of an input, and how it ended.
-fn read_all<R: Read>(
-    alloc: Global,
-    input: &mut R,
-) -> Result<(Vec<Result<Answer, Refusal>>, Ending), NoMemory>
-    ensures { IfOk result (λ read. IfSome (R.remaining input.old) (λ bytes. Answered bytes read.0.items read.1)) }
+/// The lines to be written for an input, and how it ended.
+fn answer_all<R: Read>(alloc: Global, input: &mut R) -> Result<(String, Ending), NoMemory>
+    ensures { IfOk result (λ all. Session (R.remaining input.old) (R.remaining input.new) all.1 (λ lines. string_bytes all.0 ≡ lines)) }
 {
-    let mut script = Script::new(alloc);
-    let ending = script.read(input)?;
-    let answers = answers(alloc, script.into_events())?;
-    Ok((answers, ending))
+    let (events, ending) = read_script(alloc, input)?;
+    let text = render(alloc, &replies(alloc, events)?)?;
+    Ok((text, ending))
 }
 
-fn write_all<W: Write>(output: &mut W, answers: &[Result<Answer, Refusal>]) -> io::Result<()>
-    ensures { OnOk result (Appends (W.contents output.old) (W.contents output.new) (answer_lines answers.now)) }
+/// Are these the arguments of a run: nothing, or a number?
+fn are_arguments(words: &[String]) -> bool
+    ensures { Decides result (AreArguments words.now) }
 {
-    for answer in answers {
-        lines::write_reply(output, answer)?;
-    }
-    output.flush()
-}
-
-/// Are these the arguments of a run?
-fn are_arguments(arguments: &[String]) -> bool
-    ensures { Decides result (AreArguments arguments.now) }
-{
-    match arguments {
+    match words {
         [] => true,
-        [seed] => words::number_in(seed.as_str()).is_some(),
+        [seed] => number_in(seed.as_str()).is_some(),
         _ => false,
     }
 }
 
-/// Reads events, and writes their answers.
-fn run<R: Read, W: Write>(
+/// Reads events and writes their answers.
+fn play<R: Read, W: Write>(
     alloc: Global,
-    arguments: &[String],
+    words: &[String],
     input: &mut R,
     output: &mut W,
 ) -> Outcome
-    ensures { Plays arguments.now (R.remaining input.old) (W.contents output.old) (W.contents output.new) result }
+    ensures { Plays words.now (R.remaining input.old) (R.remaining input.new) (W.contents output.old) (W.contents output.new) result }
 {
-    if !are_arguments(arguments) {
+    if !are_arguments(words) {
         return Outcome::WrongArguments;
     }
-    let Ok((answers, ending)) = read_all(alloc, input) else {
+    let Ok((text, ending)) = answer_all(alloc, input) else {
         return Outcome::OutOfMemory;
     };
-    match write_all(output, &answers) {
+    match deliver(output, text.as_bytes()) {
         Ok(()) => Outcome::Ended(ending),
         Err(_) => Outcome::WriteFailed,
     }
 }
 
-/// Reads events, writes their answers, and says what is wrong; gives the exit status. `arguments` are those after the
-/// program's name.
-pub fn replay<R: Read + Drop, W: Write, E: Write>(
+/// Reads events, writes their answers and then what is wrong: how it ended, and whether that could be told.
+///
+/// `words` are the arguments behind the program's name: nothing, or a seed (0 to `u64::MAX`, without sign or leading
+/// zeros), which has no effect yet. The answers are written once the input was read; they are held in memory.
+pub fn replay_and_tell<R: Read, W: Write, E: Write>(
     alloc: Global,
-    arguments: &[String],
-    mut input: R,
+    words: &[String],
+    input: &mut R,
+    output: &mut W,
+    errors: &mut E,
+) -> (Outcome, io::Result<()>)
+    ensures outcome { Plays words.now (R.remaining input.old) (R.remaining input.new) (W.contents output.old) (W.contents output.new) result.0 }
+    ensures told { OnOk result.1 (Appends (E.contents errors.old) (E.contents errors.new) (error_text result.0)) }
+    ensures front { Tells result.0 (E.contents errors.old) (E.contents errors.new) }
+{
+    let outcome = play(alloc, words, input, output);
+    (outcome, outcome.report(errors))
+}
+
+/// Reads events, writes their answers and then what is wrong; gives the exit status.
+///
+/// As `replay_and_tell`; a failed write to `errors` changes no status.
+pub fn replay<R: Read, W: Write, E: Write>(
+    alloc: Global,
+    words: &[String],
+    input: &mut R,
     output: &mut W,
     errors: &mut E,
 ) -> u8
-    ensures { EndsSo (λ outcome. Plays arguments.now (R.remaining input) (W.contents output.old) (W.contents output.new) outcome
-        × IsQuiet outcome (E.contents errors.old) (E.contents errors.new)) result }
+    ensures { EndsSo (λ outcome. Plays words.now (R.remaining input.old) (R.remaining input.new) (W.contents output.old) (W.contents output.new) outcome
+        × Tells outcome (E.contents errors.old) (E.contents errors.new)) result }
 {
-    let outcome = run(alloc, arguments, &mut input, output);
-    let _ = outcome.report(errors);
+    let (outcome, _) = replay_and_tell(alloc, words, input, output, errors);
     outcome.status()
-}
-
-/// The same over memory.
-pub fn replay_bytes(
-    alloc: Global,
-    arguments: &[String],
-    input: &[u8],
-    output: &mut Vec<u8>,
-    errors: &mut Vec<u8>,
-) -> u8
-    ensures { EndsSo (λ outcome. Plays arguments.now (Some input.now) (Some output.old.items) (Some output.new.items) outcome
-        × IsQuiet outcome (Some errors.old.items) (Some errors.new.items)) result }
-{
-    replay(alloc, arguments, input, output, errors)
 }
 
 #[cfg(test)]

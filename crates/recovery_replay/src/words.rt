@@ -1,12 +1,14 @@
 //! The words of a line, read one after the other.
 ghost use Rattle.std.specs.Prelude.{◌≡◌, ◌^◌};
-ghost use Rattle.recovery_replay.specs.Words.{Reads, words_of, words_left, first_word, field, flag_of, space_of, timer_of, number_of};
+ghost use Rattle.recovery_replay.specs.Words.{words_of};
+ghost use Rattle.recovery_replay.specs.Reading.{Reads, words_left, first_word, field, flag_of, space_of, timer_of, path_of, largest_of, number_of};
 
-use quic_recovery::below::SpaceId;
-use quic_recovery::time::Instant;
-use quic_recovery::timer::Timer;
+use quic_recovery::event::PathName;
+use recovery_base::below::SpaceId;
+use recovery_base::time::Instant;
+use recovery_base::timer::Timer;
 
-/// The number that a word spells: digits without a sign and without leading zeros.
+/// The number that a word spells, 0 to `u64::MAX`: digits without a sign and without leading zeros.
 pub fn number_in(word: &str) -> Option<u64>
     ensures { result ≡ number_of (2 ^ 64) word.now }
 {
@@ -16,7 +18,28 @@ pub fn number_in(word: &str) -> Option<u64>
     word.parse().ok()
 }
 
-#[tactic(auto, unfolding(crate::specs::Words::flag_of))]
+/// The size that a word spells, 0 to `u16::MAX`, as a number is spelled.
+fn size_in(word: &str) -> Option<u16>
+    ensures { result ≡ number_of (2 ^ 16) word.now }
+{
+    match number_in(word) {
+        Some(number) => u16::try_from(number).ok(),
+        None => None,
+    }
+}
+
+/// The number that a word spells, or `Some(None)` for the word that spells none.
+#[tactic(auto, unfolding(crate::specs::Reading::largest_of))]
+fn largest_in(word: &str) -> Option<Option<u64>>
+    ensures { result ≡ largest_of word.now }
+{
+    match word {
+        "-" => Some(None),
+        _ => Some(Some(number_in(word)?)),
+    }
+}
+
+#[tactic(auto, unfolding(crate::specs::Reading::flag_of))]
 fn flag_in(word: &str) -> Option<bool>
     ensures { result ≡ flag_of word.now }
 {
@@ -27,7 +50,7 @@ fn flag_in(word: &str) -> Option<bool>
     }
 }
 
-#[tactic(auto, unfolding(crate::specs::Words::space_of))]
+#[tactic(auto, unfolding(crate::specs::Reading::space_of))]
 fn space_in(word: &str) -> Option<SpaceId>
     ensures { result ≡ space_of word.now }
 {
@@ -39,7 +62,7 @@ fn space_in(word: &str) -> Option<SpaceId>
     }
 }
 
-#[tactic(auto, unfolding(crate::specs::Words::timer_of))]
+#[tactic(auto, unfolding(crate::specs::Reading::timer_of))]
 fn timer_in(word: &str) -> Option<Timer>
     ensures { result ≡ timer_of word.now }
 {
@@ -57,6 +80,17 @@ fn timer_in(word: &str) -> Option<Timer>
     }
 }
 
+#[tactic(auto, unfolding(crate::specs::Reading::path_of))]
+fn path_in(word: &str) -> Option<PathName>
+    ensures { result ≡ path_of word.now }
+{
+    match word {
+        "current" => Some(PathName::Current),
+        "previous" => Some(PathName::Previous),
+        _ => None,
+    }
+}
+
 /// The words of a line that are left to read.
 #[derive(Drop)]
 pub struct Words<'a> {
@@ -64,13 +98,14 @@ pub struct Words<'a> {
 }
 
 impl<'a> Words<'a> {
+    /// The words of a line: what stands between its spaces. A line with no byte has one word, the empty one.
     pub fn new(line: &'a str) -> Self
         ensures { words_left result ≡ words_of line.now }
     {
         Words { rest: Some(line) }
     }
 
-    /// The next word.
+    /// The next word; `None` behind the last one.
     pub fn next(&mut self) -> Option<&'a str>
         ensures { Reads (λ s. s.now) result (words_left self.new) (first_word (words_left self.old)) }
     {
@@ -87,35 +122,64 @@ impl<'a> Words<'a> {
         }
     }
 
-    #[tactic(auto, unfolding(crate::specs::Words::field))]
+    /// The next word as a number, 0 to `u64::MAX`.
+    #[tactic(auto, unfolding(crate::specs::Reading::field))]
     pub fn number(&mut self) -> Option<u64>
         ensures { Reads (λ n. n) result (words_left self.new) (field (number_of (2 ^ 64)) (words_left self.old)) }
     {
         number_in(self.next()?)
     }
 
-    #[tactic(auto, unfolding(crate::specs::Words::field))]
+    /// The next word as a moment: nanoseconds, 0 to `u64::MAX`.
+    #[tactic(auto, unfolding(crate::specs::Reading::field))]
     pub fn moment(&mut self) -> Option<Instant>
         ensures { Reads (λ n. n) result (words_left self.new) (field (number_of (2 ^ 64)) (words_left self.old)) }
     {
         Some(Instant::from_nanos(self.number()?))
     }
 
-    #[tactic(auto, unfolding(crate::specs::Words::field))]
+    /// The next word as a size in bytes, 0 to `u16::MAX`.
+    #[tactic(auto, unfolding(crate::specs::Reading::field))]
+    pub fn size(&mut self) -> Option<u16>
+        ensures { Reads (λ n. n) result (words_left self.new) (field (number_of (2 ^ 16)) (words_left self.old)) }
+    {
+        size_in(self.next()?)
+    }
+
+    /// The next word as a packet number, 0 to `u64::MAX`, or as none, which is spelled `-`.
+    #[tactic(auto, unfolding(crate::specs::Reading::field))]
+    pub fn largest(&mut self) -> Option<Option<u64>>
+        ensures { Reads (λ n. n) result (words_left self.new) (field largest_of (words_left self.old)) }
+    {
+        largest_in(self.next()?)
+    }
+
+    /// The next word as a path: `current` or `previous`.
+    #[tactic(auto, unfolding(crate::specs::Reading::field))]
+    pub fn path(&mut self) -> Option<PathName>
+        ensures { Reads (λ n. n) result (words_left self.new) (field path_of (words_left self.old)) }
+    {
+        path_in(self.next()?)
+    }
+
+    /// The next word as a flag: 0 or 1.
+    #[tactic(auto, unfolding(crate::specs::Reading::field))]
     pub fn flag(&mut self) -> Option<bool>
         ensures { Reads (λ n. n) result (words_left self.new) (field flag_of (words_left self.old)) }
     {
         flag_in(self.next()?)
     }
 
-    #[tactic(auto, unfolding(crate::specs::Words::field))]
+    /// The next word as a packet number space: `initial`, `handshake` or `data`.
+    #[tactic(auto, unfolding(crate::specs::Reading::field))]
     pub fn space(&mut self) -> Option<SpaceId>
         ensures { Reads (λ n. n) result (words_left self.new) (field space_of (words_left self.old)) }
     {
         space_in(self.next()?)
     }
 
-    #[tactic(auto, unfolding(crate::specs::Words::field))]
+    /// The next word as a timer, by its name in small letters with hyphens.
+    #[tactic(auto, unfolding(crate::specs::Reading::field))]
     pub fn timer(&mut self) -> Option<Timer>
         ensures { Reads (λ n. n) result (words_left self.new) (field timer_of (words_left self.old)) }
     {

@@ -1,0 +1,24 @@
+use Rattle.std.proofs.Common.{sym, ap, subst, ◌∙◌}
+use Rattle.quic_recovery.specs.declared.paths.PathData.{PathData}
+use Rattle.quic_recovery.specs.declared.spaces.PacketSpace.{PacketSpace}
+use Rattle.quic_recovery.specs.Ledger.{IsBalanced}
+use Rattle.quic_recovery.specs.Packets.{packet_at, after_taking}
+use Rattle.quic_recovery.specs.Spaces.{with_space, tracking_of, packets_of, next_number_of}
+use Rattle.quic_recovery.proofs.LedgerLaws.{packet_counted, balanced_taken}
+use Rattle.quic_recovery.proofs.driver.Recovery.acked.Goals as goal
+
+pub remove_in_flight-requires : goal.remove_in_flight-requires
+remove_in_flight-requires c =
+    let found = ap (λ (s : PacketSpace). packet_at (packets_of s) c.args.number) (sym c.index_mut-here.ensures.value) ∙ sym c.take.ensures.packet ∙ c.in-Some.is in
+    packet_counted c.args.self.now.spaces c.args.self.now.current c.args.self.now.balanced c.args.space c.args.number c.in-Some.packet found
+
+pub invariant_of-self-2 : goal.invariant_of-self-2
+invariant_of-self-2 c =
+    let found = ap (λ (s : PacketSpace). packet_at (packets_of s) c.args.number) (sym c.index_mut-here.ensures.value) ∙ sym c.take.ensures.packet ∙ c.in-Some.is in
+    let tracking = ap tracking_of c.on_acked.ensures ∙ ap tracking_of c.take.ensures.after ∙ ap (λ (s : PacketSpace). after_taking c.args.number (tracking_of s)) c.index_mut-here.ensures.value in
+    let next = ap next_number_of c.on_acked.ensures ∙ ap next_number_of c.take.ensures.after ∙ ap next_number_of c.index_mut-here.ensures.value in
+    let P : PathData → Type 0 = IsBalanced (with_space c.args.self.now.spaces c.args.space c.on_acked.new.self) in
+    record {
+      balanced = subst P (sym c.remove_in_flight.ensures.after)
+          (balanced_taken c.args.self.now.spaces c.args.self.now.current c.args.self.now.balanced c.args.space c.on_acked.new.self c.args.number c.in-Some.packet found tracking next);
+    }

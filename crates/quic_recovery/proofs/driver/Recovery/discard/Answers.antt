@@ -1,0 +1,17 @@
+use Rattle.std.proofs.Common.{ap, subst, ◌∙◌}
+use Rattle.quic_recovery.specs.declared.spaces.PacketSpace.{PacketSpace}
+use Rattle.quic_recovery.specs.InFlight.{SumsLeave}
+use Rattle.quic_recovery.specs.Paths.{generation_of, counters_of}
+use Rattle.quic_recovery.specs.Spaces.{packets_of, space_empties}
+use Rattle.quic_recovery.proofs.LedgerLaws.{balanced_emptied, emptied_numbered}
+use Rattle.quic_recovery.proofs.driver.Recovery.discard.Goals as goal
+
+pub invariant_of-self-2 : goal.invariant_of-self-2
+invariant_of-self-2 c =
+    let is = c.forget_all.ensures.space ∙ ap space_empties c.index_mut.ensures.value in
+    let P : PacketSpace → Type 0 = λ s. SumsLeave (counters_of c.args.self.now.current) (generation_of c.args.self.now.current) (packets_of s) (counters_of c.forget_all.new.self) in
+    let left = subst P c.index_mut.ensures.value c.forget_all.ensures.counters in
+    record {
+      balanced = balanced_emptied c.args.self.now.spaces c.args.self.now.current c.args.self.now.balanced c.args.space c.forget_all.new.space c.forget_all.new.self c.forget_all.ensures.generation (ap packets_of is)
+          (emptied_numbered _ c.forget_all.new.space (c.args.self.now.balanced.numbers c.args.space) is) left.0 left.1;
+    }

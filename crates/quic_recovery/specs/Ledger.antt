@@ -1,0 +1,18 @@
+-- What ties the parts of a recovery together.
+use Rattle.std.specs.Prelude.{◌≡◌}
+use Rattle.recovery_base.specs.declared.below.SpaceId.{SpaceId}
+use Rattle.quic_recovery.specs.declared.paths.PathData.{PathData}
+use Rattle.quic_recovery.specs.declared.spaces.PacketSpaces.{PacketSpaces}
+use Rattle.quic_recovery.specs.InFlight.{in_flight}
+use Rattle.quic_recovery.specs.Packets.{Packets}
+use Rattle.quic_recovery.specs.Paths.{generation_of, counters_of}
+use Rattle.quic_recovery.specs.Spaces.{space_of, packets_of, IsNumbered}
+
+abbrev pub tracked_by : PacketSpaces → SpaceId → Packets
+tracked_by spaces space = packets_of (space_of space spaces)
+
+-- The path's counters are sums over the packets that the spaces track, and the numbers that were given out are below the
+-- next ones.
+pub record IsBalanced (spaces : PacketSpaces) (path : PathData) : Type 0 where
+  pub counters : counters_of path ≡ in_flight (generation_of path) (tracked_by spaces)
+  pub numbers : (space : SpaceId) → IsNumbered (space_of space spaces)

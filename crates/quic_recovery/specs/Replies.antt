@@ -1,0 +1,25 @@
+-- What an event may be replied: the causes of refusal in their order, each exactly, and else the answer.
+use Rattle.std.specs.Prelude.{◌==◌, Bool, MatchBool, Ok, Err}
+use Rattle.quic_recovery.specs.declared.event.Answer.{Answer}
+use Rattle.quic_recovery.specs.declared.event.Refusal.{Refusal}
+use Rattle.quic_recovery.specs.declared.event.Refusal.TheVariants.{NoMemory}
+use Rattle.quic_recovery.specs.History.{Reply}
+use Rattle.quic_recovery.specs.Refusals.{refusal_number}
+
+abbrev pub same_refusal : Refusal → Refusal → Bool
+same_refusal refusal other = refusal_number refusal == refusal_number other
+
+-- where the cause holds the event is refused so, and else its reply is one of the others
+abbrev pub Refuses : Refusal → Type 0 → (Reply → Type 0) → Reply → Type 0
+Refuses refusal Cause Otherwise (Ok answer) = (¬ Cause) × Otherwise (Ok answer)
+Refuses refusal Cause Otherwise (Err given) = MatchBool (same_refusal given refusal) Cause ((¬ Cause) × Otherwise (Err given))
+
+-- the answer is one of these, or memory is refused to an event that grows something
+abbrev pub Answers : Type 0 → (Answer → Type 0) → Reply → Type 0
+Answers Grows IsAnswer (Ok answer) = IsAnswer answer
+Answers Grows IsAnswer (Err NoMemory) = Grows
+Answers Grows IsAnswer (Err refusal) = ⊥
+
+-- the answer is one of these, and no memory is taken
+abbrev pub AlwaysAnswers : (Answer → Type 0) → Reply → Type 0
+AlwaysAnswers = Answers ⊥

@@ -1,0 +1,283 @@
+use super::*;
+use crate::paths::InFlight;
+use recovery_base::below::SpaceId;
+use recovery_base::timer::Timer;
+use std::test::Fail;
+
+const REFUSED: Result<Answer, Refusal> = Err(Refusal::NumberTooLarge);
+
+fn at(nanos: u64) -> Instant {
+    Instant::from_nanos(nanos)
+}
+
+fn received(space: SpaceId, number: u64, ack_eliciting: bool) -> Event {
+    Event::Received {
+        space,
+        now: at(0),
+        number,
+        ack_eliciting,
+    }
+}
+
+fn set(timer: Timer, nanos: u64) -> Event {
+    Event::SetTimer {
+        timer,
+        time: at(nanos),
+    }
+}
+
+fn send(space: SpaceId, size: u16, ack_eliciting: bool) -> Event {
+    Event::Send {
+        space,
+        now: at(7),
+        size,
+        ack_eliciting,
+        largest_acked: None,
+    }
+}
+
+fn acked(space: SpaceId, number: u64) -> Event {
+    Event::Acked {
+        space,
+        now: at(9),
+        number,
+        app_limited: false,
+    }
+}
+
+fn in_flight(bytes: u64, ack_eliciting: u64) -> Result<Answer, Refusal> {
+    Ok(Answer::InFlight {
+        bytes,
+        ack_eliciting,
+    })
+}
+
+fn sent(number: u64, forgotten: Option<u64>) -> Result<Answer, Refusal> {
+    Ok(Answer::Sent { number, forgotten })
+}
+
+const CURRENT: Event = Event::InFlight {
+    path: PathName::Current,
+};
+
+const PREVIOUS: Event = Event::InFlight {
+    path: PathName::Previous,
+};
+
+fn new(arm: bool) -> Result<Answer, Refusal> {
+    Ok(Answer::New { arm })
+}
+
+fn timeout(nanos: u64) -> Result<Answer, Refusal> {
+    Ok(Answer::Timeout(Some(at(nanos))))
+}
+
+/// The state that events leave from a fresh start, and what each was replied.
+fn run(alloc: Global, events: &[Event]) -> Result<(Recovery, Vec<Result<Answer, Refusal>>), Fail> {
+    let events = Vec::from_slice(alloc, events)?;
+    let ended = Recovery::run(alloc, RecoveryConfig::default(), at(0), events)?;
+    Ok(ended)
+}
+
+#[test]
+fn run_answers_with_memory(rt: HostRuntime) -> Result<(), Fail> {
+    let data = SpaceId::Data;
+    let rows: [(&[Event], &[Result<Answer, Refusal>]); 5] = [
+        (&[], &[]),
+        (
+            &[received(data, 0, true), received(data, 0, true)],
+            &[new(true), Ok(Answer::Duplicate)],
+        ),
+        (
+            &[
+                received(data, 7, true),
+                received(SpaceId::Initial, 1, true),
+                received(SpaceId::Handshake, 3, false),
+                received(SpaceId::Handshake, 4, true),
+            ],
+            &[new(false), new(true), new(false), new(false)],
+        ),
+        (
+            &[
+                received(data, 300, false),
+                received(data, 171, false),
+                received(data, 172, false),
+                received(data, 172, false),
+            ],
+            &[
+                new(false),
+                Ok(Answer::Duplicate),
+                new(false),
+                Ok(Answer::Duplicate),
+            ],
+        ),
+        (
+            &[
+                received(data, (1 << 62) - 1, false),
+                received(data, 1 << 62, true),
+            ],
+            &[new(false), REFUSED],
+        ),
+    ];
+    for (events, want) in rows {
+        let (_, replies) = run(rt.alloc(), events)?;
+        assert_eq!(rt; replies.as_slice(), want);
+    }
+    Ok(())
+}
+
+#[test]
+fn packets_are_tracked_until_they_leave(rt: HostRuntime) -> Result<(), Fail> {
+    let (initial, data) = (SpaceId::Initial, SpaceId::Data);
+    let discard = Event::DiscardSpace { space: initial };
+    let lost = Event::Lost {
+        space: data,
+        number: 1,
+    };
+    let events = [
+        send(initial, 500, true),
+        send(data, 0, false),
+        CURRENT,
+        discard,
+        CURRENT,
+        send(initial, 500, true),
+        acked(data, 9),
+        PREVIOUS,
+        send(data, 700, true),
+        lost,
+        lost,
+        acked(data, 0),
+        discard,
+    ];
+    let want = [
+        sent(0, None),
+        sent(0, None),
+        in_flight(500, 1),
+        Ok(Answer::Done),
+        in_flight(0, 0),
+        Err(Refusal::SpaceDiscarded),
+        Err(Refusal::NotTracked),
+        Err(Refusal::NoSuchPath),
+        sent(1, None),
+        Ok(Answer::Lost { probe: false }),
+        Err(Refusal::NotTracked),
+        Ok(Answer::Acked { probe: false }),
+        Err(Refusal::SpaceDiscarded),
+    ];
+    let (recovery, replies) = run(rt.alloc(), &events)?;
+    assert_eq!(rt; replies.as_slice(), want.as_slice());
+    assert_eq!(rt; recovery.current().in_flight(), InFlight::default());
+    assert_eq!(rt; recovery.current().generation(), 0);
+    assert!(rt; recovery.space(initial).is_none());
+    let space = recovery.space(data).ok_or("discarded")?;
+    assert_eq!(rt; space.next_packet_number(), 2);
+    assert_eq!(rt; space.largest_ack_eliciting_sent(), Some(1));
+    assert_eq!(rt; space.largest_acked_packet, Some(0));
+    assert!(rt; !space.has_in_flight());
+    Ok(())
+}
+
+#[test]
+fn the_least_of_1001_silent_packets_is_forgotten(rt: HostRuntime) -> Result<(), Fail> {
+    let mut recovery = Recovery::new(rt.alloc(), RecoveryConfig::default(), at(0))?;
+    for number in 0..1001 {
+        let reply = recovery.apply(send(SpaceId::Data, 40, false));
+        assert_eq!(rt; reply, sent(number, None));
+    }
+    let reply = recovery.apply(send(SpaceId::Data, 40, false));
+    assert_eq!(rt; reply, sent(1001, Some(0)));
+    assert_eq!(rt; recovery.apply(CURRENT), in_flight(40040, 0));
+    let large = Event::Send {
+        space: SpaceId::Data,
+        now: at(0),
+        size: 1,
+        ack_eliciting: true,
+        largest_acked: Some(1 << 62),
+    };
+    assert_eq!(rt; recovery.apply(large), REFUSED);
+    Ok(())
+}
+
+#[test]
+fn timers_are_as_the_events_left_them(rt: HostRuntime) -> Result<(), Fail> {
+    let events = [
+        Event::NextTimeout,
+        set(Timer::Idle, 50),
+        set(Timer::Pacing, 20),
+        Event::NextTimeout,
+        Event::StopTimer {
+            timer: Timer::Pacing,
+        },
+        Event::NextTimeout,
+    ];
+    let done = Ok(Answer::Done);
+    let none = Ok(Answer::Timeout(None));
+    let (recovery, replies) = run(rt.alloc(), &events)?;
+    assert_eq!(rt;
+        replies.as_slice(),
+        [none, done, done, timeout(20), done, timeout(50)].as_slice()
+    );
+    assert_eq!(rt; recovery.timers().get(Timer::Idle), Some(at(50)));
+    assert_eq!(rt; recovery.timers().get(Timer::Pacing), None);
+    Ok(())
+}
+
+#[test]
+fn a_refused_event_leaves_no_trace(rt: HostRuntime) -> Result<(), Fail> {
+    let mut recovery = Recovery::new(rt.alloc(), RecoveryConfig::default(), at(0))?;
+    assert_eq!(rt;
+        recovery.apply(received(SpaceId::Data, u64::MAX, true)),
+        REFUSED
+    );
+    assert_eq!(rt; recovery.apply(received(SpaceId::Data, 0, true)), new(true));
+    Ok(())
+}
+
+#[test]
+fn refusals_have_numbers_names_and_texts(rt: HostRuntime) -> Result<(), Fail> {
+    let rows = [
+        (Refusal::NoMemory, 1, "NoMemory", "out of memory"),
+        (
+            Refusal::NumberTooLarge,
+            2,
+            "NumberTooLarge",
+            "a number is 2^62 or more",
+        ),
+        (
+            Refusal::NumbersExhausted,
+            3,
+            "NumbersExhausted",
+            "no packet number is left",
+        ),
+        (
+            Refusal::NotTracked,
+            4,
+            "NotTracked",
+            "the packet is not tracked",
+        ),
+        (
+            Refusal::SpaceDiscarded,
+            5,
+            "SpaceDiscarded",
+            "the space is discarded",
+        ),
+        (
+            Refusal::NoSuchPath,
+            6,
+            "NoSuchPath",
+            "there is no such path",
+        ),
+        (
+            Refusal::Overflow,
+            9,
+            "Overflow",
+            "a counter passes 2^64 - 1",
+        ),
+    ];
+    for (refusal, number, name, text) in rows {
+        assert_eq!(rt; refusal.number(), number);
+        assert_eq!(rt; refusal.name(), name);
+        assert_eq!(rt; format!(in rt.alloc(); "{refusal}")?.as_str(), text);
+    }
+    Ok(())
+}

@@ -1,0 +1,99 @@
+//! Connection ids and their stateless reset tokens (RFC 9000, 5.1 and 10.3).
+ghost use Rattle.std.specs.Prelude.{◌≡◌, ◌≤◌, length};
+
+use std::marker::Model;
+
+/// The most bytes that a connection id has (RFC 9000, 17.2).
+const MAX_CID_SIZE: usize = 20;
+
+/// The bytes of a stateless reset token (RFC 9000, 10.3).
+const RESET_TOKEN_SIZE: usize = 16;
+
+/// A connection id of 0 to 20 bytes. Two are equal where their bytes are.
+///
+/// Contracts see the list of its bytes.
+#[derive(Clone, Copy, Debug, PartialEq, Eq)]
+pub struct ConnectionId {
+    len: u8,
+    /// The bytes of the id, and zeros behind them.
+    bytes: [u8; MAX_CID_SIZE],
+}
+
+impl Model for ConnectionId {
+    ghost use Rattle.std.specs.Prelude.{ℕ, List};
+
+    ghost Value = { List ℕ };
+
+    ghost use Rattle.recovery_base.specs.Ids.{bytes_of, IsPadded, padded, padded-bytes_of};
+
+    ghost view = { bytes_of };
+
+    ghost invariant = { IsPadded };
+
+    ghost inverse = { padded };
+
+    ghost inverse_ok = { padded-bytes_of };
+}
+
+impl ConnectionId {
+    /// The id with these bytes, at most 20.
+    pub fn new(bytes: &[u8]) -> Self
+        requires { length bytes.now ≤ 20 }
+        ensures { result ≡ bytes.now }
+    {
+        let mut padded = [0; MAX_CID_SIZE];
+        padded[..bytes.len()].copy_from_slice(bytes);
+        ConnectionId {
+            len: bytes.len() as u8,
+            bytes: padded,
+        }
+    }
+}
+
+/// A stateless reset token of 16 bytes (RFC 9000, 10.3). Two are equal where their bytes are.
+///
+/// Contracts see the list of its bytes.
+#[derive(Clone, Copy, Debug, PartialEq, Eq)]
+pub struct ResetToken([u8; RESET_TOKEN_SIZE]);
+
+impl Model for ResetToken {
+    ghost use Rattle.std.specs.Prelude.{ℕ, List};
+
+    ghost Value = { List ℕ };
+
+    ghost view = { λ token. token.0 };
+
+    ghost inverse = { λ bytes. record { 0 = bytes } };
+}
+
+impl From<[u8; 16]> for ResetToken {
+    ghost from_gives = { λ bytes token. token ≡ bytes };
+
+    fn from(bytes: [u8; 16]) -> Self {
+        ResetToken(bytes)
+    }
+}
+
+/// A NEW_CONNECTION_ID frame: an id that the peer issues (RFC 9000, 19.15).
+#[derive(Clone, Copy, Debug, PartialEq, Eq)]
+pub struct NewConnectionId {
+    /// The number of the id, below 2^62.
+    pub sequence: u64,
+    /// The ids with numbers below this one are to be retired. It is at most the number of the id.
+    pub retire_prior_to: u64,
+    /// The id.
+    pub id: ConnectionId,
+    /// The token with which the peer resets a connection that uses the id.
+    pub reset_token: ResetToken,
+}
+
+/// An id that this end issues, as a NEW_CONNECTION_ID frame tells it (RFC 9000, 19.15).
+#[derive(Clone, Copy, Debug, PartialEq, Eq)]
+pub struct IssuedCid {
+    /// The number of the id, below 2^62.
+    pub sequence: u64,
+    /// The id.
+    pub id: ConnectionId,
+    /// The token with which this end resets a connection that uses the id.
+    pub reset_token: ResetToken,
+}
