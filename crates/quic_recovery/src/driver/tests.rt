@@ -5,6 +5,10 @@ use std::test::Fail;
 
 const REFUSED: Result<Answer, Refusal> = Err(Refusal::NumberTooLarge);
 
+const DONE: Result<Answer, Refusal> = Ok(Answer::Done);
+
+const NO_TIMEOUT: Result<Answer, Refusal> = Ok(Answer::Timeout(None));
+
 fn at(nanos: u64) -> Instant {
     Instant::from_nanos(nanos)
 }
@@ -25,6 +29,10 @@ fn set(timer: Timer, nanos: u64) -> Event {
     }
 }
 
+fn stop(timer: Timer) -> Event {
+    Event::StopTimer { timer }
+}
+
 fn new(arm: bool) -> Result<Answer, Refusal> {
     Ok(Answer::New { arm })
 }
@@ -43,7 +51,7 @@ fn run(alloc: Global, events: &[Event]) -> Result<(Recovery, Vec<Result<Answer, 
 #[test]
 fn run_answers_with_memory(rt: HostRuntime) -> Result<(), Fail> {
     let data = SpaceId::Data;
-    let rows: [(&[Event], &[Result<Answer, Refusal>]); 5] = [
+    let rows: [(&[Event], &[Result<Answer, Refusal>]); 6] = [
         (&[], &[]),
         (
             &[received(data, 0, true), received(data, 0, true)],
@@ -79,6 +87,17 @@ fn run_answers_with_memory(rt: HostRuntime) -> Result<(), Fail> {
             ],
             &[new(false), REFUSED],
         ),
+        (
+            &[
+                Event::NextTimeout,
+                set(Timer::Idle, 50),
+                set(Timer::Pacing, 20),
+                Event::NextTimeout,
+                stop(Timer::Pacing),
+                Event::NextTimeout,
+            ],
+            &[NO_TIMEOUT, DONE, DONE, timeout(20), DONE, timeout(50)],
+        ),
     ];
     for (events, want) in rows {
         let (_, replies) = run(rt.alloc(), events)?;
@@ -90,22 +109,11 @@ fn run_answers_with_memory(rt: HostRuntime) -> Result<(), Fail> {
 #[test]
 fn timers_are_as_the_events_left_them(rt: HostRuntime) -> Result<(), Fail> {
     let events = [
-        Event::NextTimeout,
         set(Timer::Idle, 50),
         set(Timer::Pacing, 20),
-        Event::NextTimeout,
-        Event::StopTimer {
-            timer: Timer::Pacing,
-        },
-        Event::NextTimeout,
+        stop(Timer::Pacing),
     ];
-    let done = Ok(Answer::Done);
-    let none = Ok(Answer::Timeout(None));
-    let (recovery, replies) = run(rt.alloc(), &events)?;
-    assert_eq!(rt;
-        replies.as_slice(),
-        [none, done, done, timeout(20), done, timeout(50)].as_slice()
-    );
+    let (recovery, _) = run(rt.alloc(), &events)?;
     assert_eq!(rt; recovery.timers().get(Timer::Idle), Some(at(50)));
     assert_eq!(rt; recovery.timers().get(Timer::Pacing), None);
     Ok(())
