@@ -6,6 +6,33 @@ use std::test::Fail;
 
 const REFUSED: Result<Answer, Refusal> = Err(Refusal::NumberTooLarge);
 
+const DONE: Result<Answer, Refusal> = Ok(Answer::Done);
+
+const NO_TIMEOUT: Result<Answer, Refusal> = Ok(Answer::Timeout(None));
+
+const DISCARDED: Result<Answer, Refusal> = Err(Refusal::SpaceDiscarded);
+
+const NOT_TRACKED: Result<Answer, Refusal> = Err(Refusal::NotTracked);
+
+const NO_SUCH_PATH: Result<Answer, Refusal> = Err(Refusal::NoSuchPath);
+
+const DISCARD_INITIAL: Event = Event::DiscardSpace {
+    space: SpaceId::Initial,
+};
+
+const LOST_1: Event = Event::Lost {
+    space: SpaceId::Data,
+    number: 1,
+};
+
+const CURRENT: Event = Event::InFlight {
+    path: PathName::Current,
+};
+
+const PREVIOUS: Event = Event::InFlight {
+    path: PathName::Previous,
+};
+
 fn at(nanos: u64) -> Instant {
     Instant::from_nanos(nanos)
 }
@@ -56,13 +83,9 @@ fn sent(number: u64, forgotten: Option<u64>) -> Result<Answer, Refusal> {
     Ok(Answer::Sent { number, forgotten })
 }
 
-const CURRENT: Event = Event::InFlight {
-    path: PathName::Current,
-};
-
-const PREVIOUS: Event = Event::InFlight {
-    path: PathName::Previous,
-};
+fn stop(timer: Timer) -> Event {
+    Event::StopTimer { timer }
+}
 
 fn new(arm: bool) -> Result<Answer, Refusal> {
     Ok(Answer::New { arm })
@@ -82,7 +105,7 @@ fn run(alloc: Global, events: &[Event]) -> Result<(Recovery, Vec<Result<Answer, 
 #[test]
 fn run_answers_with_memory(rt: HostRuntime) -> Result<(), Fail> {
     let data = SpaceId::Data;
-    let rows: [(&[Event], &[Result<Answer, Refusal>]); 5] = [
+    let rows: [(&[Event], &[Result<Answer, Refusal>]); 6] = [
         (&[], &[]),
         (
             &[received(data, 0, true), received(data, 0, true)],
@@ -118,6 +141,17 @@ fn run_answers_with_memory(rt: HostRuntime) -> Result<(), Fail> {
             ],
             &[new(false), REFUSED],
         ),
+        (
+            &[
+                Event::NextTimeout,
+                set(Timer::Idle, 50),
+                set(Timer::Pacing, 20),
+                Event::NextTimeout,
+                stop(Timer::Pacing),
+                Event::NextTimeout,
+            ],
+            &[NO_TIMEOUT, DONE, DONE, timeout(20), DONE, timeout(50)],
+        ),
     ];
     for (events, want) in rows {
         let (_, replies) = run(rt.alloc(), events)?;
@@ -129,40 +163,35 @@ fn run_answers_with_memory(rt: HostRuntime) -> Result<(), Fail> {
 #[test]
 fn packets_are_tracked_until_they_leave(rt: HostRuntime) -> Result<(), Fail> {
     let (initial, data) = (SpaceId::Initial, SpaceId::Data);
-    let discard = Event::DiscardSpace { space: initial };
-    let lost = Event::Lost {
-        space: data,
-        number: 1,
-    };
     let events = [
         send(initial, 500, true),
         send(data, 0, false),
         CURRENT,
-        discard,
+        DISCARD_INITIAL,
         CURRENT,
         send(initial, 500, true),
         acked(data, 9),
         PREVIOUS,
         send(data, 700, true),
-        lost,
-        lost,
+        LOST_1,
+        LOST_1,
         acked(data, 0),
-        discard,
+        DISCARD_INITIAL,
     ];
     let want = [
         sent(0, None),
         sent(0, None),
         in_flight(500, 1),
-        Ok(Answer::Done),
+        DONE,
         in_flight(0, 0),
-        Err(Refusal::SpaceDiscarded),
-        Err(Refusal::NotTracked),
-        Err(Refusal::NoSuchPath),
+        DISCARDED,
+        NOT_TRACKED,
+        NO_SUCH_PATH,
         sent(1, None),
         Ok(Answer::Lost { probe: false }),
-        Err(Refusal::NotTracked),
+        NOT_TRACKED,
         Ok(Answer::Acked { probe: false }),
-        Err(Refusal::SpaceDiscarded),
+        DISCARDED,
     ];
     let (recovery, replies) = run(rt.alloc(), &events)?;
     assert_eq!(rt; replies.as_slice(), want.as_slice());
@@ -201,22 +230,11 @@ fn the_least_of_1001_silent_packets_is_forgotten(rt: HostRuntime) -> Result<(), 
 #[test]
 fn timers_are_as_the_events_left_them(rt: HostRuntime) -> Result<(), Fail> {
     let events = [
-        Event::NextTimeout,
         set(Timer::Idle, 50),
         set(Timer::Pacing, 20),
-        Event::NextTimeout,
-        Event::StopTimer {
-            timer: Timer::Pacing,
-        },
-        Event::NextTimeout,
+        stop(Timer::Pacing),
     ];
-    let done = Ok(Answer::Done);
-    let none = Ok(Answer::Timeout(None));
-    let (recovery, replies) = run(rt.alloc(), &events)?;
-    assert_eq!(rt;
-        replies.as_slice(),
-        [none, done, done, timeout(20), done, timeout(50)].as_slice()
-    );
+    let (recovery, _) = run(rt.alloc(), &events)?;
     assert_eq!(rt; recovery.timers().get(Timer::Idle), Some(at(50)));
     assert_eq!(rt; recovery.timers().get(Timer::Pacing), None);
     Ok(())
