@@ -31,7 +31,7 @@ clips start end range some short true is =
       from = omega arith;
       to = omega arith;
       keeps = λ n a b out. (a, elim (cases_lt n start) [ inl h ↦ omega arith | inr h ↦ absurd (out (h, omega arith)) ]);
-      takes = λ n a b inside. (let h : start ≤ n = inside.0 in omega arith)
+      takes = λ n a b inside. (let h : start ≤ n = inside.0 in omega arith);
     })
 clips start end range some short false is =
     let upper : start ≤ range.start = ltb-false range.start start is in
@@ -39,7 +39,7 @@ clips start end range some short false is =
       from = omega arith;
       to = omega arith;
       keeps = λ n a b out. (elim (cases_lt n end) [ inl h ↦ absurd (out (omega arith, h)) | inr h ↦ omega arith ], b);
-      takes = λ n a b inside. (let h : n < end = inside.1 in omega arith)
+      takes = λ n a b inside. (let h : n < end = inside.1 in omega arith);
     })
 
 record Cut (start end low : ℕ) (ranges new : Ranges) : Type 0 where
@@ -58,7 +58,7 @@ cut_one start end low range new others left first filled clip rest true is =
         | inl h ↦ (inl (let c : new.start ≤ n = h.0 in omega arith, let d : n < new.end = h.1 in omega arith), clip.takes n h.0 h.1)
         | inr h ↦ (inr (rest.to n h).0, (rest.to n h).1)
       ];
-      from = λ n here out. elim here [ inl h ↦ inl (clip.keeps n h.0 h.1 out) | inr h ↦ inr (rest.from n h out) ]
+      from = λ n here out. elim here [ inl h ↦ inl (clip.keeps n h.0 h.1 out) | inr h ↦ inr (rest.from n h out) ];
     }
 cut_one start end low range new others left first filled clip rest false is =
     let none : new.end ≤ new.start = ltb-false new.start new.end is in
@@ -68,7 +68,7 @@ cut_one start end low range new others left first filled clip rest false is =
       from = λ n here out. elim here [
         | inl h ↦ (let k = clip.keeps n h.0 h.1 out in let c : new.start ≤ n = k.0 in let d : n < new.end = k.1 in absurd (omega arith))
         | inr h ↦ rest.from n h out
-      ]
+      ];
     }
 
 cut_all : (start end low : ℕ) (ranges : Ranges) → start < end → NoneSpans start end ranges → AreApart low ranges → Cut start end low ranges (cut_ranges start end ranges)
@@ -96,7 +96,7 @@ cut_removes start end ranges some none apart one =
       answer = one;
       numbers = λ n. (cut.to n, λ both. cut.from n both.0 both.1);
       apart = cut.apart;
-      count = λ _. cut_count start end ranges
+      count = λ _. cut_count start end ranges;
     }
 
 -- nothing leaves
@@ -105,7 +105,7 @@ removes_none start end ranges apart none = record {
   answer = none;
   numbers = λ n. (λ here. (here, λ between. none n between here), λ both. both.0);
   apart = apart;
-  count = λ _. omega arith
+  count = λ _. omega arith;
 }
 
 spans_joined : (start end : ℕ) (before after : Ranges) → NoneSpans start end before → NoneSpans start end after → NoneSpans start end (before ++ after)
@@ -176,7 +176,7 @@ module _ (ranges : Ranges) (start end at : ℕ) (apart : AreApart 0 ranges) (som
       answer = one (omega arith);
       numbers = λ n. (to n, λ both. from n both.0 both.1);
       apart = apart_joined 0 (take at ranges) (span range.start start ∷ span end range.end ∷ drop (suc at) ranges) (apart_left 0 (take at ranges) (range ∷ drop (suc at) ranges) apart_split) (right.0, lower, (omega arith, upper, right.2));
-      count = λ zero. absurd (omega arith)
+      count = λ zero. absurd (omega arith);
     })
       where
         front : take (at + 1) ranges ≡ take at ranges ++ (range ∷ [])

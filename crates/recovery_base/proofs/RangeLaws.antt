@@ -111,7 +111,7 @@ replaced before old new after x apart fits numbers few absent = record {
   answer = absent;
   numbers = λ n. (to n, from n);
   apart = apart_joined 0 before (new ++ after) (apart_left 0 before (old ++ after) apart) fits;
-  count = simp length-append (omega arith)
+  count = simp length-append (omega arith);
 }
   where
     to : (n : ℕ) → InRanges (before ++ (new ++ after)) n → With x (InRanges (before ++ (old ++ after))) n
@@ -221,7 +221,7 @@ module _ (before : Ranges) (x : ℕ) (low : floor_above 0 before ≤ x) where
     answer = here;
     numbers = λ n. (λ there. inr there, λ with_x. elim with_x [ inl same ↦ subst (λ k. InRanges (before ++ (range ∷ after)) k) (sym same) here | inr there ↦ there ]);
     apart = apart;
-    count = omega arith
+    count = omega arith;
   }
     where
       here : InRanges (before ++ (range ∷ after)) x
@@ -367,7 +367,7 @@ pub place_is : (ranges : Ranges) (x at : ℕ) → at ≤ length ranges → IsPar
 place_is ranges x at within parts = record {
   bound = within;
   below = ends_below 0 x ranges at (omega arith) within (λ k d here. ltb-true (get_or ranges k d).end x (parts.0 k d (omega arith) here));
-  above = ends_from x ranges at (λ k d from inside. ltb-false (get_or ranges k d).end x (parts.1 k d from inside))
+  above = ends_from x ranges at (λ k d from inside. ltb-false (get_or ranges k d).end x (parts.1 k d from inside));
 }
 
 -- two reads at one place

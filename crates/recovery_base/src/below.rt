@@ -4,7 +4,6 @@ mod ranges;
 
 pub use frames::{AckFrequency, TransportError, TransportParameters, VarInt, VarIntBoundsExceeded};
 pub use ranges::ArrayRangeSet;
-
 use std::alloc::{AllocError, AllocFailed};
 use thiserror::Error;
 

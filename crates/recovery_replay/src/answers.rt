@@ -14,24 +14,30 @@ pub fn write_reply(text: &mut String, reply: &Result<Answer, Refusal>) -> Result
         Ok(Answer::New { arm: true }) => writeln!(text, "new arm"),
         Ok(Answer::New { arm: false }) => writeln!(text, "new"),
         Ok(Answer::Duplicate) => writeln!(text, "duplicate"),
-        Ok(Answer::Sent {
-            number,
-            forgotten: None,
-        }) => writeln!(text, "sent {number}"),
-        Ok(Answer::Sent {
-            number,
-            forgotten: Some(forgotten),
-        }) => writeln!(text, "sent {number} forgot {forgotten}"),
+        Ok(
+            Answer::Sent {
+                number,
+                forgotten: None,
+            },
+        ) => writeln!(text, "sent {number}"),
+        Ok(
+            Answer::Sent {
+                number,
+                forgotten: Some(forgotten),
+            },
+        ) => writeln!(text, "sent {number} forgot {forgotten}"),
         Ok(Answer::Acked { probe: false }) => writeln!(text, "acked"),
         Ok(Answer::Acked { probe: true }) => writeln!(text, "acked probe"),
         Ok(Answer::Lost { probe: false }) => writeln!(text, "lost"),
         Ok(Answer::Lost { probe: true }) => writeln!(text, "lost probe"),
         Ok(Answer::Timeout(Some(time))) => writeln!(text, "timeout {}", time.as_nanos()),
         Ok(Answer::Timeout(None)) => writeln!(text, "timeout none"),
-        Ok(Answer::InFlight {
-            bytes,
-            ack_eliciting,
-        }) => writeln!(text, "in-flight {bytes} {ack_eliciting}"),
+        Ok(
+            Answer::InFlight {
+                bytes,
+                ack_eliciting,
+            },
+        ) => writeln!(text, "in-flight {bytes} {ack_eliciting}"),
         Ok(Answer::Done) => writeln!(text, "done"),
         Err(refusal) => writeln!(text, "refused {} {}", refusal.number(), refusal.name()),
     }

@@ -102,4 +102,3 @@ returns-else-at-len-2-clause-inserts c =
       | else-at-len-2-via-then-at-len-2+else-index-x w ↦ next_begins items c.args.x c.place-at.result c.requires.apart place range within is w.index-then-at-len-2.result.now (let h : c.place-at.result + 1 < c.len-else-x-end.result = w.if-at-len-2.true in omega arith) w.index-then-at-len-2.ensures ends_here w.if-index-x.false
       | else-at-len-2-via-else-at-len-2 w ↦ none_begins items c.args.x c.place-at.result c.requires.apart place range within is (let h : c.len-else-x-end.result ≤ c.place-at.result + 1 = w.if-at-len-2.false in omega arith)
     ])
-
