@@ -2,7 +2,7 @@
 use Rattle.std.proofs.Common.{ℕ, subst, ◌∙◌}
 use Rattle.quic_recovery.specs.declared.driver.Recovery.{Recovery}
 use Rattle.quic_recovery.specs.declared.event.Event.{Event}
-use Rattle.quic_recovery.specs.History.{History, Reply, recorded}
+use Rattle.quic_recovery.specs.History.{Beginning, History, Reply, recorded}
 use Rattle.quic_recovery.specs.Spaces.{space_of}
 use Rattle.quic_recovery.specs.State.{SpacesLeft, Left, Changes, spaces_of, discarded_of, path_of, timers_of}
 use Rattle.quic_recovery.specs.Steps.{SpaceStep}
@@ -10,8 +10,8 @@ use Rattle.quic_recovery.proofs.PathLaws.{discarded_left, path_left}
 use Rattle.quic_recovery.proofs.SpaceLaws.{space_left}
 use Rattle.quic_recovery.proofs.TimerLaws.{timers_left}
 
-pub left_after : (before : History) (old : Recovery) (event : Event) (reply : Reply) (new : Recovery) → Left before old → Changes old event reply new → Left (recorded event reply before) new
-left_after before old event reply new left changes = record {
+pub left_after : (beginning : Beginning) (before : History) (old : Recovery) (event : Event) (reply : Reply) (new : Recovery) → Left beginning before old → Changes old event reply new → Left beginning (recorded event reply before) new
+left_after beginning before old event reply new left changes = record {
   spaces = spaces;
   discarded = discarded_left before event reply (discarded_of old) (discarded_of new) left.discarded changes.discarded;
   path = path_left (recorded event reply before) (spaces_of new) (path_of new) (changes.path ∙ left.path.generation) spaces new.balanced;

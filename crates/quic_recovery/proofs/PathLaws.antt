@@ -4,7 +4,8 @@ use Rattle.recovery_base.specs.declared.below.SpaceId.{SpaceId}
 use Rattle.recovery_base.specs.declared.below.SpaceId.TheVariants.{Initial, Handshake, Data}
 use Rattle.quic_recovery.specs.declared.discarded.DiscardedSpaces.{DiscardedSpaces}
 use Rattle.quic_recovery.specs.declared.event.Event.{Event}
-use Rattle.quic_recovery.specs.declared.event.Event.TheVariants.{DiscardSpace}
+use Rattle.quic_recovery.specs.declared.event.Event.TheVariants.{AckFrequencyIn, DiscardSpace}
+use Rattle.quic_recovery.specs.declared.event.Refusal.TheVariants.{DelayTooSmall}
 use Rattle.quic_recovery.specs.declared.paths.PathData.{PathData}
 use Rattle.quic_recovery.specs.declared.spaces.PacketSpaces.{PacketSpaces}
 use Rattle.quic_recovery.specs.Discarded.{is_discarded}
@@ -19,6 +20,7 @@ use Rattle.quic_recovery.specs.Steps.{DiscardedStep}
 use Rattle.quic_recovery.specs.Tracked.{current_generation, tracked_in}
 
 pub discarded_left : (before : History) (event : Event) (reply : Reply) (old new : DiscardedSpaces) → DiscardedLeft before old → DiscardedStep old event reply new → DiscardedLeft (recorded event reply before) new
+discarded_left before (AckFrequencyIn frame) (Err DelayTooSmall) old new left step = λ space. ap (is_discarded space) step ∙ left space
 discarded_left before event (Err refusal) old new left step = λ space. ap (is_discarded space) step ∙ left space
 discarded_left before (DiscardSpace changed) (Ok answer) old new left step = λ space. step space ∙ ap (λ b. same_space changed space || b) (left space)
 discarded_left before event (Ok answer) old new left step = λ space. ap (is_discarded space) step ∙ left space

@@ -2,7 +2,7 @@
 use Rattle.std.specs.Prelude.{ℕ, List}
 use lib.Chars.{codes}
 use Rattle.quic_recovery.specs.declared.event.Refusal.{Refusal}
-use Rattle.quic_recovery.specs.declared.event.Refusal.TheVariants.{NoMemory, NumberTooLarge, NumbersExhausted, NotTracked, SpaceDiscarded, NoSuchPath, Overflow}
+use Rattle.quic_recovery.specs.declared.event.Refusal.TheVariants.{NoMemory, NumberTooLarge, NumbersExhausted, NotTracked, SpaceDiscarded, NoSuchPath, Overflow, Retired, ExceedsLimit, BadRetirePriorTo, CidsNotInUse, UnissuedCid, DelayTooSmall, NotInitialId, BadRange}
 
 abbrev pub refusal_number : Refusal → ℕ
 refusal_number NoMemory = 1
@@ -12,6 +12,14 @@ refusal_number NotTracked = 4
 refusal_number SpaceDiscarded = 5
 refusal_number NoSuchPath = 6
 refusal_number Overflow = 9
+refusal_number Retired = 10
+refusal_number ExceedsLimit = 11
+refusal_number BadRetirePriorTo = 12
+refusal_number CidsNotInUse = 13
+refusal_number UnissuedCid = 14
+refusal_number DelayTooSmall = 15
+refusal_number NotInitialId = 18
+refusal_number BadRange = 19
 
 abbrev pub refusal_name : Refusal → List ℕ
 refusal_name NoMemory = codes "NoMemory"
@@ -21,3 +29,11 @@ refusal_name NotTracked = codes "NotTracked"
 refusal_name SpaceDiscarded = codes "SpaceDiscarded"
 refusal_name NoSuchPath = codes "NoSuchPath"
 refusal_name Overflow = codes "Overflow"
+refusal_name Retired = codes "Retired"
+refusal_name ExceedsLimit = codes "ExceedsLimit"
+refusal_name BadRetirePriorTo = codes "BadRetirePriorTo"
+refusal_name CidsNotInUse = codes "CidsNotInUse"
+refusal_name UnissuedCid = codes "UnissuedCid"
+refusal_name DelayTooSmall = codes "DelayTooSmall"
+refusal_name NotInitialId = codes "NotInitialId"
+refusal_name BadRange = codes "BadRange"

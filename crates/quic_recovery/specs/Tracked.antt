@@ -24,30 +24,30 @@ packet_sent generation now size ack_eliciting largest_acked = record {
 -- the space was discarded
 abbrev pub was_discarded : SpaceId → History → Bool
 was_discarded space [] = false
-was_discarded space ((DiscardSpace other, answer) ∷ earlier) = same_space other space || was_discarded space earlier
+was_discarded space ((DiscardSpace other, reply) ∷ earlier) = same_space other space || was_discarded space earlier
 was_discarded space (entry ∷ earlier) = was_discarded space earlier
 
 -- how many packets were sent in a space: the next number
 abbrev pub sent_in : SpaceId → History → ℕ
 sent_in space [] = 0
-sent_in space ((Send other now size ack_eliciting largest_acked, answer) ∷ earlier) = if same_space other space then sent_in space earlier + 1 else sent_in space earlier
+sent_in space ((Send other now size ack_eliciting largest_acked, reply) ∷ earlier) = if same_space other space then sent_in space earlier + 1 else sent_in space earlier
 sent_in space (entry ∷ earlier) = sent_in space earlier
 
 -- the number of the last packet sent in a space that elicits an ACK
 abbrev pub last_eliciting_in : SpaceId → History → Option ℕ
 last_eliciting_in space [] = None
-last_eliciting_in space ((Send other now size ack_eliciting largest_acked, answer) ∷ earlier) =
+last_eliciting_in space ((Send other now size ack_eliciting largest_acked, reply) ∷ earlier) =
     if same_space other space then (if ack_eliciting then Some (sent_in space earlier) else last_eliciting_in space earlier) else last_eliciting_in space earlier
 last_eliciting_in space (entry ∷ earlier) = last_eliciting_in space earlier
 
 -- the packets sent in a space, and since then not acknowledged, lost, forgotten or discarded
 abbrev pub tracked_in : SpaceId → History → Packets
 tracked_in space [] = []
-tracked_in space ((Send other now size ack_eliciting largest_acked, answer) ∷ earlier) =
+tracked_in space ((Send other now size ack_eliciting largest_acked, reply) ∷ earlier) =
     if same_space other space
     then sent_onto (last_eliciting_in space earlier) (sent_in space earlier) (packet_sent (current_generation earlier) now size ack_eliciting largest_acked) (tracked_in space earlier)
     else tracked_in space earlier
-tracked_in space ((Acked other now number app_limited, answer) ∷ earlier) = if same_space other space then without (tracked_in space earlier) number else tracked_in space earlier
-tracked_in space ((Lost other number, answer) ∷ earlier) = if same_space other space then without (tracked_in space earlier) number else tracked_in space earlier
-tracked_in space ((DiscardSpace other, answer) ∷ earlier) = if same_space other space then [] else tracked_in space earlier
+tracked_in space ((Acked other now number app_limited, reply) ∷ earlier) = if same_space other space then without (tracked_in space earlier) number else tracked_in space earlier
+tracked_in space ((Lost other number, reply) ∷ earlier) = if same_space other space then without (tracked_in space earlier) number else tracked_in space earlier
+tracked_in space ((DiscardSpace other, reply) ∷ earlier) = if same_space other space then [] else tracked_in space earlier
 tracked_in space (entry ∷ earlier) = tracked_in space earlier

@@ -2,9 +2,10 @@
 ghost use Rattle.std.specs.Prelude.{◌≡◌};
 ghost use Rattle.quic_recovery.specs.Refusals.{refusal_number, refusal_name};
 
-use recovery_base::below::SpaceId;
+use recovery_base::below::{AckFrequency, ConnectionId, IssuedCid, NewConnectionId, ResetToken, SpaceId};
 use recovery_base::time::Instant;
 use recovery_base::timer::Timer;
+use std::ops::Range;
 use thiserror::Error;
 
 /// Which path an event is about.
@@ -17,7 +18,7 @@ pub enum PathName {
 }
 
 /// What happens.
-#[derive(Clone, Copy, Debug, PartialEq, Eq)]
+#[derive(Debug, PartialEq, Eq, Drop)]
 pub enum Event {
     /// A packet came in (RFC 9000, 12.3). Refused by `SpaceDiscarded`, by `NumberTooLarge` where the number is 2^62 or
     /// more, then by `NoMemory`; a duplicate takes no memory.
@@ -67,6 +68,44 @@ pub enum Event {
         /// The packet's number.
         number: u64,
     },
+    /// A NEW_CONNECTION_ID frame came in (RFC 9000, 19.15). Refused by `NumberTooLarge` where its number is 2^62 or more, by
+    /// `BadRetirePriorTo` where its retire-prior-to exceeds its number, by `Retired`, then by `ExceedsLimit`.
+    NewId(NewConnectionId),
+    /// The next id of the peer is to be used, where one is held. Never refused.
+    NextId,
+    /// The server chose another id for the handshake (RFC 9000, 7.2). Refused by `NotInitialId`.
+    InitialId(ConnectionId),
+    /// This end issues ids (RFC 9000, 5.1.1). Refused by `NumberTooLarge` where more than 2^62 would be issued, by `BadRange`
+    /// where the numbers do not go on from the count issued, then by `NoMemory`. No ids are never refused.
+    IssueIds {
+        /// When they are issued: their lifetime begins.
+        now: Instant,
+        /// The ids, in the order of their numbers.
+        ids: Vec<IssuedCid>,
+    },
+    /// The timer for new ids expired (`Timer::PushNewCid`): the oldest deadline is taken. Never refused.
+    IdTimeout,
+    /// A RETIRE_CONNECTION_ID frame came in (RFC 9000, 19.16). Refused by `CidsNotInUse`, then by `UnissuedCid`.
+    PeerRetired {
+        /// The number of the id that the peer retires.
+        sequence: u64,
+        /// How many ids the peer is ready to hold (RFC 9000, 18.2: active_connection_id_limit).
+        limit: u64,
+    },
+    /// An ACK_FREQUENCY frame came in. Refused by `SpaceDiscarded` once the space of 1-RTT packets is discarded, then by
+    /// `DelayTooSmall` where it is newer than the last one and asks for less than 1 ms; then its number is kept.
+    AckFrequencyIn(AckFrequency),
+    /// An ACK frame was sent that holds all numbers that are to be acknowledged (RFC 9000, 13.2.1). Refused by
+    /// `SpaceDiscarded`.
+    AcksSent {
+        /// The packet number space.
+        space: SpaceId,
+    },
+    /// The timer for a late ACK expired (`Timer::MaxAckDelay`). Refused by `SpaceDiscarded`.
+    AckDelayTimeout {
+        /// The packet number space.
+        space: SpaceId,
+    },
     /// A timer is set to a moment. Never refused.
     SetTimer {
         /// The timer; the others stay.
@@ -95,7 +134,7 @@ pub enum Event {
 }
 
 /// What an event that is not refused is answered.
-#[derive(Clone, Copy, Debug, PartialEq, Eq)]
+#[derive(Clone, Debug, PartialEq, Eq, Drop)]
 pub enum Answer {
     /// The packet is new.
     New {
@@ -121,6 +160,11 @@ pub enum Answer {
         /// Whether it was the probe of the path's MTU.
         probe: bool,
     },
+    /// Which numbers of the peer's ids are to be retired (RFC 9000, 5.1.2), with the stateless reset token of the id that is
+    /// active from now on; `None` where the active id stays.
+    Retire(Option<(Range<u64>, ResetToken)>),
+    /// Yes or no, as the event asks.
+    Flag(bool),
     /// The least moment that a timer is set to, if any.
     Timeout(Option<Instant>),
     /// What is in flight on a path (RFC 9002, B.2).
@@ -134,7 +178,7 @@ pub enum Answer {
     Done,
 }
 
-/// Why an event is refused. The state is then as it was before.
+/// Why an event is refused. The state is then as it was before, but for the number that `DelayTooSmall` keeps.
 #[derive(Clone, Copy, Debug, PartialEq, Eq, Error)]
 pub enum Refusal {
     /// A growth was refused by the allocator.
@@ -158,6 +202,30 @@ pub enum Refusal {
     /// A counter would pass the end of its type.
     #[error("a counter passes 2^64 - 1")]
     Overflow,
+    /// The number of the peer's id lies below the active one (RFC 9000, 19.15).
+    #[error("the connection id was already retired")]
+    Retired,
+    /// The number of the peer's id lies past the ids that are held (RFC 9000, 5.1.1).
+    #[error("the connection id exceeds the limit")]
+    ExceedsLimit,
+    /// The frame retires numbers past its own (RFC 9000, 19.15).
+    #[error("retire-prior-to exceeds the number of the frame")]
+    BadRetirePriorTo,
+    /// This end uses ids of no bytes, of which none can be retired (RFC 9000, 19.16).
+    #[error("connection ids are not in use")]
+    CidsNotInUse,
+    /// The number was not issued (RFC 9000, 19.16).
+    #[error("the connection id was not issued")]
+    UnissuedCid,
+    /// An ACK_FREQUENCY frame asks for a delay below 1 ms. The number of the frame is kept.
+    #[error("the requested delay is too small")]
+    DelayTooSmall,
+    /// The initial id is no longer the active one.
+    #[error("the initial id is not active")]
+    NotInitialId,
+    /// Numbers do not go on where they should, or a range ends before it begins.
+    #[error("the range of numbers is wrong")]
+    BadRange,
 }
 
 impl Refusal {
@@ -173,6 +241,14 @@ impl Refusal {
             Refusal::SpaceDiscarded => 5,
             Refusal::NoSuchPath => 6,
             Refusal::Overflow => 9,
+            Refusal::Retired => 10,
+            Refusal::ExceedsLimit => 11,
+            Refusal::BadRetirePriorTo => 12,
+            Refusal::CidsNotInUse => 13,
+            Refusal::UnissuedCid => 14,
+            Refusal::DelayTooSmall => 15,
+            Refusal::NotInitialId => 18,
+            Refusal::BadRange => 19,
         }
     }
 
@@ -188,6 +264,14 @@ impl Refusal {
             Refusal::SpaceDiscarded => "SpaceDiscarded",
             Refusal::NoSuchPath => "NoSuchPath",
             Refusal::Overflow => "Overflow",
+            Refusal::Retired => "Retired",
+            Refusal::ExceedsLimit => "ExceedsLimit",
+            Refusal::BadRetirePriorTo => "BadRetirePriorTo",
+            Refusal::CidsNotInUse => "CidsNotInUse",
+            Refusal::UnissuedCid => "UnissuedCid",
+            Refusal::DelayTooSmall => "DelayTooSmall",
+            Refusal::NotInitialId => "NotInitialId",
+            Refusal::BadRange => "BadRange",
         }
     }
 }
