@@ -4,6 +4,9 @@ use Rattle.std.specs.Prelude.{sum_by}
 use Rattle.std.proofs.lemmas.List.Sums.{sum_by-cons, sum_by_push}
 use Rattle.recovery_base.specs.declared.below.SpaceId.{SpaceId}
 use Rattle.recovery_base.specs.declared.below.SpaceId.TheVariants.{Initial, Handshake, Data}
+use Rattle.recovery_base.specs.Numbers.{Exceeds}
+use Rattle.recovery_base.specs.Received.{Has}
+use Rattle.recovery_parts.specs.Acks.{Acks, new_acks}
 use Rattle.quic_recovery.specs.declared.paths.InFlight.{InFlight}
 use Rattle.quic_recovery.specs.declared.paths.PathData.{PathData}
 use Rattle.quic_recovery.specs.declared.spaces.PacketSpace.{PacketSpace}
@@ -11,9 +14,10 @@ use Rattle.quic_recovery.specs.declared.spaces.PacketSpaces.{PacketSpaces}
 use Rattle.quic_recovery.specs.declared.spaces.SentPacket.{SentPacket}
 use Rattle.quic_recovery.specs.InFlight.{size_in, eliciting_in, over_spaces, in_flight, eliciting_one, with_packet, without_packet, IsCounted, IsCountedIn}
 use Rattle.quic_recovery.specs.Ledger.{tracked_by, IsBalanced}
-use Rattle.quic_recovery.specs.Packets.{Packets, Tracking, no_packets, packet_at, without, without_some, forgotten_number, sent_onto, entry_at, numbered, AreBelow, after_sending, after_taking}
+use Rattle.quic_recovery.specs.Packets.{Packets, Tracking, no_packets, packet_at, without, without_some, forgotten_number, sent_onto, entry_at, numbered, IsTooLarge, AreBelow, AreAcknowledging, after_sending, after_taking}
 use Rattle.quic_recovery.specs.Paths.{generation_of, counters_of, with_counters, counters_left, after_leaving, path_after_sending}
-use Rattle.quic_recovery.specs.Spaces.{space_of, with_space, tracking_of, packets_of, next_number_of, IsNumbered, space_empties}
+use Rattle.quic_recovery.specs.Spaces.{space_of, with_space, tracking_of, packets_of, acks_of, next_number_of, HasGreatestCome, IsCoherent, space_empties}
+use Rattle.quic_recovery.proofs.AmongLaws.{acknowledging_without, acknowledging_sent}
 use Rattle.quic_recovery.proofs.PacketLaws.{sum-without, found-le-sum, AllBelow, all_below, are_below, AllBelow-without, AllBelow-push, without-absent}
 
 -- ---- one packet
@@ -72,16 +76,16 @@ part-le f spaces Initial = omega arith
 part-le f spaces Handshake = omega arith
 part-le f spaces Data = omega arith
 
-numbers_replaced : (spaces : PacketSpaces) (space : SpaceId) (here : PacketSpace) → ((s : SpaceId) → IsNumbered (space_of s spaces)) → IsNumbered here → (s : SpaceId) → IsNumbered (space_of s (with_space spaces space here))
-numbers_replaced spaces Initial here all one Initial = one
-numbers_replaced spaces Initial here all one Handshake = all Handshake
-numbers_replaced spaces Initial here all one Data = all Data
-numbers_replaced spaces Handshake here all one Initial = all Initial
-numbers_replaced spaces Handshake here all one Handshake = one
-numbers_replaced spaces Handshake here all one Data = all Data
-numbers_replaced spaces Data here all one Initial = all Initial
-numbers_replaced spaces Data here all one Handshake = all Handshake
-numbers_replaced spaces Data here all one Data = one
+parts_replaced : (spaces : PacketSpaces) (space : SpaceId) (here : PacketSpace) → ((s : SpaceId) → IsCoherent (space_of s spaces)) → IsCoherent here → (s : SpaceId) → IsCoherent (space_of s (with_space spaces space here))
+parts_replaced spaces Initial here all one Initial = one
+parts_replaced spaces Initial here all one Handshake = all Handshake
+parts_replaced spaces Initial here all one Data = all Data
+parts_replaced spaces Handshake here all one Initial = all Initial
+parts_replaced spaces Handshake here all one Handshake = one
+parts_replaced spaces Handshake here all one Data = all Data
+parts_replaced spaces Data here all one Initial = all Initial
+parts_replaced spaces Data here all one Handshake = all Handshake
+parts_replaced spaces Data here all one Data = one
 
 same_counters : (a b : InFlight) → a.bytes ≡ b.bytes → a.ack_eliciting ≡ b.ack_eliciting → a ≡ b
 same_counters a b bytes count = ap₂ (λ (m n : ℕ). let c : InFlight = record { bytes = m; ack_eliciting = n } in c) bytes count
@@ -121,8 +125,8 @@ module _ (spaces : PacketSpaces) (path : PathData) (balanced : IsBalanced spaces
       → sum_by (size_in (generation_of path)) (packets_of here) + a ≡ sum_by (size_in (generation_of path)) (tracked_by spaces space) + b
       → sum_by (eliciting_in (generation_of path)) (packets_of here) + c ≡ sum_by (eliciting_in (generation_of path)) (tracked_by spaces space) + d
       → (counters_of new).bytes + a ≡ (counters_of path).bytes + b → (counters_of new).ack_eliciting + c ≡ (counters_of path).ack_eliciting + d
-      → IsNumbered here → IsBalanced (with_space spaces space here) new
-  balanced_by space here new a b c d same sizes elicitings bytes count numbered = record {
+      → IsCoherent here → IsBalanced (with_space spaces space here) new
+  balanced_by space here new a b c d same sizes elicitings bytes count whole = record {
     counters =
         let P : ℕ → Type 0 = λ g. counters_of new ≡ in_flight g (tracked_by (with_space spaces space here)) in
         let all_sizes = sums_replaced (size_in (generation_of path)) spaces space here a b sizes in
@@ -130,24 +134,26 @@ module _ (spaces : PacketSpaces) (path : PathData) (balanced : IsBalanced spaces
         let old_bytes = counters_bytes in
         let old_count = counters_count in
         subst P (sym same) (same_counters (counters_of new) (in_flight (generation_of path) (tracked_by (with_space spaces space here))) (omega (arith, all_sizes, old_bytes, bytes)) (omega (arith, all_elicitings, old_count, count)));
-    numbers = numbers_replaced spaces space here balanced.numbers numbered;
+    coherent = parts_replaced spaces space here balanced.coherent whole;
   }
 
   -- nothing that is tracked changes
-  pub balanced_kept : (space : SpaceId) (here : PacketSpace) → tracking_of here ≡ tracking_of (space_of space spaces) → next_number_of here ≡ next_number_of (space_of space spaces) → IsBalanced (with_space spaces space here) path
-  balanced_kept space here same next =
+  pub balanced_kept : (space : SpaceId) (here : PacketSpace) → tracking_of here ≡ tracking_of (space_of space spaces) → next_number_of here ≡ next_number_of (space_of space spaces) → HasGreatestCome here → IsBalanced (with_space spaces space here) path
+  balanced_kept space here same next received =
       let packets : packets_of here ≡ tracked_by spaces space = ap (λ (t : Tracking). t.packets) same in
-      let old = balanced.numbers space in
+      let old = balanced.coherent space in
       balanced_by space here path 0 0 0 0 refl (ap (λ (es : Packets). sum_by (size_in (generation_of path)) es + 0) packets) (ap (λ (es : Packets). sum_by (eliciting_in (generation_of path)) es + 0) packets) refl refl
       record {
         packets = let P : ℕ → Type 0 = AreBelow (packets_of here) in let Q : Packets → Type 0 = λ es. AreBelow es (next_number_of (space_of space spaces)) in subst P (sym next) (subst Q (sym packets) old.packets);
         last = λ m is. let h : m < next_number_of (space_of space spaces) = old.last m (ap (λ (t : Tracking). t.last_eliciting) (sym same) ∙ is) in omega (arith, h, next);
+        acknowledging = let R : Packets → Type 0 = AreAcknowledging in subst R (sym packets) old.acknowledging;
+        received = received;
       }
 
   -- a tracked packet leaves
   pub balanced_taken : (space : SpaceId) (here : PacketSpace) (number : ℕ) (packet : SentPacket) → packet_at (tracked_by spaces space) number ≡ Some packet
-      → tracking_of here ≡ after_taking number (tracking_of (space_of space spaces)) → next_number_of here ≡ next_number_of (space_of space spaces) → IsBalanced (with_space spaces space here) (after_leaving path packet)
-  balanced_taken space here number packet found same next =
+      → tracking_of here ≡ after_taking number (tracking_of (space_of space spaces)) → next_number_of here ≡ next_number_of (space_of space spaces) → HasGreatestCome here → IsBalanced (with_space spaces space here) (after_leaving path packet)
+  balanced_taken space here number packet found same next received =
       let packets : packets_of here ≡ without (tracked_by spaces space) number = ap (λ (t : Tracking). t.packets) same in
       let enough = packet_enough space number packet found in
       let left = leaves path number packet enough.0 enough.1 in
@@ -157,25 +163,27 @@ module _ (spaces : PacketSpaces) (path : PathData) (balanced : IsBalanced spaces
       let elicitings = sum-without (eliciting_in (generation_of path)) (tracked_by spaces space) number packet found in
       let here_sizes = ap (λ (es : Packets). sum_by (size_in (generation_of path)) es) packets in
       let here_elicitings = ap (λ (es : Packets). sum_by (eliciting_in (generation_of path)) es) packets in
-      let old = balanced.numbers space in
+      let old = balanced.coherent space in
       balanced_by space here (after_leaving path packet) (size_in (generation_of path) (number, packet)) 0 (eliciting_in (generation_of path) (number, packet)) 0 refl
       (omega (arith, sizes, here_sizes)) (omega (arith, elicitings, here_elicitings)) (omega (arith, bytes)) (omega (arith, count))
       record {
         packets = let P : ℕ → Type 0 = AreBelow (packets_of here) in let Q : Packets → Type 0 = λ es. AreBelow es (next_number_of (space_of space spaces)) in
             subst P (sym next) (subst Q (sym packets) (are_below _ _ (AllBelow-without (tracked_by spaces space) number (next_number_of (space_of space spaces)) (all_below _ _ old.packets))));
         last = λ m is. let h : m < next_number_of (space_of space spaces) = old.last m (ap (λ (t : Tracking). t.last_eliciting) (sym same) ∙ is) in omega (arith, h, next);
+        acknowledging = let R : Packets → Type 0 = AreAcknowledging in subst R (sym packets) (acknowledging_without (tracked_by spaces space) number old.acknowledging);
+        received = received;
       }
 
   -- a space is emptied
-  pub balanced_emptied : (space : SpaceId) (here : PacketSpace) (new : PathData) → generation_of new ≡ generation_of path → packets_of here ≡ [] → IsNumbered here
+  pub balanced_emptied : (space : SpaceId) (here : PacketSpace) (new : PathData) → generation_of new ≡ generation_of path → packets_of here ≡ [] → IsCoherent here
       → (counters_of new).bytes + sum_by (size_in (generation_of path)) (tracked_by spaces space) ≡ (counters_of path).bytes
       → (counters_of new).ack_eliciting + sum_by (eliciting_in (generation_of path)) (tracked_by spaces space) ≡ (counters_of path).ack_eliciting
       → IsBalanced (with_space spaces space here) new
-  balanced_emptied space here new same packets numbered bytes count =
+  balanced_emptied space here new same packets coherent bytes count =
       let here_sizes = ap (λ (es : Packets). sum_by (size_in (generation_of path)) es) packets in
       let here_elicitings = ap (λ (es : Packets). sum_by (eliciting_in (generation_of path)) es) packets in
       balanced_by space here new (sum_by (size_in (generation_of path)) (tracked_by spaces space)) 0 (sum_by (eliciting_in (generation_of path)) (tracked_by spaces space)) 0 same
-      (omega (arith, here_sizes)) (omega (arith, here_elicitings)) (omega (arith, bytes)) (omega (arith, count)) numbered
+      (omega (arith, here_sizes)) (omega (arith, here_elicitings)) (omega (arith, bytes)) (omega (arith, count)) coherent
 
 -- ---- a packet that is sent
 
@@ -207,24 +215,26 @@ some_last : (m n : ℕ) → Some m ≡ Some n → m ≡ n
 some_last m n e = cc
 
 -- the numbers are below the next one when a packet was sent under it
-pub sent_numbered : (old here : PacketSpace) (packet : SentPacket) → IsNumbered old → tracking_of here ≡ after_sending (next_number_of old) packet (tracking_of old) → next_number_of here ≡ next_number_of old + 1 → IsNumbered here
-sent_numbered old here packet numbered tracking next = record {
+pub sent_coherent : (old here : PacketSpace) (packet : SentPacket) → IsCoherent old → (¬ IsTooLarge packet.largest_acked) → HasGreatestCome here → tracking_of here ≡ after_sending (next_number_of old) packet (tracking_of old) → next_number_of here ≡ next_number_of old + 1 → IsCoherent here
+sent_coherent old here packet coherent small received tracking next = record {
   packets =
       let P : ℕ → Type 0 = AreBelow (packets_of here) in
       let Q : Packets → Type 0 = λ es. AreBelow es (next_number_of old + 1) in
-      let below = AllBelow-without_some (packets_of old) (forgotten_number (tracking_of old).last_eliciting packet (packets_of old)) (next_number_of old) (all_below _ _ numbered.packets) in
+      let below = AllBelow-without_some (packets_of old) (forgotten_number (tracking_of old).last_eliciting packet (packets_of old)) (next_number_of old) (all_below _ _ coherent.packets) in
       subst P (sym next) (subst Q (sym (ap (λ (t : Tracking). t.packets) tracking)) (are_below _ _ (AllBelow-push _ (next_number_of old) packet below)));
   last = λ m is. let h : m < next_number_of old + 1 = go packet.ack_eliciting m (sym (ap (λ (t : Tracking). t.last_eliciting) tracking) ∙ is) in omega (arith, h, next);
+  acknowledging = let R : Packets → Type 0 = AreAcknowledging in subst R (sym (ap (λ (t : Tracking). t.packets) tracking)) (acknowledging_sent (tracking_of old).last_eliciting (next_number_of old) packet (packets_of old) coherent.acknowledging small);
+  received = received;
 }
   where
     go : (b : Bool) (m : ℕ) → cond b (Some (next_number_of old)) (tracking_of old).last_eliciting ≡ Some m → m < next_number_of old + 1
     go true m e = let h : next_number_of old ≡ m = some_last (next_number_of old) m e in omega arith
-    go false m e = let h : m < next_number_of old = numbered.last m e in omega arith
+    go false m e = let h : m < next_number_of old = coherent.last m e in omega arith
 
-pub emptied_numbered : (old here : PacketSpace) → IsNumbered old → here ≡ space_empties old → IsNumbered here
-emptied_numbered old here numbered is =
-    let P : PacketSpace → Type 0 = IsNumbered in
-    subst P (sym is) (record { packets = λ number packet found. none_found number packet found; last = numbered.last })
+pub emptied_coherent : (old here : PacketSpace) → IsCoherent old → here ≡ space_empties old → IsCoherent here
+emptied_coherent old here coherent is =
+    let P : PacketSpace → Type 0 = IsCoherent in
+    subst P (sym is) (record { packets = λ number packet found. none_found number packet found; last = coherent.last; acknowledging = λ packet among. absurd among; received = coherent.received })
   where
     none_found : (number : ℕ) (packet : SentPacket) → None ≡ Some packet → number < next_number_of old
     none_found number packet e = cc
@@ -275,11 +285,11 @@ module _ (spaces : PacketSpaces) (path : PathData) (balanced : IsBalanced spaces
   pub forgotten_counted : (forgotten : Option ℕ) (entry : ℕ × SentPacket) → entry_at (tracked_by spaces space) forgotten ≡ Some entry → entry.1.path_generation ≡ generation_of path → IsCounted (counters_of path) entry.1
   forgotten_counted forgotten entry e = let enough = forgotten_enough forgotten entry e in own_counted path entry.0 entry.1 enough.0 enough.1
 
-  pub balanced_sent : (here : PacketSpace) (forgotten : Option (ℕ × SentPacket)) → tracking_of here ≡ after_sending (next_number_of (space_of space spaces)) packet (tracking_of (space_of space spaces))
-      → next_number_of here ≡ next_number_of (space_of space spaces) + 1
+  pub balanced_sent : (¬ IsTooLarge packet.largest_acked) → (here : PacketSpace) (forgotten : Option (ℕ × SentPacket)) → tracking_of here ≡ after_sending (next_number_of (space_of space spaces)) packet (tracking_of (space_of space spaces))
+      → next_number_of here ≡ next_number_of (space_of space spaces) + 1 → HasGreatestCome here
       → forgotten ≡ entry_at (tracked_by spaces space) (forgotten_number (tracking_of (space_of space spaces)).last_eliciting packet (tracked_by spaces space))
       → IsBalanced (with_space spaces space here) (path_after_sending path packet forgotten)
-  balanced_sent here forgotten tracking next is =
+  balanced_sent small here forgotten tracking next received is =
       let last = (tracking_of (space_of space spaces)).last_eliciting in
       let number = next_number_of (space_of space spaces) in
       let packets : packets_of here ≡ sent_onto last number packet (tracked_by spaces space) = ap (λ (t : Tracking). t.packets) tracking in
@@ -293,7 +303,7 @@ module _ (spaces : PacketSpaces) (path : PathData) (balanced : IsBalanced spaces
       balanced_by spaces path balanced space here (path_after_sending path packet forgotten)
       (gone (size_in (generation_of path)) forgotten) (size_in (generation_of path) (number, packet)) (gone (eliciting_in (generation_of path)) forgotten) (eliciting_in (generation_of path) (number, packet))
       sent.2 (omega (arith, sizes, here_sizes, gone_sizes)) (omega (arith, elicitings, here_elicitings, gone_elicitings)) sent.0 sent.1
-      (sent_numbered (space_of space spaces) here packet (balanced.numbers space) tracking next)
+      (sent_coherent (space_of space spaces) here packet (balanced.coherent space) small received tracking next)
 
 pub generation_after_sending : (path : PathData) (packet : SentPacket) (forgotten : Option (ℕ × SentPacket)) → generation_of (path_after_sending path packet forgotten) ≡ generation_of path
 generation_after_sending path packet None = refl
@@ -301,10 +311,10 @@ generation_after_sending path packet (Some entry) = refl
 
 -- ---- a fresh start
 
-pub fresh_balanced : (spaces : PacketSpaces) (path : PathData) → ((space : SpaceId) → tracking_of (space_of space spaces) ≡ no_packets) → counters_of path ≡ record { bytes = 0; ack_eliciting = 0 } → IsBalanced spaces path
-fresh_balanced spaces path none zero = record {
+pub fresh_balanced : (spaces : PacketSpaces) (path : PathData) → ((space : SpaceId) → tracking_of (space_of space spaces) ≡ no_packets) → ((space : SpaceId) → acks_of (space_of space spaces) ≡ new_acks []) → counters_of path ≡ record { bytes = 0; ack_eliciting = 0 } → IsBalanced spaces path
+fresh_balanced spaces path none no_acks zero = record {
   counters = zero ∙ sym (same_counters (in_flight (generation_of path) (tracked_by spaces)) (record { bytes = 0; ack_eliciting = 0 }) (no_sum (size_in (generation_of path))) (no_sum (eliciting_in (generation_of path))));
-  numbers = λ space. record { packets = λ number packet found. no_packet_found space number packet found; last = λ m is. no_last space m is };
+  coherent = λ space. record { packets = λ number packet found. no_packet_found space number packet found; last = λ m is. no_last space m is; acknowledging = let R : Packets → Type 0 = AreAcknowledging in subst R (sym (empty space)) (λ packet among. absurd among); received = λ number is. no_greatest space number is };
 }
   where
     empty : (space : SpaceId) → tracked_by spaces space ≡ []
@@ -322,6 +332,9 @@ fresh_balanced spaces path none zero = record {
 
     nothing_last : {A : Type 0} (m : ℕ) → None ≡ Some m → A
     nothing_last m e = cc
+
+    no_greatest : (space : SpaceId) (number : ℕ) → (acks_of (space_of space spaces)).greatest ≡ Some number → ¬ Exceeds (Has (space_of space spaces).dedup) number
+    no_greatest space number is = nothing_last number (ap (λ (a : Acks). a.greatest) (sym (no_acks space)) ∙ is)
 
     no_packet_found : (space : SpaceId) (number : ℕ) (packet : SentPacket) → packet_at (tracked_by spaces space) number ≡ Some packet → number < next_number_of (space_of space spaces)
     no_packet_found space number packet found = nothing packet (ap (λ (es : Packets). packet_at es number) (sym (empty space)) ∙ found)

@@ -4,8 +4,9 @@ use Rattle.quic_recovery.specs.declared.driver.Recovery.{Recovery}
 use Rattle.quic_recovery.specs.declared.event.Event.{Event}
 use Rattle.quic_recovery.specs.History.{Beginning, History, Reply, recorded}
 use Rattle.quic_recovery.specs.Spaces.{space_of}
-use Rattle.quic_recovery.specs.State.{SpacesLeft, Left, Changes, spaces_of, discarded_of, path_of, timers_of}
+use Rattle.quic_recovery.specs.State.{SpacesLeft, Left, Changes, spaces_of, discarded_of, path_of, frequency_of, timers_of}
 use Rattle.quic_recovery.specs.Steps.{SpaceStep}
+use Rattle.quic_recovery.proofs.FrequencyLaws.{frequency_left}
 use Rattle.quic_recovery.proofs.PathLaws.{discarded_left, path_left}
 use Rattle.quic_recovery.proofs.SpaceLaws.{space_left}
 use Rattle.quic_recovery.proofs.TimerLaws.{timers_left}
@@ -15,6 +16,7 @@ left_after beginning before old event reply new left changes = record {
   spaces = spaces;
   discarded = discarded_left before event reply (discarded_of old) (discarded_of new) left.discarded changes.discarded;
   path = path_left (recorded event reply before) (spaces_of new) (path_of new) (changes.path ∙ left.path.generation) spaces new.balanced;
+  frequency = frequency_left beginning before event reply (frequency_of old) (frequency_of new) left.frequency changes.frequency;
   timers = timers_left before event reply (timers_of old) (timers_of new) left.timers changes.timers;
 }
   where

@@ -6,13 +6,12 @@ use Rattle.quic_recovery.specs.declared.spaces.PacketSpaces.{PacketSpaces}
 use Rattle.quic_recovery.specs.InFlight.{in_flight}
 use Rattle.quic_recovery.specs.Packets.{Packets}
 use Rattle.quic_recovery.specs.Paths.{generation_of, counters_of}
-use Rattle.quic_recovery.specs.Spaces.{space_of, packets_of, IsNumbered}
+use Rattle.quic_recovery.specs.Spaces.{space_of, packets_of, IsCoherent}
 
 abbrev pub tracked_by : PacketSpaces → SpaceId → Packets
 tracked_by spaces space = packets_of (space_of space spaces)
 
--- The path's counters are sums over the packets that the spaces track, and the numbers that were given out are below the
--- next ones.
+-- The path's counters are sums over the packets that the spaces track, and the parts of each space go together.
 pub record IsBalanced (spaces : PacketSpaces) (path : PathData) : Type 0 where
   pub counters : counters_of path ≡ in_flight (generation_of path) (tracked_by spaces)
-  pub numbers : (space : SpaceId) → IsNumbered (space_of space spaces)
+  pub coherent : (space : SpaceId) → IsCoherent (space_of space spaces)

@@ -1,3 +1,4 @@
+pub mod Acks
 pub mod Counts
 pub mod Discarded
 pub mod History

@@ -80,6 +80,20 @@ entry_number (Some entry) = Some entry.0
 abbrev pub IsTooLarge : Option ℕ → Type 0
 IsTooLarge number = IsSomeAnd number (λ n. 2 ^ 62 ≤ n)
 
+-- the largest number that a packet acknowledges, where it is tracked and acknowledges one
+abbrev pub largest_acked_by : Option SentPacket → Option ℕ
+largest_acked_by None = None
+largest_acked_by (Some packet) = packet.largest_acked
+
+-- a packet is among others
+abbrev pub IsAmong : Packets → SentPacket → Type 0
+IsAmong [] packet = ⊥
+IsAmong (entry ∷ packets) packet = (entry.1 ≡ packet) ⊎ IsAmong packets packet
+
+-- what the packets acknowledge are numbers of packets
+abbrev pub AreAcknowledging : Packets → Type 0
+AreAcknowledging packets = (packet : SentPacket) → IsAmong packets packet → ¬ IsTooLarge packet.largest_acked
+
 -- ---- what a space tracks
 
 pub record Tracking : Type 0 where

@@ -1,8 +1,9 @@
 -- What an ack-eliciting packet leaves.
-use Rattle.std.proofs.Common.{◌≡◌, ℕ, ◌<◌, ◌≤◌, max, inl, inr, ◌⊎◌, ◌↔◌, Bool, true, false, nat_lt, Option, None, Some, refl, ap, subst, arith}
+use Rattle.std.proofs.Common.{◌≡◌, ℕ, ◌+◌, ◌-◌, ◌<◌, ◌≤◌, max, inl, inr, ◌⊎◌, ◌↔◌, Bool, true, false, nat_lt, Option, None, Some, refl, ap, subst, arith}
 use Rattle.std.specs.Prelude.{IsTrue, IfSome, MatchBool}
 use Rattle.std.specs.Option.{unwrap_or}
 use Rattle.std.proofs.lemmas.Bool.{false≢true, ltb-true, lt-ltb, cases_lt}
+use Rattle.recovery_base.specs.Numbers.{IsLeastMissing}
 use Rattle.recovery_base.specs.Ranges.{InRanges}
 use Rattle.recovery_parts.specs.Acks.{Acks, HasReached, IsOutOfOrder, Receives, ReceivesEliciting, counted, number_or_zero}
 
@@ -69,3 +70,10 @@ module _ (Known : ℕ → Type 0) (old : Acks) (now number greatest count : ℕ)
         base = refl;
         others = (refl, refl, refl, refl, refl, refl);
       }
+
+-- what is out of order by one set is so by another, from which the same numbers are missing
+pub out_of_order_by : (A B : ℕ → Type 0) → ((low high : ℕ) (found : Option ℕ) → IsLeastMissing A low high found → IsLeastMissing B low high found) → (threshold : ℕ) (acknowledged : Option ℕ) (before greatest number : ℕ)
+    → IsOutOfOrder A threshold acknowledged before greatest number → IsOutOfOrder B threshold acknowledged before greatest number
+out_of_order_by A B missing threshold acknowledged before greatest number (inl one) = inl (one.0, elim one.1 [ inl below ↦ inl below | inr gap ↦ inr (gap.0, missing before number (Some gap.0) gap.1) ])
+out_of_order_by A B missing threshold (Some k) before greatest number (inr more) = inr (more.0, (more.1.0, (more.1.1.0, missing (k - threshold + 1) greatest (Some more.1.1.0) more.1.1.1, more.1.1.2)))
+out_of_order_by A B missing threshold None before greatest number (inr more) = absurd more.1

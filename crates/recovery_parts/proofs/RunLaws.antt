@@ -131,3 +131,10 @@ module _ (old mid : Ranges) (number : ℕ) (is_new : Bool) (inserted : InsertsOn
         omega arith,
         apart_rest 0 range new apart,
       )
+
+-- where more than 64 ranges stood before the cut, some stand after it
+pub some_after_cut : (mid new : Ranges) (popped : Option (Range ℕ)) → 64 < length mid → mid ≡ option_to_list popped ++ new → AreApart 0 new → (n : ℕ) × InRanges new n
+unfolding InRanges AreApart
+some_after_cut mid [] None many is apart = absurd (let h : length mid ≡ 0 = ap length is in omega arith)
+some_after_cut mid [] (Some range) many is apart = absurd (let h : length mid ≡ 1 = ap length is in omega arith)
+some_after_cut mid (range ∷ others) popped many is apart = (range.start, inl (omega arith, apart.1))

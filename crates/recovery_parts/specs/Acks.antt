@@ -102,6 +102,7 @@ largest_with (Some largest) number now = cond (nat_lt largest.0 number) (Some (n
 -- a number is to be acknowledged; the 64 highest runs stay
 pub record AddsPending (old : Acks) (number now : ℕ) (new : Acks) : Type 0 where
   pub pending : (n : ℕ) → IsPending new n ↔ IsInHighest 64 (With number (IsPending old)) n
+  pub some : (n : ℕ) × IsPending new n
   pub largest : new.largest ≡ largest_with old.largest number now
   pub others : (new.required ≡ old.required) × (new.eliciting ≡ old.eliciting) × (new.silent ≡ old.silent) × (new.threshold ≡ old.threshold) × (new.reordering ≡ old.reordering) × (new.base ≡ old.base) × (new.greatest ≡ old.greatest) × (new.acknowledged ≡ old.acknowledged)
 

@@ -272,6 +272,7 @@ fn insert(ranges: &mut ArrayRangeSet, packet: u64) -> Result<(), NoMemory>
     requires small { packet < 2 ^ 62 }
     requires count { length ranges.old ≤ 64 }
     ensures pending { OnOk result ((n : ℕ) → InRanges ranges.new n ↔ IsInHighest 64 (With packet (InRanges ranges.old)) n) }
+    ensures some { OnOk result ((n : ℕ) × InRanges ranges.new n) }
     ensures kept { OnOk result ((length ranges.new ≤ 64) × AreApart 0 ranges.new) }
     ensures only_new_takes_memory { IsErr result → ¬ InRanges ranges.old packet }
     ensures err { OnErr result (ranges.new ≡ ranges.old) }

@@ -3,7 +3,9 @@ use Rattle.quic_recovery.specs.declared.paths.PathData.{PathData}
 use Rattle.quic_recovery.specs.declared.spaces.PacketSpace.{PacketSpace}
 use Rattle.quic_recovery.specs.Ledger.{IsBalanced}
 use Rattle.quic_recovery.specs.Packets.{packet_at, after_taking}
-use Rattle.quic_recovery.specs.Spaces.{with_space, tracking_of, packets_of, next_number_of}
+use Rattle.quic_recovery.specs.Spaces.{with_space, tracking_of, packets_of, next_number_of, HasGreatestCome, space_takes}
+use Rattle.quic_recovery.proofs.AckLaws.{acked_greatest}
+use Rattle.quic_recovery.proofs.AmongLaws.{acknowledging_found}
 use Rattle.quic_recovery.proofs.LedgerLaws.{packet_counted, balanced_taken}
 use Rattle.quic_recovery.proofs.driver.Recovery.acked.Goals as goal
 
@@ -12,13 +14,23 @@ remove_in_flight-requires c =
     let found = ap (λ (s : PacketSpace). packet_at (packets_of s) c.args.number) (sym c.index_mut-here.ensures.value) ∙ sym c.take.ensures.packet ∙ c.in-Some.is in
     packet_counted c.args.self.now.spaces c.args.self.now.current c.args.self.now.balanced c.args.space c.args.number c.in-Some.packet found
 
+pub on_acked-requires : goal.on_acked-requires
+on_acked-requires c =
+    let found = ap (λ (s : PacketSpace). packet_at (packets_of s) c.args.number) (sym c.index_mut-here.ensures.value) ∙ sym c.take.ensures.packet ∙ c.in-Some.is in
+    acknowledging_found _ (c.args.self.now.balanced.coherent c.args.space).acknowledging c.args.number c.in-Some.packet found
+
 pub invariant_of-self-2 : goal.invariant_of-self-2
 invariant_of-self-2 c =
     let found = ap (λ (s : PacketSpace). packet_at (packets_of s) c.args.number) (sym c.index_mut-here.ensures.value) ∙ sym c.take.ensures.packet ∙ c.in-Some.is in
-    let tracking = ap tracking_of c.on_acked.ensures ∙ ap tracking_of c.take.ensures.after ∙ ap (λ (s : PacketSpace). after_taking c.args.number (tracking_of s)) c.index_mut-here.ensures.value in
-    let next = ap next_number_of c.on_acked.ensures ∙ ap next_number_of c.take.ensures.after ∙ ap next_number_of c.index_mut-here.ensures.value in
+    let tracking = ap tracking_of c.on_acked.ensures.others ∙ ap tracking_of c.take.ensures.after ∙ ap (λ (s : PacketSpace). after_taking c.args.number (tracking_of s)) c.index_mut-here.ensures.value in
+    let next = ap next_number_of c.on_acked.ensures.others ∙ ap next_number_of c.take.ensures.after ∙ ap next_number_of c.index_mut-here.ensures.value in
+    let came : HasGreatestCome c.take.new.self =
+    let Q : PacketSpace → Type 0 = HasGreatestCome in
+    subst Q (sym (c.take.ensures.after ∙ ap (space_takes c.args.number) c.index_mut-here.ensures.value)) (c.args.self.now.balanced.coherent c.args.space).received
+    in
+    let come = acked_greatest c.args.number c.in-Some.packet c.take.new.self c.on_acked.new.self came c.on_acked.ensures.subtracts c.on_acked.ensures.others in
     let P : PathData → Type 0 = IsBalanced (with_space c.args.self.now.spaces c.args.space c.on_acked.new.self) in
     record {
       balanced = subst P (sym c.remove_in_flight.ensures.after)
-          (balanced_taken c.args.self.now.spaces c.args.self.now.current c.args.self.now.balanced c.args.space c.on_acked.new.self c.args.number c.in-Some.packet found tracking next);
+          (balanced_taken c.args.self.now.spaces c.args.self.now.current c.args.self.now.balanced c.args.space c.on_acked.new.self c.args.number c.in-Some.packet found tracking next come);
     }

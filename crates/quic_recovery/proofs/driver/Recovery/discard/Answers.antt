@@ -3,7 +3,7 @@ use Rattle.quic_recovery.specs.declared.spaces.PacketSpace.{PacketSpace}
 use Rattle.quic_recovery.specs.InFlight.{SumsLeave}
 use Rattle.quic_recovery.specs.Paths.{generation_of, counters_of}
 use Rattle.quic_recovery.specs.Spaces.{packets_of, space_empties}
-use Rattle.quic_recovery.proofs.LedgerLaws.{balanced_emptied, emptied_numbered}
+use Rattle.quic_recovery.proofs.LedgerLaws.{balanced_emptied, emptied_coherent}
 use Rattle.quic_recovery.proofs.driver.Recovery.discard.Goals as goal
 
 pub invariant_of-self-2 : goal.invariant_of-self-2
@@ -13,5 +13,5 @@ invariant_of-self-2 c =
     let left = subst P c.index_mut.ensures.value c.forget_all.ensures.counters in
     record {
       balanced = balanced_emptied c.args.self.now.spaces c.args.self.now.current c.args.self.now.balanced c.args.space c.forget_all.new.space c.forget_all.new.self c.forget_all.ensures.generation (ap packets_of is)
-          (emptied_numbered _ c.forget_all.new.space (c.args.self.now.balanced.numbers c.args.space) is) left.0 left.1;
+          (emptied_coherent _ c.forget_all.new.space (c.args.self.now.balanced.coherent c.args.space) is) left.0 left.1;
     }

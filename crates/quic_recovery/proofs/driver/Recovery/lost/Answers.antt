@@ -3,7 +3,7 @@ use Rattle.quic_recovery.specs.declared.paths.PathData.{PathData}
 use Rattle.quic_recovery.specs.declared.spaces.PacketSpace.{PacketSpace}
 use Rattle.quic_recovery.specs.Ledger.{IsBalanced}
 use Rattle.quic_recovery.specs.Packets.{packet_at, after_taking}
-use Rattle.quic_recovery.specs.Spaces.{with_space, tracking_of, packets_of, next_number_of}
+use Rattle.quic_recovery.specs.Spaces.{with_space, tracking_of, packets_of, next_number_of, HasGreatestCome, space_takes}
 use Rattle.quic_recovery.proofs.LedgerLaws.{packet_counted, balanced_taken}
 use Rattle.quic_recovery.proofs.driver.Recovery.lost.Goals as goal
 
@@ -17,8 +17,12 @@ invariant_of-self-2 c =
     let found = ap (λ (s : PacketSpace). packet_at (packets_of s) c.args.number) (sym c.index_mut.ensures.value) ∙ sym c.take.ensures.packet ∙ c.in-Some.is in
     let tracking = ap tracking_of c.take.ensures.after ∙ ap (λ (s : PacketSpace). after_taking c.args.number (tracking_of s)) c.index_mut.ensures.value in
     let next = ap next_number_of c.take.ensures.after ∙ ap next_number_of c.index_mut.ensures.value in
+    let come : HasGreatestCome c.take.new.self =
+    let Q : PacketSpace → Type 0 = HasGreatestCome in
+    subst Q (sym (c.take.ensures.after ∙ ap (space_takes c.args.number) c.index_mut.ensures.value)) (c.args.self.now.balanced.coherent c.args.space).received
+    in
     let P : PathData → Type 0 = IsBalanced (with_space c.args.self.now.spaces c.args.space c.take.new.self) in
     record {
       balanced = subst P (sym c.remove_in_flight.ensures.after)
-          (balanced_taken c.args.self.now.spaces c.args.self.now.current c.args.self.now.balanced c.args.space c.take.new.self c.args.number c.in-Some.packet found tracking next);
+          (balanced_taken c.args.self.now.spaces c.args.self.now.current c.args.self.now.balanced c.args.space c.take.new.self c.args.number c.in-Some.packet found tracking next come);
     }

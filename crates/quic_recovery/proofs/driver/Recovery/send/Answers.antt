@@ -8,7 +8,7 @@ use Rattle.quic_recovery.specs.InFlight.{in_flight, Overflows}
 use Rattle.quic_recovery.specs.Ledger.{IsBalanced, tracked_by}
 use Rattle.quic_recovery.specs.Packets.{entry_at, entry_number, forgotten_number, after_sending}
 use Rattle.quic_recovery.specs.Paths.{generation_of, counters_of}
-use Rattle.quic_recovery.specs.Spaces.{space_of, with_space, tracking_of, with_tracking, packets_of, next_number_of, after_number, after_eliciting, space_sends, IsNumbered}
+use Rattle.quic_recovery.specs.Spaces.{space_of, with_space, tracking_of, with_tracking, packets_of, next_number_of, after_number, after_eliciting, space_sends, HasGreatestCome, IsCoherent}
 use Rattle.quic_recovery.specs.Tracked.{packet_sent}
 use Rattle.quic_recovery.proofs.DriverLaws.{not_both, sent_changes}
 use Rattle.quic_recovery.proofs.LedgerLaws.{forgotten_counted, balanced_sent, generation_after_sending}
@@ -20,15 +20,15 @@ ok_is_no_err forgotten error e = cc
 
 pub sent-requires-clause-above : goal.sent-requires-clause-above
 sent-requires-clause-above c = λ number packet found.
-    let P : PacketSpace → Type 0 = IsNumbered in
-    let numbered : IsNumbered c.index_mut-here.result.now = subst P (sym c.index_mut-here.ensures.value) (c.args.self.now.balanced.numbers c.args.space) in
+    let P : PacketSpace → Type 0 = IsCoherent in
+    let numbered : IsCoherent c.index_mut-here.result.now = subst P (sym c.index_mut-here.ensures.value) (c.args.self.now.balanced.coherent c.args.space) in
     let below : number < next_number_of c.index_mut-here.result.now = numbered.packets number packet found in
     omega (arith, below, c.next_packet_number-number.ensures)
 
 pub sent-requires-clause-above_last : goal.sent-requires-clause-above_last
 sent-requires-clause-above_last c = λ m is.
-    let P : PacketSpace → Type 0 = IsNumbered in
-    let numbered : IsNumbered c.index_mut-here.result.now = subst P (sym c.index_mut-here.ensures.value) (c.args.self.now.balanced.numbers c.args.space) in
+    let P : PacketSpace → Type 0 = IsCoherent in
+    let numbered : IsCoherent c.index_mut-here.result.now = subst P (sym c.index_mut-here.ensures.value) (c.args.self.now.balanced.coherent c.args.space) in
     let below : m < next_number_of c.index_mut-here.result.now = numbered.last m is in
     omega (arith, below, c.next_packet_number-number.ensures)
 
@@ -48,10 +48,19 @@ invariant_of-self-2 c =
     in
     let next = ap next_number_of c.on_sent.ensures ∙ ap (λ (s : PacketSpace). next_number_of s + 1) c.in-Ok.ensures.space ∙ ap (λ (s : PacketSpace). next_number_of s + 1) there in
     let gone = c.in-Ok.ensures.forgotten ∙ ap (λ (s : PacketSpace). entry_at (packets_of s) (forgotten_number (tracking_of s).last_eliciting packet (packets_of s))) there in
+    let is =
+    c.on_sent.ensures
+    ∙ ap (λ (s : PacketSpace). after_eliciting c.args.ack_eliciting c.args.now (after_number s)) c.in-Ok.ensures.space
+    ∙ ap (λ (n : ℕ). after_eliciting c.args.ack_eliciting c.args.now (after_number (with_tracking (after_sending n packet (tracking_of c.index_mut-here.result.now)) c.index_mut-here.result.now))) c.next_packet_number-number.ensures
+    ∙ ap (λ (s : PacketSpace). space_sends packet s) there
+    ∙ ap (λ (g : ℕ). space_sends (packet_sent g c.args.now c.args.size c.args.ack_eliciting c.args.largest_acked) (space_of c.args.space c.args.self.now.spaces)) c.generation.ensures
+    in
+    let Q : PacketSpace → Type 0 = HasGreatestCome in
+    let come : HasGreatestCome c.on_sent.new.self = subst Q (sym is) (c.args.self.now.balanced.coherent c.args.space).received in
     let P : PathData → Type 0 = IsBalanced (with_space c.args.self.now.spaces c.args.space c.on_sent.new.self) in
     record {
       balanced = subst P (sym c.in-Ok.ensures.path)
-          (balanced_sent c.args.self.now.spaces c.args.self.now.current c.args.self.now.balanced c.args.space packet c.generation.ensures c.on_sent.new.self c.in-Ok.forgotten tracking next gone);
+          (balanced_sent c.args.self.now.spaces c.args.self.now.current c.args.self.now.balanced c.args.space packet c.generation.ensures (λ large. not_both _ (c.if-is_too_large.false) (c.is_too_large.ensures.1 large)) c.on_sent.new.self c.in-Ok.forgotten tracking next come gone);
     }
 
 pub returns : goal.returns
@@ -76,4 +85,4 @@ returns c =
     in
     sent_changes c.args.self.now _ c.args.space c.args.now c.args.size c.args.ack_eliciting c.args.largest_acked c.on_sent.new.self c.next_packet_number-number.result c.number_of.result
     live (λ large. not_both _ (c.if-is_too_large.false) (c.is_too_large.ensures.1 large)) left all_fits
-    (c.next_packet_number-number.ensures ∙ ap next_number_of there) gone is refl refl (ap generation_of c.in-Ok.ensures.path ∙ generation_after_sending c.args.self.now.current packet c.in-Ok.forgotten) refl
+    (c.next_packet_number-number.ensures ∙ ap next_number_of there) gone is refl refl (ap generation_of c.in-Ok.ensures.path ∙ generation_after_sending c.args.self.now.current packet c.in-Ok.forgotten) refl refl

@@ -4,6 +4,7 @@ use Rattle.recovery_parts.proofs.acks.pending.PendingAcks.insert_one.Goals as go
 pub returns-clause-inserts : goal.returns-clause-inserts
 returns-clause-inserts c = rw (← c.self.view_is) (record {
   pending = c.in_ok-insert.ensures.pending;
+  some = c.in_ok-insert.ensures.some;
   largest = c.larger.ensures;
   others = (refl, refl, refl, refl, refl, refl, refl, refl);
 })
