@@ -105,7 +105,7 @@ fn run(alloc: Global, events: &[Event]) -> Result<(Recovery, Vec<Result<Answer, 
 #[test]
 fn run_answers_with_memory(rt: HostRuntime) -> Result<(), Fail> {
     let data = SpaceId::Data;
-    let rows: [(&[Event], &[Result<Answer, Refusal>]); 6] = [
+    let rows: [(&[Event], &[Result<Answer, Refusal>]); 3] = [
         (&[], &[]),
         (
             &[received(data, 0, true), received(data, 0, true)],
@@ -120,6 +120,18 @@ fn run_answers_with_memory(rt: HostRuntime) -> Result<(), Fail> {
             ],
             &[new(false), new(true), new(false), new(false)],
         ),
+    ];
+    for (events, want) in rows {
+        let (_, replies) = run(rt.alloc(), events)?;
+        assert_eq!(rt; replies.as_slice(), want);
+    }
+    Ok(())
+}
+
+#[test]
+fn run_answers_at_the_ends(rt: HostRuntime) -> Result<(), Fail> {
+    let data = SpaceId::Data;
+    let rows: [(&[Event], &[Result<Answer, Refusal>]); 3] = [
         (
             &[
                 received(data, 300, false),
@@ -251,48 +263,50 @@ fn a_refused_event_leaves_no_trace(rt: HostRuntime) -> Result<(), Fail> {
     Ok(())
 }
 
+/// The refusals with their numbers, names and texts.
+const REFUSALS: [(Refusal, u8, &str, &str); 7] = [
+    (Refusal::NoMemory, 1, "NoMemory", "out of memory"),
+    (
+        Refusal::NumberTooLarge,
+        2,
+        "NumberTooLarge",
+        "a number is 2^62 or more",
+    ),
+    (
+        Refusal::NumbersExhausted,
+        3,
+        "NumbersExhausted",
+        "no packet number is left",
+    ),
+    (
+        Refusal::NotTracked,
+        4,
+        "NotTracked",
+        "the packet is not tracked",
+    ),
+    (
+        Refusal::SpaceDiscarded,
+        5,
+        "SpaceDiscarded",
+        "the space is discarded",
+    ),
+    (
+        Refusal::NoSuchPath,
+        6,
+        "NoSuchPath",
+        "there is no such path",
+    ),
+    (
+        Refusal::Overflow,
+        9,
+        "Overflow",
+        "a counter passes 2^64 - 1",
+    ),
+];
+
 #[test]
 fn refusals_have_numbers_names_and_texts(rt: HostRuntime) -> Result<(), Fail> {
-    let rows = [
-        (Refusal::NoMemory, 1, "NoMemory", "out of memory"),
-        (
-            Refusal::NumberTooLarge,
-            2,
-            "NumberTooLarge",
-            "a number is 2^62 or more",
-        ),
-        (
-            Refusal::NumbersExhausted,
-            3,
-            "NumbersExhausted",
-            "no packet number is left",
-        ),
-        (
-            Refusal::NotTracked,
-            4,
-            "NotTracked",
-            "the packet is not tracked",
-        ),
-        (
-            Refusal::SpaceDiscarded,
-            5,
-            "SpaceDiscarded",
-            "the space is discarded",
-        ),
-        (
-            Refusal::NoSuchPath,
-            6,
-            "NoSuchPath",
-            "there is no such path",
-        ),
-        (
-            Refusal::Overflow,
-            9,
-            "Overflow",
-            "a counter passes 2^64 - 1",
-        ),
-    ];
-    for (refusal, number, name, text) in rows {
+    for (refusal, number, name, text) in REFUSALS {
         assert_eq!(rt; refusal.number(), number);
         assert_eq!(rt; refusal.name(), name);
         assert_eq!(rt; format!(in rt.alloc(); "{refusal}")?.as_str(), text);
