@@ -4,6 +4,8 @@ use recovery_base::below::SpaceId;
 use recovery_base::timer::Timer;
 use std::test::Fail;
 
+mod refused_memory;
+
 const REFUSED: Result<Answer, Refusal> = Err(Refusal::NumberTooLarge);
 
 const DONE: Result<Answer, Refusal> = Ok(Answer::Done);
