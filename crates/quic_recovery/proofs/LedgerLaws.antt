@@ -40,29 +40,6 @@ module _ (path : PathData) (number : ℕ) (packet : SentPacket) (enough : size_i
       let one : eliciting_in (generation_of path) (number, packet) ≡ eliciting_one packet = ap (λ b. cond (b && packet.ack_eliciting) 1 0) same in
       (omega (arith, size, enough), omega (arith, one, eliciting))
 
--- the first of several packets leaves
-pub forget_first : (path : PathData) (entry : ℕ × SentPacket) (packets : Packets) → IsCountedIn (counters_of path) (generation_of path) (entry ∷ packets)
-    → IsCountedIn (counters_left path entry.1) (generation_of path) packets
-    × ((counters_left path entry.1).bytes + sum_by (size_in (generation_of path)) (entry ∷ packets) ≡ (counters_of path).bytes + sum_by (size_in (generation_of path)) packets)
-    × ((counters_left path entry.1).ack_eliciting + sum_by (eliciting_in (generation_of path)) (entry ∷ packets) ≡ (counters_of path).ack_eliciting + sum_by (eliciting_in (generation_of path)) packets)
-forget_first path entry packets counted =
-    let sizes = sum_by-cons (size_in (generation_of path)) entry packets in
-    let elicitings = sum_by-cons (eliciting_in (generation_of path)) entry packets in
-    let h = counted.0 in
-    let k = counted.1 in
-    let left = leaves path entry.0 entry.1 (omega (arith, sizes, h)) (omega (arith, elicitings, k)) in
-    let bytes = left.0 in
-    let count = left.1 in
-    ((omega (arith, sizes, h, bytes), omega (arith, elicitings, k, count)), omega (arith, sizes, bytes), omega (arith, elicitings, count))
-
-pub first_counted : (path : PathData) (entry : ℕ × SentPacket) (packets : Packets) → IsCountedIn (counters_of path) (generation_of path) (entry ∷ packets) → entry.1.path_generation ≡ generation_of path → IsCounted (counters_of path) entry.1
-first_counted path entry packets counted own =
-    let sizes = sum_by-cons (size_in (generation_of path)) entry packets in
-    let elicitings = sum_by-cons (eliciting_in (generation_of path)) entry packets in
-    let h = counted.0 in
-    let k = counted.1 in
-    own_counted path entry.0 entry.1 (omega (arith, sizes, h)) (omega (arith, elicitings, k)) own
-
 -- ---- one space among three
 
 pub sums_replaced : (f : ℕ × SentPacket → ℕ) (spaces : PacketSpaces) (space : SpaceId) (here : PacketSpace) (a b : ℕ) → sum_by f (packets_of here) + a ≡ sum_by f (tracked_by spaces space) + b

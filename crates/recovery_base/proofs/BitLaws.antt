@@ -1,5 +1,5 @@
 -- The numbers that a window of 128 bits knows.
-use Rattle.std.proofs.Common.{◌≡◌, ℕ, suc, zero, ◌+◌, ◌-◌, ◌*◌, ◌/◌, ◌%◌, ◌^◌, ◌<◌, ◌≤◌, min, max, inl, inr, ◌⊎◌, ◌↔◌, ⊎_elim, Option, None, Some, sym, ◌∙◌, ap, subst, refl, arith, lit<, true}
+use Rattle.std.proofs.Common.{◌≡◌, ℕ, suc, zero, ◌+◌, ◌-◌, ◌*◌, ◌/◌, ◌%◌, ◌^◌, ◌<◌, ◌≤◌, min, max, inl, inr, ◌⊎◌, ◌↔◌, ⊎_elim, None, Some, sym, ◌∙◌, ap, subst, refl, arith, lit<, true}
 use Rattle.std.specs.Prelude.{bit_and, bit_or}
 use Rattle.std.specs.Int.{bit_at, bit_not, w128, leading_zeros}
 use Rattle.std.proofs.Math.Nat.{div-add-mod}
@@ -8,7 +8,7 @@ use Rattle.std.specs.Int.Count.{leading_of_zero}
 use Rattle.std.proofs.Math.Nat.{zero-mul, eq-zero-or-pos, lt_of_le_of_lt, pow-suc, le_refl}
 use Rattle.std.proofs.Math.Pow.{pow-lt}
 use Rattle.std.proofs.lemmas.Bool.{cases_lt, cases_eq}
-use Rattle.std.proofs.lemmas.Nat.Bits.{bit_at_cat_low, bit_at_cat_high, bit_at_above, bit_at-zero, bit_at_or, bit_at_and, bit_at_not, bit_at_ones, bit_at_ones_above, bit_at-pow_same, bit_at-pow_other, bit_at-lt, ones_shr, and_pow, bit_at_set_same, bit_at_set_other}
+use Rattle.std.proofs.lemmas.Nat.Bits.{bit_at_cat_low, bit_at_cat_high, bit_at_above, bit_at-zero, bit_at_or, bit_at_and, bit_at_not, bit_at_ones, bit_at_ones_above, bit_at-lt, ones_shr, and_pow, bit_at_set_same, bit_at_set_other}
 use Rattle.recovery_base.specs.Numbers.{IsNew, IsInWindow, IsMissing, IsLeastMissing, Inserts, Recent, With}
 use Rattle.recovery_base.specs.Received.{IsKnown}
 use Rattle.recovery_base.proofs.WindowLaws.{member_is_not_new, old_is_not_new, old_adds_nothing, member_adds_nothing}
@@ -65,9 +65,6 @@ known_cut window next fits n here m there =
     let a : m < next = known_below window next m there in
     let b : next ≤ n + 129 = known_within window next n fits here in
     omega arith
-
-pub known_greatest : (window next : ℕ) → 0 < next → IsKnown window next (next - 1)
-known_greatest window next some = inl (omega arith)
 
 -- ---- what is new
 

@@ -1,6 +1,6 @@
 -- Ranges that lie apart, without the numbers that leave them.
-use Rattle.std.proofs.Common.{◌≡◌, ℕ, suc, zero, ◌+◌, ◌-◌, ◌<◌, ◌≤◌, inl, inr, ◌⊎◌, ◌↔◌, List, [], ◌∷◌, ◌++◌, length, take, drop, set, get_or, sym, ◌∙◌, ap, subst, refl, arith, append_assoc, drop-cons, add-one}
-use Rattle.std.specs.Prelude.{Bool, true, false, map, cond, min, max, ltb}
+use Rattle.std.proofs.Common.{◌≡◌, ℕ, suc, ◌+◌, ◌<◌, ◌≤◌, inl, inr, [], ◌∷◌, ◌++◌, length, take, drop, set, get_or, sym, ◌∙◌, ap, subst, refl, arith, append_assoc, drop-cons, add-one}
+use Rattle.std.specs.Prelude.{Bool, true, false, cond, min, max, ltb}
 use Rattle.std.specs.declared.ops.Range.{Range}
 use Rattle.std.specs.List.{insert}
 use Rattle.std.proofs.lemmas.Bool.{cases_lt, ltb-true, ltb-false}

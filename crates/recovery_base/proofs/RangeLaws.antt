@@ -1,17 +1,16 @@
 -- Ranges that lie apart, and the numbers in them.
-use Rattle.std.proofs.Common.{◌≡◌, ℕ, suc, zero, ◌+◌, ◌-◌, ◌<◌, ◌≤◌, inl, inr, ◌⊎◌, ◌↔◌, ⊎_elim, List, [], ◌∷◌, ◌++◌, length, take, drop, set, get_or, Option, None, Some, sym, ◌∙◌, ap, subst, refl, arith, append_assoc, drop-cons, add-one}
+use Rattle.std.proofs.Common.{◌≡◌, ℕ, suc, zero, ◌+◌, ◌<◌, ◌≤◌, inl, inr, ◌⊎◌, ◌↔◌, List, [], ◌∷◌, ◌++◌, length, take, drop, set, get_or, sym, ◌∙◌, ap, subst, arith, append_assoc, drop-cons, add-one}
 use Rattle.std.specs.declared.ops.Range.{Range}
 use Rattle.std.specs.List.{insert, remove}
 use Rattle.std.proofs.lemmas.Bool.{eqb-true, eqb-false, cases_lt, cases_eq}
-use Rattle.std.proofs.lemmas.List.{append-nil, length-append, take-append-drop, take_all, set_split, drop_more, take_more, set_at, length-take-le, drop_all, get_or_default}
+use Rattle.std.proofs.lemmas.List.{append-nil, length-append, take-append-drop, take_all, set_split, set_at, length-take-le, drop_all, get_or_default}
 use Rattle.std.proofs.Math.Seq.{take-suc}
-use Rattle.std.specs.List.{filter}
-use Rattle.std.specs.Prelude.{map, cond, min, max, ltb}
+use Rattle.std.specs.Prelude.{ltb}
 use Rattle.std.specs.List.Sorted.{IsNonDecreasingBy, IsPartitionedBy, IsPartitionPoint}
 use Rattle.std.proofs.lemmas.List.Sorted.{IsPartitionedBy-ltb}
 use Rattle.std.proofs.lemmas.Bool.{ltb-true, ltb-false}
 use Rattle.recovery_base.specs.Numbers.{With}
-use Rattle.recovery_base.specs.Ranges.{InRanges, AreApart, InsertsOne, Removes, IsBetween, floor_above, EndsFrom, IsPlace, span, clipped, is_some_range, cut_ranges}
+use Rattle.recovery_base.specs.Ranges.{InRanges, AreApart, InsertsOne, floor_above, EndsFrom, IsPlace, span}
 use Rattle.std.specs.Prelude.{◌==◌, MatchBool, Bool, true, false}
 
 abbrev pub Ranges : Type 0

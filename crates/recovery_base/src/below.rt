@@ -1,8 +1,10 @@
 //! Items that a QUIC implementation has below its loss recovery.
 mod frames;
+mod ids;
 mod ranges;
 
 pub use frames::{AckFrequency, TransportError, TransportParameters, VarInt, VarIntBoundsExceeded};
+pub use ids::{ConnectionId, IssuedCid, NewConnectionId, ResetToken};
 pub use ranges::ArrayRangeSet;
 use std::alloc::{AllocError, AllocFailed};
 use thiserror::Error;
@@ -34,7 +36,3 @@ impl From<AllocError> for NoMemory {
         NoMemory
     }
 }
-
-mod ids;
-
-pub use ids::{ConnectionId, IssuedCid, NewConnectionId, ResetToken};

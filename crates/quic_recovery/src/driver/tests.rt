@@ -2,7 +2,11 @@ use super::*;
 use crate::paths::InFlight;
 use recovery_base::below::SpaceId;
 use recovery_base::timer::Timer;
+use std::process::Abort;
 use std::test::Fail;
+
+mod acks;
+mod refused_memory;
 
 const REFUSED: Result<Answer, Refusal> = Err(Refusal::NumberTooLarge);
 
@@ -95,68 +99,99 @@ fn timeout(nanos: u64) -> Result<Answer, Refusal> {
     Ok(Answer::Timeout(Some(at(nanos))))
 }
 
-/// The state that events leave from a fresh start, and what each was replied.
-fn run(alloc: Global, events: &[Event]) -> Result<(Recovery, Vec<Result<Answer, Refusal>>), Fail> {
-    let events = Vec::from_slice(alloc, events)?;
-    let ended = Recovery::run(alloc, RecoveryConfig::default(), at(0), events)?;
-    Ok(ended)
+/// The settings of the replay program.
+fn config() -> RecoveryConfig {
+    RecoveryConfig {
+        max_ack_delay: Duration::from_millis(25),
+        initial_cid: ConnectionId::new(&[0xFF; 8]),
+        cid_len: 8,
+        cid_lifetime: Some(Duration::from_secs(10)),
+        issued: 1,
+    }
+}
+
+/// Asserts what the events of a run are replied.
+fn check<const N: usize>(
+    rt: &impl Abort,
+    alloc: Global,
+    events: [Event; N],
+    want: &[Result<Answer, Refusal>],
+) -> Result<Recovery, Fail> {
+    let events = Vec::from_array(alloc, events)?;
+    let (recovery, replies) = Recovery::run(alloc, config(), at(0), events)?;
+    assert_eq!(rt; replies.as_slice(), want);
+    Ok(recovery)
 }
 
 #[test]
 fn run_answers_with_memory(rt: HostRuntime) -> Result<(), Fail> {
     let data = SpaceId::Data;
-    let rows: [(&[Event], &[Result<Answer, Refusal>]); 6] = [
-        (&[], &[]),
-        (
-            &[received(data, 0, true), received(data, 0, true)],
-            &[new(true), Ok(Answer::Duplicate)],
-        ),
-        (
-            &[
-                received(data, 7, true),
-                received(SpaceId::Initial, 1, true),
-                received(SpaceId::Handshake, 3, false),
-                received(SpaceId::Handshake, 4, true),
-            ],
-            &[new(false), new(true), new(false), new(false)],
-        ),
-        (
-            &[
-                received(data, 300, false),
-                received(data, 171, false),
-                received(data, 172, false),
-                received(data, 172, false),
-            ],
-            &[
-                new(false),
-                Ok(Answer::Duplicate),
-                new(false),
-                Ok(Answer::Duplicate),
-            ],
-        ),
-        (
-            &[
-                received(data, (1 << 62) - 1, false),
-                received(data, 1 << 62, true),
-            ],
-            &[new(false), REFUSED],
-        ),
-        (
-            &[
-                Event::NextTimeout,
-                set(Timer::Idle, 50),
-                set(Timer::Pacing, 20),
-                Event::NextTimeout,
-                stop(Timer::Pacing),
-                Event::NextTimeout,
-            ],
-            &[NO_TIMEOUT, DONE, DONE, timeout(20), DONE, timeout(50)],
-        ),
+    check(&rt, rt.alloc(), [], &[])?;
+    check(
+        &rt,
+        rt.alloc(),
+        [received(data, 0, true), received(data, 0, true)],
+        &[new(true), Ok(Answer::Duplicate)],
+    )?;
+    check(
+        &rt,
+        rt.alloc(),
+        [
+            received(data, 7, true),
+            received(SpaceId::Initial, 1, true),
+            received(SpaceId::Handshake, 3, false),
+            received(SpaceId::Handshake, 4, true),
+        ],
+        &[new(false), new(true), new(false), new(false)],
+    )?;
+    Ok(())
+}
+
+#[test]
+fn run_answers_at_the_ends(rt: HostRuntime) -> Result<(), Fail> {
+    let data = SpaceId::Data;
+    check(
+        &rt,
+        rt.alloc(),
+        [
+            received(data, 300, false),
+            received(data, 171, false),
+            received(data, 172, false),
+            received(data, 172, false),
+        ],
+        &[
+            new(false),
+            Ok(Answer::Duplicate),
+            new(false),
+            Ok(Answer::Duplicate),
+        ],
+    )?;
+    check(
+        &rt,
+        rt.alloc(),
+        [
+            received(data, (1 << 62) - 1, false),
+            received(data, 1 << 62, true),
+        ],
+        &[new(false), REFUSED],
+    )?;
+    Ok(())
+}
+
+#[test]
+fn the_next_timeout_is_the_least(rt: HostRuntime) -> Result<(), Fail> {
+    let events = [
+        Event::NextTimeout,
+        set(Timer::Idle, 50),
+        set(Timer::Pacing, 20),
+        Event::NextTimeout,
+        stop(Timer::Pacing),
+        Event::NextTimeout,
     ];
-    for (events, want) in rows {
-        let (_, replies) = run(rt.alloc(), events)?;
-        assert_eq!(rt; replies.as_slice(), want);
-    }
+    let want = [NO_TIMEOUT, DONE, DONE, timeout(20), DONE, timeout(50)];
+    let recovery = check(&rt, rt.alloc(), events, &want)?;
+    assert_eq!(rt; recovery.timers().get(Timer::Idle), Some(at(50)));
+    assert_eq!(rt; recovery.timers().get(Timer::Pacing), None);
     Ok(())
 }
 
@@ -193,8 +228,7 @@ fn packets_are_tracked_until_they_leave(rt: HostRuntime) -> Result<(), Fail> {
         Ok(Answer::Acked { probe: false }),
         DISCARDED,
     ];
-    let (recovery, replies) = run(rt.alloc(), &events)?;
-    assert_eq!(rt; replies.as_slice(), want.as_slice());
+    let recovery = check(&rt, rt.alloc(), events, &want)?;
     assert_eq!(rt; recovery.current().in_flight(), InFlight::default());
     assert_eq!(rt; recovery.current().generation(), 0);
     assert!(rt; recovery.space(initial).is_none());
@@ -208,7 +242,7 @@ fn packets_are_tracked_until_they_leave(rt: HostRuntime) -> Result<(), Fail> {
 
 #[test]
 fn the_least_of_1001_silent_packets_is_forgotten(rt: HostRuntime) -> Result<(), Fail> {
-    let mut recovery = Recovery::new(rt.alloc(), RecoveryConfig::default(), at(0))?;
+    let mut recovery = Recovery::new(rt.alloc(), config(), at(0))?;
     for number in 0..1001 {
         let reply = recovery.apply(send(SpaceId::Data, 40, false));
         assert_eq!(rt; reply, sent(number, None));
@@ -228,21 +262,8 @@ fn the_least_of_1001_silent_packets_is_forgotten(rt: HostRuntime) -> Result<(), 
 }
 
 #[test]
-fn timers_are_as_the_events_left_them(rt: HostRuntime) -> Result<(), Fail> {
-    let events = [
-        set(Timer::Idle, 50),
-        set(Timer::Pacing, 20),
-        stop(Timer::Pacing),
-    ];
-    let (recovery, _) = run(rt.alloc(), &events)?;
-    assert_eq!(rt; recovery.timers().get(Timer::Idle), Some(at(50)));
-    assert_eq!(rt; recovery.timers().get(Timer::Pacing), None);
-    Ok(())
-}
-
-#[test]
 fn a_refused_event_leaves_no_trace(rt: HostRuntime) -> Result<(), Fail> {
-    let mut recovery = Recovery::new(rt.alloc(), RecoveryConfig::default(), at(0))?;
+    let mut recovery = Recovery::new(rt.alloc(), config(), at(0))?;
     assert_eq!(rt;
         recovery.apply(received(SpaceId::Data, u64::MAX, true)),
         REFUSED
@@ -251,48 +272,50 @@ fn a_refused_event_leaves_no_trace(rt: HostRuntime) -> Result<(), Fail> {
     Ok(())
 }
 
+/// The refusals with their numbers, names and texts.
+const REFUSALS: [(Refusal, u8, &str, &str); 7] = [
+    (Refusal::NoMemory, 1, "NoMemory", "out of memory"),
+    (
+        Refusal::NumberTooLarge,
+        2,
+        "NumberTooLarge",
+        "a number is 2^62 or more",
+    ),
+    (
+        Refusal::NumbersExhausted,
+        3,
+        "NumbersExhausted",
+        "no packet number is left",
+    ),
+    (
+        Refusal::NotTracked,
+        4,
+        "NotTracked",
+        "the packet is not tracked",
+    ),
+    (
+        Refusal::SpaceDiscarded,
+        5,
+        "SpaceDiscarded",
+        "the space is discarded",
+    ),
+    (
+        Refusal::NoSuchPath,
+        6,
+        "NoSuchPath",
+        "there is no such path",
+    ),
+    (
+        Refusal::Overflow,
+        9,
+        "Overflow",
+        "a counter passes 2^64 - 1",
+    ),
+];
+
 #[test]
 fn refusals_have_numbers_names_and_texts(rt: HostRuntime) -> Result<(), Fail> {
-    let rows = [
-        (Refusal::NoMemory, 1, "NoMemory", "out of memory"),
-        (
-            Refusal::NumberTooLarge,
-            2,
-            "NumberTooLarge",
-            "a number is 2^62 or more",
-        ),
-        (
-            Refusal::NumbersExhausted,
-            3,
-            "NumbersExhausted",
-            "no packet number is left",
-        ),
-        (
-            Refusal::NotTracked,
-            4,
-            "NotTracked",
-            "the packet is not tracked",
-        ),
-        (
-            Refusal::SpaceDiscarded,
-            5,
-            "SpaceDiscarded",
-            "the space is discarded",
-        ),
-        (
-            Refusal::NoSuchPath,
-            6,
-            "NoSuchPath",
-            "there is no such path",
-        ),
-        (
-            Refusal::Overflow,
-            9,
-            "Overflow",
-            "a counter passes 2^64 - 1",
-        ),
-    ];
-    for (refusal, number, name, text) in rows {
+    for (refusal, number, name, text) in REFUSALS {
         assert_eq!(rt; refusal.number(), number);
         assert_eq!(rt; refusal.name(), name);
         assert_eq!(rt; format!(in rt.alloc(); "{refusal}")?.as_str(), text);

@@ -14,7 +14,7 @@ use std::slice::Iter;
 /// A set of numbers, kept as ranges in ascending order that neither overlap nor touch.
 ///
 /// Contracts see the list of the ranges.
-#[derive(Debug, Drop)]
+#[derive(Clone, Debug, Drop)]
 pub struct ArrayRangeSet {
     ranges: Vec<Range<u64>>,
 }
@@ -29,6 +29,29 @@ impl Model for ArrayRangeSet {
     ghost view = { λ set. set.ranges.items };
 
     ghost invariant = { λ set. AreApart 0 set.ranges.items };
+}
+
+impl PartialEq for ArrayRangeSet {
+    ghost use Rattle.std.specs.Prelude.{◌==◌, ◌&&◌};
+    ghost use Rattle.std.proofs.Common.{rules};
+    ghost use Rattle.std.specs.Cmp.Rules.{comparing};
+    ghost use Rattle.std.specs.Cmp.Lexicographic.{pointwise, lists_per};
+
+    ghost eq = { pointwise (λ x y. (x.start == y.start) && (x.end == y.end)) };
+
+    ghost laws = { lists_per (Prim.search (comparing, rules)) };
+
+    fn eq(&self, other: &Self) -> bool {
+        self.ranges == other.ranges
+    }
+}
+
+impl Eq for ArrayRangeSet {
+    ghost use Rattle.std.proofs.Common.{rules};
+    ghost use Rattle.std.specs.Cmp.Rules.{comparing};
+    ghost use Rattle.std.specs.Cmp.Lexicographic.{lists_equiv};
+
+    ghost laws = { lists_equiv (Prim.search (comparing, rules)) };
 }
 
 impl ArrayRangeSet {
@@ -222,6 +245,23 @@ mod tests {
         assert!(rt; bounds.next().is_none());
         assert!(rt; set.remove(0..8)?);
         assert_eq!(rt; set.len(), 1);
+        Ok(())
+    }
+
+    #[test]
+    fn clones_are_equal_until_one_changes(rt: HostRuntime) -> Result<(), Fail> {
+        let mut set = ArrayRangeSet::new(rt.alloc());
+        for number in [0, 1, 4] {
+            assert!(rt; set.insert_one(number)?, "at {number}");
+        }
+        let clone = set.clone()?;
+        assert!(rt; clone == set);
+        assert!(rt; set.remove(4..5)?);
+        assert!(rt; clone != set);
+        assert_eq!(rt;
+            format!(in rt.alloc(); "{clone:?}")?.as_str(),
+            "ArrayRangeSet { ranges: [0..2, 4..5] }"
+        );
         Ok(())
     }
 }

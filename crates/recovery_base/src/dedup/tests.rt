@@ -178,7 +178,7 @@ fn is_the_plain_program_around_each_boundary(rt: HostRuntime) -> Result<(), NoMe
             } else {
                 greatest.saturating_sub(step)
             };
-            greatest = greatest.max(number);
+            greatest = greatest.max(number).min(BOUND - 1);
             let low = greatest.saturating_sub((random >> 40) % 140);
             compare(&rt, &mut dedup, &mut plain, number, low)?;
         }

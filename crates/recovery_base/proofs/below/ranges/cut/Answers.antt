@@ -1,4 +1,4 @@
-use Rattle.std.proofs.Common.{◌≡◌, ℕ, vec_len, ◌+◌, ◌<◌, ◌≤◌, nat_lt, ◌++◌, [], map, take, drop, set, get_or, length, refl, ap, sym, ◌∙◌, arith, rules}
+use Rattle.std.proofs.Common.{◌≡◌, ℕ, vec_len, ◌<◌, ◌≤◌, nat_lt, ◌++◌, map, take, drop, get_or, length, refl, ap, ◌∙◌, arith, rules}
 use Rattle.std.specs.declared.ops.Range.{Range}
 use Rattle.std.specs.List.{filter}
 use Rattle.std.proofs.lemmas.Fn.{filter_same}

@@ -1,4 +1,4 @@
-use Rattle.std.proofs.Common.{◌≡◌, ℕ, ◌++◌, map, take, drop}
+use Rattle.std.proofs.Common.{◌≡◌, ◌++◌, map, take, drop}
 use Rattle.recovery_base.specs.Ranges.{clipped}
 use Rattle.recovery_base.proofs.below.ranges.cut.Given as goal
 

@@ -4,7 +4,7 @@ use Rattle.std.specs.List.{insert}
 use Rattle.std.proofs.lemmas.List.Edits.{get_or-insert_below}
 use Rattle.recovery_base.specs.Ranges.{IsPlace, Removes, span}
 use Rattle.recovery_base.proofs.RangeLaws.{Ranges, same_read}
-use Rattle.recovery_base.proofs.RangeCuts.{removes_none, none_at_end, none_before, cut_at, splits}
+use Rattle.recovery_base.proofs.RangeCuts.{none_at_end, none_before, cut_at, splits}
 use Rattle.recovery_base.proofs.below.ranges.remove.Goals as goal
 use Rattle.recovery_base.proofs.below.ranges.remove.Goals.{else-first-start-via-then-first-start+else-end-last, else-first-start-via-else-first-start}
 

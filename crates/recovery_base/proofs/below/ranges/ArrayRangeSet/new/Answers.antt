@@ -1,4 +1,3 @@
-use Rattle.std.proofs.Common.{sym}
 use Rattle.recovery_base.proofs.RangeLaws.{apart_none}
 use Rattle.recovery_base.proofs.below.ranges.ArrayRangeSet.new.Goals as goal
 

@@ -1,0 +1,39 @@
+#!/usr/bin/env bash
+# Runs the tests of quic_recovery with one allocation of each refused: the first, then the second, and so on, until the
+# tests of refused memory meet no refusal any more. Those have to pass, or to say that memory was refused and left no
+# trace; every other test has to pass, or to fail with the want of memory in what it says. It takes some minutes.
+set -u
+cd -- "$(dirname -- "${BASH_SOURCE[0]}")/../crates/quic_recovery" || exit 1
+for ((n = 1; n <= 100; n++)); do
+    report=$(rt try --test --fail-alloc "$n" 2>&1)
+    if ! verdict=$(awk '
+        function settle() {
+            if (name != "" && !is_fine) { print name ": a wrong answer"; status = 1 }
+            name = ""
+        }
+        /^test result: / { settle(); is_whole = 1; next }
+        /^test / {
+            settle()
+            name = $2
+            is_fine = $NF == "ok"
+            is_strict = name ~ /::refused_memory::/
+            if (is_strict) { all++; passed += is_fine }
+            next
+        }
+        is_strict ? /memory was refused, and that left no trace/ : /AllocError|NoMemory/ { is_fine = 1 }
+        END {
+            if (!is_whole || !all) { print "no result"; exit 1 }
+            if (status) exit 1
+            print all - passed " of " all " tests were refused memory, and it left no trace"
+        }
+    ' <<< "$report"); then
+        printf 'allocation %s:\n%s\n%s\n' "$n" "$verdict" "$report"
+        exit 1
+    fi
+    echo "allocation $n: $verdict"
+    case $verdict in
+        "0 of "*) exit 0 ;;
+    esac
+done
+echo "allocation 100 was not the last"
+exit 1
