@@ -68,6 +68,9 @@ known_cut window next fits n here m there =
 
 -- ---- what is new
 
+pub known_greatest : (window next : ℕ) → 0 < next → IsKnown window next (next - 1)
+known_greatest window next some = inl (omega arith)
+
 pub exceeds_is_new : (window next n : ℕ) → next ≤ n → IsNew (IsKnown window next) n
 exceeds_is_new window next n above = inl (λ m here. let h : m < next = known_below window next m here in omega arith)
 
