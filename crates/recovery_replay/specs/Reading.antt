@@ -1,16 +1,21 @@
 -- How the parser goes over the words of a line. What a line means is said by the grammar in Lines.antt alone.
-use Rattle.std.specs.Prelude.{◌≡◌, ℕ, ◌<◌, ◌^◌, ◌==◌, nat_lt, ◌&&◌, Bool, true, false, List, [], ◌∷◌, ◌++◌, length, IfSome, Option, Some, None, option_and_then, if◌then◌else◌, bytes_eq, decimal}
+use Rattle.std.specs.Prelude.{◌≡◌, ℕ, ◌+◌, ◌<◌, ◌≤◌, ◌^◌, ◌==◌, nat_lt, ◌&&◌, Bool, true, false, List, [], ◌∷◌, ◌++◌, length, IfSome, Option, Some, None, option_and_then, if◌then◌else◌, bytes_eq, decimal}
 use Rattle.std.specs.Str.Parse.{digits_value}
+use Rattle.std.specs.Global.{Vec}
 use lib.Chars.{codes}
+use Rattle.recovery_base.specs.declared.below.ids.IssuedCid.{IssuedCid}
 use Rattle.recovery_base.specs.declared.below.SpaceId.{SpaceId}
 use Rattle.recovery_base.specs.declared.below.SpaceId.TheVariants.{Initial, Handshake, Data}
 use Rattle.recovery_base.specs.declared.timer.Timer.{Timer}
 use Rattle.recovery_base.specs.declared.timer.Timer.TheVariants.{LossDetection, Idle, Close, KeyDiscard, PathValidation, KeepAlive, Pacing, PushNewCid, MaxAckDelay}
 use Rattle.quic_recovery.specs.declared.event.Event.{Event}
-use Rattle.quic_recovery.specs.declared.event.Event.TheVariants.{Received, Send, Acked, Lost, SetTimer, StopTimer, NextTimeout, DiscardSpace, InFlight}
+use Rattle.quic_recovery.specs.declared.event.Event.TheVariants.{Received, Send, Acked, Lost, NewId, NextId, InitialId, IssueIds, IdTimeout, PeerRetired, AckFrequencyIn, AcksSent, AckDelayTimeout, SetTimer, StopTimer, NextTimeout, DiscardSpace, InFlight}
 use Rattle.quic_recovery.specs.declared.event.PathName.{PathName}
 use Rattle.quic_recovery.specs.declared.event.PathName.TheVariants.{Current, Previous}
+use Rattle.recovery_replay.specs.declared.lines.Line.{Line}
+use Rattle.recovery_replay.specs.declared.lines.Line.TheVariants.{Said, Ids}
 use Rattle.recovery_replay.specs.declared.words.Words.{Words}
+use Rattle.recovery_replay.specs.Lines.{id_of, token_of, zero_ids}
 use Rattle.recovery_replay.specs.Words.{words_of, flag_word, space_word, timer_word, path_word, largest_word}
 
 -- ---- a field
@@ -117,6 +122,15 @@ timer_part = word_part timer_word (λ x. Unit {0}) timer_of
 abbrev pub u64_part : Part ℕ
 u64_part = word_part decimal (λ n. n < 2 ^ 64) (number_of (2 ^ 64))
 
+abbrev pub byte_part : Part ℕ
+byte_part = word_part decimal (λ n. n < 2 ^ 8) (number_of (2 ^ 8))
+
+abbrev pub count_part : Part ℕ
+count_part = word_part decimal (λ n. n < 65) (number_of 65)
+
+abbrev pub var_int_part : Part ℕ
+var_int_part = word_part decimal (λ n. n < 2 ^ 62) (number_of (2 ^ 62))
+
 abbrev pub u16_part : Part ℕ
 u16_part = word_part decimal (λ n. n < 2 ^ 16) (number_of (2 ^ 16))
 
@@ -126,8 +140,8 @@ path_part = word_part path_word (λ x. Unit {0}) path_of
 abbrev pub largest_part : Part (Option ℕ)
 largest_part = word_part largest_word (λ l. IfSome l (λ n. n < 2 ^ 64)) largest_of
 
--- the event that is made of what a part reads
-abbrev pub reading : {A : Type 0} → (A → Event) → Part A → List (List ℕ) → Option (Event × List (List ℕ))
+-- what is made of what a part reads
+abbrev pub reading : {A B : Type 0} → (A → B) → Part A → List (List ℕ) → Option (B × List (List ℕ))
 reading make part words = part.read words >>= λ x. Some (make x.0, x.1)
 
 unfoldable pub received_at : List (List ℕ) → Option (Event × List (List ℕ))
@@ -141,6 +155,32 @@ acked_at = reading (λ x. Acked x.0 x.1.0 x.1.1.0 x.1.1.1) (both space_part (bot
 
 unfoldable pub lost_at : List (List ℕ) → Option (Event × List (List ℕ))
 lost_at = reading (λ x. Lost x.0 x.1) (both space_part u64_part)
+
+unfoldable pub new_id_at : List (List ℕ) → Option (Event × List (List ℕ))
+new_id_at = reading (λ x. NewId (record { sequence = x.0; retire_prior_to = x.1.0; id = id_of x.1.1; reset_token = token_of x.1.1 })) (both u64_part (both u64_part byte_part))
+
+unfoldable pub next_id_at : List (List ℕ) → Option (Event × List (List ℕ))
+next_id_at = reading (λ x. NextId) nothing
+
+unfoldable pub initial_id_at : List (List ℕ) → Option (Event × List (List ℕ))
+initial_id_at = reading (λ x. InitialId (id_of x)) byte_part
+
+unfoldable pub id_timeout_at : List (List ℕ) → Option (Event × List (List ℕ))
+id_timeout_at = reading (λ x. IdTimeout) nothing
+
+unfoldable pub peer_retired_at : List (List ℕ) → Option (Event × List (List ℕ))
+peer_retired_at = reading (λ x. PeerRetired x.0 x.1) (both u64_part u64_part)
+
+unfoldable pub ack_frequency_at : List (List ℕ) → Option (Event × List (List ℕ))
+ack_frequency_at =
+    reading (λ x. AckFrequencyIn (record { sequence = x.0; ack_eliciting_threshold = x.1.0; request_max_ack_delay = x.1.1.0; reordering_threshold = x.1.1.1 }))
+    (both var_int_part (both var_int_part (both var_int_part var_int_part)))
+
+unfoldable pub acks_sent_at : List (List ℕ) → Option (Event × List (List ℕ))
+acks_sent_at = reading (λ x. AcksSent x) space_part
+
+unfoldable pub ack_delay_timeout_at : List (List ℕ) → Option (Event × List (List ℕ))
+ack_delay_timeout_at = reading (λ x. AckDelayTimeout x) space_part
 
 unfoldable pub set_timer_at : List (List ℕ) → Option (Event × List (List ℕ))
 set_timer_at = reading (λ x. SetTimer x.0 x.1) (both timer_part u64_part)
@@ -162,6 +202,14 @@ forms = (codes "received", received_at)
     ∷ (codes "send", send_at)
     ∷ (codes "acked", acked_at)
     ∷ (codes "lost", lost_at)
+    ∷ (codes "new-id", new_id_at)
+    ∷ (codes "next-id", next_id_at)
+    ∷ (codes "initial-id", initial_id_at)
+    ∷ (codes "id-timeout", id_timeout_at)
+    ∷ (codes "peer-retired", peer_retired_at)
+    ∷ (codes "ack-frequency", ack_frequency_at)
+    ∷ (codes "acks-sent", acks_sent_at)
+    ∷ (codes "ack-delay-timeout", ack_delay_timeout_at)
     ∷ (codes "set-timer", set_timer_at)
     ∷ (codes "stop-timer", stop_timer_at)
     ∷ (codes "next-timeout", next_timeout_at)
@@ -169,14 +217,27 @@ forms = (codes "received", received_at)
     ∷ (codes "in-flight", in_flight_at)
     ∷ []
 
-unfoldable pub event_at : List (List ℕ) → Option (Event × List (List ℕ))
-event_at words = do
+-- an event that takes no memory, behind its name
+unfoldable pub event_at : List ℕ → List (List ℕ) → Option (Event × List (List ℕ))
+event_at name words = do
+  rest_of ← named forms name
+  rest_of words
+
+unfoldable pub ids_at : List (List ℕ) → Option (Line × List (List ℕ))
+ids_at = reading (λ x. Ids x.0 x.1.0 x.1.1) (both u64_part (both u64_part count_part))
+
+unfoldable pub line_at : List (List ℕ) → Option (Line × List (List ℕ))
+line_at words = do
   name ← first_word words
-  rest_of ← named forms name.0
-  rest_of name.1
+  if bytes_eq name.0 (codes "issue-ids") then ids_at name.1 else (event_at name.0 name.1 >>= λ event. Some (Said event.0, event.1))
 
 -- all of the words
-unfoldable pub event_of : List ℕ → Option Event
-event_of line = do
-  event ← event_at (words_of line)
-  if length event.1 == 0 then Some event.0 else None
+unfoldable pub line_of : List ℕ → Option Line
+line_of line = do
+  said ← line_at (words_of line)
+  if length said.1 == 0 then Some said.0 else None
+
+-- an event is what was read: ids have their numbers, of which the last is a u64
+abbrev pub Means : Line → Event → Type 0
+Means (Said said) event = event ≡ said
+Means (Ids now first count) event = (ids : Vec IssuedCid) × (event ≡ IssueIds now ids) × (ids.items ≡ zero_ids first count) × (first + count ≤ 2 ^ 64)

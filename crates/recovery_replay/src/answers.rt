@@ -30,6 +30,12 @@ pub fn write_reply(text: &mut String, reply: &Result<Answer, Refusal>) -> Result
         Ok(Answer::Acked { probe: true }) => writeln!(text, "acked probe"),
         Ok(Answer::Lost { probe: false }) => writeln!(text, "lost"),
         Ok(Answer::Lost { probe: true }) => writeln!(text, "lost probe"),
+        Ok(Answer::Retire(Some((numbers, _)))) => {
+            writeln!(text, "retire {} {}", numbers.start, numbers.end)
+        }
+        Ok(Answer::Retire(None)) => writeln!(text, "retire none"),
+        Ok(Answer::Flag(true)) => writeln!(text, "yes"),
+        Ok(Answer::Flag(false)) => writeln!(text, "no"),
         Ok(Answer::Timeout(Some(time))) => writeln!(text, "timeout {}", time.as_nanos()),
         Ok(Answer::Timeout(None)) => writeln!(text, "timeout none"),
         Ok(

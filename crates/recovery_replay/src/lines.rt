@@ -1,14 +1,46 @@
 //! The event that a line of a script spells.
-ghost use Rattle.std.specs.Prelude.{◌≡◌, IfSome, Some};
+ghost use Rattle.std.specs.Prelude.{◌≡◌, ◌+◌, ◌≤◌, ◌^◌, IfSome, IfOk, IsSome, IsSomeAnd, OnSome};
 ghost use Rattle.quic_recovery.specs.declared.event.Event.{Event};
-ghost use Rattle.recovery_replay.specs.Lines.{Spells};
-ghost use Rattle.recovery_replay.specs.Reading.{Reads, words_left, received_at, send_at, acked_at, lost_at, set_timer_at, stop_timer_at, discard_at, in_flight_at, event_at, event_of};
+ghost use Rattle.recovery_replay.specs.Lines.{id_of, token_of, zero_ids, Spells, IsSame};
+ghost use Rattle.recovery_replay.specs.Reading.{Reads, words_left, received_at, send_at, acked_at, lost_at, new_id_at, initial_id_at, peer_retired_at, ack_frequency_at, acks_sent_at, ack_delay_timeout_at, set_timer_at, stop_timer_at, discard_at, in_flight_at, event_at, ids_at, line_at, line_of, Means};
 
 use crate::words::Words;
 use quic_recovery::event::Event;
+use recovery_base::below::{
+    AckFrequency, ConnectionId, IssuedCid, NewConnectionId, NoMemory, ResetToken,
+};
+use recovery_base::time::Instant;
+use std::alloc::Global;
 
 /// The most bytes of a line, without its line feed.
 pub const LINE_LIMIT: usize = 4096;
+
+/// What a line says, before any memory is taken for it.
+#[derive(Drop)]
+enum Line {
+    /// An event that holds no list.
+    Said(Event),
+    /// This end issues so many ids from a number on, at a moment.
+    Ids {
+        now: Instant,
+        first: u64,
+        count: u64,
+    },
+}
+
+/// The id of eight bytes that a line names by one of them.
+fn id_of(byte: u8) -> ConnectionId
+    ensures { result ≡ id_of byte }
+{
+    ConnectionId::new(&[byte; 8])
+}
+
+/// The token that goes with such an id.
+fn token_of(byte: u8) -> ResetToken
+    ensures { result ≡ token_of byte }
+{
+    ResetToken::from([byte; 16])
+}
 
 #[tactic(auto, unfolding(crate::specs::Reading::received_at))]
 fn received(words: &mut Words<'_>) -> Option<Event>
@@ -57,6 +89,68 @@ fn lost(words: &mut Words<'_>) -> Option<Event>
     })
 }
 
+#[tactic(auto, unfolding(crate::specs::Reading::new_id_at))]
+fn new_id(words: &mut Words<'_>) -> Option<Event>
+    ensures { Reads (λ e. e) result (words_left words.new) (new_id_at (words_left words.old)) }
+{
+    let sequence = words.number()?;
+    let retire_prior_to = words.number()?;
+    let byte = words.byte()?;
+    Some(Event::NewId(NewConnectionId {
+        sequence,
+        retire_prior_to,
+        id: id_of(byte),
+        reset_token: token_of(byte),
+    }))
+}
+
+#[tactic(auto, unfolding(crate::specs::Reading::initial_id_at))]
+fn initial_id(words: &mut Words<'_>) -> Option<Event>
+    ensures { Reads (λ e. e) result (words_left words.new) (initial_id_at (words_left words.old)) }
+{
+    Some(Event::InitialId(id_of(words.byte()?)))
+}
+
+#[tactic(auto, unfolding(crate::specs::Reading::peer_retired_at))]
+fn peer_retired(words: &mut Words<'_>) -> Option<Event>
+    ensures { Reads (λ e. e) result (words_left words.new) (peer_retired_at (words_left words.old)) }
+{
+    Some(Event::PeerRetired {
+        sequence: words.number()?,
+        limit: words.number()?,
+    })
+}
+
+#[tactic(auto, unfolding(crate::specs::Reading::ack_frequency_at))]
+fn ack_frequency(words: &mut Words<'_>) -> Option<Event>
+    ensures { Reads (λ e. e) result (words_left words.new) (ack_frequency_at (words_left words.old)) }
+{
+    Some(Event::AckFrequencyIn(AckFrequency {
+        sequence: words.var_int()?,
+        ack_eliciting_threshold: words.var_int()?,
+        request_max_ack_delay: words.var_int()?,
+        reordering_threshold: words.var_int()?,
+    }))
+}
+
+#[tactic(auto, unfolding(crate::specs::Reading::acks_sent_at))]
+fn acks_sent(words: &mut Words<'_>) -> Option<Event>
+    ensures { Reads (λ e. e) result (words_left words.new) (acks_sent_at (words_left words.old)) }
+{
+    Some(Event::AcksSent {
+        space: words.space()?,
+    })
+}
+
+#[tactic(auto, unfolding(crate::specs::Reading::ack_delay_timeout_at))]
+fn ack_delay_timeout(words: &mut Words<'_>) -> Option<Event>
+    ensures { Reads (λ e. e) result (words_left words.new) (ack_delay_timeout_at (words_left words.old)) }
+{
+    Some(Event::AckDelayTimeout {
+        space: words.space()?,
+    })
+}
+
 #[tactic(auto, unfolding(crate::specs::Reading::set_timer_at))]
 fn set_timer(words: &mut Words<'_>) -> Option<Event>
     ensures { Reads (λ e. e) result (words_left words.new) (set_timer_at (words_left words.old)) }
@@ -94,15 +188,24 @@ fn in_flight(words: &mut Words<'_>) -> Option<Event>
     })
 }
 
-#[tactic(auto, unfolding(crate::specs::Reading::event_at, crate::specs::Reading::next_timeout_at))]
-fn event_in(words: &mut Words<'_>) -> Option<Event>
-    ensures { Reads (λ e. e) result (words_left words.new) (event_at (words_left words.old)) }
+/// An event that holds no list, behind its name.
+#[tactic(auto, unfolding(crate::specs::Reading::event_at, crate::specs::Reading::next_id_at, crate::specs::Reading::id_timeout_at, crate::specs::Reading::next_timeout_at))]
+fn event_in(name: &str, words: &mut Words<'_>) -> Option<Event>
+    ensures { Reads (λ e. e) result (words_left words.new) (event_at name.now (words_left words.old)) }
 {
-    match words.next()? {
+    match name {
         "received" => received(words),
         "send" => send(words),
         "acked" => acked(words),
         "lost" => lost(words),
+        "new-id" => new_id(words),
+        "next-id" => Some(Event::NextId),
+        "initial-id" => initial_id(words),
+        "id-timeout" => Some(Event::IdTimeout),
+        "peer-retired" => peer_retired(words),
+        "ack-frequency" => ack_frequency(words),
+        "acks-sent" => acks_sent(words),
+        "ack-delay-timeout" => ack_delay_timeout(words),
         "set-timer" => set_timer(words),
         "stop-timer" => stop_timer(words),
         "next-timeout" => Some(Event::NextTimeout),
@@ -112,31 +215,89 @@ fn event_in(words: &mut Words<'_>) -> Option<Event>
     }
 }
 
-/// The event that the words of a line say, all of them.
-#[tactic(auto, unfolding(crate::specs::Reading::event_of))]
-fn event(line: &str) -> Option<Event>
-    ensures { result ≡ event_of line.now }
+#[tactic(auto, unfolding(crate::specs::Reading::ids_at))]
+fn ids(words: &mut Words<'_>) -> Option<Line>
+    ensures { Reads (λ l. l) result (words_left words.new) (ids_at (words_left words.old)) }
+{
+    Some(Line::Ids {
+        now: words.moment()?,
+        first: words.number()?,
+        count: words.count()?,
+    })
+}
+
+#[tactic(auto, unfolding(crate::specs::Reading::line_at))]
+fn line_in(words: &mut Words<'_>) -> Option<Line>
+    ensures { Reads (λ l. l) result (words_left words.new) (line_at (words_left words.old)) }
+{
+    match words.next()? {
+        "issue-ids" => ids(words),
+        name => Some(Line::Said(event_in(name, words)?)),
+    }
+}
+
+/// What the words of a line say, all of them.
+#[tactic(auto, unfolding(crate::specs::Reading::line_of))]
+fn said(line: &str) -> Option<Line>
+    ensures { result ≡ line_of line.now }
 {
     let mut words = Words::new(line);
-    let event = event_in(&mut words)?;
+    let said = line_in(&mut words)?;
     if words.next().is_some() {
         return None;
     }
-    Some(event)
+    Some(said)
 }
 
-/// The event that a line, given without its line feed, spells; `None` where it spells none.
-pub fn read_event(line: &[u8]) -> Option<Event>
+/// The ids of a line that issues them, each of zero bytes.
+fn zero_ids(alloc: Global, first: u64, count: u64) -> Result<Vec<IssuedCid>, NoMemory>
+    requires { first + count ≤ 2 ^ 64 }
+    ensures { IfOk result (λ ids. ids.items ≡ zero_ids first count) }
+{
+    let mut ids = Vec::with_capacity(alloc, count as usize)?;
+    for index in 0..count {
+        ids.push(IssuedCid {
+            sequence: first + index,
+            id: id_of(0),
+            reset_token: token_of(0),
+        })?;
+    }
+    Ok(ids)
+}
+
+/// The event of what a line says; `None` where a number of an id would pass `u64::MAX`.
+fn meant(alloc: Global, line: Line) -> Result<Option<Event>, NoMemory>
+    ensures found { IfOk result (λ read. IfSome read (λ event. Means line event)) }
+    ensures only { (event : Event) → Means line event → IfOk result IsSome }
+{
+    match line {
+        Line::Said(event) => Ok(Some(event)),
+        Line::Ids { now, first, count } => {
+            if count.saturating_sub(1) > u64::MAX - first {
+                return Ok(None);
+            }
+            let ids = zero_ids(alloc, first, count)?;
+            Ok(Some(Event::IssueIds { now, ids }))
+        }
+    }
+}
+
+/// The event that a line, given without its line feed, spells; `None` where it spells none. The one refusal is
+/// `NoMemory`, and only a line that issues ids takes memory.
+pub fn read_event(alloc: Global, line: &[u8]) -> Result<Option<Event>, NoMemory>
     // What is read is spelled so.
-    ensures found { IfSome result (λ event. Spells line.now event) }
+    ensures found { IfOk result (λ read. IfSome read (λ event. Spells line.now event)) }
     // What is spelled so is read: a line spells at most one event.
-    ensures only { (event : Event) → Spells line.now event → result ≡ Some event }
+    ensures only { (event : Event) → Spells line.now event → IfOk result (λ read. IsSomeAnd read (IsSame event)) }
 {
     if line.len() > LINE_LIMIT {
-        return None;
+        return Ok(None);
     }
-    match str::from_utf8(line) {
-        Ok(text) => event(text),
-        Err(_) => None,
+    let Ok(text) = str::from_utf8(line) else {
+        return Ok(None);
+    };
+    match said(text) {
+        Some(line) => meant(alloc, line),
+        None => Ok(None),
     }
 }

@@ -3,7 +3,7 @@ ghost use Rattle.std.specs.Prelude.{◌≡◌, IfOk, OnOk, Decides, string_bytes
 ghost use Rattle.std.specs.Io.KnownBytes.{Appends};
 ghost use Rattle.quic_recovery.specs.History.{Throughout};
 ghost use Rattle.quic_recovery.specs.Told.{Told};
-ghost use Rattle.recovery_replay.specs.Replay.{status_of, error_text, AreArguments, Session, Plays, Tells, EndsSo};
+ghost use Rattle.recovery_replay.specs.Replay.{status_of, error_text, beginning, AreArguments, Session, Plays, Tells, EndsSo};
 
 use crate::answers::render;
 use crate::script::{Ending, read_script};
@@ -13,8 +13,8 @@ use arrayvec::ArrayString;
 use itoa::Buffer;
 use quic_recovery::driver::{Recovery, RecoveryConfig};
 use quic_recovery::event::{Answer, Event, Refusal};
-use recovery_base::below::NoMemory;
-use recovery_base::time::Instant;
+use recovery_base::below::{ConnectionId, NoMemory};
+use recovery_base::time::{Duration, Instant};
 use std::alloc::Global;
 use std::io;
 use std::io::{Read, Write};
@@ -74,12 +74,25 @@ impl Outcome {
     }
 }
 
+/// What a run starts with.
+fn config() -> RecoveryConfig
+    ensures { result ≡ beginning.config }
+{
+    RecoveryConfig {
+        max_ack_delay: Duration::from_millis(25),
+        initial_cid: ConnectionId::new(&[0xFF; 8]),
+        cid_len: 8,
+        cid_lifetime: Some(Duration::from_secs(10)),
+        issued: 1,
+    }
+}
+
 /// What a run answers to the events.
 fn replies(alloc: Global, events: Vec<Event>) -> Result<Vec<Result<Answer, Refusal>>, NoMemory>
-    ensures { IfOk result (λ replies. Throughout Told events.items replies.items) }
+    ensures { IfOk result (λ replies. Throughout (Told beginning) events.items replies.items) }
 {
     let start = Instant::from_nanos(0);
-    let (_, replies) = Recovery::run(alloc, RecoveryConfig::default(), start, events)?;
+    let (_, replies) = Recovery::run(alloc, config(), start, events)?;
     Ok(replies)
 }
 

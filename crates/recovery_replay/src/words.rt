@@ -4,9 +4,12 @@ ghost use Rattle.recovery_replay.specs.Words.{words_of};
 ghost use Rattle.recovery_replay.specs.Reading.{Reads, words_left, first_word, field, flag_of, space_of, timer_of, path_of, largest_of, number_of};
 
 use quic_recovery::event::PathName;
-use recovery_base::below::SpaceId;
+use recovery_base::below::{SpaceId, VarInt};
 use recovery_base::time::Instant;
 use recovery_base::timer::Timer;
+
+/// The most ids that a line issues.
+const MOST_IDS: u64 = 64;
 
 /// The number that a word spells, 0 to `u64::MAX`: digits without a sign and without leading zeros.
 pub fn number_in(word: &str) -> Option<u64>
@@ -24,6 +27,37 @@ fn size_in(word: &str) -> Option<u16>
 {
     match number_in(word) {
         Some(number) => u16::try_from(number).ok(),
+        None => None,
+    }
+}
+
+/// The byte that a word spells, 0 to 255, as a number is spelled.
+fn byte_in(word: &str) -> Option<u8>
+    ensures { result ≡ number_of (2 ^ 8) word.now }
+{
+    match number_in(word) {
+        Some(number) => u8::try_from(number).ok(),
+        None => None,
+    }
+}
+
+/// The count of ids that a word spells, 0 to 64, as a number is spelled.
+fn count_in(word: &str) -> Option<u64>
+    ensures { result ≡ number_of 65 word.now }
+{
+    let number = number_in(word)?;
+    if number > MOST_IDS {
+        return None;
+    }
+    Some(number)
+}
+
+/// The number below 2^62 that a word spells, as a number is spelled.
+fn var_int_in(word: &str) -> Option<VarInt>
+    ensures { result ≡ number_of (2 ^ 62) word.now }
+{
+    match number_in(word) {
+        Some(number) => VarInt::from_u64(number).ok(),
         None => None,
     }
 }
@@ -144,6 +178,30 @@ impl<'a> Words<'a> {
         ensures { Reads (λ n. n) result (words_left self.new) (field (number_of (2 ^ 16)) (words_left self.old)) }
     {
         size_in(self.next()?)
+    }
+
+    /// The next word as a byte, 0 to 255.
+    #[tactic(auto, unfolding(crate::specs::Reading::field))]
+    pub fn byte(&mut self) -> Option<u8>
+        ensures { Reads (λ n. n) result (words_left self.new) (field (number_of (2 ^ 8)) (words_left self.old)) }
+    {
+        byte_in(self.next()?)
+    }
+
+    /// The next word as a count of ids, 0 to 64.
+    #[tactic(auto, unfolding(crate::specs::Reading::field))]
+    pub fn count(&mut self) -> Option<u64>
+        ensures { Reads (λ n. n) result (words_left self.new) (field (number_of 65) (words_left self.old)) }
+    {
+        count_in(self.next()?)
+    }
+
+    /// The next word as a number below 2^62.
+    #[tactic(auto, unfolding(crate::specs::Reading::field))]
+    pub fn var_int(&mut self) -> Option<VarInt>
+        ensures { Reads (λ n. n) result (words_left self.new) (field (number_of (2 ^ 62)) (words_left self.old)) }
+    {
+        var_int_in(self.next()?)
     }
 
     /// The next word as a packet number, 0 to `u64::MAX`, or as none, which is spelled `-`.
