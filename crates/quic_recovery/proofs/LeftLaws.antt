@@ -1,12 +1,14 @@
 -- What a history with one event more leaves.
 use Rattle.std.proofs.Common.{ℕ, subst, ◌∙◌}
+use Rattle.recovery_parts.specs.CidQueue.{remote_ids}
 use Rattle.quic_recovery.specs.declared.driver.Recovery.{Recovery}
 use Rattle.quic_recovery.specs.declared.event.Event.{Event}
 use Rattle.quic_recovery.specs.History.{Beginning, History, Reply, recorded}
 use Rattle.quic_recovery.specs.Spaces.{space_of}
-use Rattle.quic_recovery.specs.State.{SpacesLeft, Left, Changes, spaces_of, discarded_of, path_of, timers_of}
+use Rattle.quic_recovery.specs.State.{SpacesLeft, Left, Changes, spaces_of, discarded_of, path_of, timers_of, remote_cids_of}
 use Rattle.quic_recovery.specs.Steps.{SpaceStep}
 use Rattle.quic_recovery.proofs.PathLaws.{discarded_left, path_left}
+use Rattle.quic_recovery.proofs.RemoteIdLaws.{remote_ids_left}
 use Rattle.quic_recovery.proofs.SpaceLaws.{space_left}
 use Rattle.quic_recovery.proofs.TimerLaws.{timers_left}
 
@@ -16,6 +18,7 @@ left_after beginning before old event reply new left changes = record {
   discarded = discarded_left before event reply (discarded_of old) (discarded_of new) left.discarded changes.discarded;
   path = path_left (recorded event reply before) (spaces_of new) (path_of new) (changes.path ∙ left.path.generation) spaces new.balanced;
   timers = timers_left before event reply (timers_of old) (timers_of new) left.timers changes.timers;
+  remote_ids = remote_ids_left beginning before event reply (remote_ids (remote_cids_of old)) (remote_ids (remote_cids_of new)) left.remote_ids changes.remote_ids;
 }
   where
     spaces : SpacesLeft (recorded event reply before) (spaces_of new)

@@ -8,6 +8,7 @@ pub mod Packets
 pub mod Paths
 pub mod Received
 pub mod Refusals
+pub mod RemoteHistory
 pub mod Replies
 pub mod SpaceIds
 pub mod Spaces

@@ -2,7 +2,9 @@
 ghost use Rattle.std.specs.Prelude.{◌≡◌};
 ghost use Rattle.quic_recovery.specs.Refusals.{refusal_number, refusal_name};
 
-use recovery_base::below::{AckFrequency, ConnectionId, IssuedCid, NewConnectionId, ResetToken, SpaceId};
+use recovery_base::below::{
+    AckFrequency, ConnectionId, IssuedCid, NewConnectionId, ResetToken, SpaceId,
+};
 use recovery_base::time::Instant;
 use recovery_base::timer::Timer;
 use std::ops::Range;
