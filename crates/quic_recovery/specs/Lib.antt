@@ -4,6 +4,7 @@ pub mod History
 pub mod InFlight
 pub mod Ledger
 pub mod Lends
+pub mod LocalHistory
 pub mod Packets
 pub mod Paths
 pub mod Received
