@@ -3,6 +3,7 @@ use Rattle.std.proofs.Common.{◌≡◌, ℕ, ◌<◌, ◌^◌, ap₂, arith, Bo
 use Rattle.recovery_base.specs.declared.below.SpaceId.{SpaceId}
 use Rattle.recovery_base.specs.declared.below.SpaceId.TheVariants.{Initial, Handshake, Data}
 use Rattle.recovery_base.specs.Received.{Has}
+use Rattle.recovery_parts.specs.CidQueue.{remote_ids}
 use Rattle.quic_recovery.specs.declared.driver.Recovery.{Recovery}
 use Rattle.quic_recovery.specs.declared.event.Event.TheVariants.{Received, Send}
 use Rattle.quic_recovery.specs.declared.event.Answer.TheVariants.{New, Sent}
@@ -17,7 +18,7 @@ use Rattle.quic_recovery.specs.Tracked.{packet_sent}
 use Rattle.quic_recovery.specs.Paths.{generation_of}
 use Rattle.quic_recovery.specs.Told.{ToldBy, ReceivedReply}
 use Rattle.quic_recovery.specs.Spaces.{space_of, with_space, tracking_of, acks_of, counts_of, next_number_of, HasGreatestCome, SpaceReceives, space_sends}
-use Rattle.quic_recovery.specs.State.{Changes, spaces_of, discarded_of, path_of, frequency_of, timers_of, known_to}
+use Rattle.quic_recovery.specs.State.{Changes, spaces_of, discarded_of, path_of, frequency_of, timers_of, remote_cids_of, local_ids_of, known_to}
 use Rattle.quic_recovery.proofs.AckLaws.{heard_greatest}
 use Rattle.quic_recovery.specs.Steps.{ChangesOne, SpacesStep}
 use Rattle.quic_recovery.specs.Discarded.{is_discarded}
@@ -58,9 +59,9 @@ module _ (old new : Recovery) (space : SpaceId) (now number : ℕ) (ack_elicitin
 
   pub received_changes : (reply : Reply) → Replied reply
       → IfOk reply (λ answer. SpaceReceives (space_of space (spaces_of old)) now number ack_eliciting answer here) → OnErr reply (here ≡ space_of space (spaces_of old))
-      → spaces_of new ≡ with_space (spaces_of old) space here → discarded_of new ≡ discarded_of old → path_of new ≡ path_of old → frequency_of new ≡ frequency_of old → timers_of new ≡ timers_of old
+      → spaces_of new ≡ with_space (spaces_of old) space here → discarded_of new ≡ discarded_of old → path_of new ≡ path_of old → frequency_of new ≡ frequency_of old → timers_of new ≡ timers_of old → remote_cids_of new ≡ remote_cids_of old → local_ids_of new ≡ local_ids_of old
       → Changes old (Received space now number ack_eliciting) reply new
-  received_changes (Ok answer) told step kept spaces discarded path frequency timers = record {
+  received_changes (Ok answer) told step kept spaces discarded path frequency timers remote local = record {
     told = told_received (Ok answer) told;
     spaces = let P : PacketSpaces → Type 0 = λ s. SpacesStep (generation_of (path_of old)) (spaces_of old) (Received space now number ack_eliciting) (Ok answer) s in
         subst P (sym spaces) (spaces_step (λ o n. SpaceReceives o now number ack_eliciting answer n) (spaces_of old) space here step);
@@ -68,9 +69,11 @@ module _ (old new : Recovery) (space : SpaceId) (now number : ℕ) (ack_elicitin
     path = ap generation_of path;
     frequency = frequency;
     timers = timers;
+    remote_ids = ap remote_ids remote;
+    local_ids = local;
     refused = tt;
   }
-  received_changes (Err refusal) told step kept spaces discarded path frequency timers =
+  received_changes (Err refusal) told step kept spaces discarded path frequency timers remote local =
       let same : spaces_of new ≡ spaces_of old = spaces ∙ with_same_space (spaces_of old) space here kept in
       record {
         told = told_received (Err refusal) told;
@@ -79,7 +82,9 @@ module _ (old new : Recovery) (space : SpaceId) (now number : ℕ) (ack_elicitin
         path = ap generation_of path;
         frequency = frequency;
         timers = timers;
-        refused = record { spaces = same; discarded = discarded; path = path; timers = timers };
+        remote_ids = ap remote_ids remote;
+        local_ids = local;
+        refused = record { spaces = same; discarded = discarded; path = path; timers = timers; remote_ids = remote; local_ids = local };
       }
 
 -- what a received packet changes leaves the tracked packets, and the greatest ack-eliciting number was received
@@ -96,9 +101,9 @@ module _ (old new : Recovery) (space : SpaceId) (now size : ℕ) (ack_eliciting 
       is_discarded space (discarded_of old) ≡ false → (¬ IsTooLarge largest_acked) → next_number_of (space_of space (spaces_of old)) < 2 ^ 62 → (¬ Overflows (in_flight (generation_of (path_of old)) (tracked_by (spaces_of old))) packet)
       → number ≡ next_number_of (space_of space (spaces_of old)) → forgotten ≡ forgotten_number (tracking_of (space_of space (spaces_of old))).last_eliciting packet (tracked_by (spaces_of old) space)
       → here ≡ space_sends packet (space_of space (spaces_of old))
-      → spaces_of new ≡ with_space (spaces_of old) space here → discarded_of new ≡ discarded_of old → generation_of (path_of new) ≡ generation_of (path_of old) → frequency_of new ≡ frequency_of old → timers_of new ≡ timers_of old
+      → spaces_of new ≡ with_space (spaces_of old) space here → discarded_of new ≡ discarded_of old → generation_of (path_of new) ≡ generation_of (path_of old) → frequency_of new ≡ frequency_of old → timers_of new ≡ timers_of old → remote_cids_of new ≡ remote_cids_of old → local_ids_of new ≡ local_ids_of old
       → Changes old (Send space now size ack_eliciting largest_acked) (Ok (Sent number forgotten)) new
-  sent_changes number forgotten live small left fits is_next is_forgotten is spaces discarded path frequency timers = record {
+  sent_changes number forgotten live small left fits is_next is_forgotten is spaces discarded path frequency timers remote local = record {
     told = (not_both _ live, (small, ((λ most. absurd (omega arith)), (fits, ap₂ (λ n f. Sent n f) is_next is_forgotten))));
     spaces = let P : PacketSpaces → Type 0 = λ s. SpacesStep (generation_of (path_of old)) (spaces_of old) (Send space now size ack_eliciting largest_acked) (Ok (Sent number forgotten)) s in
         subst P (sym spaces) (spaces_step (λ o n. n ≡ space_sends (packet_sent (generation_of (path_of old)) now size ack_eliciting largest_acked) o) (spaces_of old) space here is);
@@ -106,5 +111,7 @@ module _ (old new : Recovery) (space : SpaceId) (now size : ℕ) (ack_eliciting 
     path = path;
     frequency = frequency;
     timers = timers;
+    remote_ids = ap remote_ids remote;
+    local_ids = local;
     refused = tt;
   }

@@ -5,10 +5,12 @@ pub mod History
 pub mod InFlight
 pub mod Ledger
 pub mod Lends
+pub mod LocalHistory
 pub mod Packets
 pub mod Paths
 pub mod Received
 pub mod Refusals
+pub mod RemoteHistory
 pub mod Replies
 pub mod SpaceIds
 pub mod Spaces

@@ -2,6 +2,7 @@
 -- be asked to retire them.
 use Rattle.std.specs.Prelude.{ℕ, zero, suc, ◌≡◌, ◌≢◌, ◌+◌, ◌^◌, ◌<◌, ◌≤◌, ◌==◌, ◌&&◌, nat_lt, nat_le, not, Bool, IsTrue, ◌↔◌, List, [], ◌∷◌, ◌++◌, length, map, filter, drop, Option, None, Some, if◌then◌else◌}
 use Rattle.std.specs.List.{list_any, range_with_len}
+use lib.Chars.{codes}
 use Rattle.recovery_parts.specs.declared.cids.state.CidTimestamp.{CidTimestamp}
 use Rattle.recovery_parts.specs.declared.cids.state.RetireError.{RetireError}
 use Rattle.recovery_parts.specs.declared.cids.state.RetireError.TheVariants.{CidsNotInUse, UnissuedCid}
@@ -92,6 +93,11 @@ without_number number ids = record ids { unretired = filter (λ n. not (n == num
 abbrev pub RefusesRetirement : LocalIds → ℕ → RetireError → Type 0
 RefusesRetirement ids number CidsNotInUse = ids.cid_len ≡ 0
 RefusesRetirement ids number UnissuedCid = (ids.cid_len ≢ 0) × (ids.issued ≤ number)
+
+-- the same in words
+abbrev pub retire_text : RetireError → List ℕ
+retire_text CidsNotInUse = codes "RETIRE_CONNECTION_ID when CIDs aren't in use"
+retire_text UnissuedCid = codes "RETIRE_CONNECTION_ID for unissued sequence number"
 
 -- what a retirement does: the answer says whether the limit leaves room for one more id
 pub record AcceptsRetirement (old : LocalIds) (number limit : ℕ) (more : Bool) (new : LocalIds) : Type 0 where

@@ -4,7 +4,7 @@ ghost use Rattle.std.specs.List.{list_any, range_with_len};
 ghost use Rattle.std.specs.VecDeque.{deque_len, deque_capacity};
 ghost use Rattle.recovery_parts.specs.LocalIds.{without_last_at, with_deadline, tracked_last, next_mark, first_issued, with_issued, holds_unretired, timed_out, first_moment, RefusesRetirement, AcceptsRetirement, Rise, AreSound};
 
-use recovery_base::below::{IssuedCid, NoMemory};
+use recovery_base::below::{IssuedCid, NoMemory, TransportError};
 use recovery_base::time::{Duration, Instant};
 use std::alloc::Global;
 use std::collections::VecDeque;
@@ -59,6 +59,25 @@ pub enum RetireError {
     /// The number was not issued.
     #[error("RETIRE_CONNECTION_ID for unissued sequence number")]
     UnissuedCid,
+}
+
+impl From<RetireError> for TransportError {
+    ghost use Rattle.std.specs.Prelude.{◌≡◌};
+    ghost use Rattle.recovery_parts.specs.LocalIds.{retire_text};
+
+    // It is a violation of the protocol, with the refusal's text.
+    ghost from_gives = { λ error transport. (transport.code ≡ 10) × (transport.reason.now ≡ retire_text error) };
+
+    fn from(error: RetireError) -> Self {
+        match error {
+            RetireError::CidsNotInUse => TransportError::PROTOCOL_VIOLATION(
+                "RETIRE_CONNECTION_ID when CIDs aren't in use",
+            ),
+            RetireError::UnissuedCid => TransportError::PROTOCOL_VIOLATION(
+                "RETIRE_CONNECTION_ID for unissued sequence number",
+            ),
+        }
+    }
 }
 
 impl CidState {

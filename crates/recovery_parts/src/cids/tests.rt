@@ -1,7 +1,9 @@
 ghost use Rattle.std.specs.Prelude.{◌≡◌};
 
 use super::*;
-use recovery_base::below::{ConnectionId, IssuedCid, NewConnectionId, NoMemory, ResetToken};
+use recovery_base::below::{
+    ConnectionId, IssuedCid, NewConnectionId, NoMemory, ResetToken, TransportError,
+};
 use recovery_base::time::{Duration, Instant};
 use std::test::Fail;
 
@@ -152,4 +154,14 @@ fn ids_of_no_bytes_are_not_retired(rt: HostRuntime) -> Result<(), Fail> {
 fn too_many_ids_are_answered_at_once(rt: HostRuntime) {
     let made = CidState::new(rt.alloc(), 8, None, Instant::from_nanos(0), 1 << 62);
     assert!(rt; matches!(made, Err(NoMemory)));
+}
+
+#[test]
+fn refused_retirements_close_the_connection(rt: HostRuntime) -> Result<(), Fail> {
+    for error in [RetireError::CidsNotInUse, RetireError::UnissuedCid] {
+        let closed = TransportError::from(error);
+        assert_eq!(rt; closed.code, 10);
+        assert_eq!(rt; format!(in rt.alloc(); "{error}")?.as_str(), closed.reason);
+    }
+    Ok(())
 }

@@ -1,24 +1,33 @@
-use Rattle.std.proofs.Common.{ap}
+use Rattle.std.proofs.Common.{rules, ap}
 use Rattle.recovery_parts.specs.AckFrequencies.{Frequency}
+use Rattle.quic_recovery.specs.History.{Beginning}
 use Rattle.quic_recovery.proofs.LedgerLaws.{fresh_balanced}
+use Rattle.quic_recovery.proofs.LocalIdLaws.{local_ids_first}
 use Rattle.quic_recovery.proofs.SpaceLaws.{fresh_space}
 use Rattle.quic_recovery.proofs.driver.Recovery.new.Goals as goal
 
 pub invariant_of-result : goal.invariant_of-result
-invariant_of-result c = record { balanced = fresh_balanced c.new.result c.new-3.result c.new.ensures.packets c.new.ensures.acks c.new-3.ensures.counters }
+invariant_of-result c = record { balanced = fresh_balanced c.new-spaces.result c.new-current.result c.new-spaces.ensures.packets c.new-spaces.ensures.acks c.new-current.ensures.counters }
 
 pub returns : goal.returns
-returns c = record {
-  left = record {
-    spaces = λ space. fresh_space space _ (c.new.ensures.numbers space) (c.new.ensures.acks space) (c.new.ensures.packets space) (c.new.ensures.next space);
-    discarded = λ space. c.new-2.ensures space;
-    path = record { generation = c.new-3.ensures.generation; counters = c.new-3.ensures.counters };
-    frequency = record {
-      last = ap (λ (f : Frequency). f.last) c.new-4.ensures;
-      own = ap (λ (f : Frequency). f.own) c.new-4.ensures;
-      peer = ap (λ (f : Frequency). f.peer) c.new-4.ensures;
-      requests = (ap (λ (f : Frequency). f.pending) c.new-4.ensures, ap (λ (f : Frequency). f.next) c.new-4.ensures);
-    };
-    timers = search;
-  };
-}
+returns c =
+    let beginning : Beginning = record { config = c.args.config; start = c.args.now } in
+    let made = c.new-spaces.ensures in
+    let ids = local_ids_first beginning c.in_ok-local_cid_state.local_cid_state c.in_ok-local_cid_state.ensures.ids in
+    let asked = c.new-ack_frequency.ensures in
+    record {
+      left = record {
+        spaces = λ space. fresh_space space _ (made.numbers space) (made.acks space) (made.packets space) (made.next space);
+        discarded = search rules;
+        path = search rules;
+        frequency = record {
+          last = ap (λ (f : Frequency). f.last) asked;
+          own = ap (λ (f : Frequency). f.own) asked;
+          peer = ap (λ (f : Frequency). f.peer) asked;
+          requests = (ap (λ (f : Frequency). f.pending) asked, ap (λ (f : Frequency). f.next) asked);
+        };
+        timers = search rules;
+        remote_ids = search rules;
+        local_ids = ids;
+      };
+    }

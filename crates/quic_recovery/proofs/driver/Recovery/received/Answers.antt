@@ -21,4 +21,4 @@ returns c =
     let Stepped : PacketSpace → Type 0 = λ there. IfOk c.receive.result (λ answer. SpaceReceives there c.args.now c.args.number c.args.ack_eliciting answer c.receive.new.self) in
     let Kept : PacketSpace → Type 0 = λ there. OnErr c.receive.result (c.receive.new.self ≡ there) in
     received_changes c.args.self.now _ c.args.space c.args.now c.args.number c.args.ack_eliciting c.receive.new.self (sym c.if-contains.ensures) c.receive.result
-    (subst Replied c.index_mut.ensures.value c.receive.ensures.reply) (subst Stepped c.index_mut.ensures.value c.receive.ensures.step) (subst Kept c.index_mut.ensures.value c.receive.ensures.refused) refl refl refl refl refl
+    (subst Replied c.index_mut.ensures.value c.receive.ensures.reply) (subst Stepped c.index_mut.ensures.value c.receive.ensures.step) (subst Kept c.index_mut.ensures.value c.receive.ensures.refused) refl refl refl refl refl refl refl

@@ -85,4 +85,4 @@ returns c =
     in
     sent_changes c.args.self.now _ c.args.space c.args.now c.args.size c.args.ack_eliciting c.args.largest_acked c.on_sent.new.self c.next_packet_number-number.result c.number_of.result
     live (λ large. not_both _ (c.if-is_too_large.false) (c.is_too_large.ensures.1 large)) left all_fits
-    (c.next_packet_number-number.ensures ∙ ap next_number_of there) gone is refl refl (ap generation_of c.in-Ok.ensures.path ∙ generation_after_sending c.args.self.now.current packet c.in-Ok.forgotten) refl refl
+    (c.next_packet_number-number.ensures ∙ ap next_number_of there) gone is refl refl (ap generation_of c.in-Ok.ensures.path ∙ generation_after_sending c.args.self.now.current packet c.in-Ok.forgotten) refl refl refl refl
