@@ -8,10 +8,6 @@ use Rattle.recovery_replay.specs.declared.script.Ending.TheVariants.{Whole, BadL
 use Rattle.recovery_replay.specs.Replay.{error_text, Tells}
 use Rattle.recovery_replay.specs.Writing.{AppendsFront}
 
-pub appends_none : (before : Option (List ℕ)) → Appends before before []
-appends_none None = tt
-appends_none (Some bytes) = sym (append-nil bytes)
-
 pub appends_more : (before mid after : Option (List ℕ)) (front bytes : List ℕ) → Appends before mid front → Appends mid after bytes → Appends before after (front ++ bytes)
 appends_more None mid after front bytes a b = tt
 appends_more (Some old) None after front bytes a b = absurd a
