@@ -38,7 +38,13 @@ def in_order(count):
         yield received(SPACES[i % 3], i, i // 3)
 
 
-def reordered(count):
+def gaps(count):
+    """Each space receives every other number in order, so that 64 ranges are to be acknowledged."""
+    for i in range(count):
+        yield received(SPACES[i % 3], i, i // 3 * 2)
+
+
+def reordered(count, step=1):
     """Each space receives every number once, in blocks of 64 that are shuffled."""
     chance = random.Random(1)
     numbers = [iter(()) for _ in SPACES]
@@ -52,7 +58,24 @@ def reordered(count):
             blocks[space] += 1
             numbers[space] = iter(block)
             number = next(numbers[space])
-        yield received(SPACES[space], i, number)
+        yield received(SPACES[space], i, number * step)
+
+
+def reordered_gaps(count):
+    """The same with every other number."""
+    return reordered(count, 2)
+
+
+def remote_ids(count):
+    """The peer issues ids in order, and retires those more than four below."""
+    for i in range(count):
+        yield f"new-id {10**6 + i} {10**6 + i - 4 if i else 10**6} {i % 256}"
+
+
+def local_ids(count):
+    """Ids are issued one by one, and each is retired by the peer; their deadlines pass."""
+    for i in range(count):
+        yield [f"issue-ids {moment(i)} {i // 3 + 1} 1", f"peer-retired {i // 3} 4", "id-timeout"][i % 3]
 
 
 def timers(count):
@@ -94,7 +117,7 @@ def tracked(window, order):
     return lines
 
 
-INPUTS = [in_order, reordered, timers, mixed] + [tracked(window, order) for window in [100, 1000, 10000]
+INPUTS = [in_order, reordered, gaps, reordered_gaps, timers, mixed, remote_ids, local_ids] + [tracked(window, order) for window in [100, 1000, 10000]
                                                   for order in ["in_order", "reversed", "shuffled"]]
 
 

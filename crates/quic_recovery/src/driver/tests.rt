@@ -1,3 +1,5 @@
+ghost use Rattle.std.specs.Prelude.{◌≡◌};
+
 use super::*;
 use crate::paths::InFlight;
 use recovery_base::below::SpaceId;
@@ -100,7 +102,9 @@ fn timeout(nanos: u64) -> Result<Answer, Refusal> {
 }
 
 /// The settings of the replay program.
-fn config() -> RecoveryConfig {
+fn config() -> RecoveryConfig
+    ensures { result.issued ≡ 1 }
+{
     RecoveryConfig {
         max_ack_delay: Duration::from_millis(25),
         initial_cid: ConnectionId::new(&[0xFF; 8]),
