@@ -101,3 +101,6 @@ fn go_on(ids: &[IssuedCid], first: u64) -> bool
     }
     true
 }
+
+#[cfg(test)]
+mod tests;

@@ -147,10 +147,11 @@ fn at_most_64_ranges_are_to_be_acknowledged(rt: HostRuntime) -> Result<(), Fail>
         assert_eq!(rt; recovery.apply(event), new(false));
     }
     let space = recovery.space(SpaceId::Data).ok_or("discarded")?;
-    let mut least = 2;
+    let mut least = 2u64;
     for range in space.pending_acks.ranges().iter() {
-        assert_eq!(rt; (range.start, range.end), (least, least + 1));
-        least += 2;
+        let end = least.saturating_add(1);
+        assert_eq!(rt; (range.start, range.end), (least, end));
+        least = end.saturating_add(1);
     }
     assert_eq!(rt; least, 130);
     Ok(())
