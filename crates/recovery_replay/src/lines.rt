@@ -1,5 +1,5 @@
 //! The event that a line of a script spells.
-ghost use Rattle.std.specs.Prelude.{◌≡◌, ◌+◌, ◌≤◌, ◌^◌, IfSome, IfOk, IsSome, IsSomeAnd, OnSome};
+ghost use Rattle.std.specs.Prelude.{◌≡◌, ◌+◌, ◌≤◌, ◌^◌, IfSome, IfOk, IsSome, IsSomeAnd};
 ghost use Rattle.quic_recovery.specs.declared.event.Event.{Event};
 ghost use Rattle.recovery_replay.specs.Lines.{id_of, token_of, zero_ids, Spells, IsSame};
 ghost use Rattle.recovery_replay.specs.Reading.{Reads, words_left, received_at, send_at, acked_at, lost_at, new_id_at, initial_id_at, peer_retired_at, ack_frequency_at, acks_sent_at, ack_delay_timeout_at, set_timer_at, stop_timer_at, discard_at, in_flight_at, event_at, ids_at, line_at, line_of, Means};
