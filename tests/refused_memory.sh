@@ -20,7 +20,7 @@ for ((n = 1; n <= 100; n++)); do
             if (is_strict) { all++; passed += is_fine }
             next
         }
-        is_strict ? /memory was refused, and that left no trace/ : /AllocError|NoMemory/ { is_fine = 1 }
+        is_strict ? /memory was refused, and that left no trace/ : /AllocError|AllocFailed|NoMemory/ { is_fine = 1 }
         END {
             if (!is_whole || !all) { print "no result"; exit 1 }
             if (status) exit 1

@@ -76,6 +76,7 @@ module _ (Old New : ℕ → Type 0) (number : ℕ) (greatest : HasGreatest Old) 
       arms = (to, from);
       counts = same_counts _ _ (receives.eliciting ∙ ap counted adds.others.1) (receives.base ∙ ap (cond arm (Some now)) adds.others.5) thresholds (receives.greatest ∙ ap (λ (g : Option ℕ). Some (greatest_number g number)) adds.others.6) (receives.others.5 ∙ adds.others.7);
       silent = receives.others.0 ∙ adds.others.2;
+      largest = receives.others.4 ∙ adds.largest;
     }
       where
         pending : (n : ℕ) → IsPending new n ↔ IsInHighest 64 (With number (IsPending old)) n
@@ -100,6 +101,7 @@ module _ (Old New : ℕ → Type 0) (number : ℕ) (greatest : HasGreatest Old) 
     arms = (λ armed. false_is_not_true armed, λ should. false_is_not_true should.0);
     counts = same_counts _ _ adds.others.1 adds.others.5 (pairs adds.others.3 adds.others.4) adds.others.6 adds.others.7;
     silent = ap counted adds.others.2;
+    largest = adds.largest;
   })
 
   pub hears : (ack_eliciting : Bool) → Receives New added now number ack_eliciting arm new → HearsNew Old old now number ack_eliciting arm new

@@ -6,14 +6,14 @@ use Rattle.recovery_base.specs.declared.below.frames.AckFrequency.{AckFrequency}
 use Rattle.recovery_base.specs.Numbers.{Recent, With}
 use Rattle.recovery_base.proofs.WindowLaws.{iff_trans}
 use Rattle.recovery_base.proofs.MissingLaws.{least_missing_with, least_missing_back}
-use Rattle.recovery_parts.specs.Acks.{Acks, IsPending, counted, acks_sent, with_required, with_thresholds}
+use Rattle.recovery_parts.specs.Acks.{Acks, IsPending, largest_with, counted, acks_sent, with_required, with_thresholds}
 use Rattle.recovery_parts.specs.Runs.{IsInHighest}
 use Rattle.recovery_parts.proofs.AckLaws.{out_of_order_by}
 use Rattle.recovery_parts.proofs.RunLaws.{highest_alike}
 use Rattle.quic_recovery.specs.declared.event.Event.TheVariants.{Received, Acked, AckFrequencyIn, AcksSent, AckDelayTimeout}
 use Rattle.quic_recovery.specs.declared.event.Answer.TheVariants.{New, Flag}
 use Rattle.quic_recovery.specs.declared.spaces.SentPacket.{SentPacket}
-use Rattle.quic_recovery.specs.Acks.{AckCounts, ToAcknowledge, IsRequired, AsksAtOnce, Arms, counts_in, counts_with, eliciting_since, silent_since, started_at, thresholds_in, greatest_eliciting, greatest_at_ack, greatest_with}
+use Rattle.quic_recovery.specs.Acks.{AckCounts, ToAcknowledge, IsRequired, AsksAtOnce, Arms, counts_in, counts_with, eliciting_since, silent_since, largest_new, started_at, thresholds_in, greatest_eliciting, greatest_at_ack, greatest_with}
 use Rattle.quic_recovery.specs.History.{History, Reply}
 use Rattle.quic_recovery.specs.Packets.{packet_at, is_above, largest_acked_by}
 use Rattle.quic_recovery.specs.Received.{CameIn}
@@ -72,6 +72,7 @@ module _ (space : SpaceId) (before : History) (old : Acks) (left : AcksLeft spac
         required = (to, from);
         counts = step.counts ∙ ap (counts_with ack_eliciting arm now number) left.counts ∙ ap counts_if (sym same);
         silent = step.silent ∙ ap (λ (s : ℕ). cond ack_eliciting s (counted s)) left.silent ∙ other_way ack_eliciting ∙ ap (λ b. cond (b && not ack_eliciting) (counted (silent_since space before)) (silent_since space before)) (sym same);
+        largest = step.largest ∙ ap (λ (l : Option (ℕ × ℕ)). largest_with l number now) left.largest ∙ ap (λ b. cond b (largest_with (largest_new space before) number now) (largest_new space before)) (sym same);
       }
         where
           counts_if : Bool → AckCounts
@@ -112,6 +113,7 @@ module _ (space : SpaceId) (before : History) (old : Acks) (left : AcksLeft spac
         required = (λ h. inl (left.required.0 h), λ h. elim h [ inl was ↦ left.required.1 was | inr asks ↦ not_both (same_space changed space && ack_eliciting) (ap (λ b. b && ack_eliciting) apart) asks.0 ]);
         counts = left.counts ∙ ap counts_if (sym apart);
         silent = left.silent ∙ ap (λ b. cond (b && not ack_eliciting) (counted (silent_since space before)) (silent_since space before)) (sym apart);
+        largest = left.largest ∙ ap (λ b. cond b (largest_with (largest_new space before) number now) (largest_new space before)) (sym apart);
       }
         where
           counts_if : Bool → AckCounts
@@ -126,18 +128,20 @@ module _ (space : SpaceId) (before : History) (old : Acks) (left : AcksLeft spac
   -- ---- a packet that is acknowledged
 
   module _ (changed : SpaceId) (now number : ℕ) (app_limited : Bool) (reply : Reply) where
-    subtracted : (largest : Option ℕ) (new : Acks) → SubtractsLargest largest old new → ((n : ℕ) → IsPending new n ↔ (ToAcknowledge space before n × IsTrue (is_above largest n))) × (new.required ≡ old.required) × (counts_of new ≡ counts_of old) × (new.silent ≡ old.silent)
+    subtracted : (largest : Option ℕ) (new : Acks) → SubtractsLargest largest old new → ((n : ℕ) → IsPending new n ↔ (ToAcknowledge space before n × IsTrue (is_above largest n))) × (new.required ≡ old.required) × (counts_of new ≡ counts_of old) × (new.silent ≡ old.silent) × (new.largest ≡ old.largest)
     subtracted None new step = (
       λ n. let P : Acks → Type 0 = λ a. IsPending a n ↔ (ToAcknowledge space before n × IsTrue true) in subst P (sym step) (λ h. ((left.pending n).0 h, refl), λ h. (left.pending n).1 h.0),
       ap (λ (a : Acks). a.required) step,
       ap counts_of step,
       ap (λ (a : Acks). a.silent) step,
+      ap (λ (a : Acks). a.largest) step,
     )
     subtracted (Some last) new step = (
       λ n. (λ h. let both = (step.pending n).0 h in ((left.pending n).0 both.0, lt-ltb last n both.1), λ h. (step.pending n).1 ((left.pending n).1 h.0, ltb-true last n h.1)),
       step.others.0,
       same_counts _ _ step.others.1 step.others.5 (ap₂ (λ (x y : ℕ). let p : ℕ × ℕ = (x, y) in p) step.others.3 step.others.4) step.others.7 step.others.8,
       step.others.2,
+      step.others.6,
     )
 
     pub acked_here : (new : Acks) (packet : SentPacket) → same_space changed space ≡ true → packet_at (tracked_in space before) number ≡ Some packet → SubtractsLargest packet.largest_acked old new → AcksLeft space ((Acked changed now number app_limited, reply) ∷ before) new
@@ -148,10 +152,11 @@ module _ (space : SpaceId) (before : History) (old : Acks) (left : AcksLeft spac
           required = iff_trans (same_flag new.required old.required done.1) left.required;
           counts = done.2 ∙ left.counts;
           silent = done.3 ∙ left.silent;
+          largest = done.4 ∙ left.largest;
         }
 
     pub acked_elsewhere : same_space changed space ≡ false → AcksLeft space ((Acked changed now number app_limited, reply) ∷ before) old
-    acked_elsewhere apart = record { pending = λ n. else_iff _ (same_space changed space) apart (left.pending n); required = left.required; counts = left.counts; silent = left.silent }
+    acked_elsewhere apart = record { pending = λ n. else_iff _ (same_space changed space) apart (left.pending n); required = left.required; counts = left.counts; silent = left.silent; largest = left.largest }
 
   -- ---- an ACK that is sent, a timer that expired, and other thresholds
 
@@ -171,6 +176,7 @@ module _ (space : SpaceId) (before : History) (old : Acks) (left : AcksLeft spac
       required = (λ h. false_is_not_true h, λ h. absurd (h.0 same));
       counts = ap (λ (c : AckCounts). let a : AckCounts = record { eliciting = 0; started = None; thresholds = c.thresholds; greatest = c.greatest; acknowledged = c.greatest } in a) left.counts ∙ ap counts_acked (sym same);
       silent = ap (λ b. cond b 0 (silent_since space before)) (sym same);
+      largest = left.largest;
     }
 
     pub acks_sent_elsewhere : same_space changed space ≡ false → AcksLeft space ((AcksSent changed, reply) ∷ before) old
@@ -179,6 +185,7 @@ module _ (space : SpaceId) (before : History) (old : Acks) (left : AcksLeft spac
       required = (λ h. (λ holds. not_both (same_space changed space) apart holds, left.required.0 h), λ h. left.required.1 h.1);
       counts = left.counts ∙ ap counts_acked (sym apart);
       silent = left.silent ∙ ap (λ b. cond b 0 (silent_since space before)) (sym apart);
+      largest = left.largest;
     }
 
     pub late_here : same_space changed space ≡ true → AcksLeft space ((AckDelayTimeout changed, reply) ∷ before) (with_required (nat_lt 0 old.eliciting) old)
@@ -189,10 +196,11 @@ module _ (space : SpaceId) (before : History) (old : Acks) (left : AcksLeft spac
           subst P (ap (λ (c : AckCounts). c.eliciting) left.counts) (λ h. ltb-true 0 old.eliciting h, λ h. lt-ltb 0 old.eliciting h));
       counts = left.counts;
       silent = left.silent;
+      largest = left.largest;
     }
 
     pub late_elsewhere : same_space changed space ≡ false → AcksLeft space ((AckDelayTimeout changed, reply) ∷ before) old
-    late_elsewhere apart = record { pending = left.pending; required = else_iff _ (same_space changed space) apart left.required; counts = left.counts; silent = left.silent }
+    late_elsewhere apart = record { pending = left.pending; required = else_iff _ (same_space changed space) apart left.required; counts = left.counts; silent = left.silent; largest = left.largest }
 
   module _ (frame : AckFrequency) where
     abbrev counts_asked : Bool → AckCounts
@@ -210,7 +218,8 @@ module _ (space : SpaceId) (before : History) (old : Acks) (left : AcksLeft spac
       required = left.required;
       counts = ap (λ (c : AckCounts). let a : AckCounts = record { eliciting = c.eliciting; started = c.started; thresholds = (frame.ack_eliciting_threshold, frame.reordering_threshold); greatest = c.greatest; acknowledged = c.acknowledged } in a) left.counts ∙ ap counts_asked (sym same);
       silent = left.silent;
+      largest = left.largest;
     }
 
     pub asked_elsewhere : same_space Data space ≡ false → AcksLeft space ((AckFrequencyIn frame, Ok (Flag true)) ∷ before) old
-    asked_elsewhere apart = record { pending = left.pending; required = left.required; counts = left.counts ∙ ap counts_asked (sym apart); silent = left.silent }
+    asked_elsewhere apart = record { pending = left.pending; required = left.required; counts = left.counts ∙ ap counts_asked (sym apart); silent = left.silent; largest = left.largest }

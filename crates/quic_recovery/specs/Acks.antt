@@ -4,7 +4,7 @@ use Rattle.recovery_base.specs.declared.below.SpaceId.{SpaceId}
 use Rattle.recovery_base.specs.declared.below.SpaceId.TheVariants.{Data}
 use Rattle.recovery_base.specs.Numbers.{With}
 use Rattle.recovery_parts.specs.AckFrequencies.{delay_of}
-use Rattle.recovery_parts.specs.Acks.{counted, number_or_zero, IsOutOfOrder}
+use Rattle.recovery_parts.specs.Acks.{counted, number_or_zero, largest_with, IsOutOfOrder}
 use Rattle.recovery_parts.specs.Runs.{IsInHighest}
 use Rattle.quic_recovery.specs.declared.event.Event.TheVariants.{Received, Acked, AckFrequencyIn, AcksSent, AckDelayTimeout}
 use Rattle.quic_recovery.specs.declared.event.Answer.TheVariants.{New, Flag}
@@ -51,6 +51,13 @@ started_at space ((AcksSent other, reply) ∷ earlier) = if same_space other spa
 started_at space (entry ∷ earlier) = started_at space earlier
 
 -- ---- numbers and thresholds
+
+-- the largest new number, with the moment when it came (RFC 9000, 13.2.5)
+abbrev pub largest_new : SpaceId → History → Option (ℕ × ℕ)
+largest_new space [] = None
+largest_new space ((Received other now number ack_eliciting, Ok (New arm)) ∷ earlier) =
+    if same_space other space then largest_with (largest_new space earlier) number now else largest_new space earlier
+largest_new space (entry ∷ earlier) = largest_new space earlier
 
 -- the greatest ack-eliciting number once another came
 abbrev pub greatest_with : Option ℕ → ℕ → ℕ

@@ -1,5 +1,5 @@
 //! The events of connection ids (RFC 9000, 5.1).
-ghost use Rattle.std.specs.Prelude.{◌≡◌, ◌+◌, ◌≤◌, ◌^◌, IsTrue, ◌↔◌, length, map};
+ghost use Rattle.std.specs.Prelude.{◌≡◌, ◌+◌, ◌<◌, ◌≤◌, ◌^◌, IsTrue, ◌↔◌, length, map};
 ghost use Rattle.std.specs.List.{range_with_len};
 
 use crate::driver::Recovery;
@@ -56,7 +56,7 @@ impl Recovery {
         ensures { Changes self.old (IssueIds now ids) result self.new }
     {
         let issued = self.local_cid_state.issued();
-        if ids.len() as u64 > NUMBER_LIMIT - issued {
+        if is_past_limit(issued, &ids) {
             return Err(Refusal::NumberTooLarge);
         }
         if !go_on(&ids, issued) {
@@ -85,6 +85,14 @@ impl Recovery {
             Err(RetireError::UnissuedCid) => Err(Refusal::UnissuedCid),
         }
     }
+}
+
+/// Whether more ids than there are numbers would be issued, were these issued too.
+fn is_past_limit(issued: u64, ids: &[IssuedCid]) -> bool
+    requires { issued ≤ 2 ^ 62 }
+    ensures { IsTrue result ↔ (2 ^ 62 < issued + length ids.now) }
+{
+    ids.len() as u64 > NUMBER_LIMIT - issued
 }
 
 /// Whether the numbers of these ids go on from one on, without gaps.

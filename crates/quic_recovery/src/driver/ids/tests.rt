@@ -216,3 +216,15 @@ fn ids_of_no_bytes_are_not_retired(rt: HostRuntime) -> Result<(), Fail> {
     );
     Ok(())
 }
+
+#[test]
+fn no_id_is_issued_past_2_to_62(rt: HostRuntime) {
+    let more = [IssuedCid {
+        sequence: NUMBER_LIMIT - 1,
+        id: cid(0),
+        reset_token: token(0),
+    }; 2];
+    assert!(rt; !is_past_limit(NUMBER_LIMIT - 2, &more));
+    assert!(rt; is_past_limit(NUMBER_LIMIT - 1, &more));
+    assert!(rt; !is_past_limit(NUMBER_LIMIT, &[]));
+}

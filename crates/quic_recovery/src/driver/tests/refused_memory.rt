@@ -53,7 +53,9 @@ fn send_anyway(rt: &impl Abort, recovery: &mut Recovery, space: SpaceId, number:
 
 #[test]
 fn a_refused_send_leaves_no_trace(rt: HostRuntime) -> Result<(), Fail> {
-    let mut recovery = Recovery::new(rt.alloc(), config(), at(0))?;
+    let Ok(mut recovery) = Recovery::new(rt.alloc(), config(), at(0)) else {
+        return end(true);
+    };
     let mut is_refused = false;
     for number in 0..20u64 {
         for space in [SpaceId::Initial, SpaceId::Data] {
@@ -106,6 +108,33 @@ fn packet() -> SentPacket {
         ack_eliciting: true,
         largest_acked: None,
     }
+}
+
+/// Receives a packet, and once more where memory was refused: whether it was.
+fn receive_anyway(rt: &impl Abort, recovery: &mut Recovery, number: u64, arm: bool) -> bool {
+    let reply = recovery.apply(received(SpaceId::Data, number, true));
+    if reply != NO_MEMORY {
+        assert_eq!(rt; reply, new(arm));
+        return false;
+    }
+    let again = recovery.apply(received(SpaceId::Data, number, true));
+    assert_eq!(rt; again, new(arm));
+    true
+}
+
+#[test]
+fn a_refused_packet_is_still_new(rt: HostRuntime) -> Result<(), Fail> {
+    let Ok(mut recovery) = Recovery::new(rt.alloc(), config(), at(0)) else {
+        return end(true);
+    };
+    let mut is_refused = receive_anyway(&rt, &mut recovery, 0, true);
+    for half in 1..20u64 {
+        let number = half.saturating_mul(2);
+        is_refused = receive_anyway(&rt, &mut recovery, number, false) || is_refused;
+    }
+    let space = recovery.space(SpaceId::Data).ok_or("discarded")?;
+    assert_eq!(rt; space.pending_acks.ranges().len(), 20);
+    end(is_refused)
 }
 
 #[test]

@@ -17,7 +17,7 @@ returns c =
     let asked = c.new-ack_frequency.ensures in
     record {
       left = record {
-        spaces = λ space. fresh_space space _ (made.numbers space) (made.acks space) (made.packets space) (made.next space);
+        spaces = λ space. fresh_space space _ (made.numbers space) (made.acks space) (made.packets space) (made.next space) (made.received space);
         discarded = search rules;
         path = search rules;
         frequency = record {
