@@ -33,7 +33,7 @@ same_counts a b e s t g k =
 pairs : {a b c d : ℕ} → a ≡ b → c ≡ d → let p : ℕ × ℕ = (a, c) in let q : ℕ × ℕ = (b, d) in p ≡ q
 pairs {a} {b} {c} {d} first second = ap₂ (λ (x y : ℕ). let p : ℕ × ℕ = (x, y) in p) first second
 
-false_is_not_true : {A : Type 0} → false ≡ true → A
+pub false_is_not_true : {A : Type 0} → false ≡ true → A
 false_is_not_true e = cc
 
 -- ---- what a new packet does, from the clauses of the two calls that it makes

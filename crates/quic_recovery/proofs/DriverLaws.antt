@@ -20,6 +20,7 @@ use Rattle.quic_recovery.specs.Told.{ToldBy, ReceivedReply}
 use Rattle.quic_recovery.specs.Spaces.{space_of, with_space, tracking_of, acks_of, counts_of, next_number_of, HasGreatestCome, SpaceReceives, space_sends}
 use Rattle.quic_recovery.specs.State.{Changes, spaces_of, discarded_of, path_of, frequency_of, timers_of, remote_cids_of, local_ids_of, known_to}
 use Rattle.quic_recovery.proofs.AckLaws.{heard_greatest}
+use Rattle.quic_recovery.proofs.ReceivedLaws.{fails}
 use Rattle.quic_recovery.specs.Steps.{ChangesOne, SpacesStep}
 use Rattle.quic_recovery.specs.Discarded.{is_discarded}
 
@@ -42,9 +43,6 @@ with_same_space spaces Initial here same = ap (with_space spaces Initial) same
 with_same_space spaces Handshake here same = ap (with_space spaces Handshake) same
 with_same_space spaces Data here same = ap (with_space spaces Data) same
 
-pub not_both : (b : Bool) → b ≡ false → ¬ IsTrue b
-not_both b fails holds = cc
-
 -- ---- a received packet
 
 module _ (old new : Recovery) (space : SpaceId) (now number : ℕ) (ack_eliciting : Bool) (here : PacketSpace) (live : is_discarded space (discarded_of old) ≡ false) where
@@ -52,9 +50,9 @@ module _ (old new : Recovery) (space : SpaceId) (now number : ℕ) (ack_elicitin
   Replied = ReceivedReply (Has (space_of space (spaces_of old)).dedup) (IsTrue (acks_of (space_of space (spaces_of old))).required) (counts_of (acks_of (space_of space (spaces_of old)))) number ack_eliciting
 
   told_received : (reply : Reply) → Replied reply → ToldBy (known_to old) (Received space now number ack_eliciting) reply
-  told_received (Ok answer) told = (not_both _ live, told)
-  told_received (Err NoMemory) told = (not_both _ live, told)
-  told_received (Err NumberTooLarge) told = (not_both _ live, told)
+  told_received (Ok answer) told = (fails _ live, told)
+  told_received (Err NoMemory) told = (fails _ live, told)
+  told_received (Err NumberTooLarge) told = (fails _ live, told)
   told_received (Err refusal) told = absurd told.1
 
   pub received_changes : (reply : Reply) → Replied reply
@@ -104,7 +102,7 @@ module _ (old new : Recovery) (space : SpaceId) (now size : ℕ) (ack_eliciting 
       → spaces_of new ≡ with_space (spaces_of old) space here → discarded_of new ≡ discarded_of old → generation_of (path_of new) ≡ generation_of (path_of old) → frequency_of new ≡ frequency_of old → timers_of new ≡ timers_of old → remote_cids_of new ≡ remote_cids_of old → local_ids_of new ≡ local_ids_of old
       → Changes old (Send space now size ack_eliciting largest_acked) (Ok (Sent number forgotten)) new
   sent_changes number forgotten live small left fits is_next is_forgotten is spaces discarded path frequency timers remote local = record {
-    told = (not_both _ live, (small, ((λ most. absurd (omega arith)), (fits, ap₂ (λ n f. Sent n f) is_next is_forgotten))));
+    told = (fails _ live, (small, ((λ most. absurd (omega arith)), (fits, ap₂ (λ n f. Sent n f) is_next is_forgotten))));
     spaces = let P : PacketSpaces → Type 0 = λ s. SpacesStep (generation_of (path_of old)) (spaces_of old) (Send space now size ack_eliciting largest_acked) (Ok (Sent number forgotten)) s in
         subst P (sym spaces) (spaces_step (λ o n. n ≡ space_sends (packet_sent (generation_of (path_of old)) now size ack_eliciting largest_acked) o) (spaces_of old) space here is);
     discarded = discarded;

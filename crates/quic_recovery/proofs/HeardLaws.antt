@@ -21,20 +21,14 @@ use Rattle.quic_recovery.specs.SpaceIds.{same_space}
 use Rattle.quic_recovery.specs.Spaces.{counts_of, HearsNew, SubtractsLargest}
 use Rattle.quic_recovery.specs.State.{AcksLeft}
 use Rattle.quic_recovery.specs.Tracked.{tracked_in}
-use Rattle.quic_recovery.proofs.AckLaws.{same_counts}
-use Rattle.quic_recovery.proofs.ReceivedLaws.{came_greatest}
+use Rattle.quic_recovery.proofs.AckLaws.{same_counts, false_is_not_true}
+use Rattle.quic_recovery.proofs.ReceivedLaws.{came_greatest, fails}
 
 here_iff : {A C : Type 0} (B : Type 0) (b : Bool) → b ≡ true → C ↔ A → C ↔ MatchBool b A B
 here_iff {A} {C} B b is same = let P : Bool → Type 0 = λ x. C ↔ MatchBool x A B in subst P (sym is) same
 
 else_iff : {B C : Type 0} (A : Type 0) (b : Bool) → b ≡ false → C ↔ B → C ↔ MatchBool b A B
 else_iff {B} {C} A b is same = let P : Bool → Type 0 = λ x. C ↔ MatchBool x A B in subst P (sym is) same
-
-false_is_not_true : {A : Type 0} → false ≡ true → A
-false_is_not_true e = cc
-
-not_both : {A : Type 0} (b : Bool) → b ≡ false → IsTrue b → A
-not_both b fails holds = cc
 
 same_flag : (a b : Bool) → a ≡ b → IsTrue a ↔ IsTrue b
 same_flag a b e = (λ h. sym e ∙ h, λ h. e ∙ h)
@@ -66,6 +60,15 @@ module _ (space : SpaceId) (before : History) (old : Acks) (left : AcksLeft spac
         started = ap (λ (c : AckCounts). c.started) left.counts
 
     module _ (changed : SpaceId) (now : ℕ) (ack_eliciting arm : Bool) where
+      abbrev counts_if : Bool → AckCounts
+      counts_if b = record {
+        eliciting = cond (b && ack_eliciting) (counted (eliciting_since space before)) (eliciting_since space before);
+        started = cond (b && arm) (Some now) (started_at space before);
+        thresholds = thresholds_in space before;
+        greatest = cond (b && ack_eliciting) (Some (greatest_with (greatest_eliciting space before) number)) (greatest_eliciting space before);
+        acknowledged = greatest_at_ack space before;
+      }
+
       pub heard_here : (new : Acks) → same_space changed space ≡ true → HearsNew Known old now number ack_eliciting arm new → AcksLeft space ((Received changed now number ack_eliciting, Ok (New arm)) ∷ before) new
       heard_here new same step = record {
         pending = λ n. here_iff _ (same_space changed space) same (iff_trans (step.pending n) (highest n));
@@ -75,15 +78,6 @@ module _ (space : SpaceId) (before : History) (old : Acks) (left : AcksLeft spac
         largest = step.largest ∙ ap (λ (l : Option (ℕ × ℕ)). largest_with l number now) left.largest ∙ ap (λ b. cond b (largest_with (largest_new space before) number now) (largest_new space before)) (sym same);
       }
         where
-          counts_if : Bool → AckCounts
-          counts_if b = record {
-            eliciting = cond (b && ack_eliciting) (counted (eliciting_since space before)) (eliciting_since space before);
-            started = cond (b && arm) (Some now) (started_at space before);
-            thresholds = thresholds_in space before;
-            greatest = cond (b && ack_eliciting) (Some (greatest_with (greatest_eliciting space before) number)) (greatest_eliciting space before);
-            acknowledged = greatest_at_ack space before;
-          }
-
           other_way : (b : Bool) → cond b (silent_since space before) (counted (silent_since space before)) ≡ cond (not b) (counted (silent_since space before)) (silent_since space before)
           other_way true = refl
           other_way false = refl
@@ -110,20 +104,11 @@ module _ (space : SpaceId) (before : History) (old : Acks) (left : AcksLeft spac
       pub heard_elsewhere : same_space changed space ≡ false → AcksLeft space ((Received changed now number ack_eliciting, Ok (New arm)) ∷ before) old
       heard_elsewhere apart = record {
         pending = λ n. else_iff _ (same_space changed space) apart (left.pending n);
-        required = (λ h. inl (left.required.0 h), λ h. elim h [ inl was ↦ left.required.1 was | inr asks ↦ not_both (same_space changed space && ack_eliciting) (ap (λ b. b && ack_eliciting) apart) asks.0 ]);
+        required = (λ h. inl (left.required.0 h), λ h. elim h [ inl was ↦ left.required.1 was | inr asks ↦ absurd (fails (same_space changed space && ack_eliciting) (ap (λ b. b && ack_eliciting) apart) asks.0) ]);
         counts = left.counts ∙ ap counts_if (sym apart);
         silent = left.silent ∙ ap (λ b. cond (b && not ack_eliciting) (counted (silent_since space before)) (silent_since space before)) (sym apart);
         largest = left.largest ∙ ap (λ b. cond b (largest_with (largest_new space before) number now) (largest_new space before)) (sym apart);
       }
-        where
-          counts_if : Bool → AckCounts
-          counts_if b = record {
-            eliciting = cond (b && ack_eliciting) (counted (eliciting_since space before)) (eliciting_since space before);
-            started = cond (b && arm) (Some now) (started_at space before);
-            thresholds = thresholds_in space before;
-            greatest = cond (b && ack_eliciting) (Some (greatest_with (greatest_eliciting space before) number)) (greatest_eliciting space before);
-            acknowledged = greatest_at_ack space before;
-          }
 
   -- ---- a packet that is acknowledged
 
@@ -182,7 +167,7 @@ module _ (space : SpaceId) (before : History) (old : Acks) (left : AcksLeft spac
     pub acks_sent_elsewhere : same_space changed space ≡ false → AcksLeft space ((AcksSent changed, reply) ∷ before) old
     acks_sent_elsewhere apart = record {
       pending = left.pending;
-      required = (λ h. (λ holds. not_both (same_space changed space) apart holds, left.required.0 h), λ h. left.required.1 h.1);
+      required = (λ h. (fails (same_space changed space) apart, left.required.0 h), λ h. left.required.1 h.1);
       counts = left.counts ∙ ap counts_acked (sym apart);
       silent = left.silent ∙ ap (λ b. cond b 0 (silent_since space before)) (sym apart);
       largest = left.largest;

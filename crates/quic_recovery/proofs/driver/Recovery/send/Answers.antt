@@ -10,7 +10,8 @@ use Rattle.quic_recovery.specs.Packets.{entry_at, entry_number, forgotten_number
 use Rattle.quic_recovery.specs.Paths.{generation_of, counters_of}
 use Rattle.quic_recovery.specs.Spaces.{space_of, with_space, tracking_of, with_tracking, packets_of, next_number_of, after_number, after_eliciting, space_sends, HasGreatestCome, IsCoherent}
 use Rattle.quic_recovery.specs.Tracked.{packet_sent}
-use Rattle.quic_recovery.proofs.DriverLaws.{not_both, sent_changes}
+use Rattle.quic_recovery.proofs.DriverLaws.{sent_changes}
+use Rattle.quic_recovery.proofs.ReceivedLaws.{fails}
 use Rattle.quic_recovery.proofs.LedgerLaws.{forgotten_counted, balanced_sent, generation_after_sending}
 use Rattle.quic_recovery.proofs.PacketLaws.{entry_number_of}
 use Rattle.quic_recovery.proofs.driver.Recovery.send.Goals as goal
@@ -60,7 +61,7 @@ invariant_of-self-2 c =
     let P : PathData → Type 0 = IsBalanced (with_space c.args.self.now.spaces c.args.space c.on_sent.new.self) in
     record {
       balanced = subst P (sym c.in-Ok.ensures.path)
-          (balanced_sent c.args.self.now.spaces c.args.self.now.current c.args.self.now.balanced c.args.space packet c.generation.ensures (λ large. not_both _ (c.if-is_too_large.false) (c.is_too_large.ensures.1 large)) c.on_sent.new.self c.in-Ok.forgotten tracking next come gone);
+          (balanced_sent c.args.self.now.spaces c.args.self.now.current c.args.self.now.balanced c.args.space packet c.generation.ensures (λ large. fails _ (c.if-is_too_large.false) (c.is_too_large.ensures.1 large)) c.on_sent.new.self c.in-Ok.forgotten tracking next come gone);
     }
 
 pub returns : goal.returns
@@ -84,5 +85,5 @@ returns c =
     ∙ ap (λ (g : ℕ). space_sends (packet_sent g c.args.now c.args.size c.args.ack_eliciting c.args.largest_acked) (space_of c.args.space c.args.self.now.spaces)) c.generation.ensures
     in
     sent_changes c.args.self.now _ c.args.space c.args.now c.args.size c.args.ack_eliciting c.args.largest_acked c.on_sent.new.self c.next_packet_number-number.result c.number_of.result
-    live (λ large. not_both _ (c.if-is_too_large.false) (c.is_too_large.ensures.1 large)) left all_fits
+    live (λ large. fails _ (c.if-is_too_large.false) (c.is_too_large.ensures.1 large)) left all_fits
     (c.next_packet_number-number.ensures ∙ ap next_number_of there) gone is refl refl (ap generation_of c.in-Ok.ensures.path ∙ generation_after_sending c.args.self.now.current packet c.in-Ok.forgotten) refl refl refl refl
