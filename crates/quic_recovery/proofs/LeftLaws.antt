@@ -1,31 +1,125 @@
--- What a history with one event more leaves.
-use Rattle.std.proofs.Common.{ℕ, subst, ◌∙◌}
+-- What the parts know is what their logs say, and one event more leaves what its entries say.
+use Rattle.std.proofs.Common.{◌≡◌, ℕ, Bool, List, Option, ap, subst, ◌∙◌}
+use Rattle.std.proofs.Math.Path.{fun_ext}
+use Rattle.recovery_base.specs.declared.below.SpaceId.{SpaceId}
+use Rattle.recovery_base.specs.declared.timer.Timer.{Timer}
+use Rattle.recovery_parts.specs.AckFrequencies.{Frequency}
 use Rattle.recovery_parts.specs.CidQueue.{remote_ids}
-use Rattle.quic_recovery.specs.declared.driver.Recovery.{Recovery}
+use Rattle.recovery_parts.specs.LocalIds.{LocalIds}
+use Rattle.recovery_parts.specs.RemoteIds.{RemoteIds}
 use Rattle.quic_recovery.specs.declared.event.Event.{Event}
-use Rattle.quic_recovery.specs.History.{Beginning, History, Reply, recorded}
-use Rattle.quic_recovery.specs.Spaces.{space_of}
-use Rattle.quic_recovery.specs.State.{SpacesLeft, Left, Changes, spaces_of, discarded_of, path_of, frequency_of, timers_of, remote_cids_of, local_ids_of}
-use Rattle.quic_recovery.specs.Steps.{SpaceStep}
-use Rattle.quic_recovery.proofs.FrequencyLaws.{frequency_left}
-use Rattle.quic_recovery.proofs.LocalIdLaws.{local_ids_left}
-use Rattle.quic_recovery.proofs.PathLaws.{discarded_left, path_left}
-use Rattle.quic_recovery.proofs.RemoteIdLaws.{remote_ids_left}
-use Rattle.quic_recovery.proofs.SpaceLaws.{space_left}
-use Rattle.quic_recovery.proofs.TimerLaws.{timers_left}
+use Rattle.quic_recovery.specs.declared.paths.PathData.{PathData}
+use Rattle.quic_recovery.specs.declared.spaces.PacketSpaces.{PacketSpaces}
+use Rattle.quic_recovery.specs.Acks.{AckCounts, counts_by}
+use Rattle.quic_recovery.specs.Discarded.{was_discarded, DiscardedStep, DiscardedLeft}
+use Rattle.quic_recovery.specs.Entries.{logs_after, space_entry, discard_entry, request_entry, timer_entry, remote_entry, local_entry, paths_entry}
+use Rattle.quic_recovery.specs.History.{Beginning, Reply}
+use Rattle.quic_recovery.specs.InFlight.{in_flight}
+use Rattle.quic_recovery.specs.Ledger.{tracked_by, IsBalanced}
+use Rattle.quic_recovery.specs.Known.{SpaceKnown, Known, Logs, known_by, tracked_known, first_ids}
+use Rattle.quic_recovery.specs.LocalHistory.{LocalStep, LocalIdsLeft}
+use Rattle.quic_recovery.specs.Packets.{Packets}
+use Rattle.quic_recovery.specs.Logs.{answered}
+use Rattle.quic_recovery.specs.Parts.{Parts}
+use Rattle.quic_recovery.specs.PathLog.{OfPaths, PathKnown, PathsStep, PathsLeft}
+use Rattle.quic_recovery.specs.Paths.{generation_of, paths_known}
+use Rattle.quic_recovery.specs.RemoteHistory.{RemoteStep, RemoteIdsLeft}
+use Rattle.quic_recovery.specs.Requests.{RequestStep, FrequencyLeft}
+use Rattle.quic_recovery.specs.Spaces.{space_of, sent_of, acks_of, counts_of, SpaceStep, SpaceLeft}
+use Rattle.quic_recovery.specs.State.{InFlightLeft, LeftBy, ChangesBy, Changes, known_to}
+use Rattle.quic_recovery.specs.Timers.{TimerStep, TimersLeft}
+use Rattle.quic_recovery.specs.Tracked.{Sent, sent_by}
+use Rattle.quic_recovery.proofs.LocalIdLaws.{local_law}
+use Rattle.quic_recovery.proofs.LogLaws.{left_by}
+use Rattle.quic_recovery.proofs.PartLaws.{paths_law, timer_law, discarded_law, request_law}
+use Rattle.quic_recovery.proofs.RemoteIdLaws.{remote_law, remote_ids_same}
+use Rattle.quic_recovery.proofs.SpaceLaws.{space_law}
 
-pub left_after : (beginning : Beginning) (before : History) (old : Recovery) (event : Event) (reply : Reply) (new : Recovery) → Left beginning before old → Changes old event reply new → Left beginning (recorded event reply before) new
-left_after beginning before old event reply new left changes = record {
+-- the packets that the spaces track are those of their logs
+tracked_same : (logs : Logs) (spaces : PacketSpaces) → ((space : SpaceId) → SpaceLeft (logs.spaces space) (space_of space spaces)) → tracked_by spaces ≡ (λ space. (sent_by (logs.spaces space)).tracked)
+tracked_same logs spaces left = fun_ext (λ space. ap (λ (s : Sent). s.tracked) (left space).sent)
+
+pub in_flight_law : (beginning : Beginning) (logs : Logs) (spaces : PacketSpaces) (paths : OfPaths PathData) → PathsLeft logs.paths (paths_known paths) → ((space : SpaceId) → SpaceLeft (logs.spaces space) (space_of space spaces)) → IsBalanced spaces paths.current → InFlightLeft (known_by beginning logs) paths
+in_flight_law beginning logs spaces paths same left balanced = record {
+  current = balanced.counters
+      ∙ ap (λ (tracked : SpaceId → Packets). in_flight (generation_of paths.current) tracked) (tracked_same logs spaces left)
+      ∙ ap (λ (known : OfPaths PathKnown). in_flight known.current.generation (tracked_known (known_by beginning logs))) same;
+}
+
+-- ---- what is known
+
+abbrev space_known : Bool → AckCounts → Sent → SpaceKnown
+space_known discarded counts sent = record { discarded = discarded; counts = counts; sent = sent }
+
+pub known_same : (beginning : Beginning) (logs : Logs) (state : Parts) → LeftBy beginning logs state → known_to state ≡ known_by beginning logs
+known_same beginning logs state left =
+    ap (λ (s : SpaceId → SpaceKnown). record old { spaces = s }) (fun_ext spaces)
+    ∙ ap (λ (a : Option ℕ). record k₁ { last_asked = a }) (ap (λ (f : Frequency). f.last) left.frequency)
+    ∙ ap (λ (r : RemoteIds). record k₂ { remote_ids = r }) (remote_ids_same beginning.config.initial_cid logs.remote_ids (remote_ids state.remote_cids) left.remote_ids)
+    ∙ ap (λ (l : LocalIds). record k₃ { local_ids = l }) left.local_ids.same
+    ∙ ap (λ (m : Timer → Option ℕ). record k₄ { moment_of = m }) (fun_ext left.timers)
+    ∙ ap (λ (p : OfPaths PathKnown). record k₅ { paths = p }) left.paths
+  where
+    old : Known
+    old = known_to state
+
+    new : Known
+    new = known_by beginning logs
+
+    k₁ : Known
+    k₁ = record old { spaces = new.spaces }
+
+    k₂ : Known
+    k₂ = record k₁ { last_asked = new.last_asked }
+
+    k₃ : Known
+    k₃ = record k₂ { remote_ids = new.remote_ids }
+
+    k₄ : Known
+    k₄ = record k₃ { local_ids = new.local_ids }
+
+    k₅ : Known
+    k₅ = record k₄ { moment_of = new.moment_of }
+
+    spaces : (space : SpaceId) → old.spaces space ≡ new.spaces space
+    spaces space =
+        let there = space_of space state.spaces in
+        let log = logs.spaces space in
+        ap (λ d. space_known d (counts_of (acks_of there)) (sent_of there)) (left.discarded space)
+        ∙ ap (λ (c : AckCounts). space_known (was_discarded space logs.discarded) c (sent_of there)) (left.spaces space).acks.counts
+        ∙ ap (λ (s : Sent). space_known (was_discarded space logs.discarded) (counts_by log) s) (left.spaces space).sent
+
+-- ---- one event more
+
+-- the steps, by what the logs know
+pub changes_by_logs : (beginning : Beginning) (logs : Logs) (old : Parts) (event : Event) (reply : Reply) (new : Parts) → LeftBy beginning logs old → Changes old event reply new → ChangesBy (known_by beginning logs) old event reply new
+changes_by_logs beginning logs old event reply new left changes =
+    let P : Known → Type 0 = λ known. ChangesBy known old event reply new in
+    subst P (known_same beginning logs old left) changes
+
+pub left_after : (beginning : Beginning) (logs : Logs) (old : Parts) (event : Event) (reply : Reply) (new : Parts) → LeftBy beginning logs old → ChangesBy (known_by beginning logs) old event reply new → IsBalanced new.spaces new.paths.current → LeftBy beginning (logs_after beginning event reply logs) new
+left_after beginning logs old event reply new left changes balanced = record {
   spaces = spaces;
-  discarded = discarded_left before event reply (discarded_of old) (discarded_of new) left.discarded changes.discarded;
-  path = path_left (recorded event reply before) (spaces_of new) (path_of new) (changes.path ∙ left.path.generation) spaces new.balanced;
-  frequency = frequency_left beginning before event reply (frequency_of old) (frequency_of new) left.frequency changes.frequency;
-  timers = timers_left before event reply (timers_of old) (timers_of new) left.timers changes.timers;
-  remote_ids = remote_ids_left beginning before event reply (remote_ids (remote_cids_of old)) (remote_ids (remote_cids_of new)) left.remote_ids changes.remote_ids;
-  local_ids = local_ids_left beginning before event reply (local_ids_of old) (local_ids_of new) left.local_ids changes.local_ids;
+  discarded = left_by DiscardedStep DiscardedLeft discarded_law (answered (discard_entry known) event reply) logs.discarded _ _ left.discarded changes.discarded;
+  paths = paths;
+  in_flight = in_flight_law beginning (logs_after beginning event reply logs) new.spaces new.paths paths spaces balanced;
+  frequency = left_by RequestStep (FrequencyLeft first) (request_law first) (request_entry known event reply) logs.requests _ _ left.frequency changes.frequency;
+  timers = left_by TimerStep TimersLeft timer_law (answered (timer_entry known) event reply) logs.timers _ _ left.timers changes.timers;
+  remote_ids = left_by RemoteStep (RemoteIdsLeft initial) (remote_law initial) (answered (remote_entry known) event reply) logs.remote_ids _ _ left.remote_ids changes.remote_ids;
+  local_ids = left_by LocalStep (LocalIdsLeft (first_ids beginning)) (local_law (first_ids beginning)) (answered (local_entry known) event reply) logs.local_ids _ _ left.local_ids changes.local_ids;
 }
   where
-    spaces : SpacesLeft (recorded event reply before) (spaces_of new)
-    spaces space =
-        let P : ℕ → Type 0 = λ g. SpaceStep g space (space_of space (spaces_of old)) event reply (space_of space (spaces_of new)) in
-        space_left space before event reply (space_of space (spaces_of old)) (space_of space (spaces_of new)) (left.spaces space) (subst P left.path.generation (changes.spaces space))
+    known : Known
+    known = known_by beginning logs
+
+    first : ℕ
+    first = beginning.config.max_ack_delay
+
+    initial : List ℕ
+    initial = beginning.config.initial_cid
+
+    spaces : (space : SpaceId) → SpaceLeft ((logs_after beginning event reply logs).spaces space) (space_of space new.spaces)
+    spaces space = left_by SpaceStep SpaceLeft space_law (answered (space_entry known space) event reply) (logs.spaces space) _ _ (left.spaces space) (changes.spaces space)
+
+    paths : PathsLeft (logs_after beginning event reply logs).paths (paths_known new.paths)
+    paths = left_by PathsStep PathsLeft paths_law (answered (paths_entry known) event reply) logs.paths _ _ left.paths changes.paths

@@ -4,12 +4,20 @@ use Rattle.quic_recovery.specs.declared.paths.InFlight.{InFlight}
 use Rattle.quic_recovery.specs.declared.paths.PathData.{PathData}
 use Rattle.quic_recovery.specs.declared.spaces.SentPacket.{SentPacket}
 use Rattle.quic_recovery.specs.InFlight.{with_packet, without_packet}
+use Rattle.quic_recovery.specs.PathLog.{OfPaths, PathKnown}
 
 abbrev pub generation_of : PathData → ℕ
 generation_of path = path.generation
 
 abbrev pub counters_of : PathData → InFlight
 counters_of path = path.in_flight
+
+-- what is kept for a path, but for its counters
+abbrev pub path_known : PathData → PathKnown
+path_known path = record { generation = generation_of path }
+
+abbrev pub paths_known : OfPaths PathData → OfPaths PathKnown
+paths_known paths = record { current = path_known paths.current }
 
 abbrev pub with_counters : InFlight → PathData → PathData
 with_counters counters path = record path { in_flight = counters }

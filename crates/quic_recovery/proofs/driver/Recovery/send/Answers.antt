@@ -1,4 +1,4 @@
-use Rattle.std.proofs.Common.{◌≡◌, ℕ, ◌+◌, ◌<◌, ◌^◌, Option, Ok, Err, refl, sym, ap, subst, ◌∙◌, arith}
+use Rattle.std.proofs.Common.{◌≡◌, ℕ, ◌+◌, ◌<◌, ◌^◌, Option, Ok, Err, sym, ap, subst, ◌∙◌, arith}
 use Rattle.quic_recovery.specs.declared.paths.InFlight.{InFlight}
 use Rattle.quic_recovery.specs.declared.paths.LedgerError.{LedgerError}
 use Rattle.quic_recovery.specs.declared.paths.PathData.{PathData}
@@ -10,6 +10,7 @@ use Rattle.quic_recovery.specs.Packets.{entry_at, entry_number, forgotten_number
 use Rattle.quic_recovery.specs.Paths.{generation_of, counters_of}
 use Rattle.quic_recovery.specs.Spaces.{space_of, with_space, tracking_of, with_tracking, packets_of, next_number_of, after_number, after_eliciting, space_sends, HasGreatestCome, IsCoherent}
 use Rattle.quic_recovery.specs.Tracked.{packet_sent}
+use Rattle.quic_recovery.specs.State.{parts_of}
 use Rattle.quic_recovery.proofs.DriverLaws.{sent_changes}
 use Rattle.quic_recovery.proofs.ReceivedLaws.{fails}
 use Rattle.quic_recovery.proofs.LedgerLaws.{forgotten_counted, balanced_sent, generation_after_sending}
@@ -84,6 +85,6 @@ returns c =
     ∙ ap (λ (s : PacketSpace). space_sends packet s) there
     ∙ ap (λ (g : ℕ). space_sends (packet_sent g c.args.now c.args.size c.args.ack_eliciting c.args.largest_acked) (space_of c.args.space c.args.self.now.spaces)) c.generation.ensures
     in
-    sent_changes c.args.self.now _ c.args.space c.args.now c.args.size c.args.ack_eliciting c.args.largest_acked c.on_sent.new.self c.next_packet_number-number.result c.number_of.result
+    sent_changes (parts_of c.args.self.now) c.args.space c.args.now c.args.size c.args.ack_eliciting c.args.largest_acked c.on_sent.new.self (record { current = c.sent.new.self }) c.next_packet_number-number.result c.number_of.result
     live (λ large. fails _ (c.if-is_too_large.false) (c.is_too_large.ensures.1 large)) left all_fits
-    (c.next_packet_number-number.ensures ∙ ap next_number_of there) gone is refl refl (ap generation_of c.in-Ok.ensures.path ∙ generation_after_sending c.args.self.now.current packet c.in-Ok.forgotten) refl refl refl refl
+    (c.next_packet_number-number.ensures ∙ ap next_number_of there) gone is (ap (λ (g : ℕ). record { current = record { generation = g } }) (ap generation_of c.in-Ok.ensures.path ∙ generation_after_sending c.args.self.now.current packet c.in-Ok.forgotten))

@@ -1,0 +1,73 @@
+-- What is known of the past: values, which the state and the logs fill alike.
+use Rattle.std.specs.Prelude.{ℕ, Bool, List, Option}
+use Rattle.recovery_base.specs.declared.below.SpaceId.{SpaceId}
+use Rattle.recovery_base.specs.declared.timer.Timer.{Timer}
+use Rattle.recovery_parts.specs.LocalIds.{LocalIds}
+use Rattle.recovery_parts.specs.RemoteIds.{RemoteIds}
+use Rattle.quic_recovery.specs.Acks.{AckCounts, counts_by}
+use Rattle.quic_recovery.specs.Discarded.{was_discarded}
+use Rattle.quic_recovery.specs.History.{Beginning}
+use Rattle.quic_recovery.specs.LocalHistory.{LocalEntry, FirstIds, local_ids_by}
+use Rattle.quic_recovery.specs.Packets.{Packets}
+use Rattle.quic_recovery.specs.PathLog.{PathEntry, PathsEntry, PathKnown, OfPaths, paths_known_by}
+use Rattle.quic_recovery.specs.RemoteHistory.{RemoteEntry, remote_ids_by}
+use Rattle.quic_recovery.specs.Requests.{RequestEntry, last_asked}
+use Rattle.quic_recovery.specs.SpaceLog.{SpaceEntry}
+use Rattle.quic_recovery.specs.Timers.{TimerEntry, last_set}
+use Rattle.quic_recovery.specs.Tracked.{Sent, sent_by}
+
+-- what replies and entries depend on, but for the sets of numbers: values, which are the same by the state and by the logs
+pub record SpaceKnown : Type 0 where
+  -- the space was discarded
+  pub discarded : Bool
+  -- what decides of its next ACK
+  pub counts : AckCounts
+  -- its packets
+  pub sent : Sent
+
+pub record Known : Type 0 where
+  pub spaces : SpaceId → SpaceKnown
+  -- the number of the last ACK_FREQUENCY frame that was taken
+  pub last_asked : Option ℕ
+  -- the ids of the peer
+  pub remote_ids : RemoteIds
+  -- the ids that this end issued
+  pub local_ids : LocalIds
+  -- the moment that a timer is set to
+  pub moment_of : Timer → Option ℕ
+  -- what is kept for the paths
+  pub paths : OfPaths PathKnown
+
+-- the packets that each space tracks
+abbrev pub tracked_known : Known → SpaceId → Packets
+tracked_known known space = (known.spaces space).sent.tracked
+
+-- ---- the logs of all parts
+
+pub record Logs : Type 0 where
+  pub spaces : SpaceId → List SpaceEntry
+  pub discarded : List SpaceId
+  pub requests : List RequestEntry
+  pub timers : List TimerEntry
+  pub remote_ids : List RemoteEntry
+  pub local_ids : List LocalEntry
+  pub paths : List (PathsEntry PathEntry)
+
+-- what the logs know, in a run that begins so
+abbrev pub first_ids : Beginning → FirstIds
+first_ids beginning = record {
+  cid_len = beginning.config.cid_len;
+  cid_lifetime = beginning.config.cid_lifetime;
+  start = beginning.start;
+  issued = beginning.config.issued;
+}
+
+abbrev pub known_by : Beginning → Logs → Known
+known_by beginning logs = record {
+  spaces = λ space. record { discarded = was_discarded space logs.discarded; counts = counts_by (logs.spaces space); sent = sent_by (logs.spaces space) };
+  last_asked = last_asked logs.requests;
+  remote_ids = remote_ids_by beginning.config.initial_cid logs.remote_ids;
+  local_ids = local_ids_by (first_ids beginning) logs.local_ids;
+  moment_of = λ kind. last_set kind logs.timers;
+  paths = paths_known_by logs.paths;
+}

@@ -1,0 +1,18 @@
+-- What a recovery is to those who call it: its parts.
+use Rattle.recovery_base.specs.declared.timer.TimerTable.{TimerTable}
+use Rattle.recovery_parts.specs.AckFrequencies.{Frequency}
+use Rattle.recovery_parts.specs.declared.cids.queue.CidQueue.{CidQueue}
+use Rattle.recovery_parts.specs.LocalIds.{LocalIds}
+use Rattle.quic_recovery.specs.declared.discarded.DiscardedSpaces.{DiscardedSpaces}
+use Rattle.quic_recovery.specs.declared.paths.PathData.{PathData}
+use Rattle.quic_recovery.specs.PathLog.{OfPaths}
+use Rattle.quic_recovery.specs.declared.spaces.PacketSpaces.{PacketSpaces}
+
+pub record Parts : Type 0 where
+  pub spaces : PacketSpaces
+  pub discarded : DiscardedSpaces
+  pub paths : OfPaths PathData
+  pub frequency : Frequency
+  pub timers : TimerTable
+  pub remote_cids : CidQueue
+  pub local_ids : LocalIds
