@@ -1,31 +1,33 @@
 -- What an event does to one space is a step of all three.
-use Rattle.std.proofs.Common.{◌≡◌, ℕ, ◌<◌, ◌^◌, ap₂, arith, Bool, false, IsTrue, Option, IfOk, OnErr, Ok, Err, refl, sym, ap, subst}
+use Rattle.std.proofs.Common.{◌≡◌, ℕ, ◌<◌, ◌≤◌, ◌^◌, ap₂, arith, Bool, false, IsTrue, Option, Result, IfOk, OnErr, Ok, Err, refl, sym, ap, subst}
 use Rattle.recovery_base.specs.declared.below.SpaceId.{SpaceId}
 use Rattle.recovery_base.specs.declared.below.SpaceId.TheVariants.{Initial, Handshake, Data}
+use Rattle.recovery_base.specs.Numbers.{IsNew}
 use Rattle.recovery_base.specs.Received.{Has}
-use Rattle.quic_recovery.specs.declared.paths.PathData.{PathData}
+use Rattle.recovery_ledger.specs.declared.paths.PathData.{PathData}
 use Rattle.quic_recovery.specs.declared.event.Event.TheVariants.{Received, Send}
-use Rattle.quic_recovery.specs.declared.event.Answer.TheVariants.{New, Sent}
-use Rattle.quic_recovery.specs.declared.event.Refusal.TheVariants.{NoMemory, NumberTooLarge}
-use Rattle.quic_recovery.specs.declared.spaces.PacketSpace.{PacketSpace}
-use Rattle.quic_recovery.specs.declared.spaces.PacketSpaces.{PacketSpaces}
-use Rattle.quic_recovery.specs.History.{Reply}
-use Rattle.quic_recovery.specs.InFlight.{in_flight, Overflows}
-use Rattle.quic_recovery.specs.Ledger.{tracked_by}
+use Rattle.quic_recovery.specs.declared.event.Answer.TheVariants.{Sent}
+use Rattle.recovery_base.specs.declared.below.NoMemory.{NoMemory as Refused}
+use Rattle.recovery_ledger.specs.declared.spaces.Receipt.{Receipt}
+use Rattle.recovery_ledger.specs.declared.spaces.Receipt.TheVariants.{New, Duplicate}
+use Rattle.recovery_ledger.specs.declared.spaces.PacketSpace.{PacketSpace}
+use Rattle.recovery_ledger.specs.declared.spaces.PacketSpaces.{PacketSpaces}
+use Rattle.recovery_ledger.specs.InFlight.{in_flight, Overflows}
+use Rattle.recovery_ledger.specs.Ledger.{tracked_by}
 use Rattle.quic_recovery.specs.Parts.{Parts}
-use Rattle.quic_recovery.specs.PathLog.{OfPaths}
-use Rattle.quic_recovery.specs.Packets.{forgotten_number, IsTooLarge}
-use Rattle.quic_recovery.specs.Tracked.{packet_sent}
-use Rattle.quic_recovery.specs.Paths.{generation_of, paths_known}
-use Rattle.quic_recovery.specs.Told.{ToldBy, ReceivedReply}
-use Rattle.quic_recovery.specs.Spaces.{space_of, with_space, tracking_of, acks_of, counts_of, next_number_of, HasGreatestCome, SpaceStep, came, space_sends}
-use Rattle.quic_recovery.specs.State.{Changes, known_to, heard_to}
-use Rattle.quic_recovery.proofs.AckLaws.{heard_greatest}
-use Rattle.quic_recovery.proofs.ReceivedLaws.{fails}
+use Rattle.recovery_ledger.specs.PathLog.{OfPaths}
+use Rattle.recovery_ledger.specs.Packets.{forgotten_number, IsTooLarge}
+use Rattle.recovery_ledger.specs.Tracked.{packet_sent}
+use Rattle.recovery_ledger.specs.Paths.{generation_of, paths_known}
+use Rattle.quic_recovery.specs.Replies.{reply_to}
+use Rattle.recovery_ledger.specs.Spaces.{space_of, with_space, tracking_of, acks_of, counts_of, next_number_of, HasGreatestCome, IsReceipt, SpaceStep, came, space_sends}
+use Rattle.quic_recovery.specs.State.{Changes}
+use Rattle.recovery_ledger.proofs.AckLaws.{heard_greatest}
+use Rattle.recovery_ledger.proofs.ReceivedLaws.{fails}
 use Rattle.quic_recovery.specs.Entries.{here}
 use Rattle.quic_recovery.specs.Logs.{StepBy}
-use Rattle.quic_recovery.specs.SpaceLog.{SpaceEntry, sends}
-use Rattle.quic_recovery.specs.Discarded.{is_discarded}
+use Rattle.recovery_ledger.specs.SpaceLog.{SpaceEntry, heard, heard_again, sends}
+use Rattle.recovery_ledger.specs.Discarded.{is_discarded}
 
 -- one space changes, and the others stay
 pub spaces_step : (entry : SpaceEntry) (spaces : PacketSpaces) (changed : SpaceId) (there : PacketSpace) → SpaceStep entry (space_of changed spaces) there
@@ -48,22 +50,15 @@ with_same_space spaces Data here same = ap (with_space spaces Data) same
 
 -- ---- a received packet
 
-module _ (old : Parts) (space : SpaceId) (now number : ℕ) (ack_eliciting : Bool) (there : PacketSpace) (live : is_discarded space old.discarded ≡ false) where
-  abbrev Replied : Reply → Type 0
-  Replied = ReceivedReply (Has (space_of space old.spaces).dedup) (IsTrue (acks_of (space_of space old.spaces)).required) (counts_of (acks_of (space_of space old.spaces))) number ack_eliciting
-
-  told_received : (reply : Reply) → Replied reply → ToldBy (heard_to old) (known_to old) (Received space now number ack_eliciting) reply
-  told_received (Ok answer) told = (fails _ live, told)
-  told_received (Err NoMemory) told = (fails _ live, told)
-  told_received (Err NumberTooLarge) told = (fails _ live, told)
-  told_received (Err refusal) told = absurd told.1
-
-  pub received_changes : (reply : Reply) → Replied reply
-      → IfOk reply (λ answer. SpaceStep (came now number ack_eliciting answer) (space_of space old.spaces) there) → OnErr reply (there ≡ space_of space old.spaces)
-      → Changes old (Received space now number ack_eliciting) reply (record old { spaces = with_space old.spaces space there })
-  received_changes (Ok answer) told step kept = record {
-    told = told_received (Ok answer) told;
-    spaces = spaces_step (came now number ack_eliciting answer) old.spaces space there step;
+module _ (old : Parts) (space : SpaceId) (now number : ℕ) (ack_eliciting : Bool) (there : PacketSpace) (live : is_discarded space old.discarded ≡ false) (small : ¬ (2 ^ 62 ≤ number)) where
+  pub received_changes : (receipt : Result Receipt Refused)
+      → IfOk receipt (IsReceipt (Has (space_of space old.spaces).dedup) (IsTrue (acks_of (space_of space old.spaces)).required) (counts_of (acks_of (space_of space old.spaces))) number ack_eliciting)
+      → OnErr receipt (IsNew (Has (space_of space old.spaces).dedup) number)
+      → IfOk receipt (λ r. SpaceStep (came now number ack_eliciting r) (space_of space old.spaces) there) → OnErr receipt (there ≡ space_of space old.spaces)
+      → Changes old (Received space now number ack_eliciting) (reply_to receipt) (record old { spaces = with_space old.spaces space there })
+  received_changes (Ok (New arm)) is grows step kept = record {
+    told = (fails _ live, (small, is));
+    spaces = spaces_step (heard now number ack_eliciting arm) old.spaces space there step;
     discarded = refl;
     paths = refl;
     frequency = refl;
@@ -72,10 +67,21 @@ module _ (old : Parts) (space : SpaceId) (now number : ℕ) (ack_eliciting : Boo
     local_ids = refl;
     refused = tt;
   }
-  received_changes (Err refusal) told step kept =
+  received_changes (Ok Duplicate) is grows step kept = record {
+    told = (fails _ live, (small, is));
+    spaces = spaces_step (heard_again number) old.spaces space there step;
+    discarded = refl;
+    paths = refl;
+    frequency = refl;
+    timers = refl;
+    remote_ids = refl;
+    local_ids = refl;
+    refused = tt;
+  }
+  received_changes (Err refused) is grows step kept =
       let same : with_space old.spaces space there ≡ old.spaces = with_same_space old.spaces space there kept in
       record {
-        told = told_received (Err refusal) told;
+        told = (fails _ live, (small, grows));
         spaces = λ s. ap (space_of s) same;
         discarded = refl;
         paths = refl;
@@ -87,11 +93,11 @@ module _ (old : Parts) (space : SpaceId) (now number : ℕ) (ack_eliciting : Boo
       }
 
 -- what a received packet changes leaves the tracked packets, and the greatest ack-eliciting number was received
-pub received_keeps : (now number : ℕ) (ack_eliciting : Bool) (reply : Reply) (old new : PacketSpace) → HasGreatestCome old → IfOk reply (λ answer. SpaceStep (came now number ack_eliciting answer) old new) → OnErr reply (new ≡ old)
+pub received_keeps : (now number : ℕ) (ack_eliciting : Bool) (receipt : Result Receipt Refused) (old new : PacketSpace) → HasGreatestCome old → IfOk receipt (λ r. SpaceStep (came now number ack_eliciting r) old new) → OnErr receipt (new ≡ old)
     → (tracking_of new ≡ tracking_of old) × (next_number_of new ≡ next_number_of old) × HasGreatestCome new
 received_keeps now number ack_eliciting (Ok (New arm)) old new come step kept = (ap tracking_of step.others, ap next_number_of step.others, heard_greatest old new now number ack_eliciting arm come step)
-received_keeps now number ack_eliciting (Ok answer) old new come step kept = (ap tracking_of step.1, ap next_number_of step.1, let P : PacketSpace → Type 0 = HasGreatestCome in subst P (sym step.1) come)
-received_keeps now number ack_eliciting (Err refusal) old new come step kept = (ap tracking_of kept, ap next_number_of kept, let P : PacketSpace → Type 0 = HasGreatestCome in subst P (sym kept) come)
+received_keeps now number ack_eliciting (Ok Duplicate) old new come step kept = (ap tracking_of step.1, ap next_number_of step.1, let P : PacketSpace → Type 0 = HasGreatestCome in subst P (sym step.1) come)
+received_keeps now number ack_eliciting (Err refused) old new come step kept = (ap tracking_of kept, ap next_number_of kept, let P : PacketSpace → Type 0 = HasGreatestCome in subst P (sym kept) come)
 
 -- ---- a packet that is sent
 

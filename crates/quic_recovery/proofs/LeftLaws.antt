@@ -8,32 +8,32 @@ use Rattle.recovery_parts.specs.CidQueue.{remote_ids}
 use Rattle.recovery_parts.specs.LocalIds.{LocalIds}
 use Rattle.recovery_parts.specs.RemoteIds.{RemoteIds}
 use Rattle.quic_recovery.specs.declared.event.Event.{Event}
-use Rattle.quic_recovery.specs.declared.paths.PathData.{PathData}
-use Rattle.quic_recovery.specs.declared.spaces.PacketSpaces.{PacketSpaces}
-use Rattle.quic_recovery.specs.Acks.{AckCounts, counts_by}
-use Rattle.quic_recovery.specs.Discarded.{was_discarded, DiscardedStep, DiscardedLeft}
+use Rattle.recovery_ledger.specs.declared.paths.PathData.{PathData}
+use Rattle.recovery_ledger.specs.declared.spaces.PacketSpaces.{PacketSpaces}
+use Rattle.recovery_ledger.specs.Acks.{AckCounts, counts_by}
+use Rattle.recovery_ledger.specs.Discarded.{was_discarded, DiscardedStep, DiscardedLeft}
 use Rattle.quic_recovery.specs.Entries.{logs_after, space_entry, discard_entry, request_entry, timer_entry, remote_entry, local_entry, paths_entry}
 use Rattle.quic_recovery.specs.History.{Beginning, Reply}
-use Rattle.quic_recovery.specs.InFlight.{in_flight}
-use Rattle.quic_recovery.specs.Ledger.{tracked_by, IsBalanced}
+use Rattle.recovery_ledger.specs.InFlight.{in_flight}
+use Rattle.recovery_ledger.specs.Ledger.{tracked_by, IsBalanced}
 use Rattle.quic_recovery.specs.Known.{SpaceKnown, Known, Logs, known_by, tracked_known, first_ids}
 use Rattle.quic_recovery.specs.LocalHistory.{LocalStep, LocalIdsLeft}
-use Rattle.quic_recovery.specs.Packets.{Packets}
+use Rattle.recovery_ledger.specs.Packets.{Packets}
 use Rattle.quic_recovery.specs.Logs.{answered}
 use Rattle.quic_recovery.specs.Parts.{Parts}
-use Rattle.quic_recovery.specs.PathLog.{OfPaths, PathKnown, PathsStep, PathsLeft}
-use Rattle.quic_recovery.specs.Paths.{generation_of, paths_known}
+use Rattle.recovery_ledger.specs.PathLog.{OfPaths, PathKnown, PathsStep, PathsLeft}
+use Rattle.recovery_ledger.specs.Paths.{generation_of, paths_known}
 use Rattle.quic_recovery.specs.RemoteHistory.{RemoteStep, RemoteIdsLeft}
 use Rattle.quic_recovery.specs.Requests.{RequestStep, FrequencyLeft}
-use Rattle.quic_recovery.specs.Spaces.{space_of, sent_of, acks_of, counts_of, SpaceStep, SpaceLeft}
+use Rattle.recovery_ledger.specs.Spaces.{space_of, sent_of, acks_of, counts_of, SpaceStep, SpaceLeft}
 use Rattle.quic_recovery.specs.State.{InFlightLeft, LeftBy, ChangesBy, Changes, known_to}
 use Rattle.quic_recovery.specs.Timers.{TimerStep, TimersLeft}
-use Rattle.quic_recovery.specs.Tracked.{Sent, sent_by}
+use Rattle.recovery_ledger.specs.Tracked.{Sent, sent_by}
 use Rattle.quic_recovery.proofs.LocalIdLaws.{local_law}
 use Rattle.quic_recovery.proofs.LogLaws.{left_by}
 use Rattle.quic_recovery.proofs.PartLaws.{paths_law, timer_law, discarded_law, request_law}
 use Rattle.quic_recovery.proofs.RemoteIdLaws.{remote_law, remote_ids_same}
-use Rattle.quic_recovery.proofs.SpaceLaws.{space_law}
+use Rattle.recovery_ledger.proofs.SpaceLaws.{space_law}
 
 -- the packets that the spaces track are those of their logs
 tracked_same : (logs : Logs) (spaces : PacketSpaces) → ((space : SpaceId) → SpaceLeft (logs.spaces space) (space_of space spaces)) → tracked_by spaces ≡ (λ space. (sent_by (logs.spaces space)).tracked)

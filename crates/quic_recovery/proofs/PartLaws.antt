@@ -7,11 +7,11 @@ use Rattle.recovery_base.specs.declared.timer.TimerTable.{TimerTable}
 use Rattle.recovery_base.specs.Timers.{same_timer}
 use Rattle.recovery_parts.specs.AckFrequencies.{Frequency, FrequencyReceived, delay_of, with_last}
 use Rattle.recovery_parts.specs.Acks.{Acks}
-use Rattle.quic_recovery.specs.declared.discarded.DiscardedSpaces.{DiscardedSpaces}
-use Rattle.quic_recovery.specs.Discarded.{DiscardedStep, DiscardedLeft}
-use Rattle.quic_recovery.specs.PathLog.{PathEntry, PathKnown, PathsEntry, OfPaths, PathsStep, PathsLeft, path_with, paths_with}
+use Rattle.recovery_ledger.specs.declared.discarded.DiscardedSpaces.{DiscardedSpaces}
+use Rattle.recovery_ledger.specs.Discarded.{DiscardedStep, DiscardedLeft}
+use Rattle.recovery_ledger.specs.PathLog.{PathEntry, PathKnown, PathsEntry, OfPaths, PathsStep, PathsLeft, path_with, paths_with}
 use Rattle.quic_recovery.specs.Requests.{RequestEntry, taken, too_small, RequestStep, FrequencyLeft}
-use Rattle.quic_recovery.specs.SpaceIds.{same_space}
+use Rattle.recovery_ledger.specs.SpaceIds.{same_space}
 use Rattle.quic_recovery.specs.Timers.{TimerEntry, TimerStep, TimersLeft}
 
 pub timer_law : (entry : TimerEntry) (log : List TimerEntry) (old new : TimerTable) → TimersLeft log old → TimerStep entry old new → TimersLeft (entry ∷ log) new

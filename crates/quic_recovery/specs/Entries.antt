@@ -5,22 +5,21 @@ use Rattle.recovery_base.specs.declared.below.SpaceId.TheVariants.{Data}
 use Rattle.quic_recovery.specs.declared.event.Event.{Event}
 use Rattle.quic_recovery.specs.declared.event.Event.TheVariants.{Received, Send, Acked, Lost, NewId, NextId, InitialId, IssueIds, IdTimeout, PeerRetired, AckFrequencyIn, AcksSent, AckDelayTimeout, SetTimer, StopTimer, DiscardSpace}
 use Rattle.quic_recovery.specs.declared.event.Answer.{Answer}
-use Rattle.quic_recovery.specs.declared.event.Answer.TheVariants.{Flag, Retire}
+use Rattle.quic_recovery.specs.declared.event.Answer.TheVariants.{New, Flag, Retire}
 use Rattle.quic_recovery.specs.declared.event.Refusal.TheVariants.{DelayTooSmall}
-use Rattle.quic_recovery.specs.declared.spaces.SentPacket.{SentPacket}
+use Rattle.recovery_ledger.specs.declared.spaces.SentPacket.{SentPacket}
 use Rattle.quic_recovery.specs.History.{Beginning, History, Reply}
 use Rattle.quic_recovery.specs.Known.{Known, Logs, known_by, tracked_known}
 use Rattle.quic_recovery.specs.LocalHistory.{LocalEntry, issues, passes, retires}
 use Rattle.quic_recovery.specs.Logs.{onto, answered}
-use Rattle.quic_recovery.specs.Packets.{packet_at}
-use Rattle.quic_recovery.specs.PathLog.{PathEntry, PathsEntry}
+use Rattle.recovery_ledger.specs.Packets.{packet_at}
+use Rattle.recovery_ledger.specs.PathLog.{PathEntry, PathsEntry}
 use Rattle.quic_recovery.specs.RemoteHistory.{RemoteEntry, given, used, replaced}
 use Rattle.quic_recovery.specs.Requests.{RequestEntry, taken, too_small}
-use Rattle.quic_recovery.specs.SpaceIds.{same_space}
-use Rattle.quic_recovery.specs.SpaceLog.{SpaceEntry, sends, acknowledged, loses, emptied, ack_goes, ack_is_late, asked}
-use Rattle.quic_recovery.specs.Spaces.{came}
+use Rattle.recovery_ledger.specs.SpaceIds.{same_space}
+use Rattle.recovery_ledger.specs.SpaceLog.{SpaceEntry, heard, heard_again, sends, acknowledged, loses, emptied, ack_goes, ack_is_late, asked}
 use Rattle.quic_recovery.specs.Timers.{TimerEntry}
-use Rattle.quic_recovery.specs.Tracked.{packet_sent}
+use Rattle.recovery_ledger.specs.Tracked.{packet_sent}
 
 -- what happens in one space is nothing to another
 abbrev pub here : SpaceId → SpaceId → SpaceEntry → Option SpaceEntry
@@ -28,7 +27,8 @@ here other space entry = if same_space other space then Some entry else None
 
 -- a packet is sent on the path in use
 abbrev pub space_entry : Known → SpaceId → Event → Answer → Option SpaceEntry
-space_entry known space (Received other now number ack_eliciting) answer = here other space (came now number ack_eliciting answer)
+space_entry known space (Received other now number ack_eliciting) (New arm) = here other space (heard now number ack_eliciting arm)
+space_entry known space (Received other now number ack_eliciting) answer = here other space (heard_again number)
 space_entry known space (Send other now size ack_eliciting largest_acked) answer = here other space (sends (packet_sent known.paths.current.generation now size ack_eliciting largest_acked))
 space_entry known space (Acked other now number app_limited) answer = here other space (acknowledged number)
 space_entry known space (Lost other number) answer = here other space (loses number)

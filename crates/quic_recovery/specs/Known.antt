@@ -4,17 +4,17 @@ use Rattle.recovery_base.specs.declared.below.SpaceId.{SpaceId}
 use Rattle.recovery_base.specs.declared.timer.Timer.{Timer}
 use Rattle.recovery_parts.specs.LocalIds.{LocalIds}
 use Rattle.recovery_parts.specs.RemoteIds.{RemoteIds}
-use Rattle.quic_recovery.specs.Acks.{AckCounts, counts_by}
-use Rattle.quic_recovery.specs.Discarded.{was_discarded}
+use Rattle.recovery_ledger.specs.Acks.{AckCounts, counts_by}
+use Rattle.recovery_ledger.specs.Discarded.{was_discarded}
 use Rattle.quic_recovery.specs.History.{Beginning}
 use Rattle.quic_recovery.specs.LocalHistory.{LocalEntry, FirstIds, local_ids_by}
-use Rattle.quic_recovery.specs.Packets.{Packets}
-use Rattle.quic_recovery.specs.PathLog.{PathEntry, PathsEntry, PathKnown, OfPaths, paths_known_by}
+use Rattle.recovery_ledger.specs.Packets.{Packets}
+use Rattle.recovery_ledger.specs.PathLog.{PathEntry, PathsEntry, PathKnown, OfPaths, paths_known_by}
 use Rattle.quic_recovery.specs.RemoteHistory.{RemoteEntry, remote_ids_by}
 use Rattle.quic_recovery.specs.Requests.{RequestEntry, last_asked}
-use Rattle.quic_recovery.specs.SpaceLog.{SpaceEntry}
+use Rattle.recovery_ledger.specs.SpaceLog.{SpaceEntry}
 use Rattle.quic_recovery.specs.Timers.{TimerEntry, last_set}
-use Rattle.quic_recovery.specs.Tracked.{Sent, sent_by}
+use Rattle.recovery_ledger.specs.Tracked.{Sent, sent_by}
 
 -- what replies and entries depend on, but for the sets of numbers: values, which are the same by the state and by the logs
 pub record SpaceKnown : Type 0 where

@@ -3,10 +3,10 @@ use Rattle.recovery_base.specs.declared.timer.TimerTable.{TimerTable}
 use Rattle.recovery_parts.specs.AckFrequencies.{Frequency}
 use Rattle.recovery_parts.specs.declared.cids.queue.CidQueue.{CidQueue}
 use Rattle.recovery_parts.specs.LocalIds.{LocalIds}
-use Rattle.quic_recovery.specs.declared.discarded.DiscardedSpaces.{DiscardedSpaces}
-use Rattle.quic_recovery.specs.declared.paths.PathData.{PathData}
-use Rattle.quic_recovery.specs.PathLog.{OfPaths}
-use Rattle.quic_recovery.specs.declared.spaces.PacketSpaces.{PacketSpaces}
+use Rattle.recovery_ledger.specs.declared.discarded.DiscardedSpaces.{DiscardedSpaces}
+use Rattle.recovery_ledger.specs.declared.paths.PathData.{PathData}
+use Rattle.recovery_ledger.specs.PathLog.{OfPaths}
+use Rattle.recovery_ledger.specs.declared.spaces.PacketSpaces.{PacketSpaces}
 
 pub record Parts : Type 0 where
   pub spaces : PacketSpaces

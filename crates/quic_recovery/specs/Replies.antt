@@ -1,8 +1,12 @@
 -- What an event may be replied: the causes of refusal in their order, each exactly, and else the answer.
-use Rattle.std.specs.Prelude.{◌==◌, Bool, MatchBool, Ok, Err}
+use Rattle.std.specs.Prelude.{◌==◌, Bool, MatchBool, Result, Ok, Err}
 use Rattle.quic_recovery.specs.declared.event.Answer.{Answer}
 use Rattle.quic_recovery.specs.declared.event.Refusal.{Refusal}
+use Rattle.quic_recovery.specs.declared.event.Answer.TheVariants as answer
 use Rattle.quic_recovery.specs.declared.event.Refusal.TheVariants.{NoMemory}
+use Rattle.recovery_base.specs.declared.below.NoMemory.{NoMemory as Refused}
+use Rattle.recovery_ledger.specs.declared.spaces.Receipt.{Receipt}
+use Rattle.recovery_ledger.specs.declared.spaces.Receipt.TheVariants.{New, Duplicate}
 use Rattle.quic_recovery.specs.History.{Reply}
 use Rattle.quic_recovery.specs.Refusals.{refusal_number}
 
@@ -23,3 +27,13 @@ Answers Grows IsAnswer (Err refusal) = ⊥
 -- the answer is one of these, and no memory is taken
 abbrev pub AlwaysAnswers : (Answer → Type 0) → Reply → Type 0
 AlwaysAnswers = Answers ⊥
+
+-- ---- what a packet that came in is answered
+
+abbrev pub answer_to : Receipt → Answer
+answer_to (New arm) = answer.New arm
+answer_to Duplicate = answer.Duplicate
+
+abbrev pub reply_to : Result Receipt Refused → Reply
+reply_to (Ok receipt) = Ok (answer_to receipt)
+reply_to (Err refused) = Err NoMemory

@@ -1,8 +1,8 @@
 use Rattle.std.proofs.Common.{sym, ap, subst, ◌∙◌}
 use Rattle.recovery_parts.specs.Acks.{Acks}
-use Rattle.quic_recovery.specs.declared.spaces.PacketSpace.{PacketSpace}
-use Rattle.quic_recovery.specs.Spaces.{tracking_of, next_number_of, HasGreatestCome}
-use Rattle.quic_recovery.proofs.LedgerLaws.{balanced_kept}
+use Rattle.recovery_ledger.specs.declared.spaces.PacketSpace.{PacketSpace}
+use Rattle.recovery_ledger.specs.Spaces.{tracking_of, next_number_of, HasGreatestCome}
+use Rattle.recovery_ledger.proofs.LedgerLaws.{balanced_kept}
 use Rattle.quic_recovery.proofs.driver.Recovery.ack_delay_timeout.Goals as goal
 
 pub invariant_of-self : goal.invariant_of-self

@@ -1,12 +1,12 @@
 use Rattle.std.proofs.Common.{sym, ap, subst, ◌∙◌}
-use Rattle.quic_recovery.specs.declared.paths.PathData.{PathData}
-use Rattle.quic_recovery.specs.declared.spaces.PacketSpace.{PacketSpace}
-use Rattle.quic_recovery.specs.Ledger.{IsBalanced}
-use Rattle.quic_recovery.specs.Packets.{packet_at, after_taking}
-use Rattle.quic_recovery.specs.Spaces.{with_space, tracking_of, packets_of, next_number_of, HasGreatestCome, space_takes}
-use Rattle.quic_recovery.proofs.AckLaws.{acked_greatest}
-use Rattle.quic_recovery.proofs.AmongLaws.{acknowledging_found}
-use Rattle.quic_recovery.proofs.LedgerLaws.{packet_counted, balanced_taken}
+use Rattle.recovery_ledger.specs.declared.paths.PathData.{PathData}
+use Rattle.recovery_ledger.specs.declared.spaces.PacketSpace.{PacketSpace}
+use Rattle.recovery_ledger.specs.Ledger.{IsBalanced}
+use Rattle.recovery_ledger.specs.Packets.{packet_at, after_taking}
+use Rattle.recovery_ledger.specs.Spaces.{with_space, tracking_of, packets_of, next_number_of, HasGreatestCome, space_takes}
+use Rattle.recovery_ledger.proofs.AckLaws.{acked_greatest}
+use Rattle.recovery_ledger.proofs.AmongLaws.{acknowledging_found}
+use Rattle.recovery_ledger.proofs.LedgerLaws.{packet_counted, balanced_taken}
 use Rattle.quic_recovery.proofs.driver.Recovery.acked.Goals as goal
 
 pub remove_in_flight-requires : goal.remove_in_flight-requires

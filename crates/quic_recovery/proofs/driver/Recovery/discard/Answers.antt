@@ -1,9 +1,9 @@
 use Rattle.std.proofs.Common.{ap, subst, ◌∙◌}
-use Rattle.quic_recovery.specs.declared.spaces.PacketSpace.{PacketSpace}
-use Rattle.quic_recovery.specs.InFlight.{SumsLeave}
-use Rattle.quic_recovery.specs.Paths.{generation_of, counters_of}
-use Rattle.quic_recovery.specs.Spaces.{packets_of, space_empties}
-use Rattle.quic_recovery.proofs.LedgerLaws.{balanced_emptied, emptied_coherent}
+use Rattle.recovery_ledger.specs.declared.spaces.PacketSpace.{PacketSpace}
+use Rattle.recovery_ledger.specs.InFlight.{SumsLeave}
+use Rattle.recovery_ledger.specs.Paths.{generation_of, counters_of}
+use Rattle.recovery_ledger.specs.Spaces.{packets_of, space_empties}
+use Rattle.recovery_ledger.proofs.LedgerLaws.{balanced_emptied, emptied_coherent}
 use Rattle.quic_recovery.proofs.driver.Recovery.discard.Goals as goal
 
 pub invariant_of-self-2 : goal.invariant_of-self-2

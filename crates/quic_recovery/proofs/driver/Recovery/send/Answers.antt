@@ -1,20 +1,20 @@
 use Rattle.std.proofs.Common.{◌≡◌, ℕ, ◌+◌, ◌<◌, ◌^◌, Option, Ok, Err, sym, ap, subst, ◌∙◌, arith}
-use Rattle.quic_recovery.specs.declared.paths.InFlight.{InFlight}
-use Rattle.quic_recovery.specs.declared.paths.LedgerError.{LedgerError}
-use Rattle.quic_recovery.specs.declared.paths.PathData.{PathData}
-use Rattle.quic_recovery.specs.declared.spaces.PacketSpace.{PacketSpace}
-use Rattle.quic_recovery.specs.declared.spaces.SentPacket.{SentPacket}
-use Rattle.quic_recovery.specs.InFlight.{in_flight, Overflows}
-use Rattle.quic_recovery.specs.Ledger.{IsBalanced, tracked_by}
-use Rattle.quic_recovery.specs.Packets.{entry_at, entry_number, forgotten_number, after_sending}
-use Rattle.quic_recovery.specs.Paths.{generation_of, counters_of}
-use Rattle.quic_recovery.specs.Spaces.{space_of, with_space, tracking_of, with_tracking, packets_of, next_number_of, after_number, after_eliciting, space_sends, HasGreatestCome, IsCoherent}
-use Rattle.quic_recovery.specs.Tracked.{packet_sent}
+use Rattle.recovery_ledger.specs.declared.paths.InFlight.{InFlight}
+use Rattle.recovery_ledger.specs.declared.paths.LedgerError.{LedgerError}
+use Rattle.recovery_ledger.specs.declared.paths.PathData.{PathData}
+use Rattle.recovery_ledger.specs.declared.spaces.PacketSpace.{PacketSpace}
+use Rattle.recovery_ledger.specs.declared.spaces.SentPacket.{SentPacket}
+use Rattle.recovery_ledger.specs.InFlight.{in_flight, Overflows}
+use Rattle.recovery_ledger.specs.Ledger.{IsBalanced, tracked_by}
+use Rattle.recovery_ledger.specs.Packets.{entry_at, entry_number, forgotten_number, after_sending}
+use Rattle.recovery_ledger.specs.Paths.{generation_of, counters_of}
+use Rattle.recovery_ledger.specs.Spaces.{space_of, with_space, tracking_of, with_tracking, packets_of, next_number_of, after_number, after_eliciting, space_sends, HasGreatestCome, IsCoherent}
+use Rattle.recovery_ledger.specs.Tracked.{packet_sent}
 use Rattle.quic_recovery.specs.State.{parts_of}
 use Rattle.quic_recovery.proofs.DriverLaws.{sent_changes}
-use Rattle.quic_recovery.proofs.ReceivedLaws.{fails}
-use Rattle.quic_recovery.proofs.LedgerLaws.{forgotten_counted, balanced_sent, generation_after_sending}
-use Rattle.quic_recovery.proofs.PacketLaws.{entry_number_of}
+use Rattle.recovery_ledger.proofs.ReceivedLaws.{fails}
+use Rattle.recovery_ledger.proofs.LedgerLaws.{forgotten_counted, balanced_sent, generation_after_sending}
+use Rattle.recovery_ledger.proofs.PacketLaws.{entry_number_of}
 use Rattle.quic_recovery.proofs.driver.Recovery.send.Goals as goal
 
 ok_is_no_err : (forgotten : Option (ℕ × SentPacket)) (error : LedgerError) → Ok forgotten ≡ Err error → ⊥

@@ -1,0 +1,8 @@
+pub mod AckLaws
+pub mod AmongLaws
+pub mod CountLaws
+pub mod HeardLaws
+pub mod LedgerLaws
+pub mod PacketLaws
+pub mod ReceivedLaws
+pub mod SpaceLaws

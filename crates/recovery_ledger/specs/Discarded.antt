@@ -1,0 +1,22 @@
+-- Which spaces were discarded.
+use Rattle.std.specs.Prelude.{◌≡◌, Bool, false, ◌||◌, List, [], ◌∷◌}
+use Rattle.recovery_base.specs.declared.below.SpaceId.{SpaceId}
+use Rattle.recovery_base.specs.declared.below.SpaceId.TheVariants.{Initial, Handshake, Data}
+use Rattle.recovery_ledger.specs.declared.discarded.DiscardedSpaces.{DiscardedSpaces}
+use Rattle.recovery_ledger.specs.SpaceIds.{same_space}
+
+abbrev pub is_discarded : SpaceId → DiscardedSpaces → Bool
+is_discarded Initial discarded = discarded.initial
+is_discarded Handshake discarded = discarded.handshake
+is_discarded Data discarded = discarded.«data»
+
+-- a space is among those that were discarded
+abbrev pub was_discarded : SpaceId → List SpaceId → Bool
+was_discarded space [] = false
+was_discarded space (other ∷ earlier) = same_space other space || was_discarded space earlier
+
+abbrev pub DiscardedStep : SpaceId → DiscardedSpaces → DiscardedSpaces → Type 0
+DiscardedStep space old new = (other : SpaceId) → is_discarded other new ≡ (same_space space other || is_discarded other old)
+
+abbrev pub DiscardedLeft : List SpaceId → DiscardedSpaces → Type 0
+DiscardedLeft log discarded = (space : SpaceId) → is_discarded space discarded ≡ was_discarded space log

@@ -1,0 +1,14 @@
+pub mod Acks
+pub mod Counts
+pub mod Discarded
+pub mod InFlight
+pub mod Ledger
+pub mod Lends
+pub mod Packets
+pub mod PathLog
+pub mod Paths
+pub mod Received
+pub mod SpaceIds
+pub mod SpaceLog
+pub mod Spaces
+pub mod Tracked

@@ -1,0 +1,183 @@
+-- The three packet number spaces, and what an event does to one.
+use Rattle.std.specs.Prelude.{◌≡◌, ℕ, ◌+◌, ◌-◌, ◌^◌, ◌⊎◌, ◌↔◌, min, max, nat_lt, List, [], Bool, IsTrue, Option, None, Some, if◌then◌else◌}
+use Rattle.recovery_base.specs.declared.below.SpaceId.{SpaceId}
+use Rattle.recovery_base.specs.declared.below.SpaceId.TheVariants.{Initial, Handshake, Data}
+use Rattle.recovery_base.specs.declared.below.frames.AckFrequency.{AckFrequency}
+use Rattle.recovery_base.specs.Numbers.{Recent, With, Exceeds, IsNew}
+use Rattle.recovery_base.specs.Received.{Has}
+use Rattle.recovery_parts.specs.Acks.{Acks, IsPending, counted, largest_with, SubtractsBelow, acks_sent, with_required, with_thresholds}
+use Rattle.recovery_ledger.specs.declared.spaces.PacketSpace.{PacketSpace}
+use Rattle.recovery_ledger.specs.declared.spaces.PacketSpaces.{PacketSpaces}
+use Rattle.recovery_ledger.specs.declared.spaces.Receipt.{Receipt}
+use Rattle.recovery_ledger.specs.declared.spaces.Receipt.TheVariants.{New, Duplicate}
+use Rattle.recovery_ledger.specs.declared.spaces.SentPacket.{SentPacket}
+use Rattle.recovery_parts.specs.Runs.{IsInHighest}
+use Rattle.recovery_ledger.specs.Acks.{AckCounts, AcksSaid, AsksAtOnce, Arms, counts_with, acks_by}
+use Rattle.recovery_ledger.specs.SpaceLog.{SpaceEntry, heard, heard_again, sends, acknowledged, loses, emptied, ack_goes, ack_is_late, asked}
+use Rattle.recovery_ledger.specs.Tracked.{Sent, sent_by}
+use Rattle.recovery_ledger.specs.Received.{CameIn, greatest_new}
+use Rattle.recovery_ledger.specs.Packets.{Packets, Tracking, packet_at, AreBelow, IsAboveLast, AreAcknowledging, after_sending, after_taking, is_above}
+
+abbrev pub space_of : SpaceId → PacketSpaces → PacketSpace
+space_of Initial spaces = spaces.initial
+space_of Handshake spaces = spaces.handshake
+space_of Data spaces = spaces.«data»
+
+abbrev pub with_space : PacketSpaces → SpaceId → PacketSpace → PacketSpaces
+with_space spaces Initial space = record spaces { initial = space }
+with_space spaces Handshake space = record spaces { handshake = space }
+with_space spaces Data space = record spaces { «data» = space }
+
+-- ---- one space
+
+abbrev pub tracking_of : PacketSpace → Tracking
+tracking_of space = space.sent_packets
+
+abbrev pub with_tracking : Tracking → PacketSpace → PacketSpace
+with_tracking tracking space = record space { sent_packets = tracking }
+
+abbrev pub packets_of : PacketSpace → Packets
+packets_of space = (tracking_of space).packets
+
+-- what is known of the packets sent
+abbrev pub sent_of : PacketSpace → Sent
+sent_of space = record { next = space.next_packet_number; last = (tracking_of space).last_eliciting; tracked = packets_of space }
+
+abbrev pub acks_of : PacketSpace → Acks
+acks_of space = space.pending_acks
+
+abbrev pub with_acks : Acks → PacketSpace → PacketSpace
+with_acks acks space = record space { pending_acks = acks }
+
+-- what decides of the next ACK
+abbrev pub counts_of : Acks → AckCounts
+counts_of acks = record {
+  eliciting = acks.eliciting;
+  started = acks.base;
+  thresholds = (acks.threshold, acks.reordering);
+  greatest = acks.greatest;
+  acknowledged = acks.acknowledged;
+}
+
+abbrev pub next_number_of : PacketSpace → ℕ
+next_number_of space = space.next_packet_number
+
+-- the greatest ack-eliciting number was received
+abbrev pub HasGreatestCome : PacketSpace → Type 0
+HasGreatestCome space = (number : ℕ) → (acks_of space).greatest ≡ Some number → ¬ Exceeds (Has space.dedup) number
+
+-- all that was sent has a number below the next one, and acknowledges numbers of packets; what asks for an ACK was received
+pub record IsCoherent (space : PacketSpace) : Type 0 where
+  pub packets : AreBelow (packets_of space) (next_number_of space)
+  pub last : IsAboveLast (tracking_of space).last_eliciting (next_number_of space)
+  pub acknowledging : AreAcknowledging (packets_of space)
+  pub received : HasGreatestCome space
+
+-- the next number is given out
+abbrev pub after_number : PacketSpace → PacketSpace
+after_number space = record space { next_packet_number = space.next_packet_number + 1; sent_with_keys = min (space.sent_with_keys + 1) (2 ^ 64 - 1) }
+
+-- a packet that elicits an ACK was sent at this moment
+abbrev pub after_eliciting : Bool → ℕ → PacketSpace → PacketSpace
+after_eliciting eliciting now space = record space {
+  time_of_last_ack_eliciting_packet = (if eliciting then Some now else space.time_of_last_ack_eliciting_packet);
+  loss_probes = (if eliciting then space.loss_probes - 1 else space.loss_probes);
+}
+
+-- a number is acknowledged, sent at this moment: the greatest is kept
+abbrev pub after_acknowledging : ℕ → ℕ → PacketSpace → PacketSpace
+after_acknowledging number sent space = record space {
+  largest_acked_packet = (if is_above space.largest_acked_packet number then Some number else space.largest_acked_packet);
+  largest_acked_packet_sent = (if is_above space.largest_acked_packet number then sent else space.largest_acked_packet_sent);
+}
+
+-- ---- what an event does to its space
+
+-- a new number came and is to be acknowledged
+pub record HearsNew (Numbers : ℕ → Type 0) (old : Acks) (now number : ℕ) (ack_eliciting arm : Bool) (new : Acks) : Type 0 where
+  pub pending : (n : ℕ) → IsPending new n ↔ IsInHighest 64 (With number (IsPending old)) n
+  pub required : IsTrue new.required ↔ (IsTrue old.required ⊎ (IsTrue ack_eliciting × AsksAtOnce Numbers (counts_of old) number))
+  pub arms : IsTrue arm ↔ Arms Numbers (IsTrue old.required) (counts_of old) number ack_eliciting
+  pub counts : counts_of new ≡ counts_with ack_eliciting arm now number (counts_of old)
+  pub silent : new.silent ≡ (if ack_eliciting then old.silent else counted old.silent)
+  pub largest : new.largest ≡ largest_with old.largest number now
+
+pub record ReceivesNew (old : PacketSpace) (now number : ℕ) (ack_eliciting arm : Bool) (new : PacketSpace) : Type 0 where
+  pub numbers : (n : ℕ) → Has new.dedup n ↔ Recent (With number (Has old.dedup)) n
+  pub hears : HearsNew (Has old.dedup) (acks_of old) now number ack_eliciting arm (acks_of new)
+  pub others : new ≡ record old { dedup = new.dedup; pending_acks = new.pending_acks; rx_packet = max old.rx_packet number }
+
+-- a packet was sent under the next number
+abbrev pub space_sends : SentPacket → PacketSpace → PacketSpace
+space_sends packet space = after_eliciting packet.ack_eliciting packet.time_sent
+    (after_number (with_tracking (after_sending (next_number_of space) packet (tracking_of space)) space))
+
+-- the packet of a number is no longer tracked
+abbrev pub space_takes : ℕ → PacketSpace → PacketSpace
+space_takes number space = with_tracking (after_taking number (tracking_of space)) space
+
+-- the numbers up to the largest that the peer knows of need no acknowledgement any more
+abbrev pub SubtractsLargest : Option ℕ → Acks → Acks → Type 0
+SubtractsLargest None old new = new ≡ old
+SubtractsLargest (Some largest) old new = SubtractsBelow old largest new
+
+-- a tracked packet was acknowledged
+pub record SpaceAcks (number : ℕ) (old new : PacketSpace) : Type 0 where
+  pub packet : SentPacket
+  pub found : packet_at (packets_of old) number ≡ Some packet
+  pub subtracts : SubtractsLargest packet.largest_acked (acks_of old) (acks_of new)
+  pub others : new ≡ with_acks (acks_of new) (after_acknowledging number packet.time_sent (space_takes number old))
+
+-- nothing is tracked any more
+abbrev pub space_empties : PacketSpace → PacketSpace
+space_empties space = with_tracking (record (tracking_of space) { packets = [] }) space
+
+-- an ACK was sent
+abbrev pub space_acked : PacketSpace → PacketSpace
+space_acked space = with_acks (acks_sent (acks_of space)) space
+
+-- the timer for a late ACK expired
+abbrev pub space_late : PacketSpace → PacketSpace
+space_late space = with_acks (with_required (nat_lt 0 (acks_of space).eliciting) (acks_of space)) space
+
+-- the peer asked for other thresholds
+abbrev pub space_asked : AckFrequency → PacketSpace → PacketSpace
+space_asked frame space = with_acks (with_thresholds frame.ack_eliciting_threshold frame.reordering_threshold (acks_of space)) space
+
+-- a packet came in
+abbrev pub came : ℕ → ℕ → Bool → Receipt → SpaceEntry
+came now number ack_eliciting (New arm) = heard now number ack_eliciting arm
+came now number ack_eliciting Duplicate = heard_again number
+
+-- what a received packet is, by the numbers that came before it and by what decides of the next ACK
+abbrev pub IsReceipt : (ℕ → Type 0) → Type 0 → AckCounts → ℕ → Bool → Receipt → Type 0
+IsReceipt Numbers is_required counts number ack_eliciting (New arm) = IsNew Numbers number × (IsTrue arm ↔ Arms Numbers is_required counts number ack_eliciting)
+IsReceipt Numbers is_required counts number ack_eliciting Duplicate = ¬ IsNew Numbers number
+
+abbrev pub SpaceStep : SpaceEntry → PacketSpace → PacketSpace → Type 0
+SpaceStep (heard now number ack_eliciting arm) old new = ReceivesNew old now number ack_eliciting arm new
+SpaceStep (heard_again number) old new = ((n : ℕ) → Has old.dedup n ↔ Recent (With number (Has old.dedup)) n) × (new ≡ old)
+SpaceStep (sends packet) old new = new ≡ space_sends packet old
+SpaceStep (acknowledged number) old new = SpaceAcks number old new
+SpaceStep (loses number) old new = new ≡ space_takes number old
+SpaceStep emptied old new = new ≡ space_empties old
+SpaceStep ack_goes old new = new ≡ space_acked old
+SpaceStep ack_is_late old new = new ≡ space_late old
+SpaceStep (asked frame) old new = new ≡ space_asked frame old
+
+-- ---- what a log leaves
+
+-- what is to be acknowledged in a space, and what decides when
+pub record AcksLeft (said : AcksSaid) (acks : Acks) : Type 0 where
+  pub pending : (n : ℕ) → IsPending acks n ↔ said.pending n
+  pub required : IsTrue acks.required ↔ said.required
+  pub counts : counts_of acks ≡ said.counts
+  pub silent : acks.silent ≡ said.silent
+  pub largest : acks.largest ≡ said.largest
+
+pub record SpaceLeft (log : List SpaceEntry) (left : PacketSpace) : Type 0 where
+  -- a space knows the numbers that came in it, at most 128 below the greatest
+  pub numbers : (n : ℕ) → Has left.dedup n ↔ Recent (CameIn log) n
+  pub acks : AcksLeft (acks_by log) (acks_of left)
+  pub greatest : left.rx_packet ≡ greatest_new log
+  pub sent : sent_of left ≡ sent_by log

@@ -1,0 +1,153 @@
+//! What is kept for each network path: its generation, and the bytes in flight on it (RFC 9002, B.2).
+ghost use Rattle.std.specs.Prelude.{◌≡◌, ◌↔◌, ℕ, ◌<◌, IsTrue, IfOk, OnOk, OnErr, IfSome, IsErrOf};
+ghost use Rattle.std.specs.Option.{SomeIff, ForSome};
+ghost use Rattle.recovery_ledger.specs.Packets.{AreBelow, IsAboveLast, forgotten_number, entry_at, after_sending};
+ghost use Rattle.recovery_ledger.specs.InFlight.{with_packet, without_packet, IsCounted, IsCountedIn, SumsLeave, Overflows};
+ghost use Rattle.recovery_ledger.specs.Paths.{generation_of, counters_of, after_leaving, path_after_sending};
+ghost use Rattle.recovery_ledger.specs.Spaces.{tracking_of, with_tracking, packets_of, space_empties};
+
+use crate::spaces::{PacketSpace, SentPacket};
+use recovery_base::below::NoMemory;
+use thiserror::Error;
+
+/// What is in flight on a path: packets that were sent on it and are tracked.
+#[derive(Clone, Copy, Debug, Default, PartialEq, Eq)]
+pub struct InFlight {
+    /// The sum of their sizes, in bytes.
+    pub bytes: u64,
+    /// How many of them elicit an ACK.
+    pub ack_eliciting: u64,
+}
+
+impl InFlight {
+    /// The counters with one packet more, or `None` where one would pass `u64::MAX`.
+    fn checked_insert(self, packet: &SentPacket) -> Option<InFlight>
+        ensures { SomeIff result (¬ Overflows self packet.now) (with_packet self packet.now) }
+    {
+        Some(InFlight {
+            bytes: self.bytes.checked_add(u64::from(packet.size))?,
+            ack_eliciting: self
+                .ack_eliciting
+                .checked_add(u64::from(packet.ack_eliciting))?,
+        })
+    }
+
+    /// The counters without a packet that is counted.
+    fn remove(self, packet: &SentPacket) -> InFlight
+        requires { IsCounted self packet.now }
+        ensures { result ≡ without_packet self packet.now }
+    {
+        InFlight {
+            bytes: self.bytes - u64::from(packet.size),
+            ack_eliciting: self.ack_eliciting - u64::from(packet.ack_eliciting),
+        }
+    }
+}
+
+/// Why a packet could not be sent on a path. It is dropped then, and nothing else has changed.
+#[derive(Clone, Copy, Debug, PartialEq, Eq, Error)]
+pub enum LedgerError {
+    /// A growth was refused by the allocator.
+    #[error("out of memory")]
+    NoMemory,
+    /// The bytes in flight would pass `u64::MAX`.
+    #[error("the bytes in flight pass 2^64 - 1")]
+    Overflow,
+}
+
+/// What is kept for one path.
+#[derive(Clone, Copy, Debug)]
+pub struct PathData {
+    generation: u64,
+    in_flight: InFlight,
+}
+
+impl PathData {
+    /// A path on which nothing was sent yet.
+    pub fn new(generation: u64) -> Self
+        ensures generation { generation_of result ≡ generation }
+        ensures counters { counters_of result ≡ record { bytes = 0; ack_eliciting = 0 } }
+    {
+        PathData {
+            generation,
+            in_flight: InFlight::default(),
+        }
+    }
+
+    /// Which of the connection's paths this is, counted from 0.
+    pub fn generation(&self) -> u64
+        ensures { result ≡ generation_of self.now }
+    {
+        self.generation
+    }
+
+    /// What is in flight on the path.
+    pub fn in_flight(&self) -> InFlight
+        ensures { result ≡ counters_of self.now }
+    {
+        self.in_flight
+    }
+
+    /// Tracks a packet of this path in a space, and counts it. A packet that the space forgets for it is handed back with
+    /// its number, and is no longer counted where it is one of this path's. `Overflow` is tested before anything is
+    /// forgotten. Cost: logarithmic in the packets tracked.
+    pub fn sent(
+        &mut self,
+        number: u64,
+        packet: SentPacket,
+        space: &mut PacketSpace,
+    ) -> Result<Option<(u64, SentPacket)>, LedgerError>
+        requires above { AreBelow (tracking_of space.old).packets number }
+        requires above_last { IsAboveLast (tracking_of space.old).last_eliciting number }
+        requires own { packet.path_generation ≡ generation_of self.old }
+        requires counted { ForSome (entry_at (tracking_of space.old).packets (forgotten_number (tracking_of space.old).last_eliciting packet (tracking_of space.old).packets))
+            (λ entry. entry.1.path_generation ≡ generation_of self.old → IsCounted (counters_of self.old) entry.1) }
+        ensures space { OnOk result (space.new ≡ with_tracking (after_sending number packet (tracking_of space.old)) space.old) }
+        ensures path { IfOk result (λ forgotten. self.new ≡ path_after_sending self.old packet forgotten) }
+        ensures forgotten { IfOk result (λ forgotten. forgotten ≡ entry_at (tracking_of space.old).packets
+            (forgotten_number (tracking_of space.old).last_eliciting packet (tracking_of space.old).packets)) }
+        ensures overflow { IsErrOf result LedgerError.Overflow ↔ Overflows (counters_of self.old) packet }
+        ensures err_path { OnErr result (self.new ≡ self.old) }
+        ensures err_space { OnErr result (space.new ≡ space.old) }
+    {
+        let Some(in_flight) = self.in_flight.checked_insert(&packet) else {
+            return Err(LedgerError::Overflow);
+        };
+        let forgotten = match space.sent(number, packet) {
+            Ok(forgotten) => forgotten,
+            Err(NoMemory) => return Err(LedgerError::NoMemory),
+        };
+        self.in_flight = in_flight;
+        if let Some((_, packet)) = &forgotten {
+            self.remove_in_flight(packet);
+        }
+        Ok(forgotten)
+    }
+
+    /// Counts a packet no more: false, and nothing, for a packet of another path.
+    pub fn remove_in_flight(&mut self, packet: &SentPacket) -> bool
+        requires { packet.now.path_generation ≡ generation_of self.old → IsCounted (counters_of self.old) packet.now }
+        ensures own { IsTrue result ↔ (packet.now.path_generation ≡ generation_of self.old) }
+        ensures after { self.new ≡ after_leaving self.old packet.now }
+    {
+        if packet.path_generation != self.generation {
+            return false;
+        }
+        self.in_flight = self.in_flight.remove(packet);
+        true
+    }
+
+    /// Takes every packet of a space out, and counts those of this path no more. Cost: linear in the packets that the space
+    /// tracks.
+    pub fn forget_all(&mut self, space: &mut PacketSpace)
+        requires { IsCountedIn (counters_of self.old) (generation_of self.old) (packets_of space.old) }
+        ensures space { space.new ≡ space_empties space.old }
+        ensures generation { generation_of self.new ≡ generation_of self.old }
+        ensures counters { SumsLeave (counters_of self.old) (generation_of self.old) (packets_of space.old) (counters_of self.new) }
+    {
+        while let Some((_, packet)) = space.take_first() {
+            self.remove_in_flight(&packet);
+        }
+    }
+}
+

@@ -1,0 +1,167 @@
+//! The packets that a packet number space tracks (RFC 9002, A.1), by number.
+ghost use Rattle.std.specs.Prelude.{◌≡◌, ℕ, ◌<◌, ◌≤◌, ◌↔◌, [], ◌∷◌, IfOk, OnOk, OnErr, IsTrue, IfSome, IfNone, MatchOption, length, filter};
+ghost use Rattle.recovery_ledger.specs.Packets.{Packets, Tracking, no_packets, packet_at, AreBelow, IsAboveLast, HasSize, is_above, first_number, silent_above, forgotten_number, entry_at, after_sending, after_taking};
+ghost use Rattle.recovery_ledger.specs.Counts.{silent_count, size_count};
+
+use crate::spaces::SentPacket;
+use recovery_base::below::NoMemory;
+use std::alloc::Global;
+use std::collections::BTreeMap;
+use std::marker::Model;
+use std::ops::Bound;
+
+/// How many silent packets (RFC 9002, 2: not ack-eliciting) are tracked above the last packet that elicits an ACK.
+pub const MAX_SILENT: u64 = 1001;
+
+/// Tracked packets in the order of their numbers, with what is known of them all.
+#[derive(Drop)]
+pub struct SentPackets {
+    packets: BTreeMap<u64, SentPacket>,
+    last_eliciting: Option<u64>,
+    silent: u64,
+    sized: u64,
+}
+
+impl Model for SentPackets {
+    ghost use Rattle.recovery_ledger.specs.Packets.{Tracking};
+    ghost use Rattle.recovery_ledger.specs.Counts.{AreCounted};
+
+    ghost Value = { Tracking };
+
+    ghost view = { λ a. record { packets = a.packets.entries; last_eliciting = a.last_eliciting } };
+
+    ghost invariant = { λ a. AreCounted a.packets.entries a.last_eliciting a.silent a.sized };
+}
+
+impl SentPackets {
+    pub fn new(alloc: Global) -> Self
+        ensures { result ≡ no_packets }
+    {
+        SentPackets {
+            packets: BTreeMap::new(alloc),
+            last_eliciting: None,
+            silent: 0,
+            sized: 0,
+        }
+    }
+
+    /// The number of the last packet sent that elicits an ACK.
+    pub fn last_eliciting(&self) -> Option<u64>
+        ensures { result ≡ self.now.last_eliciting }
+    {
+        self.last_eliciting
+    }
+
+    /// The number that is forgotten when a packet is sent.
+    fn forgotten(&self, packet: &SentPacket) -> Option<u64>
+        ensures { result ≡ forgotten_number self.now.last_eliciting packet.now self.now.packets }
+    {
+        if packet.ack_eliciting || self.silent < MAX_SILENT {
+            return None;
+        }
+        first_above(&self.packets, self.last_eliciting)
+    }
+
+    /// Tracks a packet with a number above all others. A silent packet past the limit makes the least silent one be
+    /// forgotten: that one is handed back. `NoMemory` changes nothing.
+    pub fn insert(
+        &mut self,
+        number: u64,
+        packet: SentPacket,
+    ) -> Result<Option<(u64, SentPacket)>, NoMemory>
+        requires above { AreBelow self.old.packets number }
+        requires above_last { IsAboveLast self.old.last_eliciting number }
+        ensures ok { OnOk result (self.new ≡ after_sending number packet self.old) }
+        ensures forgotten { IfOk result (λ gone. gone ≡ entry_at self.old.packets (forgotten_number self.old.last_eliciting packet self.old.packets)) }
+        ensures bound { length (silent_above self.new.last_eliciting self.new.packets) ≤ 1001 }
+        ensures err { OnErr result (self.new ≡ self.old) }
+    {
+        let least = self.forgotten(&packet);
+        let is_eliciting = packet.ack_eliciting;
+        let count = size_count(&packet);
+        let _len = self.packets.len();
+        self.packets.insert(number, packet)?;
+        self.sized += count;
+        if is_eliciting {
+            self.last_eliciting = Some(number);
+            self.silent = 0;
+            return Ok(None);
+        }
+        let Some(least) = least else {
+            self.silent += 1;
+            return Ok(None);
+        };
+        let Some(gone) = self.packets.remove(&least) else {
+            unreachable!();
+        };
+        self.sized -= size_count(&gone);
+        Ok(Some((least, gone)))
+    }
+
+    /// Takes the packet of a number out.
+    pub fn remove(&mut self, number: u64) -> Option<SentPacket>
+        ensures value { result ≡ packet_at self.old.packets number }
+        ensures after { self.new ≡ after_taking number self.old }
+        ensures none { IfNone result (self.new ≡ self.old) }
+    {
+        let packet = self.packets.remove(&number)?;
+        self.silent -= silent_count(self.last_eliciting, number, &packet);
+        self.sized -= size_count(&packet);
+        Some(packet)
+    }
+
+    /// Takes the packet with the least number out.
+    pub fn pop_first(&mut self) -> Option<(u64, SentPacket)>
+        ensures packets { MatchOption result (self.old.packets ≡ []) (λ entry. self.old.packets ≡ entry ∷ self.new.packets) }
+        ensures none { IfNone result (self.new ≡ self.old) }
+        ensures last { self.new.last_eliciting ≡ self.old.last_eliciting }
+    {
+        let (number, packet) = self.packets.pop_first()?;
+        self.silent -= silent_count(self.last_eliciting, number, &packet);
+        self.sized -= size_count(&packet);
+        Some((number, packet))
+    }
+
+    /// Whether some packet has a size. Constant cost.
+    pub fn has_size(&self) -> bool
+        ensures { IsTrue result ↔ HasSize self.now.packets }
+    {
+        self.sized != 0
+    }
+}
+
+/// One for a packet with a size.
+fn size_count(packet: &SentPacket) -> u64
+    ensures { result ≡ size_count packet.now }
+{
+    if packet.size == 0 { 0 } else { 1 }
+}
+
+/// One for a silent packet with a number above another, where there is one.
+fn silent_count(last: Option<u64>, number: u64, packet: &SentPacket) -> u64
+    ensures { result ≡ silent_count last (number, packet.now) }
+{
+    let is_above = match last {
+        Some(last) => last < number,
+        None => true,
+    };
+    if is_above && !packet.ack_eliciting {
+        1
+    } else {
+        0
+    }
+}
+
+/// The least number above another, or of all where there is no other.
+fn first_above(packets: &BTreeMap<u64, SentPacket>, last: Option<u64>) -> Option<u64>
+    ensures { result ≡ first_number (filter (λ entry. is_above last entry.0) packets.now.entries) }
+{
+    let least = match last {
+        Some(last) => Bound::Excluded(last),
+        None => Bound::Unbounded,
+    };
+    match packets.range((least, Bound::Unbounded)).next() {
+        Some((number, _)) => Some(*number),
+        None => None,
+    }
+}
