@@ -4,6 +4,7 @@ use Rattle.recovery_base.specs.declared.below.SpaceId.{SpaceId}
 use Rattle.recovery_base.specs.declared.below.SpaceId.TheVariants.{Initial, Handshake, Data}
 use Rattle.recovery_base.specs.Numbers.{IsNew}
 use Rattle.recovery_base.specs.Received.{Has}
+use Rattle.recovery_parts.specs.CidQueue.{remote_ids}
 use Rattle.recovery_ledger.specs.declared.paths.PathData.{PathData}
 use Rattle.quic_recovery.specs.declared.event.Event.TheVariants.{Received, Send}
 use Rattle.quic_recovery.specs.declared.event.Answer.TheVariants.{Sent}
@@ -21,10 +22,10 @@ use Rattle.recovery_ledger.specs.Tracked.{packet_sent}
 use Rattle.recovery_ledger.specs.Paths.{generation_of, paths_known}
 use Rattle.quic_recovery.specs.Replies.{reply_to}
 use Rattle.recovery_ledger.specs.Spaces.{space_of, with_space, tracking_of, acks_of, counts_of, next_number_of, HasGreatestCome, IsReceipt, SpaceStep, came, space_sends}
-use Rattle.quic_recovery.specs.State.{Changes}
+use Rattle.quic_recovery.specs.State.{Changes, Steps}
 use Rattle.recovery_ledger.proofs.AckLaws.{heard_greatest}
 use Rattle.recovery_ledger.proofs.ReceivedLaws.{fails}
-use Rattle.quic_recovery.specs.Entries.{here}
+use Rattle.quic_recovery.specs.Entries.{here, in_space, nothing}
 use Rattle.quic_recovery.specs.Logs.{StepBy}
 use Rattle.recovery_ledger.specs.SpaceLog.{SpaceEntry, heard, heard_again, sends}
 use Rattle.recovery_ledger.specs.Discarded.{is_discarded}
@@ -48,6 +49,34 @@ with_same_space spaces Initial here same = ap (with_space spaces Initial) same
 with_same_space spaces Handshake here same = ap (with_space spaces Handshake) same
 with_same_space spaces Data here same = ap (with_space spaces Data) same
 
+-- ---- frames: what an event that is something to few parts does to all of them
+
+-- an event that is nothing to any part
+pub nothing_changes : (old new : Parts) → new ≡ old → Steps nothing old new
+nothing_changes old new same = record {
+  spaces = λ space. ap (λ (p : Parts). space_of space p.spaces) same;
+  discarded = ap (λ (p : Parts). p.discarded) same;
+  frequency = ap (λ (p : Parts). p.frequency) same;
+  timers = ap (λ (p : Parts). p.timers) same;
+  remote_ids = ap (λ (p : Parts). remote_ids p.remote_cids) same;
+  local_ids = ap (λ (p : Parts). p.local_ids) same;
+  paths = ap (λ (p : Parts). paths_known p.paths) same;
+}
+
+-- an event in one space, which may change what is in flight on a path
+pub space_changes : (old : Parts) (space : SpaceId) (entry : SpaceEntry) (there : PacketSpace) (paths : OfPaths PathData)
+    → SpaceStep entry (space_of space old.spaces) there → paths_known paths ≡ paths_known old.paths
+    → Steps (in_space space entry) old (record old { spaces = with_space old.spaces space there; paths = paths })
+space_changes old space entry there paths step same = record {
+  spaces = spaces_step entry old.spaces space there step;
+  discarded = refl;
+  frequency = refl;
+  timers = refl;
+  remote_ids = refl;
+  local_ids = refl;
+  paths = same;
+}
+
 -- ---- a received packet
 
 module _ (old : Parts) (space : SpaceId) (now number : ℕ) (ack_eliciting : Bool) (there : PacketSpace) (live : is_discarded space old.discarded ≡ false) (small : ¬ (2 ^ 62 ≤ number)) where
@@ -58,38 +87,20 @@ module _ (old : Parts) (space : SpaceId) (now number : ℕ) (ack_eliciting : Boo
       → Changes old (Received space now number ack_eliciting) (reply_to receipt) (record old { spaces = with_space old.spaces space there })
   received_changes (Ok (New arm)) is grows step kept = record {
     told = (fails _ live, (small, is));
-    spaces = spaces_step (heard now number ack_eliciting arm) old.spaces space there step;
-    discarded = refl;
-    paths = refl;
-    frequency = refl;
-    timers = refl;
-    remote_ids = refl;
-    local_ids = refl;
+    steps = space_changes old space (heard now number ack_eliciting arm) there old.paths step refl;
     refused = tt;
   }
   received_changes (Ok Duplicate) is grows step kept = record {
     told = (fails _ live, (small, is));
-    spaces = spaces_step (heard_again number) old.spaces space there step;
-    discarded = refl;
-    paths = refl;
-    frequency = refl;
-    timers = refl;
-    remote_ids = refl;
-    local_ids = refl;
+    steps = space_changes old space (heard_again number) there old.paths step refl;
     refused = tt;
   }
   received_changes (Err refused) is grows step kept =
-      let same : with_space old.spaces space there ≡ old.spaces = with_same_space old.spaces space there kept in
+      let same : record old { spaces = with_space old.spaces space there } ≡ old = ap (λ (spaces : PacketSpaces). record old { spaces = spaces }) (with_same_space old.spaces space there kept) in
       record {
         told = (fails _ live, (small, grows));
-        spaces = λ s. ap (space_of s) same;
-        discarded = refl;
-        paths = refl;
-        frequency = refl;
-        timers = refl;
-        remote_ids = refl;
-        local_ids = refl;
-        refused = ap (λ (spaces : PacketSpaces). record old { spaces = spaces }) same;
+        steps = nothing_changes old (record old { spaces = with_space old.spaces space there }) same;
+        refused = same;
       }
 
 -- what a received packet changes leaves the tracked packets, and the greatest ack-eliciting number was received
@@ -109,12 +120,6 @@ module _ (old : Parts) (space : SpaceId) (now size : ℕ) (ack_eliciting : Bool)
       → Changes old (Send space now size ack_eliciting largest_acked) (Ok (Sent number forgotten)) (record old { spaces = with_space old.spaces space there; paths = paths })
   sent_changes number forgotten live small left fits is_next is_forgotten is same = record {
     told = (fails _ live, (small, ((λ most. absurd (omega arith)), (fits, ap₂ (λ n f. Sent n f) is_next is_forgotten))));
-    spaces = spaces_step (sends (packet_sent (generation_of old.paths.current) now size ack_eliciting largest_acked)) old.spaces space there is;
-    discarded = refl;
-    paths = same;
-    frequency = refl;
-    timers = refl;
-    remote_ids = refl;
-    local_ids = refl;
+    steps = space_changes old space (sends (packet_sent (generation_of old.paths.current) now size ack_eliciting largest_acked)) there paths is same;
     refused = tt;
   }

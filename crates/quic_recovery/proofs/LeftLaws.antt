@@ -12,21 +12,20 @@ use Rattle.recovery_ledger.specs.declared.paths.PathData.{PathData}
 use Rattle.recovery_ledger.specs.declared.spaces.PacketSpaces.{PacketSpaces}
 use Rattle.recovery_ledger.specs.Acks.{AckCounts, counts_by}
 use Rattle.recovery_ledger.specs.Discarded.{was_discarded, DiscardedStep, DiscardedLeft}
-use Rattle.quic_recovery.specs.Entries.{logs_after, space_entry, discard_entry, request_entry, timer_entry, remote_entry, local_entry, paths_entry}
+use Rattle.quic_recovery.specs.Entries.{Entries, logs_with}
 use Rattle.quic_recovery.specs.History.{Beginning, Reply}
 use Rattle.recovery_ledger.specs.InFlight.{in_flight}
 use Rattle.recovery_ledger.specs.Ledger.{tracked_by, IsBalanced}
 use Rattle.quic_recovery.specs.Known.{SpaceKnown, Known, Logs, known_by, tracked_known, first_ids}
-use Rattle.quic_recovery.specs.LocalHistory.{LocalStep, LocalIdsLeft}
+use Rattle.quic_recovery.specs.LocalHistory.{FirstIds, LocalStep, LocalIdsLeft}
 use Rattle.recovery_ledger.specs.Packets.{Packets}
-use Rattle.quic_recovery.specs.Logs.{answered}
 use Rattle.quic_recovery.specs.Parts.{Parts}
 use Rattle.recovery_ledger.specs.PathLog.{OfPaths, PathKnown, PathsStep, PathsLeft}
 use Rattle.recovery_ledger.specs.Paths.{generation_of, paths_known}
 use Rattle.quic_recovery.specs.RemoteHistory.{RemoteStep, RemoteIdsLeft}
 use Rattle.quic_recovery.specs.Requests.{RequestStep, FrequencyLeft}
 use Rattle.recovery_ledger.specs.Spaces.{space_of, sent_of, acks_of, counts_of, SpaceStep, SpaceLeft}
-use Rattle.quic_recovery.specs.State.{InFlightLeft, LeftBy, ChangesBy, Changes, known_to}
+use Rattle.quic_recovery.specs.State.{InFlightLeft, LeftBy, Steps, ChangesBy, Changes, known_to}
 use Rattle.quic_recovery.specs.Timers.{TimerStep, TimersLeft}
 use Rattle.recovery_ledger.specs.Tracked.{Sent, sent_by}
 use Rattle.quic_recovery.proofs.LocalIdLaws.{local_law}
@@ -97,29 +96,29 @@ changes_by_logs beginning logs old event reply new left changes =
     let P : Known → Type 0 = λ known. ChangesBy known old event reply new in
     subst P (known_same beginning logs old left) changes
 
-pub left_after : (beginning : Beginning) (logs : Logs) (old : Parts) (event : Event) (reply : Reply) (new : Parts) → LeftBy beginning logs old → ChangesBy (known_by beginning logs) old event reply new → IsBalanced new.spaces new.paths.current → LeftBy beginning (logs_after beginning event reply logs) new
-left_after beginning logs old event reply new left changes balanced = record {
+pub left_after : (beginning : Beginning) (logs : Logs) (entries : Entries) (old new : Parts) → LeftBy beginning logs old → Steps entries old new → IsBalanced new.spaces new.paths.current → LeftBy beginning (logs_with entries logs) new
+left_after beginning logs entries old new left steps balanced = record {
   spaces = spaces;
-  discarded = left_by DiscardedStep DiscardedLeft discarded_law (answered (discard_entry known) event reply) logs.discarded _ _ left.discarded changes.discarded;
+  discarded = left_by DiscardedStep DiscardedLeft discarded_law entries.discarded logs.discarded _ _ left.discarded steps.discarded;
+  frequency = left_by RequestStep (FrequencyLeft first) (request_law first) entries.requests logs.requests _ _ left.frequency steps.frequency;
+  timers = left_by TimerStep TimersLeft timer_law entries.timers logs.timers _ _ left.timers steps.timers;
+  remote_ids = left_by RemoteStep (RemoteIdsLeft initial) (remote_law initial) entries.remote_ids logs.remote_ids _ _ left.remote_ids steps.remote_ids;
+  local_ids = left_by LocalStep (LocalIdsLeft ids) (local_law ids) entries.local_ids logs.local_ids _ _ left.local_ids steps.local_ids;
   paths = paths;
-  in_flight = in_flight_law beginning (logs_after beginning event reply logs) new.spaces new.paths paths spaces balanced;
-  frequency = left_by RequestStep (FrequencyLeft first) (request_law first) (request_entry known event reply) logs.requests _ _ left.frequency changes.frequency;
-  timers = left_by TimerStep TimersLeft timer_law (answered (timer_entry known) event reply) logs.timers _ _ left.timers changes.timers;
-  remote_ids = left_by RemoteStep (RemoteIdsLeft initial) (remote_law initial) (answered (remote_entry known) event reply) logs.remote_ids _ _ left.remote_ids changes.remote_ids;
-  local_ids = left_by LocalStep (LocalIdsLeft (first_ids beginning)) (local_law (first_ids beginning)) (answered (local_entry known) event reply) logs.local_ids _ _ left.local_ids changes.local_ids;
+  in_flight = in_flight_law beginning (logs_with entries logs) new.spaces new.paths paths spaces balanced;
 }
   where
-    known : Known
-    known = known_by beginning logs
-
     first : ℕ
     first = beginning.config.max_ack_delay
 
     initial : List ℕ
     initial = beginning.config.initial_cid
 
-    spaces : (space : SpaceId) → SpaceLeft ((logs_after beginning event reply logs).spaces space) (space_of space new.spaces)
-    spaces space = left_by SpaceStep SpaceLeft space_law (answered (space_entry known space) event reply) (logs.spaces space) _ _ (left.spaces space) (changes.spaces space)
+    ids : FirstIds
+    ids = first_ids beginning
 
-    paths : PathsLeft (logs_after beginning event reply logs).paths (paths_known new.paths)
-    paths = left_by PathsStep PathsLeft paths_law (answered (paths_entry known) event reply) logs.paths _ _ left.paths changes.paths
+    spaces : (space : SpaceId) → SpaceLeft ((logs_with entries logs).spaces space) (space_of space new.spaces)
+    spaces space = left_by SpaceStep SpaceLeft space_law (entries.spaces space) (logs.spaces space) _ _ (left.spaces space) (steps.spaces space)
+
+    paths : PathsLeft (logs_with entries logs).paths (paths_known new.paths)
+    paths = left_by PathsStep PathsLeft paths_law entries.paths logs.paths _ _ left.paths steps.paths

@@ -1,5 +1,5 @@
 -- What is known of the past: values, which the state and the logs fill alike.
-use Rattle.std.specs.Prelude.{ℕ, Bool, List, Option}
+use Rattle.std.specs.Prelude.{ℕ, Bool, List, [], Option}
 use Rattle.recovery_base.specs.declared.below.SpaceId.{SpaceId}
 use Rattle.recovery_base.specs.declared.timer.Timer.{Timer}
 use Rattle.recovery_parts.specs.LocalIds.{LocalIds}
@@ -52,6 +52,9 @@ pub record Logs : Type 0 where
   pub remote_ids : List RemoteEntry
   pub local_ids : List LocalEntry
   pub paths : List (PathsEntry PathEntry)
+
+abbrev pub no_logs : Logs
+no_logs = record { spaces = λ space. []; discarded = []; requests = []; timers = []; remote_ids = []; local_ids = []; paths = [] }
 
 -- what the logs know, in a run that begins so
 abbrev pub first_ids : Beginning → FirstIds
