@@ -35,13 +35,13 @@ use Rattle.quic_recovery.proofs.RemoteIdLaws.{remote_law, remote_ids_same}
 use Rattle.recovery_ledger.proofs.SpaceLaws.{space_law}
 
 -- the packets that the spaces track are those of their logs
-tracked_same : (logs : Logs) (spaces : PacketSpaces) → ((space : SpaceId) → SpaceLeft (logs.spaces space) (space_of space spaces)) → tracked_by spaces ≡ (λ space. (sent_by (logs.spaces space)).tracked)
-tracked_same logs spaces left = fun_ext (λ space. ap (λ (s : Sent). s.tracked) (left space).sent)
+tracked_same : (start : ℕ) (logs : Logs) (spaces : PacketSpaces) → ((space : SpaceId) → SpaceLeft start (logs.spaces space) (space_of space spaces)) → tracked_by spaces ≡ (λ space. (sent_by (logs.spaces space)).tracked)
+tracked_same start logs spaces left = fun_ext (λ space. ap (λ (s : Sent). s.tracked) (left space).sent)
 
-pub in_flight_law : (beginning : Beginning) (logs : Logs) (spaces : PacketSpaces) (paths : OfPaths PathData) → PathsLeft logs.paths (paths_known paths) → ((space : SpaceId) → SpaceLeft (logs.spaces space) (space_of space spaces)) → IsBalanced spaces paths.current → InFlightLeft (known_by beginning logs) paths
+pub in_flight_law : (beginning : Beginning) (logs : Logs) (spaces : PacketSpaces) (paths : OfPaths PathData) → PathsLeft logs.paths (paths_known paths) → ((space : SpaceId) → SpaceLeft beginning.start (logs.spaces space) (space_of space spaces)) → IsBalanced spaces paths.current → InFlightLeft (known_by beginning logs) paths
 in_flight_law beginning logs spaces paths same left balanced = record {
   current = balanced.counters
-      ∙ ap (λ (tracked : SpaceId → Packets). in_flight (generation_of paths.current) tracked) (tracked_same logs spaces left)
+      ∙ ap (λ (tracked : SpaceId → Packets). in_flight (generation_of paths.current) tracked) (tracked_same beginning.start logs spaces left)
       ∙ ap (λ (known : OfPaths PathKnown). in_flight known.current.generation (tracked_known (known_by beginning logs))) same;
 }
 
@@ -117,8 +117,8 @@ left_after beginning logs entries old new left steps balanced = record {
     ids : FirstIds
     ids = first_ids beginning
 
-    spaces : (space : SpaceId) → SpaceLeft ((logs_with entries logs).spaces space) (space_of space new.spaces)
-    spaces space = left_by SpaceStep SpaceLeft space_law (entries.spaces space) (logs.spaces space) _ _ (left.spaces space) (steps.spaces space)
+    spaces : (space : SpaceId) → SpaceLeft beginning.start ((logs_with entries logs).spaces space) (space_of space new.spaces)
+    spaces space = left_by SpaceStep (SpaceLeft beginning.start) (space_law beginning.start) (entries.spaces space) (logs.spaces space) _ _ (left.spaces space) (steps.spaces space)
 
     paths : PathsLeft (logs_with entries logs).paths (paths_known new.paths)
     paths = left_by PathsStep PathsLeft paths_law entries.paths logs.paths _ _ left.paths steps.paths

@@ -2,6 +2,7 @@ pub mod Acks
 pub mod Counts
 pub mod Discarded
 pub mod InFlight
+pub mod Kept
 pub mod Ledger
 pub mod Lends
 pub mod Packets

@@ -13,6 +13,7 @@ use Rattle.recovery_ledger.specs.declared.spaces.Receipt.TheVariants.{New, Dupli
 use Rattle.recovery_ledger.specs.declared.spaces.SentPacket.{SentPacket}
 use Rattle.recovery_parts.specs.Runs.{IsInHighest}
 use Rattle.recovery_ledger.specs.Acks.{AckCounts, AcksSaid, AsksAtOnce, Arms, counts_with, acks_by}
+use Rattle.recovery_ledger.specs.Kept.{Kept, kept_by}
 use Rattle.recovery_ledger.specs.SpaceLog.{SpaceEntry, heard, heard_again, sends, acknowledged, loses, emptied, ack_goes, ack_is_late, asked}
 use Rattle.recovery_ledger.specs.Tracked.{Sent, sent_by}
 use Rattle.recovery_ledger.specs.Received.{CameIn, greatest_new}
@@ -42,6 +43,15 @@ packets_of space = (tracking_of space).packets
 -- what is known of the packets sent
 abbrev pub sent_of : PacketSpace → Sent
 sent_of space = record { next = space.next_packet_number; last = (tracking_of space).last_eliciting; tracked = packets_of space }
+
+-- what is kept of the packets sent
+abbrev pub kept_of : PacketSpace → Kept
+kept_of space = record {
+  largest = record { number = space.largest_acked_packet; sent = space.largest_acked_packet_sent };
+  last_sent = space.time_of_last_ack_eliciting_packet;
+  probes = space.loss_probes;
+  given_out = space.sent_with_keys;
+}
 
 abbrev pub acks_of : PacketSpace → Acks
 acks_of space = space.pending_acks
@@ -156,7 +166,7 @@ IsReceipt Numbers is_required counts number ack_eliciting Duplicate = ¬ IsNew N
 
 abbrev pub SpaceStep : SpaceEntry → PacketSpace → PacketSpace → Type 0
 SpaceStep (heard now number ack_eliciting arm) old new = ReceivesNew old now number ack_eliciting arm new
-SpaceStep (heard_again number) old new = ((n : ℕ) → Has old.dedup n ↔ Recent (With number (Has old.dedup)) n) × (new ≡ old)
+SpaceStep (heard_again number) old new = ((n : ℕ) → Has new.dedup n ↔ Recent (With number (Has old.dedup)) n) × (new ≡ old)
 SpaceStep (sends packet) old new = new ≡ space_sends packet old
 SpaceStep (acknowledged number) old new = SpaceAcks number old new
 SpaceStep (loses number) old new = new ≡ space_takes number old
@@ -175,9 +185,11 @@ pub record AcksLeft (said : AcksSaid) (acks : Acks) : Type 0 where
   pub silent : acks.silent ≡ said.silent
   pub largest : acks.largest ≡ said.largest
 
-pub record SpaceLeft (log : List SpaceEntry) (left : PacketSpace) : Type 0 where
+-- what a log leaves in a space that was made at this moment
+pub record SpaceLeft (start : ℕ) (log : List SpaceEntry) (left : PacketSpace) : Type 0 where
   -- a space knows the numbers that came in it, at most 128 below the greatest
   pub numbers : (n : ℕ) → Has left.dedup n ↔ Recent (CameIn log) n
   pub acks : AcksLeft (acks_by log) (acks_of left)
   pub greatest : left.rx_packet ≡ greatest_new log
   pub sent : sent_of left ≡ sent_by log
+  pub kept : kept_of left ≡ kept_by start log

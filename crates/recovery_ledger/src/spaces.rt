@@ -4,8 +4,9 @@ ghost use Rattle.recovery_base.specs.declared.below.SpaceId.{SpaceId};
 ghost use Rattle.recovery_base.specs.Numbers.{IsNew};
 ghost use Rattle.recovery_base.specs.Received.{Has};
 ghost use Rattle.recovery_parts.specs.Acks.{new_acks};
+ghost use Rattle.recovery_ledger.specs.Kept.{kept_by};
 ghost use Rattle.recovery_ledger.specs.Packets.{AreBelow, IsAboveLast, HasSize, IsTooLarge, no_packets, packet_at, silent_above, forgotten_number, entry_at, after_sending};
-ghost use Rattle.recovery_ledger.specs.Spaces.{space_of, tracking_of, with_tracking, packets_of, acks_of, with_acks, counts_of, next_number_of, after_number, after_eliciting, after_acknowledging, space_takes, HasGreatestCome, SpaceStep, IsReceipt, came, SubtractsLargest};
+ghost use Rattle.recovery_ledger.specs.Spaces.{space_of, tracking_of, with_tracking, packets_of, kept_of, acks_of, with_acks, counts_of, next_number_of, after_number, after_eliciting, after_acknowledging, space_takes, HasGreatestCome, SpaceStep, IsReceipt, came, SubtractsLargest};
 
 use crate::sent_packets::SentPackets;
 use recovery_base::below::{NoMemory, SpaceId};
@@ -76,10 +77,7 @@ impl PacketSpace {
         ensures received { result.rx_packet ≡ 0 }
         ensures packets { tracking_of result ≡ no_packets }
         ensures next { next_number_of result ≡ 0 }
-        ensures acked { result.largest_acked_packet ≡ None }
-        ensures acked_sent { result.largest_acked_packet_sent ≡ now }
-        ensures last_sent { result.time_of_last_ack_eliciting_packet ≡ None }
-        ensures counts { (result.loss_probes ≡ 0) × (result.sent_with_keys ≡ 0) }
+        ensures kept { kept_of result ≡ kept_by now [] }
     {
         PacketSpace {
             dedup: Dedup::new(),
@@ -254,7 +252,7 @@ impl PacketSpaces {
         ensures numbers { (space : SpaceId) (n : ℕ) → ¬ Has (space_of space result).dedup n }
         ensures acks { (space : SpaceId) → acks_of (space_of space result) ≡ new_acks [] }
         ensures received { (space : SpaceId) → (space_of space result).rx_packet ≡ 0 }
-        ensures acked_sent { (space : SpaceId) → (space_of space result).largest_acked_packet_sent ≡ now }
+        ensures kept { (space : SpaceId) → kept_of (space_of space result) ≡ kept_by now [] }
         ensures packets { (space : SpaceId) → tracking_of (space_of space result) ≡ no_packets }
         ensures next { (space : SpaceId) → next_number_of (space_of space result) ≡ 0 }
     {

@@ -16,7 +16,7 @@ returns c =
     let ids = local_ids_first (first_ids beginning) c.in_ok-local_cid_state.local_cid_state c.in_ok-local_cid_state.ensures.ids in
     record {
       left = record {
-        spaces = λ space. fresh_space _ (made.numbers space) (made.acks space) (made.packets space) (made.next space) (made.received space);
+        spaces = λ space. fresh_space c.args.now _ (made.numbers space) (made.acks space) (made.packets space) (made.next space) (made.received space) (made.kept space);
         discarded = search rules;
         paths = search rules;
         in_flight = search rules;
