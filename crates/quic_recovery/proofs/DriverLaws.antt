@@ -1,5 +1,5 @@
 -- What an event does to one space is a step of all three.
-use Rattle.std.proofs.Common.{◌≡◌, ℕ, ◌<◌, ◌≤◌, ◌^◌, ap₂, arith, Bool, false, IsTrue, Option, Result, IfOk, OnErr, Ok, Err, refl, sym, ap, subst}
+use Rattle.std.proofs.Common.{◌≡◌, ℕ, ◌<◌, ◌≤◌, ◌^◌, ap₂, arith, Bool, false, Option, Result, IfOk, OnErr, Ok, Err, refl, sym, ap, subst}
 use Rattle.recovery_base.specs.declared.below.SpaceId.{SpaceId}
 use Rattle.recovery_base.specs.declared.below.SpaceId.TheVariants.{Initial, Handshake, Data}
 use Rattle.recovery_base.specs.Numbers.{IsNew}
@@ -21,7 +21,7 @@ use Rattle.recovery_ledger.specs.Packets.{forgotten_number, IsTooLarge}
 use Rattle.recovery_ledger.specs.Tracked.{packet_sent}
 use Rattle.recovery_ledger.specs.Paths.{generation_of, paths_known}
 use Rattle.quic_recovery.specs.Replies.{reply_to}
-use Rattle.recovery_ledger.specs.Spaces.{space_of, with_space, tracking_of, acks_of, counts_of, next_number_of, HasGreatestCome, IsReceipt, SpaceStep, came, space_sends}
+use Rattle.recovery_ledger.specs.Spaces.{space_of, with_space, tracking_of, acks_of, counts_of, next_number_of, HasGreatestCome, IsReceipt, heard_of, SpaceStep, came, space_sends}
 use Rattle.quic_recovery.specs.State.{Changes, Steps}
 use Rattle.recovery_ledger.proofs.AckLaws.{heard_greatest}
 use Rattle.recovery_ledger.proofs.ReceivedLaws.{fails}
@@ -81,13 +81,13 @@ space_changes old space entry there paths step same = record {
 
 module _ (old : Parts) (space : SpaceId) (now number : ℕ) (ack_eliciting : Bool) (there : PacketSpace) (live : is_discarded space old.discarded ≡ false) (small : ¬ (2 ^ 62 ≤ number)) where
   pub received_changes : (receipt : Result Receipt Refused)
-      → IfOk receipt (IsReceipt (Has (space_of space old.spaces).dedup) (IsTrue (acks_of (space_of space old.spaces)).required) (counts_of (acks_of (space_of space old.spaces))) number ack_eliciting)
+      → IfOk receipt (IsReceipt (heard_of (space_of space old.spaces)) (counts_of (acks_of (space_of space old.spaces))) number ack_eliciting)
       → OnErr receipt (IsNew (Has (space_of space old.spaces).dedup) number)
       → IfOk receipt (λ r. SpaceStep (came now number ack_eliciting r) (space_of space old.spaces) there) → OnErr receipt (there ≡ space_of space old.spaces)
       → Changes old (Received space now number ack_eliciting) (reply_to receipt) (record old { spaces = with_space old.spaces space there })
   received_changes (Ok (New arm)) is grows step kept = record {
     told = (fails _ live, (small, is));
-    steps = space_changes old space (heard now number ack_eliciting arm) there old.paths step refl;
+    steps = space_changes old space (heard now number ack_eliciting) there old.paths step refl;
     refused = tt;
   }
   received_changes (Ok Duplicate) is grows step kept = record {
@@ -106,7 +106,7 @@ module _ (old : Parts) (space : SpaceId) (now number : ℕ) (ack_eliciting : Boo
 -- what a received packet changes leaves the tracked packets, and the greatest ack-eliciting number was received
 pub received_keeps : (now number : ℕ) (ack_eliciting : Bool) (receipt : Result Receipt Refused) (old new : PacketSpace) → HasGreatestCome old → IfOk receipt (λ r. SpaceStep (came now number ack_eliciting r) old new) → OnErr receipt (new ≡ old)
     → (tracking_of new ≡ tracking_of old) × (next_number_of new ≡ next_number_of old) × HasGreatestCome new
-received_keeps now number ack_eliciting (Ok (New arm)) old new come step kept = (ap tracking_of step.others, ap next_number_of step.others, heard_greatest old new now number ack_eliciting arm come step)
+received_keeps now number ack_eliciting (Ok (New arm)) old new come step kept = (ap tracking_of step.others, ap next_number_of step.others, heard_greatest old new now number ack_eliciting come step)
 received_keeps now number ack_eliciting (Ok Duplicate) old new come step kept = (ap tracking_of step.1, ap next_number_of step.1, let P : PacketSpace → Type 0 = HasGreatestCome in subst P (sym step.1) come)
 received_keeps now number ack_eliciting (Err refused) old new come step kept = (ap tracking_of kept, ap next_number_of kept, let P : PacketSpace → Type 0 = HasGreatestCome in subst P (sym kept) come)
 

@@ -43,7 +43,7 @@ in_space space entry = record nothing { spaces = λ other. here space other entr
 
 -- what an event is by its answer, and by what was known before it
 abbrev pub answered : Known → Event → Answer → Entries
-answered known (Received space now number ack_eliciting) (New arm) = in_space space (heard now number ack_eliciting arm)
+answered known (Received space now number ack_eliciting) (New arm) = in_space space (heard now number ack_eliciting)
 answered known (Received space now number ack_eliciting) answer = in_space space (heard_again number)
 answered known (Send space now size ack_eliciting largest_acked) answer = in_space space (sends (packet_sent known.paths.current.generation now size ack_eliciting largest_acked))
 answered known (Acked space now number app_limited) answer = in_space space (acknowledged number)

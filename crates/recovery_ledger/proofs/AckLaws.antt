@@ -12,7 +12,7 @@ use Rattle.recovery_ledger.specs.Acks.{AckCounts, AsksAtOnce, Arms, greatest_wit
 use Rattle.recovery_base.specs.declared.dedup.Dedup.{Dedup}
 use Rattle.recovery_ledger.specs.declared.spaces.PacketSpace.{PacketSpace}
 use Rattle.recovery_ledger.specs.declared.spaces.SentPacket.{SentPacket}
-use Rattle.recovery_ledger.specs.Spaces.{acks_of, with_acks, counts_of, after_acknowledging, HasGreatestCome, HearsNew, ReceivesNew, SubtractsLargest}
+use Rattle.recovery_ledger.specs.Spaces.{acks_of, with_acks, counts_of, after_acknowledging, heard_with, HasGreatestCome, HearsNew, ReceivesNew, SubtractsLargest}
 
 -- ---- a packet asks for an ACK at once, by one set of numbers or another
 
@@ -22,19 +22,38 @@ module _ (A B : ℕ → Type 0) (number : ℕ) (missing : (low high : ℕ) (foun
   asks_by thresholds acknowledged eliciting before greatest (inl many) = inl many
   asks_by thresholds acknowledged eliciting before greatest (inr order) = inr (out_of_order_by A (With number B) missing thresholds.1 acknowledged before greatest number order)
 
-pub same_counts : (a b : AckCounts) → a.eliciting ≡ b.eliciting → a.started ≡ b.started → a.thresholds ≡ b.thresholds → a.greatest ≡ b.greatest → a.acknowledged ≡ b.acknowledged → a ≡ b
-same_counts a b e s t g k =
-    ap (λ (x : ℕ). let c : AckCounts = record { eliciting = x; started = a.started; thresholds = a.thresholds; greatest = a.greatest; acknowledged = a.acknowledged } in c) e
-    ∙ ap (λ (x : Option ℕ). let c : AckCounts = record { eliciting = b.eliciting; started = x; thresholds = a.thresholds; greatest = a.greatest; acknowledged = a.acknowledged } in c) s
-    ∙ ap (λ (x : ℕ × ℕ). let c : AckCounts = record { eliciting = b.eliciting; started = b.started; thresholds = x; greatest = a.greatest; acknowledged = a.acknowledged } in c) t
-    ∙ ap (λ (x : Option ℕ). let c : AckCounts = record { eliciting = b.eliciting; started = b.started; thresholds = b.thresholds; greatest = x; acknowledged = a.acknowledged } in c) g
-    ∙ ap (λ (x : Option ℕ). let c : AckCounts = record { eliciting = b.eliciting; started = b.started; thresholds = b.thresholds; greatest = b.greatest; acknowledged = x } in c) k
+pub same_counts : (a b : AckCounts) → a.eliciting ≡ b.eliciting → a.thresholds ≡ b.thresholds → a.greatest ≡ b.greatest → a.acknowledged ≡ b.acknowledged → a ≡ b
+same_counts a b e t g k =
+    ap (λ (x : ℕ). let c : AckCounts = record { eliciting = x; thresholds = a.thresholds; greatest = a.greatest; acknowledged = a.acknowledged } in c) e
+    ∙ ap (λ (x : ℕ × ℕ). let c : AckCounts = record { eliciting = b.eliciting; thresholds = x; greatest = a.greatest; acknowledged = a.acknowledged } in c) t
+    ∙ ap (λ (x : Option ℕ). let c : AckCounts = record { eliciting = b.eliciting; thresholds = b.thresholds; greatest = x; acknowledged = a.acknowledged } in c) g
+    ∙ ap (λ (x : Option ℕ). let c : AckCounts = record { eliciting = b.eliciting; thresholds = b.thresholds; greatest = b.greatest; acknowledged = x } in c) k
 
 pairs : {a b c d : ℕ} → a ≡ b → c ≡ d → let p : ℕ × ℕ = (a, c) in let q : ℕ × ℕ = (b, d) in p ≡ q
 pairs {a} {b} {c} {d} first second = ap₂ (λ (x y : ℕ). let p : ℕ × ℕ = (x, y) in p) first second
 
+some_number : (m n : ℕ) → Some m ≡ Some n → m ≡ n
+some_number m n e = cc
+
 pub false_is_not_true : {A : Type 0} → false ≡ true → A
 false_is_not_true e = cc
+
+-- ---- a timer that is started or goes on
+
+unset : (base : Option ℕ) → base ≡ None → ¬ ((m : ℕ) × (base ≡ Some m))
+unset base none set = none_is_some set.0 (sym none ∙ set.1)
+  where
+    none_is_some : (m : ℕ) → None ≡ Some m → ⊥
+    none_is_some m e = cc
+
+is_none : (base : Option ℕ) → ¬ ((m : ℕ) × (base ≡ Some m)) → base ≡ None
+is_none None unset = refl
+is_none (Some m) unset = absurd (unset (m, refl))
+
+starts : (arm : Bool) (now : ℕ) (before after : Option ℕ) (Armed : Type 0) → after ≡ cond arm (Some now) before → IsTrue arm ↔ Armed → (Armed → ¬ ((m : ℕ) × (before ≡ Some m)))
+    → (m : ℕ) → (after ≡ Some m) ↔ ((before ≡ Some m) ⊎ ((m ≡ now) × Armed))
+starts true now before after Armed is arms free m = (λ same. inr (sym (some_number now m (sym is ∙ same)), arms.0 refl), λ why. elim why [ inl was ↦ absurd (free (arms.0 refl) (m, was)) | inr h ↦ is ∙ ap Some (sym h.0) ])
+starts false now before after Armed is arms free m = (λ same. inl (sym is ∙ same), λ why. elim why [ inl was ↦ is ∙ was | inr h ↦ false_is_not_true (arms.1 h.1) ])
 
 -- ---- what a new packet does, from the clauses of the two calls that it makes
 
@@ -69,12 +88,24 @@ module _ (Old New : ℕ → Type 0) (number : ℕ) (greatest : HasGreatest Old) 
         from (inl was) = receives.required.1 (inl (adds.others.0 ∙ was))
         from (inr asks) = receives.required.1 (inr (here.1 asks.1))
 
-    pub hears_eliciting : HearsNew Old old now number true arm new
+    arms_eliciting : IsTrue arm ↔ Arms (heard_with Old old) (counts_of old) number true
+    arms_eliciting = (to, from)
+      where
+        can_send : IsTrue new.required → CanSend new
+        can_send required = (required, rw (receives.others.3) adds.some)
+
+        to : IsTrue arm → Arms (heard_with Old old) (counts_of old) number true
+        to armed = let both = receives.armed.0 armed in (refl, unset old.base (sym adds.others.5 ∙ both.0), λ why. both.1 (can_send (required_eliciting.1 (elim why [ inl was ↦ inl was | inr asks ↦ inr (refl, asks) ]))))
+
+        from : Arms (heard_with Old old) (counts_of old) number true → IsTrue arm
+        from should = receives.armed.1 (adds.others.5 ∙ is_none old.base should.1, λ send. should.2 (elim (required_eliciting.0 send.0) [ inl was ↦ inl was | inr asks ↦ inr asks.1 ]))
+
+    pub hears_eliciting : HearsNew Old old now number true new
     hears_eliciting = record {
       pending = λ n. let P : Acks → Type 0 = λ a. IsPending a n ↔ IsInHighest 64 (With number (IsPending old)) n in pending n;
       required = required_eliciting;
-      arms = (to, from);
-      counts = same_counts _ _ (receives.eliciting ∙ ap counted adds.others.1) (receives.base ∙ ap (cond arm (Some now)) adds.others.5) thresholds (receives.greatest ∙ ap (λ (g : Option ℕ). Some (greatest_number g number)) adds.others.6) (receives.others.5 ∙ adds.others.7);
+      started = starts arm now old.base new.base (Arms (heard_with Old old) (counts_of old) number true) (receives.base ∙ ap (cond arm (Some now)) adds.others.5) arms_eliciting (λ should. should.1);
+      counts = same_counts _ _ (receives.eliciting ∙ ap counted adds.others.1) thresholds (receives.greatest ∙ ap (λ (g : Option ℕ). Some (greatest_number g number)) adds.others.6) (receives.others.5 ∙ adds.others.7);
       silent = receives.others.0 ∙ adds.others.2;
       largest = receives.others.4 ∙ adds.largest;
     }
@@ -85,28 +116,24 @@ module _ (Old New : ℕ → Type 0) (number : ℕ) (greatest : HasGreatest Old) 
         thresholds : (counts_of new).thresholds ≡ (counts_of old).thresholds
         thresholds = pairs (receives.others.1 ∙ adds.others.3) (receives.others.2 ∙ adds.others.4)
 
-        can_send : IsTrue new.required → CanSend new
-        can_send required = (required, rw (receives.others.3) adds.some)
-
-        to : IsTrue arm → Arms Old (IsTrue old.required) (counts_of old) number true
-        to armed = let both = receives.armed.0 armed in (refl, sym adds.others.5 ∙ both.0, λ why. both.1 (can_send (required_eliciting.1 (elim why [ inl was ↦ inl was | inr asks ↦ inr (refl, asks) ]))))
-
-        from : Arms Old (IsTrue old.required) (counts_of old) number true → IsTrue arm
-        from should = receives.armed.1 (adds.others.5 ∙ should.1, λ send. should.2 (elim (required_eliciting.0 send.0) [ inl was ↦ inl was | inr asks ↦ inr asks.1 ]))
-
-  pub hears_silent : arm ≡ false → new ≡ silent_received added → HearsNew Old old now number false arm new
-  hears_silent quiet is = rw (quiet, is) (record {
+  pub hears_silent : new ≡ silent_received added → HearsNew Old old now number false new
+  hears_silent is = rw is (record {
     pending = adds.pending;
     required = (λ was. inl (sym adds.others.0 ∙ was), λ why. elim why [ inl was ↦ adds.others.0 ∙ was | inr asks ↦ false_is_not_true asks.0 ]);
-    arms = (λ armed. false_is_not_true armed, λ should. false_is_not_true should.0);
-    counts = same_counts _ _ adds.others.1 adds.others.5 (pairs adds.others.3 adds.others.4) adds.others.6 adds.others.7;
+    started = starts false now old.base added.base (Arms (heard_with Old old) (counts_of old) number false) adds.others.5 (λ armed. false_is_not_true armed, λ should. should.0) (λ should. should.1);
+    counts = same_counts _ _ adds.others.1 (pairs adds.others.3 adds.others.4) adds.others.6 adds.others.7;
     silent = ap counted adds.others.2;
     largest = adds.largest;
   })
 
-  pub hears : (ack_eliciting : Bool) → Receives New added now number ack_eliciting arm new → HearsNew Old old now number ack_eliciting arm new
+  pub hears : (ack_eliciting : Bool) → Receives New added now number ack_eliciting arm new → HearsNew Old old now number ack_eliciting new
   hears true receives = hears_eliciting receives
-  hears false receives = hears_silent receives.0 receives.1
+  hears false receives = hears_silent receives.1
+
+  -- and when it starts the timer for a late ACK
+  pub arms : (ack_eliciting : Bool) → Receives New added now number ack_eliciting arm new → IsTrue arm ↔ Arms (heard_with Old old) (counts_of old) number ack_eliciting
+  arms true receives = arms_eliciting receives
+  arms false receives = (λ armed. false_is_not_true (sym receives.0 ∙ armed), λ should. false_is_not_true should.0)
 
 -- the greatest ack-eliciting number was reached by the numbers before, and is by those after
 pub still_reached : (Old New : ℕ → Type 0) (number : ℕ) → HasGreatest Old → ((n : ℕ) → New n ↔ Recent (With number Old) n) → (earlier now : Option ℕ) → now ≡ earlier → ((n : ℕ) → earlier ≡ Some n → ¬ Exceeds Old n) → IfSome now (HasReached New)
@@ -118,12 +145,9 @@ still_reached Old New number greatest numbers earlier (Some n) same within =
     after (inl none) = inl (λ m here. none m ((numbers m).0 here).0)
     after (inr g) = inr (g.0, (numbers g.0).1 (g.1, λ m there. let h : m ≤ g.0 = g.2 m there in omega arith), λ m here. g.2 m ((numbers m).0 here).0)
 
-some_number : (m n : ℕ) → Some m ≡ Some n → m ≡ n
-some_number m n e = cc
-
 -- the greatest ack-eliciting number was received, also when one more came
-pub heard_greatest : (old new : PacketSpace) (now number : ℕ) (ack_eliciting arm : Bool) → HasGreatestCome old → ReceivesNew old now number ack_eliciting arm new → HasGreatestCome new
-heard_greatest old new now number ack_eliciting arm come step n is exceeds = go ack_eliciting (sym (ap (λ (c : AckCounts). c.greatest) step.hears.counts) ∙ is)
+pub heard_greatest : (old new : PacketSpace) (now number : ℕ) (ack_eliciting : Bool) → HasGreatestCome old → ReceivesNew old now number ack_eliciting new → HasGreatestCome new
+heard_greatest old new now number ack_eliciting come step n is exceeds = go ack_eliciting (sym (ap (λ (c : AckCounts). c.greatest) step.hears.counts) ∙ is)
   where
     below : (k : ℕ) → (acks_of old).greatest ≡ Some k → ¬ Exceeds (Has new.dedup) k
     below k was = stays_reached (Has old.dedup) (Has new.dedup) number (has_greatest old.dedup) step.numbers k (come k was)

@@ -10,6 +10,6 @@ fails b is holds = cc
 -- the numbers that came have a greatest one
 pub came_greatest : (log : List SpaceEntry) → HasGreatest (CameIn log)
 came_greatest [] = inl (λ m here. here)
-came_greatest (heard now number ack_eliciting arm ∷ earlier) = greatest_with (CameIn earlier) number (came_greatest earlier)
+came_greatest (heard now number ack_eliciting ∷ earlier) = greatest_with (CameIn earlier) number (came_greatest earlier)
 came_greatest (heard_again number ∷ earlier) = greatest_with (CameIn earlier) number (came_greatest earlier)
 came_greatest (entry ∷ earlier) = came_greatest earlier

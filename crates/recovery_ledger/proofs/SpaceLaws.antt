@@ -15,7 +15,7 @@ use Rattle.recovery_ledger.specs.Received.{CameIn}
 use Rattle.recovery_ledger.specs.SpaceLog.{SpaceEntry, heard, heard_again, sends, acknowledged, loses, emptied, ack_goes, ack_is_late, asked}
 use Rattle.recovery_ledger.specs.Spaces.{tracking_of, kept_of, acks_of, with_acks, sent_of, after_acknowledging, space_takes, next_number_of, SpaceStep, AcksLeft, SpaceLeft}
 use Rattle.recovery_ledger.specs.Tracked.{Sent, sent_by, sent_more}
-use Rattle.recovery_ledger.proofs.HeardLaws.{heard_law, acknowledged_law, ack_goes_law, ack_is_late_law, asked_law}
+use Rattle.recovery_ledger.proofs.HeardLaws.{none_is_some, heard_law, acknowledged_law, ack_goes_law, ack_is_late_law, asked_law}
 use Rattle.recovery_ledger.proofs.ReceivedLaws.{fails, came_greatest}
 
 numbers_law : (log : List SpaceEntry) (old new : Dedup) (number : ℕ) → ((n : ℕ) → Has old n ↔ Recent (CameIn log) n) → ((n : ℕ) → Has new n ↔ Recent (With number (Has old)) n) → (n : ℕ) → Has new n ↔ Recent (With number (CameIn log)) n
@@ -56,9 +56,9 @@ kept_acks start log number packet found =
     ap (λ (p : Option SentPacket). let k : Kept = record (kept_by start log) { largest = acknowledged_with p number (largest_acknowledged start log) } in k) (sym found)
 
 pub space_law : (start : ℕ) (entry : SpaceEntry) (log : List SpaceEntry) (old new : PacketSpace) → SpaceLeft start log old → SpaceStep entry old new → SpaceLeft start (entry ∷ log) new
-space_law start (heard now number ack_eliciting arm) log old new left step = record {
+space_law start (heard now number ack_eliciting) log old new left step = record {
   numbers = numbers_law log old.dedup new.dedup number left.numbers step.numbers;
-  acks = heard_law log (acks_of old) left.acks (Has old.dedup) left.numbers now number ack_eliciting arm (acks_of new) step.hears;
+  acks = heard_law log (acks_of old) left.acks (Has old.dedup) left.numbers now number ack_eliciting (acks_of new) step.hears;
   greatest = ap (λ (s : PacketSpace). s.rx_packet) step.others ∙ ap (λ (g : ℕ). max g number) left.greatest;
   sent = ap sent_of step.others ∙ left.sent;
   kept = ap kept_of step.others ∙ left.kept;
@@ -104,7 +104,7 @@ pub fresh_space : (start : ℕ) (fresh : PacketSpace) → ((n : ℕ) → ¬ Has 
 unfolding InRanges
 fresh_space start fresh none no_acks no_tracking zero none_received none_kept = record {
   numbers = λ n. (λ here. absurd (none n here), λ here. absurd here.0);
-  acks = let P : Acks → Type 0 = AcksLeft (acks_by []) in subst P (sym no_acks) (record { pending = λ n. (λ here. here, λ here. here); required = (λ h. absurd (fails false refl h), λ h. absurd h); counts = refl; silent = refl; largest = refl });
+  acks = let P : Acks → Type 0 = AcksLeft (acks_by []) in subst P (sym no_acks) (record { pending = λ n. (λ here. here, λ here. here); required = (λ h. absurd (fails false refl h), λ h. absurd h); started = λ m. (none_is_some m, λ h. absurd h); counts = refl; silent = refl; largest = refl });
   greatest = none_received;
   kept = none_kept;
   sent =

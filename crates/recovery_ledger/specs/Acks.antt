@@ -14,20 +14,20 @@ use Rattle.recovery_ledger.specs.Tracked.{sent_by}
 -- the numbers that were new and not subtracted, cut after each to the 64 highest runs
 abbrev pub ToAcknowledge : List SpaceEntry → ℕ → Type 0
 ToAcknowledge [] n = ⊥
-ToAcknowledge (heard now number ack_eliciting arm ∷ earlier) n = IsInHighest 64 (With number (ToAcknowledge earlier)) n
+ToAcknowledge (heard now number ack_eliciting ∷ earlier) n = IsInHighest 64 (With number (ToAcknowledge earlier)) n
 ToAcknowledge (acknowledged number ∷ earlier) n = ToAcknowledge earlier n × IsTrue (is_above (largest_acked_by (packet_at (sent_by earlier).tracked number)) n)
 ToAcknowledge (entry ∷ earlier) n = ToAcknowledge earlier n
 
 -- the largest new number, with the moment when it came (RFC 9000, 13.2.5)
 abbrev pub largest_new : List SpaceEntry → Option (ℕ × ℕ)
 largest_new [] = None
-largest_new (heard now number ack_eliciting arm ∷ earlier) = largest_with (largest_new earlier) number now
+largest_new (heard now number ack_eliciting ∷ earlier) = largest_with (largest_new earlier) number now
 largest_new (entry ∷ earlier) = largest_new earlier
 
 -- how many new packets that are not ack-eliciting came since the last ACK
 abbrev pub silent_since : List SpaceEntry → ℕ
 silent_since [] = 0
-silent_since (heard now number ack_eliciting arm ∷ earlier) = if ack_eliciting then silent_since earlier else counted (silent_since earlier)
+silent_since (heard now number ack_eliciting ∷ earlier) = if ack_eliciting then silent_since earlier else counted (silent_since earlier)
 silent_since (ack_goes ∷ earlier) = 0
 silent_since (entry ∷ earlier) = silent_since earlier
 
@@ -36,8 +36,6 @@ silent_since (entry ∷ earlier) = silent_since earlier
 pub record AckCounts : Type 0 where
   -- the ack-eliciting packets since the last ACK
   pub eliciting : ℕ
-  -- when the timer for a late ACK was started since then
-  pub started : Option ℕ
   -- the most of them without an ACK at once, and the reordering threshold
   pub thresholds : ℕ × ℕ
   -- the greatest ack-eliciting number, and that at the last ACK
@@ -48,11 +46,10 @@ pub record AckCounts : Type 0 where
 abbrev pub greatest_with : Option ℕ → ℕ → ℕ
 greatest_with greatest number = max (number_or_zero greatest) number
 
--- the counts once a new packet came, which starts the timer or not
-abbrev pub counts_with : Bool → Bool → ℕ → ℕ → AckCounts → AckCounts
-counts_with ack_eliciting arm now number counts = record {
+-- the counts once a new packet came
+abbrev pub counts_with : Bool → ℕ → AckCounts → AckCounts
+counts_with ack_eliciting number counts = record {
   eliciting = (if ack_eliciting then counted counts.eliciting else counts.eliciting);
-  started = (if arm then Some now else counts.started);
   thresholds = counts.thresholds;
   greatest = (if ack_eliciting then Some (greatest_with counts.greatest number) else counts.greatest);
   acknowledged = counts.acknowledged;
@@ -60,15 +57,15 @@ counts_with ack_eliciting arm now number counts = record {
 
 -- the counts once an ACK was sent
 abbrev pub counts_acked : AckCounts → AckCounts
-counts_acked counts = record counts { eliciting = 0; started = None; acknowledged = counts.greatest }
+counts_acked counts = record counts { eliciting = 0; acknowledged = counts.greatest }
 
 -- the counts once the peer asked for other thresholds
 abbrev pub counts_asked : AckFrequency → AckCounts → AckCounts
 counts_asked frame counts = record counts { thresholds = (frame.ack_eliciting_threshold, frame.reordering_threshold) }
 
 abbrev pub counts_by : List SpaceEntry → AckCounts
-counts_by [] = record { eliciting = 0; started = None; thresholds = (1, 1); greatest = None; acknowledged = None }
-counts_by (heard now number ack_eliciting arm ∷ earlier) = counts_with ack_eliciting arm now number (counts_by earlier)
+counts_by [] = record { eliciting = 0; thresholds = (1, 1); greatest = None; acknowledged = None }
+counts_by (heard now number ack_eliciting ∷ earlier) = counts_with ack_eliciting number (counts_by earlier)
 counts_by (ack_goes ∷ earlier) = counts_acked (counts_by earlier)
 counts_by (asked frame ∷ earlier) = counts_asked frame (counts_by earlier)
 counts_by (entry ∷ earlier) = counts_by earlier
@@ -82,24 +79,46 @@ AsksAtOnce Numbers counts number =
 -- an ACK is required at once
 abbrev pub IsRequired : List SpaceEntry → Type 0
 IsRequired [] = ⊥
-IsRequired (heard now number ack_eliciting arm ∷ earlier) = IsRequired earlier ⊎ (IsTrue ack_eliciting × AsksAtOnce (CameIn earlier) (counts_by earlier) number)
+IsRequired (heard now number ack_eliciting ∷ earlier) = IsRequired earlier ⊎ (IsTrue ack_eliciting × AsksAtOnce (CameIn earlier) (counts_by earlier) number)
 IsRequired (ack_goes ∷ earlier) = ⊥
 IsRequired (ack_is_late ∷ earlier) = 0 < (counts_by earlier).eliciting
 IsRequired (entry ∷ earlier) = IsRequired earlier
 
--- the timer for a late ACK starts at a new ack-eliciting packet, where it was not started since the last ACK and no ACK is required at once
-abbrev pub Arms : (ℕ → Type 0) → Type 0 → AckCounts → ℕ → Bool → Type 0
-Arms Numbers is_required counts number ack_eliciting =
-    IsTrue ack_eliciting × (counts.started ≡ None) × ¬ (is_required ⊎ AsksAtOnce Numbers counts number)
+-- of a space: the numbers that came, whether an ACK is required at once, and whether the timer for a late ACK was started
+-- since the last ACK
+pub record Heard : Type 1 where
+  pub came : ℕ → Type 0
+  pub required : Type 0
+  pub started : Type 0
+
+-- the timer for a late ACK starts at a new ack-eliciting packet, where it was not started since the last ACK and no ACK is
+-- required at once
+abbrev pub Arms : Heard → AckCounts → ℕ → Bool → Type 0
+Arms known counts number ack_eliciting =
+    IsTrue ack_eliciting × (¬ known.started) × ¬ (known.required ⊎ AsksAtOnce known.came counts number)
+
+-- the moment when the timer for a late ACK was started since the last ACK
+abbrev pub StartedAt : List SpaceEntry → ℕ → Type 0
+StartedAt [] moment = ⊥
+StartedAt (heard now number ack_eliciting ∷ earlier) moment =
+    StartedAt earlier moment
+    ⊎ ((moment ≡ now)
+    × Arms (record { came = λ n. CameIn earlier n; required = IsRequired earlier; started = (m : ℕ) × StartedAt earlier m }) (counts_by earlier) number ack_eliciting)
+StartedAt (ack_goes ∷ earlier) moment = ⊥
+StartedAt (entry ∷ earlier) moment = StartedAt earlier moment
+
+abbrev pub heard_by : List SpaceEntry → Heard
+heard_by log = record { came = λ n. CameIn log n; required = IsRequired log; started = (m : ℕ) × StartedAt log m }
 
 -- ---- all of it
 
 pub record AcksSaid : Type 1 where
   pub pending : ℕ → Type 0
   pub required : Type 0
+  pub started : ℕ → Type 0
   pub counts : AckCounts
   pub silent : ℕ
   pub largest : Option (ℕ × ℕ)
 
 abbrev pub acks_by : List SpaceEntry → AcksSaid
-acks_by log = record { pending = λ n. ToAcknowledge log n; required = IsRequired log; counts = counts_by log; silent = silent_since log; largest = largest_new log }
+acks_by log = record { pending = λ n. ToAcknowledge log n; required = IsRequired log; started = λ m. StartedAt log m; counts = counts_by log; silent = silent_since log; largest = largest_new log }

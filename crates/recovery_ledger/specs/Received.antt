@@ -6,12 +6,12 @@ use Rattle.recovery_ledger.specs.SpaceLog.{SpaceEntry, heard, heard_again}
 -- the numbers that came
 abbrev pub CameIn : List SpaceEntry → ℕ → Type 0
 CameIn [] n = ⊥
-CameIn (heard now number ack_eliciting arm ∷ earlier) n = With number (CameIn earlier) n
+CameIn (heard now number ack_eliciting ∷ earlier) n = With number (CameIn earlier) n
 CameIn (heard_again number ∷ earlier) n = With number (CameIn earlier) n
 CameIn (entry ∷ earlier) n = CameIn earlier n
 
 -- the greatest new number, and 0 before the first
 abbrev pub greatest_new : List SpaceEntry → ℕ
 greatest_new [] = 0
-greatest_new (heard now number ack_eliciting arm ∷ earlier) = max (greatest_new earlier) number
+greatest_new (heard now number ack_eliciting ∷ earlier) = max (greatest_new earlier) number
 greatest_new (entry ∷ earlier) = greatest_new earlier

@@ -4,8 +4,8 @@ use Rattle.recovery_base.specs.declared.below.frames.AckFrequency.{AckFrequency}
 use Rattle.recovery_ledger.specs.declared.spaces.SentPacket.{SentPacket}
 
 pub data SpaceEntry : Type 0 where
-  -- a new packet came, and starts the timer for a late ACK or not
-  heard : (now number : ℕ) (ack_eliciting arm : Bool) → SpaceEntry
+  -- a new packet came
+  heard : (now number : ℕ) (ack_eliciting : Bool) → SpaceEntry
   -- a packet came that may have come before
   heard_again : (number : ℕ) → SpaceEntry
   -- a packet is sent

@@ -12,7 +12,7 @@ use Rattle.recovery_ledger.specs.declared.spaces.Receipt.{Receipt}
 use Rattle.recovery_ledger.specs.declared.spaces.Receipt.TheVariants.{New, Duplicate}
 use Rattle.recovery_ledger.specs.declared.spaces.SentPacket.{SentPacket}
 use Rattle.recovery_parts.specs.Runs.{IsInHighest}
-use Rattle.recovery_ledger.specs.Acks.{AckCounts, AcksSaid, AsksAtOnce, Arms, counts_with, acks_by}
+use Rattle.recovery_ledger.specs.Acks.{AckCounts, AcksSaid, Heard, AsksAtOnce, Arms, counts_with, acks_by}
 use Rattle.recovery_ledger.specs.Kept.{Kept, kept_by}
 use Rattle.recovery_ledger.specs.SpaceLog.{SpaceEntry, heard, heard_again, sends, acknowledged, loses, emptied, ack_goes, ack_is_late, asked}
 use Rattle.recovery_ledger.specs.Tracked.{Sent, sent_by}
@@ -63,7 +63,6 @@ with_acks acks space = record space { pending_acks = acks }
 abbrev pub counts_of : Acks → AckCounts
 counts_of acks = record {
   eliciting = acks.eliciting;
-  started = acks.base;
   thresholds = (acks.threshold, acks.reordering);
   greatest = acks.greatest;
   acknowledged = acks.acknowledged;
@@ -103,18 +102,25 @@ after_acknowledging number sent space = record space {
 
 -- ---- what an event does to its space
 
+-- what is known of the packets that came, where these are the numbers
+abbrev pub heard_with : (ℕ → Type 0) → Acks → Heard
+heard_with Numbers acks = record { came = Numbers; required = IsTrue acks.required; started = (m : ℕ) × (acks.base ≡ Some m) }
+
+abbrev pub heard_of : PacketSpace → Heard
+heard_of space = heard_with (Has space.dedup) (acks_of space)
+
 -- a new number came and is to be acknowledged
-pub record HearsNew (Numbers : ℕ → Type 0) (old : Acks) (now number : ℕ) (ack_eliciting arm : Bool) (new : Acks) : Type 0 where
+pub record HearsNew (Numbers : ℕ → Type 0) (old : Acks) (now number : ℕ) (ack_eliciting : Bool) (new : Acks) : Type 0 where
   pub pending : (n : ℕ) → IsPending new n ↔ IsInHighest 64 (With number (IsPending old)) n
   pub required : IsTrue new.required ↔ (IsTrue old.required ⊎ (IsTrue ack_eliciting × AsksAtOnce Numbers (counts_of old) number))
-  pub arms : IsTrue arm ↔ Arms Numbers (IsTrue old.required) (counts_of old) number ack_eliciting
-  pub counts : counts_of new ≡ counts_with ack_eliciting arm now number (counts_of old)
+  pub started : (m : ℕ) → (new.base ≡ Some m) ↔ ((old.base ≡ Some m) ⊎ ((m ≡ now) × Arms (heard_with Numbers old) (counts_of old) number ack_eliciting))
+  pub counts : counts_of new ≡ counts_with ack_eliciting number (counts_of old)
   pub silent : new.silent ≡ (if ack_eliciting then old.silent else counted old.silent)
   pub largest : new.largest ≡ largest_with old.largest number now
 
-pub record ReceivesNew (old : PacketSpace) (now number : ℕ) (ack_eliciting arm : Bool) (new : PacketSpace) : Type 0 where
+pub record ReceivesNew (old : PacketSpace) (now number : ℕ) (ack_eliciting : Bool) (new : PacketSpace) : Type 0 where
   pub numbers : (n : ℕ) → Has new.dedup n ↔ Recent (With number (Has old.dedup)) n
-  pub hears : HearsNew (Has old.dedup) (acks_of old) now number ack_eliciting arm (acks_of new)
+  pub hears : HearsNew (Has old.dedup) (acks_of old) now number ack_eliciting (acks_of new)
   pub others : new ≡ record old { dedup = new.dedup; pending_acks = new.pending_acks; rx_packet = max old.rx_packet number }
 
 -- a packet was sent under the next number
@@ -156,16 +162,16 @@ space_asked frame space = with_acks (with_thresholds frame.ack_eliciting_thresho
 
 -- a packet came in
 abbrev pub came : ℕ → ℕ → Bool → Receipt → SpaceEntry
-came now number ack_eliciting (New arm) = heard now number ack_eliciting arm
+came now number ack_eliciting (New arm) = heard now number ack_eliciting
 came now number ack_eliciting Duplicate = heard_again number
 
 -- what a received packet is, by the numbers that came before it and by what decides of the next ACK
-abbrev pub IsReceipt : (ℕ → Type 0) → Type 0 → AckCounts → ℕ → Bool → Receipt → Type 0
-IsReceipt Numbers is_required counts number ack_eliciting (New arm) = IsNew Numbers number × (IsTrue arm ↔ Arms Numbers is_required counts number ack_eliciting)
-IsReceipt Numbers is_required counts number ack_eliciting Duplicate = ¬ IsNew Numbers number
+abbrev pub IsReceipt : Heard → AckCounts → ℕ → Bool → Receipt → Type 0
+IsReceipt known counts number ack_eliciting (New arm) = IsNew known.came number × (IsTrue arm ↔ Arms known counts number ack_eliciting)
+IsReceipt known counts number ack_eliciting Duplicate = ¬ IsNew known.came number
 
 abbrev pub SpaceStep : SpaceEntry → PacketSpace → PacketSpace → Type 0
-SpaceStep (heard now number ack_eliciting arm) old new = ReceivesNew old now number ack_eliciting arm new
+SpaceStep (heard now number ack_eliciting) old new = ReceivesNew old now number ack_eliciting new
 SpaceStep (heard_again number) old new = ((n : ℕ) → Has new.dedup n ↔ Recent (With number (Has old.dedup)) n) × (new ≡ old)
 SpaceStep (sends packet) old new = new ≡ space_sends packet old
 SpaceStep (acknowledged number) old new = SpaceAcks number old new
@@ -181,6 +187,7 @@ SpaceStep (asked frame) old new = new ≡ space_asked frame old
 pub record AcksLeft (said : AcksSaid) (acks : Acks) : Type 0 where
   pub pending : (n : ℕ) → IsPending acks n ↔ said.pending n
   pub required : IsTrue acks.required ↔ said.required
+  pub started : (m : ℕ) → (acks.base ≡ Some m) ↔ said.started m
   pub counts : counts_of acks ≡ said.counts
   pub silent : acks.silent ≡ said.silent
   pub largest : acks.largest ≡ said.largest

@@ -6,7 +6,7 @@ ghost use Rattle.recovery_base.specs.Received.{Has};
 ghost use Rattle.recovery_parts.specs.Acks.{new_acks};
 ghost use Rattle.recovery_ledger.specs.Kept.{kept_by};
 ghost use Rattle.recovery_ledger.specs.Packets.{AreBelow, IsAboveLast, HasSize, IsTooLarge, no_packets, packet_at, silent_above, forgotten_number, entry_at, after_sending};
-ghost use Rattle.recovery_ledger.specs.Spaces.{space_of, tracking_of, with_tracking, packets_of, kept_of, acks_of, with_acks, counts_of, next_number_of, after_number, after_eliciting, after_acknowledging, space_takes, HasGreatestCome, SpaceStep, IsReceipt, came, SubtractsLargest};
+ghost use Rattle.recovery_ledger.specs.Spaces.{space_of, tracking_of, with_tracking, packets_of, kept_of, acks_of, with_acks, counts_of, next_number_of, after_number, after_eliciting, after_acknowledging, space_takes, HasGreatestCome, SpaceStep, IsReceipt, heard_of, came, SubtractsLargest};
 
 use crate::sent_packets::SentPackets;
 use recovery_base::below::{NoMemory, SpaceId};
@@ -133,7 +133,7 @@ impl PacketSpace {
     ) -> Result<Receipt, NoMemory>
         requires number { number < 2 ^ 62 }
         requires received { HasGreatestCome self.old }
-        ensures receipt { IfOk result (IsReceipt (Has self.old.dedup) (IsTrue (acks_of self.old).required) (counts_of (acks_of self.old)) number ack_eliciting) }
+        ensures receipt { IfOk result (IsReceipt (heard_of self.old) (counts_of (acks_of self.old)) number ack_eliciting) }
         ensures grows { OnErr result (IsNew (Has self.old.dedup) number) }
         ensures step { IfOk result (λ receipt. SpaceStep (came now number ack_eliciting receipt) self.old self.new) }
         ensures refused { OnErr result (self.new ≡ self.old) }

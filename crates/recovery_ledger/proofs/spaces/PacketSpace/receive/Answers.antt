@@ -1,7 +1,7 @@
 use Rattle.std.proofs.Common.{refl}
 use Rattle.recovery_base.proofs.MissingLaws.{has_greatest}
 use Rattle.recovery_base.specs.Received.{Has}
-use Rattle.recovery_ledger.proofs.AckLaws.{hears, still_reached}
+use Rattle.recovery_ledger.proofs.AckLaws.{arms, hears, still_reached}
 use Rattle.recovery_ledger.proofs.spaces.PacketSpace.receive.Goals as goal
 
 pub packet_received-arm-requires-clause-earlier : goal.packet_received-arm-requires-clause-earlier
@@ -16,4 +16,4 @@ returns-clause-step c = record {
 }
 
 pub returns-clause-receipt : goal.returns-clause-receipt
-returns-clause-receipt c = (c.if-insert.ensures.inserts.answer, (hears (Has c.args.self.now.dedup) (Has c.insert.new.self) c.args.number (has_greatest c.args.self.now.dedup) c.insert.ensures.inserts.numbers _ _ _ c.args.now c.packet_received-arm.result c.in-Ok.ensures.inserts c.args.ack_eliciting c.packet_received-arm.ensures.receives).arms)
+returns-clause-receipt c = (c.if-insert.ensures.inserts.answer, arms (Has c.args.self.now.dedup) (Has c.insert.new.self) c.args.number (has_greatest c.args.self.now.dedup) c.insert.ensures.inserts.numbers _ _ _ c.args.now c.packet_received-arm.result c.in-Ok.ensures.inserts c.args.ack_eliciting c.packet_received-arm.ensures.receives)
