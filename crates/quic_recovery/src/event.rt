@@ -11,7 +11,7 @@ use std::ops::Range;
 use thiserror::Error;
 
 /// Which path an event is about.
-#[derive(Clone, Copy, Debug, PartialEq, Eq)]
+#[derive(Clone, Copy)]
 pub enum PathName {
     /// The path in use.
     Current,
@@ -20,7 +20,7 @@ pub enum PathName {
 }
 
 /// What happens.
-#[derive(Debug, PartialEq, Eq, Drop)]
+#[derive(Drop)]
 pub enum Event {
     /// A packet came in (RFC 9000, 12.3). Refused by `SpaceDiscarded`, by `NumberTooLarge` where the number is 2^62 or
     /// more, then by `NoMemory`; a duplicate takes no memory.
@@ -136,7 +136,7 @@ pub enum Event {
 }
 
 /// What an event that is not refused is answered.
-#[derive(Clone, Debug, PartialEq, Eq, Drop)]
+#[derive(PartialEq, Eq, Drop)]
 pub enum Answer {
     /// The packet is new.
     New {

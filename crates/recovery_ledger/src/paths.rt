@@ -11,7 +11,7 @@ use recovery_base::below::NoMemory;
 use thiserror::Error;
 
 /// What is in flight on a path: packets that were sent on it and are tracked.
-#[derive(Clone, Copy, Debug, Default, PartialEq, Eq)]
+#[derive(Clone, Copy, Default, PartialEq, Eq)]
 pub struct InFlight {
     /// The sum of their sizes, in bytes.
     pub bytes: u64,
@@ -45,7 +45,7 @@ impl InFlight {
 }
 
 /// Why a packet could not be sent on a path. It is dropped then, and nothing else has changed.
-#[derive(Clone, Copy, Debug, PartialEq, Eq, Error)]
+#[derive(Clone, Copy, Debug, Error)]
 pub enum LedgerError {
     /// A growth was refused by the allocator.
     #[error("out of memory")]
@@ -56,7 +56,7 @@ pub enum LedgerError {
 }
 
 /// What is kept for one path.
-#[derive(Clone, Copy, Debug)]
+#[derive(Drop)]
 pub struct PathData {
     generation: u64,
     in_flight: InFlight,

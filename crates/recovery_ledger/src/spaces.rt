@@ -20,7 +20,7 @@ use std::ops::{Index, IndexMut};
 pub const NUMBER_LIMIT: u64 = 1 << 62;
 
 /// A packet that was sent and is tracked: not yet acknowledged, lost, forgotten or discarded (RFC 9002, A.1.1).
-#[derive(Debug, PartialEq, Eq, Drop)]
+#[derive(Drop)]
 pub struct SentPacket {
     /// The generation of the path that it went by.
     pub path_generation: u64,

@@ -1,0 +1,49 @@
+//! The events of ACKs (RFC 9000, 13.2; the QUIC ACK frequency extension).
+
+use crate::driver::Recovery;
+use crate::event::{Answer, Refusal};
+use recovery_base::below::{AckFrequency, SpaceId};
+
+impl Recovery {
+    ghost use Rattle.quic_recovery.specs.declared.event.Event.TheVariants.{AckFrequencyIn, AcksSent, AckDelayTimeout};
+    ghost use Rattle.quic_recovery.specs.State.{parts_of, Changes};
+
+    /// The peer asks for fewer ACKs.
+    pub(super) fn ack_frequency_in(&mut self, frame: AckFrequency) -> Result<Answer, Refusal>
+        ensures { Changes (parts_of self.old) (AckFrequencyIn frame) result (parts_of self.new) }
+    {
+        if self.discarded.contains(SpaceId::Data) {
+            return Err(Refusal::SpaceDiscarded);
+        }
+        let here = &mut self.spaces[SpaceId::Data];
+        match self
+            .ack_frequency
+            .ack_frequency_received(&frame, &mut here.pending_acks)
+        {
+            Ok(is_newer) => Ok(Answer::Flag(is_newer)),
+            Err(_) => Err(Refusal::DelayTooSmall),
+        }
+    }
+
+    /// An ACK is sent (RFC 9000, 13.2).
+    pub(super) fn acks_sent(&mut self, space: SpaceId) -> Result<Answer, Refusal>
+        ensures { Changes (parts_of self.old) (AcksSent space) result (parts_of self.new) }
+    {
+        if self.discarded.contains(space) {
+            return Err(Refusal::SpaceDiscarded);
+        }
+        self.spaces[space].pending_acks.acks_sent();
+        Ok(Answer::Done)
+    }
+
+    /// The timer for a late ACK expired (RFC 9000, 13.2.1).
+    pub(super) fn ack_delay_timeout(&mut self, space: SpaceId) -> Result<Answer, Refusal>
+        ensures { Changes (parts_of self.old) (AckDelayTimeout space) result (parts_of self.new) }
+    {
+        if self.discarded.contains(space) {
+            return Err(Refusal::SpaceDiscarded);
+        }
+        self.spaces[space].pending_acks.on_max_ack_delay_timeout();
+        Ok(Answer::Done)
+    }
+}

@@ -1,0 +1,172 @@
+//! The events of packets and spaces (RFC 9000, 12.3 and 13; RFC 9002, A).
+ghost use Rattle.std.specs.Prelude.{◌≡◌, ◌↔◌, IsTrue};
+ghost use Rattle.recovery_ledger.specs.Packets.{entry_number, IsTooLarge};
+ghost use Rattle.quic_recovery.specs.Replies.{reply_to};
+
+use crate::driver::Recovery;
+use crate::event::{Answer, PathName, Refusal};
+use recovery_base::below::{NoMemory, SpaceId};
+use recovery_base::time::Instant;
+use recovery_ledger::paths::LedgerError;
+use recovery_ledger::spaces::{NUMBER_LIMIT, Receipt, SentPacket};
+
+impl Recovery {
+    ghost use Rattle.quic_recovery.specs.declared.event.Event.TheVariants.{Received, Send, Acked, Lost, DiscardSpace, InFlight};
+    ghost use Rattle.quic_recovery.specs.State.{parts_of, known_to, heard_to, Changes};
+    ghost use Rattle.quic_recovery.specs.Told.{ToldBy};
+
+    /// A packet comes in (RFC 9000, 12.3).
+    pub(super) fn received(
+        &mut self,
+        space: SpaceId,
+        now: Instant,
+        number: u64,
+        ack_eliciting: bool,
+    ) -> Result<Answer, Refusal>
+        ensures { Changes (parts_of self.old) (Received space now number ack_eliciting) result (parts_of self.new) }
+    {
+        if self.discarded.contains(space) {
+            return Err(Refusal::SpaceDiscarded);
+        }
+        if number >= NUMBER_LIMIT {
+            return Err(Refusal::NumberTooLarge);
+        }
+        reply_to(self.spaces[space].receive(now, number, ack_eliciting))
+    }
+
+    /// A packet is sent (RFC 9002, A.5).
+    pub(super) fn send(
+        &mut self,
+        space: SpaceId,
+        now: Instant,
+        size: u16,
+        ack_eliciting: bool,
+        largest_acked: Option<u64>,
+    ) -> Result<Answer, Refusal>
+        ensures { Changes (parts_of self.old) (Send space now size ack_eliciting largest_acked) result (parts_of self.new) }
+    {
+        if self.discarded.contains(space) {
+            return Err(Refusal::SpaceDiscarded);
+        }
+        if is_too_large(largest_acked) {
+            return Err(Refusal::NumberTooLarge);
+        }
+        let packet = SentPacket {
+            path_generation: self.current.generation(),
+            time_sent: now,
+            size,
+            ack_eliciting,
+            largest_acked,
+        };
+        let here = &mut self.spaces[space];
+        let number = here.next_packet_number();
+        if number >= NUMBER_LIMIT {
+            return Err(Refusal::NumbersExhausted);
+        }
+        let forgotten = match self.current.sent(number, packet, here) {
+            Ok(forgotten) => forgotten,
+            Err(LedgerError::NoMemory) => return Err(Refusal::NoMemory),
+            Err(LedgerError::Overflow) => return Err(Refusal::Overflow),
+        };
+        here.on_sent(ack_eliciting, now);
+        Ok(Answer::Sent {
+            number,
+            forgotten: number_of(&forgotten),
+        })
+    }
+
+    /// A packet is acknowledged (RFC 9002, A.7).
+    pub(super) fn acked(
+        &mut self,
+        space: SpaceId,
+        now: Instant,
+        number: u64,
+        app_limited: bool,
+    ) -> Result<Answer, Refusal>
+        ensures { Changes (parts_of self.old) (Acked space now number app_limited) result (parts_of self.new) }
+    {
+        if self.discarded.contains(space) {
+            return Err(Refusal::SpaceDiscarded);
+        }
+        let here = &mut self.spaces[space];
+        let Some(packet) = here.take(number) else {
+            return Err(Refusal::NotTracked);
+        };
+        here.on_acked(number, &packet);
+        self.current.remove_in_flight(&packet);
+        Ok(Answer::Acked { probe: false })
+    }
+
+    /// A packet is lost (RFC 9002, A.10).
+    pub(super) fn lost(&mut self, space: SpaceId, number: u64) -> Result<Answer, Refusal>
+        ensures { Changes (parts_of self.old) (Lost space number) result (parts_of self.new) }
+    {
+        if self.discarded.contains(space) {
+            return Err(Refusal::SpaceDiscarded);
+        }
+        let Some(packet) = self.spaces[space].take(number) else {
+            return Err(Refusal::NotTracked);
+        };
+        self.current.remove_in_flight(&packet);
+        Ok(Answer::Lost { probe: false })
+    }
+
+    /// The keys of a space are dropped (RFC 9001, 4.9).
+    pub(super) fn discard(&mut self, space: SpaceId) -> Result<Answer, Refusal>
+        ensures { Changes (parts_of self.old) (DiscardSpace space) result (parts_of self.new) }
+    {
+        if self.discarded.contains(space) {
+            return Err(Refusal::SpaceDiscarded);
+        }
+        self.current.forget_all(&mut self.spaces[space]);
+        self.discarded.insert(space);
+        Ok(Answer::Done)
+    }
+
+    /// What is in flight on a path? (RFC 9002, B.2)
+    pub(super) fn in_flight(&self, path: PathName) -> Result<Answer, Refusal>
+        ensures { ToldBy (heard_to (parts_of self.now)) (known_to (parts_of self.now)) (InFlight path) result }
+    {
+        match path {
+            PathName::Current => {
+                let counters = self.current.in_flight();
+                Ok(Answer::InFlight {
+                    bytes: counters.bytes,
+                    ack_eliciting: counters.ack_eliciting,
+                })
+            }
+            PathName::Previous => Err(Refusal::NoSuchPath),
+        }
+    }
+}
+
+/// What a packet that came in is answered.
+fn reply_to(receipt: Result<Receipt, NoMemory>) -> Result<Answer, Refusal>
+    ensures { result ≡ reply_to receipt }
+{
+    match receipt {
+        Ok(Receipt::New { arm }) => Ok(Answer::New { arm }),
+        Ok(Receipt::Duplicate) => Ok(Answer::Duplicate),
+        Err(NoMemory) => Err(Refusal::NoMemory),
+    }
+}
+
+/// Whether a number is given that is none of a packet (RFC 9000, 12.3).
+fn is_too_large(number: Option<u64>) -> bool
+    ensures { IsTrue result ↔ IsTooLarge number }
+{
+    match number {
+        Some(number) => number >= NUMBER_LIMIT,
+        None => false,
+    }
+}
+
+/// The number of a packet that was handed back with it.
+fn number_of(forgotten: &Option<(u64, SentPacket)>) -> Option<u64>
+    ensures { result ≡ entry_number forgotten.now }
+{
+    match forgotten {
+        Some((number, _)) => Some(*number),
+        None => None,
+    }
+}
