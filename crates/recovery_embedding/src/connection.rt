@@ -1,0 +1,110 @@
+//! One end of a connection, as far as its loss recovery sees it.
+ghost use Rattle.std.specs.Prelude.{◌≡◌};
+
+use quic_recovery::below::{ConnectionId, SpaceId};
+use quic_recovery::time::{Duration, Instant};
+use quic_recovery::timer::Timer;
+use quic_recovery::{Answer, Event, Recovery, RecoveryConfig, Refusal};
+
+/// How late this end's ACKs may be (RFC 9000, 18.2: max_ack_delay).
+const MAX_ACK_DELAY: u64 = 25;
+
+/// What the recovery starts with: ids of eight bytes that last for ten seconds, one of them issued.
+pub fn config() -> RecoveryConfig
+    ensures { result.issued ≡ 1 }
+{
+    RecoveryConfig {
+        max_ack_delay: Duration::from_millis(MAX_ACK_DELAY),
+        initial_cid: ConnectionId::new(&[0xff; 8]),
+        cid_len: 8,
+        cid_lifetime: Some(Duration::from_secs(10)),
+        issued: 1,
+    }
+}
+
+/// One end of a connection.
+#[derive(Drop)]
+pub struct Connection {
+    recovery: Recovery,
+}
+
+impl Connection {
+    pub fn new(recovery: Recovery) -> Self {
+        Connection { recovery }
+    }
+
+    /// Sends an ack-eliciting packet. The table of replies says that the answer is its number: no other arm can come.
+    pub fn send(&mut self, now: Instant, size: u16) -> Result<u64, Refusal> {
+        let packet = Event::Send {
+            space: SpaceId::Data,
+            now,
+            size,
+            ack_eliciting: true,
+            largest_acked: None,
+        };
+        match self.recovery.apply(packet) {
+            Ok(Answer::Sent { number, .. }) => Ok(number),
+            Ok(_) => unreachable!(),
+            Err(refusal) => Err(refusal),
+        }
+    }
+
+    /// A packet comes in: whether it is new. Where the answer says so, the timer for a late ACK is set.
+    pub fn hear(&mut self, now: Instant, number: u64) -> Result<bool, Refusal> {
+        let packet = Event::Received {
+            space: SpaceId::Data,
+            now,
+            number,
+            ack_eliciting: true,
+        };
+        let arm = match self.recovery.apply(packet) {
+            Ok(Answer::New { arm }) => arm,
+            Ok(_) => return Ok(false),
+            Err(refusal) => return Err(refusal),
+        };
+        if arm {
+            self.tell(Event::SetTimer {
+                timer: Timer::MaxAckDelay,
+                time: now + Duration::from_millis(MAX_ACK_DELAY),
+            })?;
+        }
+        Ok(true)
+    }
+
+    /// The peer acknowledges a packet.
+    pub fn acknowledged(&mut self, now: Instant, number: u64) -> Result<(), Refusal> {
+        self.tell(Event::Acked {
+            space: SpaceId::Data,
+            now,
+            number,
+            app_limited: false,
+        })
+    }
+
+    /// The stack holds a packet for lost, and sends what was in it again, under another number.
+    pub fn lost(&mut self, now: Instant, number: u64) -> Result<u64, Refusal> {
+        self.tell(Event::Lost {
+            space: SpaceId::Data,
+            number,
+        })?;
+        self.send(now, 1200)
+    }
+
+    /// An event whose answer asks for nothing.
+    fn tell(&mut self, event: Event) -> Result<(), Refusal> {
+        match self.recovery.apply(event) {
+            Ok(_) => Ok(()),
+            Err(refusal) => Err(refusal),
+        }
+    }
+
+    /// The bytes in flight on the path in use.
+    pub fn in_flight(&self) -> u64 {
+        self.recovery.current().in_flight().bytes
+    }
+
+    /// When the next timer expires.
+    pub fn next_timeout(&self) -> Option<Instant> {
+        self.recovery.timers().next_timeout()
+    }
+}

@@ -1,0 +1,63 @@
+//! A loss recovery in a QUIC stack: which events the stack hands in, and what it does with the answers.
+//! docs/EMBEDDING.md walks through it.
+#![tactic(auto)]
+
+mod connection;
+
+use connection::Connection;
+use quic_recovery::time::{Duration, Instant};
+use quic_recovery::{Recovery, Refusal};
+use std::io;
+use thiserror::Error;
+
+/// Why the example ends early.
+#[derive(Debug, Drop, Error)]
+enum Failure {
+    #[error("refused: {0}")]
+    Refused(#[from] Refusal),
+    #[error("cannot be written: {0}")]
+    Io(#[from] io::Error),
+    #[error("out of memory")]
+    NoMemory,
+}
+
+fn at(millis: u64) -> Instant {
+    Instant::from_nanos(0) + Duration::from_millis(millis)
+}
+
+/// Three packets go out, one comes in, two are acknowledged and one is lost.
+fn exchange(rt: &impl Print, connection: &mut Connection) -> Result<(), Failure> {
+    for millis in 0..3 {
+        let number = connection.send(at(millis), 1200)?;
+        println!(rt; "sent {number}")?;
+    }
+    let is_new = connection.hear(at(10), 0)?;
+    println!(rt; "heard 0, new: {is_new}")?;
+    connection.acknowledged(at(20), 0)?;
+    connection.acknowledged(at(20), 2)?;
+    let again = connection.lost(at(20), 1)?;
+    println!(rt; "lost 1, sent again as {again}")?;
+    if let Err(refusal) = connection.acknowledged(at(21), 2) {
+        println!(rt; "2 is acknowledged again: {refusal}")?;
+    }
+    Ok(())
+}
+
+fn run(rt: &HostRuntime) -> Result<(), Failure> {
+    let config = connection::config();
+    let Ok(recovery) = Recovery::new(rt.alloc(), config, at(0)) else {
+        return Err(Failure::NoMemory);
+    };
+    let mut connection = Connection::new(recovery);
+    exchange(rt, &mut connection)?;
+    let in_flight = connection.in_flight();
+    println!(rt; "in flight: {in_flight} bytes")?;
+    if let Some(moment) = connection.next_timeout() {
+        println!(rt; "the next timer expires after {} ns", moment.as_nanos())?;
+    }
+    Ok(())
+}
+
+fn main(rt: HostRuntime) -> Result<(), Failure> {
+    run(&rt)
+}
