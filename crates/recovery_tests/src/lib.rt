@@ -1,0 +1,5 @@
+//! Tests of all crates, in a crate of their own: a crate without tests is proved once.
+#![tactic(auto)]
+
+#[cfg(test)]
+mod driver;
