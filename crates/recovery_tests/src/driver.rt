@@ -149,6 +149,13 @@ fn told(rt: &impl Abort, recovery: &mut Recovery, row: u64, event: Event, want: 
     same(rt, row, &reply, &want);
 }
 
+/// Asserts what the events of a run are replied, one a row.
+fn check<const N: usize>(rt: &impl Abort, alloc: Global, rows: [(Event, Reply); N])
+    requires { N < 1000 }
+{
+    walk(rt, alloc, rows);
+}
+
 /// Asserts what the events of a run are replied, one a row, and hands back what they leave.
 fn walk<const N: usize>(rt: &impl Abort, alloc: Global, rows: [(Event, Reply); N]) -> Recovery
     requires { N < 1000 }
@@ -201,8 +208,8 @@ fn kept<'a>(rt: &impl Abort, recovery: &'a Recovery, space: SpaceId) -> &'a Pack
 #[test]
 fn run_answers_with_memory(rt: HostRuntime) {
     let data = SpaceId::Data;
-    walk(&rt, rt.alloc(), []);
-    walk(
+    check(&rt, rt.alloc(), []);
+    check(
         &rt,
         rt.alloc(),
         [
@@ -210,7 +217,7 @@ fn run_answers_with_memory(rt: HostRuntime) {
             (received(data, 0, true), DUPLICATE),
         ],
     );
-    walk(
+    check(
         &rt,
         rt.alloc(),
         [
@@ -225,7 +232,7 @@ fn run_answers_with_memory(rt: HostRuntime) {
 #[test]
 fn run_answers_at_the_ends(rt: HostRuntime) {
     let data = SpaceId::Data;
-    walk(
+    check(
         &rt,
         rt.alloc(),
         [
@@ -235,7 +242,7 @@ fn run_answers_at_the_ends(rt: HostRuntime) {
             (received(data, 172, false), DUPLICATE),
         ],
     );
-    walk(
+    check(
         &rt,
         rt.alloc(),
         [
@@ -325,7 +332,7 @@ fn the_least_of_1001_silent_packets_is_forgotten(rt: HostRuntime) {
 
 #[test]
 fn a_refused_event_leaves_no_trace(rt: HostRuntime) {
-    walk(
+    check(
         &rt,
         rt.alloc(),
         [

@@ -146,7 +146,7 @@ fn ids_of_this_end_come_and_go(rt: HostRuntime) {
 
 #[test]
 fn a_number_is_retired_once(rt: HostRuntime) {
-    walk(
+    check(
         &rt,
         rt.alloc(),
         [(peer_retired(0, 1), YES), (peer_retired(0, 0), NO)],
@@ -155,7 +155,7 @@ fn a_number_is_retired_once(rt: HostRuntime) {
 
 #[test]
 fn ids_of_one_moment_have_one_deadline(rt: HostRuntime) {
-    walk(
+    check(
         &rt,
         rt.alloc(),
         [

@@ -2,6 +2,7 @@
 //! their allocations refused in turn, and wants each of them to pass, or to end in `LEFT_NO_TRACE`.
 use super::*;
 use quic_recovery::spaces::SentPacket;
+use recovery_base::below::NoMemory;
 
 /// How a test ends that was refused memory, where nothing else was wrong.
 const LEFT_NO_TRACE: &str = "memory was refused, and that left no trace";
@@ -76,26 +77,35 @@ fn a_refused_send_leaves_no_trace(rt: HostRuntime) -> Result<(), Fail> {
     end(is_refused)
 }
 
-#[test]
-fn a_run_goes_on_after_refused_memory(rt: HostRuntime) -> Result<(), Fail> {
-    let Ok(mut events) = Vec::with_capacity(rt.alloc(), 20) else {
-        return end(true);
-    };
+fn twenty_sends(alloc: Global) -> Result<Vec<Event>, NoMemory> {
+    let mut events = Vec::with_capacity(alloc, 20)?;
     for _ in 0..20u64 {
-        if events.push(send(SpaceId::Data, 500, true)).is_err() {
-            return end(true);
-        }
+        events.push(send(SpaceId::Data, 500, true))?;
     }
-    let Ok((mut recovery, replies)) = Recovery::run(rt.alloc(), settings(8), at(0), events) else {
-        return end(true);
-    };
+    Ok(events)
+}
+
+/// Asserts that each packet that was not refused has the next number: how many there are.
+fn count_sent(rt: &impl Abort, replies: &[Reply]) -> u64 {
     let mut next = 0u64;
-    for reply in replies.as_slice() {
+    for reply in replies {
         if *reply != NO_MEMORY {
             assert!(rt; *reply == sent(next, None), "at {next}");
             next = next.saturating_add(1);
         }
     }
+    next
+}
+
+#[test]
+fn a_run_goes_on_after_refused_memory(rt: HostRuntime) -> Result<(), Fail> {
+    let Ok(events) = twenty_sends(rt.alloc()) else {
+        return end(true);
+    };
+    let Ok((mut recovery, replies)) = Recovery::run(rt.alloc(), settings(8), at(0), events) else {
+        return end(true);
+    };
+    let next = count_sent(&rt, replies.as_slice());
     assert!(rt; next == 19 || next == 20);
     let flying = in_flight(next.saturating_mul(500), next);
     told(&rt, &mut recovery, next, CURRENT, flying);
