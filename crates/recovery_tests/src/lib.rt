@@ -3,3 +3,5 @@
 
 #[cfg(test)]
 mod driver;
+#[cfg(test)]
+mod ledger;
