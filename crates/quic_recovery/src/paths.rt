@@ -150,6 +150,3 @@ impl PathData {
         }
     }
 }
-
-#[cfg(test)]
-mod tests;
