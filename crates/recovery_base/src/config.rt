@@ -57,23 +57,3 @@ impl Default for AckFrequencyConfig {
         }
     }
 }
-
-#[cfg(test)]
-mod tests {
-    use super::*;
-
-    #[test]
-    fn sets_each_field(rt: HostRuntime) {
-        let mut config = AckFrequencyConfig::default();
-        assert_eq!(rt; config.ack_eliciting_threshold, VarInt::from_u32(1));
-        assert_eq!(rt; config.max_ack_delay, None);
-        assert_eq!(rt; config.reordering_threshold, VarInt::from_u32(2));
-        config
-            .ack_eliciting_threshold(VarInt::from_u32(3))
-            .max_ack_delay(Some(Duration::from_millis(4)));
-        config.reordering_threshold(VarInt::from_u32(5));
-        assert_eq!(rt; config.ack_eliciting_threshold, VarInt::from_u32(3));
-        assert_eq!(rt; config.max_ack_delay, Some(Duration::from_millis(4)));
-        assert_eq!(rt; config.reordering_threshold, VarInt::from_u32(5));
-    }
-}

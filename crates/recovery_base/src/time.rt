@@ -239,38 +239,3 @@ impl Sub for Duration {
         self.saturating_sub(rhs)
     }
 }
-
-#[cfg(test)]
-mod tests {
-    use super::*;
-
-    #[test]
-    fn sums_stop_at_the_ends_and_differences_at_zero(rt: HostRuntime) {
-        let end = Instant::from_nanos(u64::MAX);
-        let three = Instant::from_nanos(3);
-        assert_eq!(rt; three + Duration::from_micros(2), Instant::from_nanos(2003));
-        assert_eq!(rt; end + Duration::from_nanos(1), end);
-        assert_eq!(rt; end.checked_add(Duration::from_nanos(1)), None);
-        assert_eq!(rt; three.checked_add(Duration::ZERO), Some(three));
-        assert_eq!(rt; end - three, Duration::from_nanos(u64::MAX - 3));
-        assert_eq!(rt; three.saturating_duration_since(end), Duration::ZERO);
-        assert_eq!(rt; three.checked_duration_since(end), None);
-        assert_eq!(rt; end.checked_duration_since(end), Some(Duration::default()));
-        assert_eq!(rt; end.as_nanos(), u64::MAX);
-    }
-
-    #[test]
-    fn spans_are_whole_nanoseconds(rt: HostRuntime) {
-        assert_eq!(rt; Duration::from_millis(333).as_nanos(), 333_000_000);
-        assert_eq!(rt; Duration::from_secs(600), Duration::from_millis(600_000));
-        let last = Duration::from_secs(u64::MAX) + Duration::from_nanos(999_999_999);
-        assert_eq!(rt; last, Duration::MAX);
-        assert_eq!(rt; Duration::checked_from_nanos(last.as_nanos()), Some(last));
-        assert_eq!(rt; Duration::checked_from_nanos(last.as_nanos() + 1), None);
-        assert_eq!(rt; last.checked_add(Duration::from_nanos(1)), None);
-        assert_eq!(rt; last.saturating_add(last), last);
-        assert_eq!(rt; Duration::ZERO.checked_sub(last), None);
-        assert_eq!(rt; Duration::ZERO - last, Duration::ZERO);
-        assert_eq!(rt; last.saturating_sub(last), Duration::ZERO);
-    }
-}

@@ -126,21 +126,3 @@ pub struct TransportParameters {
     /// The longest delay of its ACKs, in milliseconds.
     pub max_ack_delay: VarInt,
 }
-
-#[cfg(test)]
-mod tests {
-    use super::*;
-    use std::test::Fail;
-
-    #[test]
-    fn bounds_variable_length_integers(rt: HostRuntime) -> Result<(), Fail> {
-        let greatest = VarInt::MAX.into_inner();
-        assert_eq!(rt; greatest, (1 << 62) - 1);
-        assert_eq!(rt; VarInt::from_u64(greatest)?, VarInt::MAX);
-        assert_eq!(rt; VarInt::from_u64(1 << 62), Err(VarIntBoundsExceeded));
-        assert_eq!(rt; VarInt::try_from(1u128 << 64), Err(VarIntBoundsExceeded));
-        assert_eq!(rt; VarInt::default(), VarInt::from_u32(0));
-        assert_eq!(rt; TransportError::PROTOCOL_VIOLATION("why").code, 10);
-        Ok(())
-    }
-}
