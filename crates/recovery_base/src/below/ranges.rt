@@ -3,7 +3,7 @@ ghost use Rattle.std.specs.Prelude.{◌≡◌, ℕ, ◌+◌, ◌<◌, ◌^◌, �
 ghost use Rattle.std.specs.Option.{option_to_list};
 ghost use Rattle.std.specs.Slice.Iter.{iter_rest};
 ghost use Rattle.std.specs.declared.ops.Range.{Range};
-ghost use Rattle.recovery_base.specs.Ranges.{InRanges, AreApart, InsertsOne, Removes, IsBetween, IsPlace, clipped, cut_ranges};
+ghost use Rattle.recovery_base.specs.Ranges.{InRanges, AreApart, InsertsOne, Removes, IsSplitBy, IsBetween, IsPlace, clipped, cut_ranges};
 
 use super::NoMemory;
 use std::alloc::Global;
@@ -86,6 +86,7 @@ impl ArrayRangeSet {
         ensures removes { IfOk result (λ some. Removes self.old range.start range.end some self.new) }
         ensures none_changes_nothing { IfOk result (λ some. MatchBool some ⊤ (self.new ≡ self.old)) }
         ensures no_memory_from_zero { range.start ≡ 0 → IsOk result }
+        ensures only_a_split_takes_memory { IsErr result → IsSplitBy self.old range.start range.end }
         ensures err { OnErr result (self.new ≡ self.old) }
     {
         remove(&mut self.ranges, range.start, range.end)
@@ -131,6 +132,16 @@ fn place(ranges: &[Range<u64>], x: u64) -> usize
     requires { AreApart 0 ranges.now }
     ensures { IsPlace ranges.now x result }
 {
+    // Numbers mostly come in order: the last range is tried before the search.
+    let Some(last) = ranges.last() else {
+        return 0;
+    };
+    if last.end < x {
+        return ranges.len();
+    }
+    if last.start <= x {
+        return ranges.len() - 1;
+    }
     ranges.partition_point(|range| range.end < x)
 }
 
@@ -168,6 +179,7 @@ fn remove(ranges: &mut Vec<Range<u64>>, start: u64, end: u64) -> Result<bool, No
     ensures removes { IfOk result (λ some. Removes ranges.old.items start end some ranges.new.items) }
     ensures none_changes_nothing { IfOk result (λ some. MatchBool some ⊤ (ranges.new.items ≡ ranges.old.items)) }
     ensures no_memory_from_zero { start ≡ 0 → IsOk result }
+    ensures only_a_split_takes_memory { IsErr result → IsSplitBy ranges.old.items start end }
     ensures err { OnErr result (ranges.new.items ≡ ranges.old.items) }
 {
     if start >= end {
