@@ -11,10 +11,12 @@ use crate::timer::Timer;
 
 /// Spaces are ordered as a handshake goes through them: Initial, Handshake, Data.
 pub fn spaces_in_order()
-    ensures { (space other : SpaceId) → ⟦<SpaceId as Ord>⟧.cmp space other ≡ nat_cmp (space_index space) (space_index other) }
+    ensures { (space other : SpaceId) →
+        ⟦<SpaceId as Ord>⟧.cmp space other ≡ nat_cmp (space_index space) (space_index other) }
 {}
 
 /// Timers are ordered as they stand in `Timer::VALUES`.
 pub fn timers_in_order()
-    ensures { (timer other : Timer) → ⟦<Timer as Ord>⟧.cmp timer other ≡ nat_cmp (timer_index timer) (timer_index other) }
+    ensures { (timer other : Timer) →
+        ⟦<Timer as Ord>⟧.cmp timer other ≡ nat_cmp (timer_index timer) (timer_index other) }
 {}

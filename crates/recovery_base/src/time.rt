@@ -1,4 +1,4 @@
-//! Moments and spans of time in whole nanoseconds. No clock is read: the caller hands each moment in.
+//! Moments and spans of time in whole nanoseconds. No clock is read: the caller hands moments in.
 ghost use Rattle.std.specs.Prelude.{◌≡◌, ℕ, ◌+◌, ◌-◌, ◌*◌, ◌≤◌, ◌<◌, ◌^◌, min};
 ghost use Rattle.std.specs.Option.{SomeIff};
 
@@ -14,7 +14,7 @@ const NANOS_PER_SEC: u128 = 1_000_000_000;
 /// A moment: nanoseconds since an epoch that the caller chooses, 0 to `u64::MAX`.
 ///
 /// Contracts see the plain number.
-#[derive(Clone, Copy, Debug, PartialEq, Eq, PartialOrd, Ord, Hash)]
+#[derive(Clone, Copy, PartialEq, Eq, PartialOrd, Ord)]
 pub struct Instant {
     nanos: u64,
 }
@@ -97,7 +97,7 @@ impl Sub for Instant {
 /// A span of time: whole nanoseconds, 0 to 2^64 · 10^9 - 1 (the range of std's `Duration`).
 ///
 /// Contracts see the plain number.
-#[derive(Clone, Copy, Debug, PartialEq, Eq, PartialOrd, Ord, Hash)]
+#[derive(Clone, Copy, PartialEq, Eq, PartialOrd, Ord)]
 pub struct Duration {
     nanos: u128,
 }

@@ -9,7 +9,7 @@ use thiserror::Error;
 /// A variable-length integer: 0 to 2^62 - 1 (RFC 9000, 16).
 ///
 /// Contracts see the plain number.
-#[derive(Clone, Copy, Debug, PartialEq, Eq, PartialOrd, Ord, Hash)]
+#[derive(Clone, Copy, PartialEq, Eq, PartialOrd, Ord, Hash)]
 pub struct VarInt {
     value: u64,
 }
@@ -86,7 +86,7 @@ impl TryFrom<u128> for VarInt {
 pub struct VarIntBoundsExceeded;
 
 /// What an ACK_FREQUENCY frame asks for (the QUIC ACK frequency extension, section 4).
-#[derive(Clone, Copy, Debug, PartialEq, Eq)]
+#[derive(Clone, Copy, PartialEq, Eq)]
 pub struct AckFrequency {
     /// Its number in the order of sending.
     pub sequence: VarInt,
@@ -119,7 +119,7 @@ impl TransportError {
 }
 
 /// What the peer said of its ACK delays (RFC 9000, 18.2; the QUIC ACK frequency extension, section 3).
-#[derive(Clone, Copy, Debug, PartialEq, Eq)]
+#[derive(Clone, Copy, PartialEq, Eq)]
 pub struct TransportParameters {
     /// The least delay that it can be asked for, in microseconds.
     pub min_ack_delay: Option<VarInt>,

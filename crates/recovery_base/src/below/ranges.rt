@@ -14,7 +14,7 @@ use std::slice::Iter;
 /// A set of numbers, kept as ranges in ascending order that neither overlap nor touch.
 ///
 /// Contracts see the list of the ranges.
-#[derive(Clone, Debug, Drop)]
+#[derive(Clone, Drop)]
 pub struct ArrayRangeSet {
     ranges: Vec<Range<u64>>,
 }
@@ -66,12 +66,13 @@ impl ArrayRangeSet {
 
     /// Adds a number below 2^62, and says whether it is new.
     ///
-    /// `NoMemory` changes nothing; a number that is in the set takes no memory. It costs a binary search of the ranges,
-    /// and a move of those above where one comes or goes.
+    /// `NoMemory` changes nothing; a number that is in the set takes no memory. It costs a look at the last range, a binary
+    /// search of the ranges where the number lies below that one, and a move of those above where one comes or goes.
     pub fn insert_one(&mut self, x: u64) -> Result<bool, NoMemory>
         requires { x < 2 ^ 62 }
         ensures inserts { IfOk result (λ new. InsertsOne self.old x new self.new) }
-        ensures known_changes_nothing { IfOk result (λ new. MatchBool new ⊤ (self.new ≡ self.old)) }
+        ensures known_changes_nothing { IfOk result (λ new.
+            MatchBool new ⊤ (self.new ≡ self.old)) }
         ensures only_new_takes_memory { IsErr result → ¬ InRanges self.old x }
         ensures err { OnErr result (self.new ≡ self.old) }
     {
@@ -83,10 +84,13 @@ impl ArrayRangeSet {
     /// `NoMemory` changes nothing. Memory is taken only where one of the ranges holds numbers on both sides of those that
     /// go: a removal that starts at 0 takes none. It costs one pass over the ranges.
     pub fn remove(&mut self, range: Range<u64>) -> Result<bool, NoMemory>
-        ensures removes { IfOk result (λ some. Removes self.old range.start range.end some self.new) }
-        ensures none_changes_nothing { IfOk result (λ some. MatchBool some ⊤ (self.new ≡ self.old)) }
+        ensures removes { IfOk result (λ some.
+            Removes self.old range.start range.end some self.new) }
+        ensures none_changes_nothing { IfOk result (λ some.
+            MatchBool some ⊤ (self.new ≡ self.old)) }
         ensures no_memory_from_zero { range.start ≡ 0 → IsOk result }
-        ensures only_a_split_takes_memory { IsErr result → IsSplitBy self.old range.start range.end }
+        ensures only_a_split_takes_memory { IsErr result →
+            IsSplitBy self.old range.start range.end }
         ensures err { OnErr result (self.new ≡ self.old) }
     {
         remove(&mut self.ranges, range.start, range.end)
@@ -113,7 +117,9 @@ impl ArrayRangeSet {
 
     /// Whether no number is in the set.
     pub fn is_empty(&self) -> bool
-        ensures numbers { MatchBool result ((n : ℕ) → ¬ InRanges self.now n) ((n : ℕ) × InRanges self.now n) }
+        ensures numbers { MatchBool result
+            ((n : ℕ) → ¬ InRanges self.now n)
+            ((n : ℕ) × InRanges self.now n) }
     {
         self.ranges.is_empty()
     }
@@ -149,7 +155,8 @@ fn insert(ranges: &mut Vec<Range<u64>>, x: u64) -> Result<bool, NoMemory>
     requires small { x < 2 ^ 62 }
     requires apart { AreApart 0 ranges.old.items }
     ensures inserts { IfOk result (λ new. InsertsOne ranges.old.items x new ranges.new.items) }
-    ensures known_changes_nothing { IfOk result (λ new. MatchBool new ⊤ (ranges.new.items ≡ ranges.old.items)) }
+    ensures known_changes_nothing { IfOk result (λ new.
+        MatchBool new ⊤ (ranges.new.items ≡ ranges.old.items)) }
     ensures only_new_takes_memory { IsErr result → ¬ InRanges ranges.old.items x }
     ensures err { OnErr result (ranges.new.items ≡ ranges.old.items) }
 {
@@ -176,8 +183,10 @@ fn insert(ranges: &mut Vec<Range<u64>>, x: u64) -> Result<bool, NoMemory>
 
 fn remove(ranges: &mut Vec<Range<u64>>, start: u64, end: u64) -> Result<bool, NoMemory>
     requires { AreApart 0 ranges.old.items }
-    ensures removes { IfOk result (λ some. Removes ranges.old.items start end some ranges.new.items) }
-    ensures none_changes_nothing { IfOk result (λ some. MatchBool some ⊤ (ranges.new.items ≡ ranges.old.items)) }
+    ensures removes { IfOk result (λ some.
+        Removes ranges.old.items start end some ranges.new.items) }
+    ensures none_changes_nothing { IfOk result (λ some.
+        MatchBool some ⊤ (ranges.new.items ≡ ranges.old.items)) }
     ensures no_memory_from_zero { start ≡ 0 → IsOk result }
     ensures only_a_split_takes_memory { IsErr result → IsSplitBy ranges.old.items start end }
     ensures err { OnErr result (ranges.new.items ≡ ranges.old.items) }
