@@ -2,7 +2,7 @@
 use Rattle.std.proofs.Common.{ℕ, ◌-◌, ◌<◌, ◌≤◌, ◌⊎◌, inl, inr, ◌↔◌, Option, None, Some, arith}
 use Rattle.std.proofs.lemmas.Bool.{cases_lt}
 use Rattle.recovery_base.specs.declared.dedup.Dedup.{Dedup}
-use Rattle.recovery_base.specs.Numbers.{IsInWindow, IsMissing, IsLeastMissing, Recent, With, Inserts, Exceeds}
+use Rattle.recovery_base.specs.Numbers.{IsInWindow, IsMissing, IsLeastMissing, Recent, With, Exceeds}
 use Rattle.recovery_base.specs.Received.{Has}
 use Rattle.recovery_base.proofs.BitLaws.{known_below, known_greatest}
 use Rattle.recovery_base.proofs.WindowLaws.{HasGreatest, window_of_all, greatest_with, missing_with}

@@ -11,7 +11,8 @@ use Rattle.std.proofs.lemmas.List.Sorted.{IsPartitionedBy-ltb}
 use Rattle.std.proofs.lemmas.Bool.{ltb-true, ltb-false}
 use Rattle.recovery_base.specs.Numbers.{With}
 use Rattle.recovery_base.specs.Ranges.{InRanges, AreApart, InsertsOne, floor_above, EndsFrom, IsPlace, span}
-use Rattle.std.specs.Prelude.{◌==◌, MatchBool, Bool, true, false}
+use Rattle.std.specs.Prelude.{◌==◌, ◌-◌, MatchBool, Bool, true, false, Some, None, slice_get}
+use Rattle.std.proofs.lemmas.Option.{get_or_from_slice_get, slice_get-get_or}
 
 abbrev pub Ranges : Type 0
 Ranges = List (Range ℕ)
@@ -367,6 +368,57 @@ place_is ranges x at within parts = record {
   bound = within;
   below = ends_below 0 x ranges at (omega arith) within (λ k d here. ltb-true (get_or ranges k d).end x (parts.0 k d (omega arith) here));
   above = ends_from x ranges at (λ k d from inside. ltb-false (get_or ranges k d).end x (parts.1 k d from inside));
+}
+
+starts_from : (low : ℕ) (ranges : Ranges) → AreApart low ranges → (j : ℕ) (d : Range ℕ) → j < length ranges → low ≤ (get_or ranges j d).start
+unfolding AreApart
+starts_from low [] apart j d within = absurd (omega arith)
+starts_from low (range ∷ others) apart zero d within = apart.0
+starts_from low (range ∷ others) apart (suc j) d within =
+    let a : low ≤ range.start = apart.0 in
+    let b : range.start < range.end = apart.1 in
+    let c : range.end + 1 ≤ (get_or others j d).start = starts_from (range.end + 1) others apart.2 j d (omega arith) in
+    omega arith
+
+-- a range ends before a later one begins
+ends_before : (low : ℕ) (ranges : Ranges) → AreApart low ranges → (i j : ℕ) (d : Range ℕ) → i < j → j < length ranges → (get_or ranges i d).end < (get_or ranges j d).start
+unfolding AreApart
+ends_before low [] apart i j d less within = absurd (omega arith)
+ends_before low (range ∷ others) apart i zero d less within = absurd (omega arith)
+ends_before low (range ∷ others) apart zero (suc j) d less within = let h : range.end + 1 ≤ (get_or others j d).start = starts_from (range.end + 1) others apart.2 j d (omega arith) in omega arith
+ends_before low (range ∷ others) apart (suc i) (suc j) d less within = ends_before (range.end + 1) others apart.2 i j d (omega arith) (omega arith)
+
+-- where there is no range, the place is the first
+pub place_of_none : (ranges : Ranges) (x : ℕ) → slice_get ranges (length ranges - 1) ≡ None → IsPlace ranges x 0
+unfolding floor_above
+place_of_none ranges x none = record { bound = omega arith; below = omega arith; above = ends_from x ranges 0 (λ k d from within. absurd (present k d within)) }
+  where
+    present : (k : ℕ) (d : Range ℕ) → k < length ranges → ⊥
+    present k d within = let h : slice_get ranges (length ranges - 1) ≡ Some (get_or ranges (length ranges - 1) d) = slice_get-get_or ranges (length ranges - 1) d (omega arith) in cc
+
+-- where the last range ends below x, the place is behind it
+pub place_behind : (ranges : Ranges) (x : ℕ) (last : Range ℕ) → AreApart 0 ranges → slice_get ranges (length ranges - 1) ≡ Some last → last.end < x → IsPlace ranges x (length ranges)
+place_behind ranges x last apart is above = record {
+  bound = omega arith;
+  below = ends_below 0 x ranges (length ranges) (omega arith) (omega arith) (λ k d here.
+      let e : (get_or ranges (length ranges - 1) d).end ≡ last.end = ap (λ (r : Range ℕ). r.end) (get_or_from_slice_get ranges (length ranges - 1) last d is) in
+      let h : (get_or ranges k d).end ≤ (get_or ranges (length ranges - 1) d).end = ends_rise 0 ranges apart k (length ranges - 1) d (omega arith) (omega arith) in
+      omega arith);
+  above = subst (λ (rs : Ranges). EndsFrom x rs) (sym (drop_all (length ranges) ranges (omega arith))) tt;
+}
+
+-- where x lies in the last range or at its end, the place is that one
+pub place_in_last : (ranges : Ranges) (x : ℕ) (last : Range ℕ) → AreApart 0 ranges → slice_get ranges (length ranges - 1) ≡ Some last → last.start ≤ x → x ≤ last.end → IsPlace ranges x (length ranges - 1)
+place_in_last ranges x last apart is from to = record {
+  bound = omega arith;
+  below = ends_below 0 x ranges (length ranges - 1) (omega arith) (omega arith) (λ k d here.
+      let e : (get_or ranges (length ranges - 1) d).start ≡ last.start = ap (λ (r : Range ℕ). r.start) (get_or_from_slice_get ranges (length ranges - 1) last d is) in
+      let h : (get_or ranges k d).end < (get_or ranges (length ranges - 1) d).start = ends_before 0 ranges apart k (length ranges - 1) d here (omega arith) in
+      omega arith);
+  above = ends_from x ranges (length ranges - 1) (λ k d past within.
+      let at : k ≡ length ranges - 1 = omega arith in
+      let e : (get_or ranges k d).end ≡ last.end = ap (λ i. (get_or ranges i d).end) at ∙ ap (λ (r : Range ℕ). r.end) (get_or_from_slice_get ranges (length ranges - 1) last d is) in
+      omega arith);
 }
 
 -- two reads at one place

@@ -1,5 +1,5 @@
 -- A set of numbers, kept as ranges.
-use Rattle.std.specs.Prelude.{ℕ, ◌≡◌, ◌+◌, ◌<◌, ◌≤◌, ◌⊎◌, ◌↔◌, List, [], ◌∷◌, length, take, drop, map, min, max, cond, nat_lt, ⊤, Bool, MatchBool}
+use Rattle.std.specs.Prelude.{ℕ, ◌≡◌, ◌+◌, ◌<◌, ◌≤◌, ◌⊎◌, ◌↔◌, List, [], ◌∷◌, length, take, drop, map, min, max, cond, nat_lt, ⊤, Bool, MatchBool, Any}
 use Rattle.std.specs.List.{filter}
 use Rattle.std.specs.declared.ops.Range.{Range}
 use Rattle.recovery_base.specs.Numbers.{With}
@@ -24,6 +24,10 @@ pub record InsertsOne (old : List (Range ℕ)) (number : ℕ) (is_new : Bool) (n
 -- the numbers from `start` up to `end`
 abbrev pub IsBetween : ℕ → ℕ → ℕ → Type 0
 IsBetween start end n = (start ≤ n) × (n < end)
+
+-- numbers from `start` up to `end` leave the middle of one range: it holds others on both sides
+abbrev pub IsSplitBy : List (Range ℕ) → ℕ → ℕ → Type 0
+IsSplitBy ranges start end = (start < end) × Any (λ (range : Range ℕ). (range.start < start) × (end < range.end)) ranges
 
 -- the numbers from `start` up to `end` leave the ranges: whether one did, and what they hold then
 pub record Removes (old : List (Range ℕ)) (start end : ℕ) (some : Bool) (new : List (Range ℕ)) : Type 0 where

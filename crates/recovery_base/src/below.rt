@@ -10,7 +10,7 @@ use std::alloc::{AllocError, AllocFailed};
 use thiserror::Error;
 
 /// A packet number space (RFC 9000, 12.3).
-#[derive(Clone, Copy, Debug, PartialEq, Eq, PartialOrd, Ord, Hash)]
+#[derive(Clone, Copy, PartialEq, Eq, PartialOrd, Ord)]
 pub enum SpaceId {
     /// Initial packets.
     Initial,

@@ -7,7 +7,7 @@ use crate::time::Duration;
 /// What the peer is asked for by ACK_FREQUENCY frames (the QUIC ACK frequency extension).
 ///
 /// Each field has a setter of its name.
-#[derive(Clone, Copy, Debug, PartialEq, Eq)]
+#[derive(Clone, Copy)]
 pub struct AckFrequencyConfig {
     /// How many ack-eliciting packets the peer may leave without an ACK at once.
     pub ack_eliciting_threshold: VarInt,
@@ -21,7 +21,7 @@ impl AckFrequencyConfig {
     /// How many ack-eliciting packets the peer may leave without an ACK at once. Default 1.
     pub fn ack_eliciting_threshold(&mut self, value: VarInt) -> &mut Self
         ensures same { result.ghost_name ≡ self.entry.ghost_name }
-        ensures value { result.now ≡ record { ack_eliciting_threshold = value; max_ack_delay = self.old.max_ack_delay; reordering_threshold = self.old.reordering_threshold } }
+        ensures value { result.now ≡ record self.old { ack_eliciting_threshold = value } }
     {
         self.ack_eliciting_threshold = value;
         self
@@ -30,7 +30,7 @@ impl AckFrequencyConfig {
     /// The longest delay of the peer's ACKs; none asks for its own. Default none.
     pub fn max_ack_delay(&mut self, value: Option<Duration>) -> &mut Self
         ensures same { result.ghost_name ≡ self.entry.ghost_name }
-        ensures value { result.now ≡ record { ack_eliciting_threshold = self.old.ack_eliciting_threshold; max_ack_delay = value; reordering_threshold = self.old.reordering_threshold } }
+        ensures value { result.now ≡ record self.old { max_ack_delay = value } }
     {
         self.max_ack_delay = value;
         self
@@ -39,7 +39,7 @@ impl AckFrequencyConfig {
     /// How far out of order a packet may be before the peer acknowledges at once; 0 turns it off. Default 2.
     pub fn reordering_threshold(&mut self, value: VarInt) -> &mut Self
         ensures same { result.ghost_name ≡ self.entry.ghost_name }
-        ensures value { result.now ≡ record { ack_eliciting_threshold = self.old.ack_eliciting_threshold; max_ack_delay = self.old.max_ack_delay; reordering_threshold = value } }
+        ensures value { result.now ≡ record self.old { reordering_threshold = value } }
     {
         self.reordering_threshold = value;
         self
@@ -47,7 +47,11 @@ impl AckFrequencyConfig {
 }
 
 impl Default for AckFrequencyConfig {
-    ghost is_default = { λ config. config ≡ record { ack_eliciting_threshold = 1; max_ack_delay = None; reordering_threshold = 2 } };
+    ghost is_default = { λ config. config ≡ record {
+      ack_eliciting_threshold = 1;
+      max_ack_delay = None;
+      reordering_threshold = 2;
+    } };
 
     fn default() -> Self {
         AckFrequencyConfig {
@@ -55,25 +59,5 @@ impl Default for AckFrequencyConfig {
             max_ack_delay: None,
             reordering_threshold: VarInt::from_u32(2),
         }
-    }
-}
-
-#[cfg(test)]
-mod tests {
-    use super::*;
-
-    #[test]
-    fn sets_each_field(rt: HostRuntime) {
-        let mut config = AckFrequencyConfig::default();
-        assert_eq!(rt; config.ack_eliciting_threshold, VarInt::from_u32(1));
-        assert_eq!(rt; config.max_ack_delay, None);
-        assert_eq!(rt; config.reordering_threshold, VarInt::from_u32(2));
-        config
-            .ack_eliciting_threshold(VarInt::from_u32(3))
-            .max_ack_delay(Some(Duration::from_millis(4)));
-        config.reordering_threshold(VarInt::from_u32(5));
-        assert_eq!(rt; config.ack_eliciting_threshold, VarInt::from_u32(3));
-        assert_eq!(rt; config.max_ack_delay, Some(Duration::from_millis(4)));
-        assert_eq!(rt; config.reordering_threshold, VarInt::from_u32(5));
     }
 }

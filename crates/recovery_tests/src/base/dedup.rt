@@ -1,0 +1,224 @@
+//! Which packet numbers are new: the worked rows, and the window beside the plain program over a set.
+ghost use Rattle.std.specs.Prelude.{ℕ, ◌<◌, ◌^◌, ◌≤◌};
+
+use recovery_base::below::NoMemory;
+use recovery_base::dedup::Dedup;
+use std::alloc::Global;
+use std::collections::BTreeSet;
+use std::process::Abort;
+
+const BOUND: u64 = 1 << 62;
+
+/// The plain program: the numbers that came, cut to those at most 128 below the greatest.
+#[derive(Drop)]
+struct Plain {
+    recent: BTreeSet<u64>,
+}
+
+impl Plain {
+    fn new(alloc: Global) -> Self {
+        Plain {
+            recent: BTreeSet::new(alloc),
+        }
+    }
+
+    fn insert(&mut self, number: u64) -> Result<bool, NoMemory> {
+        if self.is_too_old(number) || self.recent.contains(&number) {
+            return Ok(true);
+        }
+        self.recent.insert(number)?;
+        if let Some(greatest) = self.recent.last() {
+            let greatest = *greatest;
+            self.recent
+                .retain(|number| greatest.saturating_sub(*number) <= 128);
+        }
+        Ok(false)
+    }
+
+    fn is_too_old(&self, number: u64) -> bool {
+        match self.recent.last() {
+            Some(greatest) => greatest.saturating_sub(number) > 128,
+            None => false,
+        }
+    }
+
+    fn smallest_missing(&self, low: u64, high: u64) -> Option<u64> {
+        let greatest = match self.recent.last() {
+            Some(greatest) => *greatest,
+            None => return None,
+        };
+        for number in low.saturating_add(1).max(greatest.saturating_sub(128))..high {
+            if !self.recent.contains(&number) {
+                return Some(number);
+            }
+        }
+        None
+    }
+}
+
+/// Puts a number in: whether it is a duplicate.
+fn insert(rt: &impl Abort, dedup: &mut Dedup, number: u64) -> bool {
+    assert!(rt; number < BOUND);
+    dedup.insert(number)
+}
+
+/// Asserts of each number whether it is a duplicate.
+fn walk(rt: &impl Abort, rows: &[(u64, bool)]) -> Dedup {
+    let mut dedup = Dedup::new();
+    for (number, wanted) in rows {
+        let is_duplicate = insert(rt, &mut dedup, *number);
+        assert!(rt; is_duplicate == *wanted, "at {number}");
+    }
+    dedup
+}
+
+/// The least missing number of an interval, once a new number at its end or behind came.
+fn missing_after(mut dedup: Dedup, greatest: u64, low: u64, high: u64) -> Option<u64>
+    requires number { greatest < 2 ^ 62 }
+    requires ordered { low ≤ high }
+    requires reached { high ≤ greatest }
+{
+    if dedup.insert(greatest) {
+        return None;
+    }
+    dedup.smallest_missing_in_interval(low, high)
+}
+
+#[test]
+fn answers_the_worked_rows(rt: HostRuntime) {
+    walk(
+        &rt,
+        &[
+            (0, false),
+            (0, true),
+            (1, false),
+            (2, false),
+            (4, false),
+            (7, false),
+            (4, true),
+            (3, false),
+            (258, false),
+            (129, true),
+            (130, false),
+        ],
+    );
+}
+
+#[test]
+fn finds_the_least_missing(rt: HostRuntime) {
+    let dedup = walk(
+        &rt,
+        &[
+            (0, false),
+            (1, false),
+            (5, false),
+            (7, false),
+            (2, false),
+            (170, false),
+            (172, false),
+            (300, false),
+        ],
+    );
+    for (low, high, missing) in [(0, 500, Some(372)), (0, 373, Some(372)), (0, 372, None)] {
+        assert!(rt; low <= high && high <= 500);
+        assert!(rt;
+            missing_after(dedup, 500, low, high) == missing,
+            "below {high}"
+        );
+    }
+}
+
+/// One number into both, and a look at an interval that ends at it.
+fn compare(
+    rt: &impl Abort,
+    dedup: &mut Dedup,
+    plain: &mut Plain,
+    number: u64,
+    low: u64,
+) -> Result<(), NoMemory> {
+    let number = number.min(BOUND - 1);
+    let before = *dedup;
+    let duplicate = dedup.insert(number);
+    let is_same = duplicate == plain.insert(number)?;
+    assert!(rt; is_same, "at {number}");
+    if duplicate {
+        assert!(rt; before == *dedup, "at {number}");
+    } else if low < number {
+        let missing = missing_after(before, number, low, number);
+        let is_same = missing == plain.smallest_missing(low, number);
+        assert!(rt; is_same, "between {low} and {number}");
+    }
+    Ok(())
+}
+
+/// Some numbers into both, from the beginning on.
+fn compare_all(rt: &impl Abort, alloc: Global, numbers: &[u64], low: u64) -> Result<(), NoMemory> {
+    let mut dedup = Dedup::new();
+    let mut plain = Plain::new(alloc);
+    for number in numbers {
+        compare(rt, &mut dedup, &mut plain, *number, low)?;
+    }
+    Ok(())
+}
+
+const NUMBERS: [u64; 14] = [
+    0,
+    1,
+    2,
+    3,
+    127,
+    128,
+    129,
+    130,
+    131,
+    257,
+    258,
+    260,
+    BOUND - 2,
+    BOUND - 1,
+];
+
+#[test]
+fn is_the_plain_program_on_short_inputs(rt: HostRuntime) -> Result<(), NoMemory> {
+    for first in NUMBERS {
+        for second in NUMBERS {
+            for third in NUMBERS {
+                let numbers = [first, second, third, first, 128, 0];
+                compare_all(&rt, rt.alloc(), &numbers, second)?;
+            }
+        }
+    }
+    Ok(())
+}
+
+/// Two thousand numbers around those before, and around a start. What the generator's state is then.
+fn compare_around(rt: &impl Abort, alloc: Global, start: u64, seed: u64) -> Result<u64, NoMemory> {
+    let mut random = seed;
+    let mut dedup = Dedup::new();
+    let mut plain = Plain::new(alloc);
+    let mut greatest = start;
+    for _ in 0..2000u32 {
+        random = random
+            .wrapping_mul(6364136223846793005)
+            .wrapping_add(1442695040888963407);
+        let step = (random >> 33) % 136;
+        let number = if (random >> 60) == 0 {
+            greatest.saturating_add(step)
+        } else {
+            greatest.saturating_sub(step)
+        };
+        greatest = greatest.max(number).min(BOUND - 1);
+        let low = greatest.saturating_sub((random >> 40) % 140);
+        compare(rt, &mut dedup, &mut plain, number, low)?;
+    }
+    Ok(random)
+}
+
+#[test]
+fn is_the_plain_program_around_each_boundary(rt: HostRuntime) -> Result<(), NoMemory> {
+    let mut random = 1u64;
+    for start in [0u64, 1, 126, 127, 128, 129, 130, 1 << 32, BOUND - 400] {
+        random = compare_around(&rt, rt.alloc(), start, random)?;
+    }
+    Ok(())
+}

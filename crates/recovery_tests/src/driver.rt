@@ -1,0 +1,395 @@
+//! What the events of a connection are replied, and what they leave.
+ghost use Rattle.std.specs.Prelude.{◌≡◌, ◌<◌};
+
+use quic_recovery::driver::{Recovery, RecoveryConfig};
+use quic_recovery::event::{Answer, Event, PathName, Refusal};
+use quic_recovery::spaces::PacketSpace;
+use recovery_base::below::{ConnectionId, SpaceId};
+use recovery_base::time::{Duration, Instant};
+use recovery_base::timer::Timer;
+use std::alloc::Global;
+use std::process::Abort;
+use std::test::Fail;
+
+mod acks;
+mod ids;
+mod refused_memory;
+
+type Reply = Result<Answer, Refusal>;
+
+const TOO_LARGE: Reply = Err(Refusal::NumberTooLarge);
+
+const NO_MEMORY: Reply = Err(Refusal::NoMemory);
+
+const DONE: Reply = Ok(Answer::Done);
+
+const DUPLICATE: Reply = Ok(Answer::Duplicate);
+
+const NO_TIMEOUT: Reply = Ok(Answer::Timeout(None));
+
+const ACKED: Reply = Ok(Answer::Acked { probe: false });
+
+const LOST: Reply = Ok(Answer::Lost { probe: false });
+
+const DISCARDED: Reply = Err(Refusal::SpaceDiscarded);
+
+const NOT_TRACKED: Reply = Err(Refusal::NotTracked);
+
+const NO_SUCH_PATH: Reply = Err(Refusal::NoSuchPath);
+
+const DISCARD_INITIAL: Event = Event::DiscardSpace {
+    space: SpaceId::Initial,
+};
+
+const LOST_1: Event = Event::Lost {
+    space: SpaceId::Data,
+    number: 1,
+};
+
+const CURRENT: Event = Event::InFlight {
+    path: PathName::Current,
+};
+
+const PREVIOUS: Event = Event::InFlight {
+    path: PathName::Previous,
+};
+
+fn at(nanos: u64) -> Instant {
+    Instant::from_nanos(nanos)
+}
+
+fn received(space: SpaceId, number: u64, ack_eliciting: bool) -> Event {
+    Event::Received {
+        space,
+        now: at(0),
+        number,
+        ack_eliciting,
+    }
+}
+
+fn set(timer: Timer, nanos: u64) -> Event {
+    Event::SetTimer {
+        timer,
+        time: at(nanos),
+    }
+}
+
+fn send(space: SpaceId, size: u16, ack_eliciting: bool) -> Event {
+    Event::Send {
+        space,
+        now: at(7),
+        size,
+        ack_eliciting,
+        largest_acked: None,
+    }
+}
+
+fn acked(space: SpaceId, number: u64) -> Event {
+    Event::Acked {
+        space,
+        now: at(9),
+        number,
+        app_limited: false,
+    }
+}
+
+fn in_flight(bytes: u64, ack_eliciting: u64) -> Reply {
+    Ok(Answer::InFlight {
+        bytes,
+        ack_eliciting,
+    })
+}
+
+fn sent(number: u64, forgotten: Option<u64>) -> Reply {
+    Ok(Answer::Sent { number, forgotten })
+}
+
+fn stop(timer: Timer) -> Event {
+    Event::StopTimer { timer }
+}
+
+fn new(arm: bool) -> Reply {
+    Ok(Answer::New { arm })
+}
+
+fn timeout(nanos: u64) -> Reply {
+    Ok(Answer::Timeout(Some(at(nanos))))
+}
+
+/// The settings of the replay program, but for the bytes of this end's ids.
+fn settings(cid_len: usize) -> RecoveryConfig
+    ensures { result.issued ≡ 1 }
+{
+    RecoveryConfig {
+        max_ack_delay: Duration::from_millis(25),
+        initial_cid: ConnectionId::new(&[0xFF; 8]),
+        cid_len,
+        cid_lifetime: Some(Duration::from_secs(10)),
+        issued: 1,
+    }
+}
+
+/// A recovery to which nothing has happened yet.
+fn fresh(rt: &impl Abort, alloc: Global) -> Recovery {
+    match Recovery::new(alloc, settings(8), at(0)) {
+        Ok(recovery) => recovery,
+        Err(_) => panic!(rt; "NoMemory"),
+    }
+}
+
+/// Asserts that a row was replied what it wants.
+fn same(rt: &impl Abort, row: u64, reply: &Reply, want: &Reply) {
+    assert!(rt; *reply != NO_MEMORY, "row {row}: NoMemory");
+    assert!(rt; reply == want, "row {row}");
+}
+
+/// Asserts what one event is replied.
+fn told(rt: &impl Abort, recovery: &mut Recovery, row: u64, event: Event, want: Reply) {
+    let reply = recovery.apply(event);
+    same(rt, row, &reply, &want);
+}
+
+/// Asserts what the events of a run are replied, one a row.
+fn check<const N: usize>(rt: &impl Abort, alloc: Global, rows: [(Event, Reply); N])
+    requires { N < 1000 }
+{
+    walk(rt, alloc, rows);
+}
+
+/// Asserts what the events of a run are replied, one a row, and hands back what they leave.
+fn walk<const N: usize>(rt: &impl Abort, alloc: Global, rows: [(Event, Reply); N]) -> Recovery
+    requires { N < 1000 }
+{
+    walk_with(rt, alloc, settings(8), rows)
+}
+
+fn walk_with<const N: usize>(
+    rt: &impl Abort,
+    alloc: Global,
+    config: RecoveryConfig,
+    rows: [(Event, Reply); N],
+) -> Recovery
+    requires rows { N < 1000 }
+    requires issued { config.issued ≡ 1 }
+{
+    let mut events = Vec::new(alloc);
+    let mut wanted = Vec::new(alloc);
+    for (event, want) in rows {
+        if events.push(event).is_err() || wanted.push(want).is_err() {
+            panic!(rt; "NoMemory");
+        }
+    }
+    match Recovery::run(alloc, config, at(0), events) {
+        Ok((recovery, replies)) => {
+            compare(rt, replies.as_slice(), wanted.as_slice());
+            recovery
+        }
+        Err(_) => panic!(rt; "NoMemory"),
+    }
+}
+
+fn compare(rt: &impl Abort, replies: &[Reply], wanted: &[Reply]) {
+    assert!(rt; replies.len() == wanted.len());
+    let mut row = 0u64;
+    for (reply, want) in replies.iter().zip(wanted) {
+        same(rt, row, reply, want);
+        row = row.saturating_add(1);
+    }
+}
+
+/// What is kept for a space that is not discarded.
+fn kept<'a>(rt: &impl Abort, recovery: &'a Recovery, space: SpaceId) -> &'a PacketSpace {
+    match recovery.space(space) {
+        Some(here) => here,
+        None => panic!(rt; "the space is discarded"),
+    }
+}
+
+#[test]
+fn run_answers_with_memory(rt: HostRuntime) {
+    let data = SpaceId::Data;
+    check(&rt, rt.alloc(), []);
+    check(
+        &rt,
+        rt.alloc(),
+        [
+            (received(data, 0, true), new(true)),
+            (received(data, 0, true), DUPLICATE),
+        ],
+    );
+    check(
+        &rt,
+        rt.alloc(),
+        [
+            (received(data, 7, true), new(false)),
+            (received(SpaceId::Initial, 1, true), new(true)),
+            (received(SpaceId::Handshake, 3, false), new(false)),
+            (received(SpaceId::Handshake, 4, true), new(false)),
+        ],
+    );
+}
+
+#[test]
+fn run_answers_at_the_ends(rt: HostRuntime) {
+    let data = SpaceId::Data;
+    check(
+        &rt,
+        rt.alloc(),
+        [
+            (received(data, 300, false), new(false)),
+            (received(data, 171, false), DUPLICATE),
+            (received(data, 172, false), new(false)),
+            (received(data, 172, false), DUPLICATE),
+        ],
+    );
+    check(
+        &rt,
+        rt.alloc(),
+        [
+            (received(data, (1 << 62) - 1, false), new(false)),
+            (received(data, 1 << 62, true), TOO_LARGE),
+        ],
+    );
+}
+
+#[test]
+fn the_next_timeout_is_the_least(rt: HostRuntime) {
+    let recovery = walk(
+        &rt,
+        rt.alloc(),
+        [
+            (Event::NextTimeout, NO_TIMEOUT),
+            (set(Timer::Idle, 50), DONE),
+            (set(Timer::Pacing, 20), DONE),
+            (Event::NextTimeout, timeout(20)),
+            (stop(Timer::Pacing), DONE),
+            (Event::NextTimeout, timeout(50)),
+        ],
+    );
+    assert!(rt; recovery.timers().get(Timer::Idle) == Some(at(50)));
+    assert!(rt; recovery.timers().get(Timer::Pacing) == None);
+}
+
+#[test]
+fn packets_are_tracked_until_they_leave(rt: HostRuntime) {
+    let (initial, data) = (SpaceId::Initial, SpaceId::Data);
+    let recovery = walk(
+        &rt,
+        rt.alloc(),
+        [
+            (send(initial, 500, true), sent(0, None)),
+            (send(data, 0, false), sent(0, None)),
+            (CURRENT, in_flight(500, 1)),
+            (DISCARD_INITIAL, DONE),
+            (CURRENT, in_flight(0, 0)),
+            (send(initial, 500, true), DISCARDED),
+            (acked(data, 9), NOT_TRACKED),
+            (PREVIOUS, NO_SUCH_PATH),
+            (send(data, 700, true), sent(1, None)),
+            (LOST_1, LOST),
+            (LOST_1, NOT_TRACKED),
+            (acked(data, 0), ACKED),
+            (DISCARD_INITIAL, DISCARDED),
+        ],
+    );
+    leaves_nothing_in_flight(&rt, &recovery);
+}
+
+fn leaves_nothing_in_flight(rt: &impl Abort, recovery: &Recovery) {
+    let left = recovery.current().in_flight();
+    assert!(rt; left.bytes == 0 && left.ack_eliciting == 0);
+    assert!(rt; recovery.current().generation() == 0);
+    assert!(rt; recovery.space(SpaceId::Initial).is_none());
+    let space = kept(rt, recovery, SpaceId::Data);
+    assert!(rt; space.next_packet_number() == 2);
+    assert!(rt; space.largest_ack_eliciting_sent() == Some(1));
+    assert!(rt; space.largest_acked_packet == Some(0));
+    assert!(rt; !space.has_in_flight());
+}
+
+#[test]
+fn the_least_of_1001_silent_packets_is_forgotten(rt: HostRuntime) {
+    let mut recovery = fresh(&rt, rt.alloc());
+    for number in 0..1001u64 {
+        let silent = send(SpaceId::Data, 40, false);
+        told(&rt, &mut recovery, number, silent, sent(number, None));
+    }
+    let large = Event::Send {
+        space: SpaceId::Data,
+        now: at(0),
+        size: 1,
+        ack_eliciting: true,
+        largest_acked: Some(1 << 62),
+    };
+    for (row, event, want) in [
+        (1001, send(SpaceId::Data, 40, false), sent(1001, Some(0))),
+        (1002, CURRENT, in_flight(40040, 0)),
+        (1003, large, TOO_LARGE),
+    ] {
+        told(&rt, &mut recovery, row, event, want);
+    }
+}
+
+#[test]
+fn a_refused_event_leaves_no_trace(rt: HostRuntime) {
+    check(
+        &rt,
+        rt.alloc(),
+        [
+            (received(SpaceId::Data, u64::MAX, true), TOO_LARGE),
+            (received(SpaceId::Data, 0, true), new(true)),
+        ],
+    );
+}
+
+/// The refusals with their numbers, names and texts.
+const REFUSALS: [(Refusal, u8, &str, &str); 7] = [
+    (Refusal::NoMemory, 1, "NoMemory", "out of memory"),
+    (
+        Refusal::NumberTooLarge,
+        2,
+        "NumberTooLarge",
+        "a number is 2^62 or more",
+    ),
+    (
+        Refusal::NumbersExhausted,
+        3,
+        "NumbersExhausted",
+        "no packet number is left",
+    ),
+    (
+        Refusal::NotTracked,
+        4,
+        "NotTracked",
+        "the packet is not tracked",
+    ),
+    (
+        Refusal::SpaceDiscarded,
+        5,
+        "SpaceDiscarded",
+        "the space is discarded",
+    ),
+    (
+        Refusal::NoSuchPath,
+        6,
+        "NoSuchPath",
+        "there is no such path",
+    ),
+    (
+        Refusal::Overflow,
+        9,
+        "Overflow",
+        "a counter passes 2^64 - 1",
+    ),
+];
+
+#[test]
+fn refusals_have_numbers_names_and_texts(rt: HostRuntime) -> Result<(), Fail> {
+    for (refusal, number, name, text) in REFUSALS {
+        assert!(rt; refusal.number() == number, "{name}");
+        assert!(rt; refusal.name() == name, "{name}");
+        let printed = format!(in rt.alloc(); "{refusal}")?;
+        assert!(rt; printed.as_str() == text, "{name}");
+    }
+    Ok(())
+}

@@ -1,0 +1,140 @@
+//! What is to be acknowledged, and when.
+use super::*;
+use recovery_base::below::{AckFrequency, VarInt};
+
+const YES: Reply = Ok(Answer::Flag(true));
+
+const NO: Reply = Ok(Answer::Flag(false));
+
+const TOO_SMALL: Reply = Err(Refusal::DelayTooSmall);
+
+const SENT_DATA: Event = Event::AcksSent {
+    space: SpaceId::Data,
+};
+
+const LATE_DATA: Event = Event::AckDelayTimeout {
+    space: SpaceId::Data,
+};
+
+const DISCARD_DATA: Event = Event::DiscardSpace {
+    space: SpaceId::Data,
+};
+
+fn asked(sequence: u32, threshold: u32, micros: u32, reordering: u32) -> Event {
+    Event::AckFrequencyIn(AckFrequency {
+        sequence: VarInt::from_u32(sequence),
+        ack_eliciting_threshold: VarInt::from_u32(threshold),
+        request_max_ack_delay: VarInt::from_u32(micros),
+        reordering_threshold: VarInt::from_u32(reordering),
+    })
+}
+
+fn eliciting(nanos: u64, number: u64) -> Event {
+    Event::Received {
+        space: SpaceId::Data,
+        now: at(nanos),
+        number,
+        ack_eliciting: true,
+    }
+}
+
+#[test]
+fn an_order_is_told_by_the_threshold_asked_for(rt: HostRuntime) {
+    for (last, arm) in [(5, false), (4, true)] {
+        let recovery = walk(
+            &rt,
+            rt.alloc(),
+            [
+                (asked(0, 3, 1000, 2), YES),
+                (eliciting(0, 0), new(true)),
+                (eliciting(1, 1), new(false)),
+                (eliciting(2, 2), new(false)),
+                (SENT_DATA, DONE),
+                (eliciting(3, last), new(arm)),
+            ],
+        );
+        let delay = recovery.ack_frequency().max_ack_delay;
+        assert!(rt; delay == Duration::from_micros(1000), "at {last}");
+    }
+}
+
+#[test]
+fn a_request_that_is_refused_keeps_its_number(rt: HostRuntime) {
+    let recovery = walk(
+        &rt,
+        rt.alloc(),
+        [
+            (asked(5, 1, 999, 1), TOO_SMALL),
+            (asked(5, 1, 999, 1), NO),
+            (asked(4, 1, 5000, 1), NO),
+            (DISCARD_DATA, DONE),
+            (asked(6, 1, 5000, 1), DISCARDED),
+            (SENT_DATA, DISCARDED),
+            (LATE_DATA, DISCARDED),
+        ],
+    );
+    assert!(rt; recovery.ack_frequency().max_ack_delay == Duration::from_millis(25));
+}
+
+#[test]
+fn a_late_timer_leaves_the_delay_running(rt: HostRuntime) {
+    let recovery = walk(
+        &rt,
+        rt.alloc(),
+        [
+            (eliciting(0, 0), new(true)),
+            (LATE_DATA, DONE),
+            (eliciting(0, 1), new(false)),
+            (SENT_DATA, DONE),
+            (LATE_DATA, DONE),
+            (eliciting(0, 2), new(true)),
+        ],
+    );
+    let space = kept(&rt, &recovery, SpaceId::Data);
+    assert!(rt; !space.pending_acks.can_send());
+    assert!(rt; space.pending_acks.can_send_with_other_frames());
+    assert!(rt; space.rx_packet == 2);
+}
+
+#[test]
+fn an_acknowledged_ack_empties_its_own_space(rt: HostRuntime) {
+    let initial = SpaceId::Initial;
+    let with_ack = Event::Send {
+        space: initial,
+        now: at(0),
+        size: 1,
+        ack_eliciting: true,
+        largest_acked: Some(0),
+    };
+    let recovery = walk(
+        &rt,
+        rt.alloc(),
+        [
+            (received(SpaceId::Data, 0, true), new(true)),
+            (received(initial, 0, true), new(true)),
+            (with_ack, sent(0, None)),
+            (acked(initial, 0), ACKED),
+        ],
+    );
+    let emptied = &kept(&rt, &recovery, initial).pending_acks;
+    assert!(rt; !emptied.can_send_with_other_frames());
+    let other = &kept(&rt, &recovery, SpaceId::Data).pending_acks;
+    assert!(rt; other.can_send_with_other_frames());
+}
+
+#[test]
+fn at_most_64_ranges_are_to_be_acknowledged(rt: HostRuntime) {
+    let mut recovery = fresh(&rt, rt.alloc());
+    for half in 0..65u64 {
+        let event = received(SpaceId::Data, half.saturating_mul(2), false);
+        told(&rt, &mut recovery, half, event, new(false));
+    }
+    let space = kept(&rt, &recovery, SpaceId::Data);
+    let mut least = 2u64;
+    for range in space.pending_acks.ranges().iter() {
+        let end = least.saturating_add(1);
+        assert!(rt; range.start == least && range.end == end, "from {least}");
+        least = end.saturating_add(1);
+    }
+    assert!(rt; least == 130);
+}

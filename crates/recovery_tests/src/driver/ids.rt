@@ -1,0 +1,197 @@
+//! The connection ids of both ends.
+use super::*;
+use recovery_base::below::{IssuedCid, NewConnectionId, ResetToken};
+
+const YES: Reply = Ok(Answer::Flag(true));
+
+const NO: Reply = Ok(Answer::Flag(false));
+
+const NOTHING: Reply = Ok(Answer::Retire(None));
+
+const BAD_RANGE: Reply = Err(Refusal::BadRange);
+
+const BAD_RETIRE_PRIOR_TO: Reply = Err(Refusal::BadRetirePriorTo);
+
+const CIDS_NOT_IN_USE: Reply = Err(Refusal::CidsNotInUse);
+
+const EXCEEDS_LIMIT: Reply = Err(Refusal::ExceedsLimit);
+
+const NOT_INITIAL_ID: Reply = Err(Refusal::NotInitialId);
+
+const RETIRED: Reply = Err(Refusal::Retired);
+
+const UNISSUED_CID: Reply = Err(Refusal::UnissuedCid);
+
+/// An id of eight bytes, all the same.
+fn cid(byte: u8) -> ConnectionId {
+    ConnectionId::new(&[byte; 8])
+}
+
+fn token(byte: u8) -> ResetToken {
+    ResetToken::from([byte; 16])
+}
+
+/// The id has this byte, and the token that one.
+fn new_id_with(sequence: u64, retire_prior_to: u64, byte: u8, token_byte: u8) -> Event {
+    Event::NewId(NewConnectionId {
+        sequence,
+        retire_prior_to,
+        id: cid(byte),
+        reset_token: token(token_byte),
+    })
+}
+
+fn new_id(sequence: u64, retire_prior_to: u64, byte: u8) -> Event {
+    new_id_with(sequence, retire_prior_to, byte, byte)
+}
+
+fn initial_id(byte: u8) -> Event {
+    Event::InitialId(cid(byte))
+}
+
+fn issue_ids(rt: &impl Abort, alloc: Global, nanos: u64, numbers: &[u64]) -> Event {
+    let mut ids = Vec::new(alloc);
+    for number in numbers {
+        let id = IssuedCid {
+            sequence: *number,
+            id: cid(0),
+            reset_token: token(0),
+        };
+        if ids.push(id).is_err() {
+            panic!(rt; "NoMemory");
+        }
+    }
+    Event::IssueIds {
+        now: at(nanos),
+        ids,
+    }
+}
+
+fn peer_retired(sequence: u64, limit: u64) -> Event {
+    Event::PeerRetired { sequence, limit }
+}
+
+fn retire(start: u64, end: u64, byte: u8) -> Reply {
+    Ok(Answer::Retire(Some((start..end, token(byte)))))
+}
+
+#[test]
+fn ids_of_the_peer_come_and_go(rt: HostRuntime) {
+    let recovery = walk(
+        &rt,
+        rt.alloc(),
+        [
+            (new_id(2, 0, 7), NOTHING),
+            (new_id(3, 1, 8), retire(0, 2, 7)),
+            (Event::NextId, retire(2, 3, 8)),
+            (Event::NextId, NOTHING),
+            (new_id(1_000_000, 1_000_000, 9), retire(3, 8, 9)),
+            (initial_id(1), NOT_INITIAL_ID),
+            (new_id(3, 4, 1), BAD_RETIRE_PRIOR_TO),
+        ],
+    );
+    assert!(rt; recovery.remote_ids().active_seq() == 1_000_000);
+    assert!(rt; recovery.remote_ids().active() == cid(9));
+}
+
+#[test]
+fn ids_of_the_peer_have_bounds(rt: HostRuntime) {
+    let recovery = walk(
+        &rt,
+        rt.alloc(),
+        [
+            (initial_id(1), DONE),
+            (new_id(1 << 62, 0, 1), TOO_LARGE),
+            (new_id((1 << 62) - 1, 0, 1), EXCEEDS_LIMIT),
+            (new_id(4, 0, 4), NOTHING),
+            (new_id(5, 0, 5), EXCEEDS_LIMIT),
+            (Event::NextId, retire(0, 4, 4)),
+            (new_id(3, 0, 3), RETIRED),
+            (new_id(8, 3, 8), NOTHING),
+        ],
+    );
+    assert!(rt; recovery.remote_ids().active() == cid(4));
+}
+
+#[test]
+fn tokens_are_not_ids(rt: HostRuntime) {
+    let recovery = walk(
+        &rt,
+        rt.alloc(),
+        [
+            (new_id_with(1, 0, 7, 9), NOTHING),
+            (new_id_with(2, 2, 8, 10), retire(0, 2, 10)),
+        ],
+    );
+    assert!(rt; recovery.remote_ids().active() == cid(8));
+}
+
+#[test]
+fn ids_of_this_end_come_and_go(rt: HostRuntime) {
+    let recovery = walk(
+        &rt,
+        rt.alloc(),
+        [
+            (issue_ids(&rt, rt.alloc(), 0, &[1, 2]), DONE),
+            (Event::IdTimeout, YES),
+            (peer_retired(0, 5), YES),
+            (peer_retired(3, 5), UNISSUED_CID),
+            (Event::IdTimeout, NO),
+            (issue_ids(&rt, rt.alloc(), 5, &[4]), BAD_RANGE),
+        ],
+    );
+    assert!(rt; recovery.local_ids().issued() == 3);
+    assert!(rt; recovery.local_ids().retire_prior_to() == 3);
+}
+
+#[test]
+fn a_number_is_retired_once(rt: HostRuntime) {
+    check(
+        &rt,
+        rt.alloc(),
+        [(peer_retired(0, 1), YES), (peer_retired(0, 0), NO)],
+    );
+}
+
+#[test]
+fn ids_of_one_moment_have_one_deadline(rt: HostRuntime) {
+    check(
+        &rt,
+        rt.alloc(),
+        [
+            (issue_ids(&rt, rt.alloc(), 0, &[1, 2]), DONE),
+            (issue_ids(&rt, rt.alloc(), 0, &[3]), DONE),
+            (Event::IdTimeout, YES),
+            (Event::IdTimeout, NO),
+        ],
+    );
+}
+
+#[test]
+fn numbers_go_on_from_the_count_issued(rt: HostRuntime) {
+    let recovery = walk(
+        &rt,
+        rt.alloc(),
+        [
+            (issue_ids(&rt, rt.alloc(), 0, &[u64::MAX]), BAD_RANGE),
+            (issue_ids(&rt, rt.alloc(), 0, &[]), DONE),
+            (issue_ids(&rt, rt.alloc(), 0, &[2]), BAD_RANGE),
+            (issue_ids(&rt, rt.alloc(), 0, &[1, 3]), BAD_RANGE),
+            (issue_ids(&rt, rt.alloc(), 0, &[1, 2]), DONE),
+        ],
+    );
+    assert!(rt; recovery.local_ids().issued() == 3);
+}
+
+#[test]
+fn ids_of_no_bytes_are_not_retired(rt: HostRuntime) {
+    walk_with(
+        &rt,
+        rt.alloc(),
+        settings(0),
+        [
+            (peer_retired(0, 5), CIDS_NOT_IN_USE),
+            (peer_retired(9, 5), CIDS_NOT_IN_USE),
+        ],
+    );
+}

@@ -1,0 +1,101 @@
+//! Packet number spaces and paths. What no run reaches, since the numbers or bytes before it are too many, is proved for
+//! every state that stands there, and not run.
+ghost use Rattle.std.specs.Prelude.{◌≡◌, true};
+
+use quic_recovery::driver::Recovery;
+use quic_recovery::event::{Event, Refusal};
+use quic_recovery::paths::{LedgerError, PathData};
+use quic_recovery::spaces::{NUMBER_LIMIT, PacketSpace, SentPacket};
+use recovery_base::below::IssuedCid;
+use recovery_base::time::Instant;
+use std::alloc::Global;
+
+fn at(nanos: u64) -> Instant
+    ensures { result ≡ nanos }
+{
+    Instant::from_nanos(nanos)
+}
+
+fn packet(path_generation: u64, size: u16) -> SentPacket
+    ensures path { result.path_generation ≡ path_generation }
+    ensures counted { (result.size ≡ size) × (result.ack_eliciting ≡ true) }
+{
+    SentPacket {
+        path_generation,
+        time_sent: at(0),
+        size,
+        ack_eliciting: true,
+        largest_acked: None,
+    }
+}
+
+#[test]
+fn a_space_begins_at_0(rt: HostRuntime) {
+    let mut space = PacketSpace::new(rt.alloc(), at(0));
+    assert!(rt; space.get_tx_number() == Some(0));
+    assert!(rt; space.sent_with_keys == 1);
+    assert!(rt; space.take(0) == None);
+    assert!(rt; space.take_first().is_none());
+}
+
+fn the_numbers_end_at_2_to_62(space: &mut PacketSpace) {
+    if space.next_packet_number() != NUMBER_LIMIT - 1 || space.sent_with_keys != 1 {
+        return;
+    }
+    let last = space.get_tx_number();
+    prove!(last == Some(NUMBER_LIMIT - 1));
+    let none = space.get_tx_number();
+    prove!(none == None);
+    let next = space.next_packet_number();
+    prove!(next == NUMBER_LIMIT);
+    prove!(space.sent_with_keys == 2);
+}
+
+fn a_sum_past_the_end_is_refused(path: &mut PathData, alloc: Global) {
+    let full = path.in_flight();
+    if full.bytes != u64::MAX - 9 || full.ack_eliciting != 0 {
+        return;
+    }
+    let mut space = PacketSpace::new(alloc, at(0));
+    let packet = packet(path.generation(), 10);
+    let is_refused = matches!(path.sent(0, packet, &mut space), Err(LedgerError::Overflow));
+    prove!(is_refused);
+    let left = path.in_flight();
+    prove!(left.bytes == u64::MAX - 9);
+    prove!(left.ack_eliciting == 0);
+}
+
+fn a_sum_at_the_end_is_not(path: &mut PathData, alloc: Global) {
+    let full = path.in_flight();
+    if full.bytes != u64::MAX - 9 || full.ack_eliciting != 0 {
+        return;
+    }
+    let mut space = PacketSpace::new(alloc, at(0));
+    let packet = packet(path.generation(), 9);
+    match path.sent(0, packet, &mut space) {
+        Ok(_) => {
+            let left = path.in_flight();
+            prove!(left.bytes == u64::MAX);
+            prove!(left.ack_eliciting == 1);
+        }
+        Err(LedgerError::Overflow) => unreachable!(),
+        Err(LedgerError::NoMemory) => {}
+    }
+}
+
+fn no_id_is_issued_past_2_to_62(recovery: &mut Recovery, more: Vec<IssuedCid>) {
+    let issued = recovery.local_ids().issued();
+    let count = more.len() as u64;
+    let now = at(0);
+    let reply = recovery.apply(Event::IssueIds { now, ids: more });
+    let is_refused = matches!(&reply, Err(Refusal::NumberTooLarge));
+    if issued == NUMBER_LIMIT - 2 && count == 2 {
+        prove!(!is_refused);
+    }
+    if issued == NUMBER_LIMIT - 1 && count == 2 {
+        prove!(is_refused);
+    }
+    if issued == NUMBER_LIMIT && count == 0 {
+        prove!(!is_refused);
+    }
+}
