@@ -1,0 +1,2 @@
+pub mod AckLaws
+pub mod RunLaws

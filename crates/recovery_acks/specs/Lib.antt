@@ -1,0 +1,3 @@
+pub mod AckFrequencies
+pub mod Acks
+pub mod Runs

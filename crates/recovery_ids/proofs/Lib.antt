@@ -1,0 +1,6 @@
+pub mod DeadlineLaws
+pub mod IterLaws
+pub mod QueueLaws
+pub mod RiseLaws
+pub mod StateLaws
+pub mod WindowLaws

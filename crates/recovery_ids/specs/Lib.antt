@@ -1,0 +1,5 @@
+pub mod CidQueue
+pub mod CidState
+pub mod LocalIds
+pub mod RemoteIds
+pub mod Window
