@@ -1,15 +1,11 @@
 -- What an ack-eliciting packet leaves.
 use Rattle.std.proofs.Common.{◌≡◌, ℕ, ◌+◌, ◌-◌, ◌<◌, ◌≤◌, max, inl, inr, ◌⊎◌, ◌↔◌, Bool, true, false, nat_lt, Option, None, Some, refl, ap, subst, arith}
-use Rattle.std.specs.Prelude.{IsTrue, IfSome, MatchBool}
+use Rattle.std.specs.Prelude.{◌≢◌, IsTrue, IfSome, Decides, MatchBool}
 use Rattle.std.specs.Option.{unwrap_or}
 use Rattle.std.proofs.lemmas.Bool.{false≢true, ltb-true, lt-ltb, cases_lt}
 use Rattle.recovery_base.specs.Numbers.{IsLeastMissing}
 use Rattle.recovery_base.specs.Ranges.{InRanges}
 use Rattle.recovery_acks.specs.Acks.{Acks, HasReached, IsOutOfOrder, Receives, ReceivesEliciting, counted, number_or_zero}
-
-pub tells : (b : Bool) (P : Type 0) → MatchBool b P (¬ P) → IsTrue b ↔ P
-tells true P h = (λ _. h, λ _. refl)
-tells false P h = (λ e. absurd (false≢true e), λ p. absurd (h p))
 
 -- the greatest number has been reached where both have
 pub reaches : (Known : ℕ → Type 0) (before : Option ℕ) (number : ℕ) → HasReached Known number → IfSome before (HasReached Known) → HasReached Known (max (unwrap_or before 0) number)
@@ -27,46 +23,53 @@ eliciting_receives Known old new now number false arm is received = absurd (fals
 module _ (Known : ℕ → Type 0) (old : Acks) (now number greatest count : ℕ) (out req can noticed : Bool)
     (greatest_is : greatest ≡ max (number_or_zero old.greatest) number)
     (count_is : count ≡ counted old.eliciting)
-    (out_is : MatchBool out (IsOutOfOrder Known old.reordering old.acknowledged (number_or_zero old.greatest) greatest number) (¬ IsOutOfOrder Known old.reordering old.acknowledged (number_or_zero old.greatest) greatest number))
-    (req_is : MatchBool req (IsTrue old.required ⊎ (IsTrue (nat_lt old.threshold count) ⊎ IsTrue out)) (¬ (IsTrue old.required ⊎ (IsTrue (nat_lt old.threshold count) ⊎ IsTrue out))))
-    (can_is : MatchBool can (IsTrue req × ((n : ℕ) × InRanges old.ranges n)) (¬ (IsTrue req × ((n : ℕ) × InRanges old.ranges n))))
-    (noticed_is : MatchBool noticed ((¬ (old.base ≡ None)) ⊎ IsTrue can) ((old.base ≡ None) × ¬ IsTrue can)) where
+    (out_is : Decides out (IsOutOfOrder Known old.reordering old.acknowledged (number_or_zero old.greatest) greatest number))
+    (req_is : Decides req (IsTrue old.required ⊎ (IsTrue (nat_lt old.threshold count) ⊎ IsTrue out)))
+    (can_is : Decides can (IsTrue req × ((n : ℕ) × InRanges old.ranges n)))
+    (noticed_is : MatchBool noticed ((old.base ≢ None) ⊎ IsTrue can) ((old.base ≡ None) × ¬ IsTrue can)) where
   abbrev pub left_with : Option ℕ → Acks
-  left_with base = record { required = req; eliciting = count; silent = old.silent; threshold = old.threshold; reordering = old.reordering; base = base; ranges = old.ranges; largest = old.largest; greatest = Some greatest; acknowledged = old.acknowledged }
+  left_with base = record old { required = req; eliciting = count; base = base; greatest = Some greatest }
 
-  required : IsTrue req ↔ (IsTrue old.required ⊎ ((old.threshold < count) ⊎ IsOutOfOrder Known old.reordering old.acknowledged (number_or_zero old.greatest) greatest number))
+  abbrev pub OutOfOrder : Type 0
+  OutOfOrder = IsOutOfOrder Known old.reordering old.acknowledged (number_or_zero old.greatest) greatest number
+
+  required : IsTrue req ↔ (IsTrue old.required ⊎ ((old.threshold < count) ⊎ OutOfOrder))
   required = (
-    λ e. elim ((tells req (IsTrue old.required ⊎ (IsTrue (nat_lt old.threshold count) ⊎ IsTrue out)) req_is).0 e) [
+    λ e. elim (req_is.0 e) [
       | inl h ↦ inl h
-      | inr h ↦ elim h [ inl k ↦ inr (inl (ltb-true old.threshold count k)) | inr k ↦ inr (inr ((tells out (IsOutOfOrder Known old.reordering old.acknowledged (number_or_zero old.greatest) greatest number) out_is).0 k)) ]
+      | inr h ↦ elim h [ inl k ↦ inr (inl (ltb-true old.threshold count k)) | inr k ↦ inr (inr (out_is.0 k)) ]
     ],
-    λ why. (tells req (IsTrue old.required ⊎ (IsTrue (nat_lt old.threshold count) ⊎ IsTrue out)) req_is).1 (elim why [
+    λ why. req_is.1 (elim why [
       | inl h ↦ inl h
-      | inr h ↦ elim h [ inl k ↦ inr (inl (lt-ltb old.threshold count k)) | inr k ↦ inr (inr ((tells out (IsOutOfOrder Known old.reordering old.acknowledged (number_or_zero old.greatest) greatest number) out_is).1 k)) ]
+      | inr h ↦ elim h [ inl k ↦ inr (inl (lt-ltb old.threshold count k)) | inr k ↦ inr (inr (out_is.1 k)) ]
     ]),
   )
 
-  can_tells : IsTrue can ↔ (IsTrue req × ((n : ℕ) × InRanges old.ranges n))
-  can_tells = tells can (IsTrue req × ((n : ℕ) × InRanges old.ranges n)) can_is
-
   pub unarmed : noticed ≡ true → ReceivesEliciting Known old now number false (left_with old.base)
-  unarmed is = record {
-    greatest = ap Some greatest_is;
-    eliciting = count_is;
-    required = required;
-    armed = (λ e. absurd (false≢true e), λ both. absurd (elim (subst (λ (b : Bool). MatchBool b ((¬ (old.base ≡ None)) ⊎ IsTrue can) ((old.base ≡ None) × ¬ IsTrue can)) is noticed_is) [ inl some ↦ some both.0 | inr send ↦ both.1 (can_tells.0 send) ]));
-    base = refl;
-    others = (refl, refl, refl, refl, refl, refl);
-  }
-
-  pub armed_now : noticed ≡ false → ReceivesEliciting Known old now number true (left_with (Some now))
-  armed_now is =
-      let told : (old.base ≡ None) × ¬ IsTrue can = subst (λ (b : Bool). MatchBool b ((¬ (old.base ≡ None)) ⊎ IsTrue can) ((old.base ≡ None) × ¬ IsTrue can)) is noticed_is in
+  unarmed is =
+      let P : Bool → Type 0 = λ b. MatchBool b ((old.base ≢ None) ⊎ IsTrue can) ((old.base ≡ None) × ¬ IsTrue can) in
+      let told : (old.base ≢ None) ⊎ IsTrue can = subst P is noticed_is in
       record {
         greatest = ap Some greatest_is;
         eliciting = count_is;
         required = required;
-        armed = (λ _. (told.0, λ send. told.1 (can_tells.1 send)), λ _. refl);
+        armed = (
+          λ e. absurd (false≢true e),
+          λ both. absurd (elim told [ inl some ↦ some both.0 | inr send ↦ both.1 (can_is.0 send) ]),
+        );
+        base = refl;
+        others = (refl, refl, refl, refl, refl, refl);
+      }
+
+  pub armed_now : noticed ≡ false → ReceivesEliciting Known old now number true (left_with (Some now))
+  armed_now is =
+      let P : Bool → Type 0 = λ b. MatchBool b ((old.base ≢ None) ⊎ IsTrue can) ((old.base ≡ None) × ¬ IsTrue can) in
+      let told : (old.base ≡ None) × ¬ IsTrue can = subst P is noticed_is in
+      record {
+        greatest = ap Some greatest_is;
+        eliciting = count_is;
+        required = required;
+        armed = (λ _. (told.0, λ send. told.1 (can_is.1 send)), λ _. refl);
         base = refl;
         others = (refl, refl, refl, refl, refl, refl);
       }

@@ -1,14 +1,19 @@
-//! How often the peer is asked to acknowledge, and how often it asks (the QUIC ACK frequency extension).
-ghost use Rattle.std.specs.Prelude.{◌≡◌, ◌<◌, ◌≤◌, ◌^◌, ◌+◌, min, max, MatchBool, MatchOption, Some, None};
-ghost use Rattle.recovery_acks.specs.AckFrequencies.{pending_of, next_of, last_of, candidate_delay, current_delay, longest_delay, IsWorthSending, FrequencyReceived, view_of, acked_pending};
+//! How often the peer is asked to acknowledge, and how often it asks (draft-ietf-quic-ack-frequency-04).
+ghost use Rattle.std.specs.Prelude.{◌≡◌, ◌<◌, ◌≤◌, ◌^◌, ◌+◌, [], min, max, Decides, MatchOption, Some, None};
+ghost use Rattle.recovery_acks.specs.AckFrequencies.{pending_of, next_of, candidate_delay, current_delay, longest_delay, IsWorthSending, FrequencyReceived, AcksRequest, view_of};
+ghost use Rattle.recovery_acks.specs.RequestLog.{frequency_by};
 
 use crate::PendingAcks;
 use recovery_base::below::{AckFrequency, TransportError, TransportParameters, VarInt};
 use recovery_base::config::AckFrequencyConfig;
 use recovery_base::time::Duration;
 
-/// The least delay that a peer may ask for.
+/// The least delay that a peer may ask for: what timers can keep (RFC 9002, 6.1.2).
 const TIMER_GRANULARITY_NANOS: u128 = 1_000_000;
+
+/// An RTT counts as this much at least, the default of `max_ack_delay` (RFC 9000, 18.2): on a short path more ACKs would
+/// else be asked for than come without a request.
+const MIN_AUTOMATIC_ACK_DELAY_MILLIS: u64 = 25;
 
 /// The delays of ACKs, as asked for and as asked by the peer.
 #[derive(Drop)]
@@ -25,7 +30,7 @@ pub struct AckFrequencyState {
 impl AckFrequencyState {
     /// Nothing was asked yet; both delays are this one.
     pub fn new(default_max_ack_delay: Duration) -> Self
-        ensures { view_of result ≡ record { pending = None; next = 0; peer = default_max_ack_delay; last = None; own = default_max_ack_delay } }
+        ensures { view_of result ≡ frequency_by default_max_ack_delay [] }
     {
         AckFrequencyState {
             in_flight_ack_frequency_frame: None,
@@ -37,14 +42,15 @@ impl AckFrequencyState {
     }
 
     /// The delay to ask the peer for: the configured one or else the peer's, at most the RTT, which counts as 25 ms at
-    /// least, and at least the least that the peer takes.
+    /// least, and at least the peer's `min_ack_delay`.
     pub fn candidate_max_ack_delay(
         &self,
         rtt: Duration,
         config: &AckFrequencyConfig,
         peer_params: &TransportParameters,
     ) -> Duration
-        ensures { result ≡ candidate_delay config.now.max_ack_delay self.now.peer_max_ack_delay rtt peer_params.now.min_ack_delay }
+        ensures { result ≡ candidate_delay config.now.max_ack_delay
+            self.now.peer_max_ack_delay rtt peer_params.now.min_ack_delay }
     {
         let wanted = match config.max_ack_delay {
             Some(configured) => configured,
@@ -55,7 +61,10 @@ impl AckFrequencyState {
             None => Duration::ZERO,
         };
         longer(
-            shorter(wanted, longer(rtt, Duration::from_millis(25))),
+            shorter(
+                wanted,
+                longer(rtt, Duration::from_millis(MIN_AUTOMATIC_ACK_DELAY_MILLIS)),
+            ),
             least,
         )
     }
@@ -72,8 +81,10 @@ impl AckFrequencyState {
 
     /// The number of the next request, counted from 0. None past 2^62 - 1, and then nothing changes.
     pub fn next_sequence_number(&mut self) -> Option<VarInt>
-        ensures number { MatchOption result (2 ^ 62 ≤ next_of self.old) (λ number. number ≡ next_of self.old) }
-        ensures next { MatchOption result (self.new ≡ self.old) (λ number. view_of self.new ≡ record { pending = pending_of self.old; next = next_of self.old + 1; peer = self.old.peer_max_ack_delay; last = last_of self.old; own = self.old.max_ack_delay }) }
+        ensures number { MatchOption result (2 ^ 62 ≤ next_of self.old)
+            (λ number. number ≡ next_of self.old) }
+        ensures next { MatchOption result (self.new ≡ self.old)
+            (λ number. view_of self.new ≡ record (view_of self.old) { next = number + 1 }) }
     {
         match VarInt::from_u64(self.next_outgoing_sequence_number) {
             Ok(number) => {
@@ -92,7 +103,10 @@ impl AckFrequencyState {
         config: &AckFrequencyConfig,
         peer_params: &TransportParameters,
     ) -> bool
-        ensures { MatchBool result (IsWorthSending (next_of self.now) (candidate_delay config.now.max_ack_delay self.now.peer_max_ack_delay rtt peer_params.now.min_ack_delay) (current_delay (pending_of self.now) self.now.peer_max_ack_delay)) (¬ IsWorthSending (next_of self.now) (candidate_delay config.now.max_ack_delay self.now.peer_max_ack_delay rtt peer_params.now.min_ack_delay) (current_delay (pending_of self.now) self.now.peer_max_ack_delay)) }
+        ensures { let desired = candidate_delay config.now.max_ack_delay
+            self.now.peer_max_ack_delay rtt peer_params.now.min_ack_delay in
+            let current = current_delay (pending_of self.now) self.now.peer_max_ack_delay in
+            Decides result (IsWorthSending (next_of self.now) desired current) }
     {
         if self.next_outgoing_sequence_number == 0 {
             return true;
@@ -109,15 +123,15 @@ impl AckFrequencyState {
 
     /// A packet with a request went out.
     pub fn ack_frequency_sent(&mut self, pn: u64, requested_max_ack_delay: Duration)
-        ensures { view_of self.new ≡ record { pending = Some (pn, requested_max_ack_delay); next = next_of self.old; peer = self.old.peer_max_ack_delay; last = last_of self.old; own = self.old.max_ack_delay } }
+        ensures { view_of self.new
+            ≡ record (view_of self.old) { pending = Some (pn, requested_max_ack_delay) } }
     {
         self.in_flight_ack_frequency_frame = Some((pn, requested_max_ack_delay));
     }
 
     /// A packet was acknowledged: where it held the request on its way, the peer uses that delay from now on.
     pub fn on_acked(&mut self, pn: u64)
-        ensures request { acked_pending pn (pending_of self.old) self.old.peer_max_ack_delay (pending_of self.new, self.new.peer_max_ack_delay) }
-        ensures others { (next_of self.new ≡ next_of self.old) × (last_of self.new ≡ last_of self.old) × (self.new.max_ack_delay ≡ self.old.max_ack_delay) }
+        ensures { AcksRequest pn (view_of self.old) (view_of self.new) }
     {
         if let Some((number, requested)) = self.in_flight_ack_frequency_frame {
             if number == pn {
@@ -135,7 +149,8 @@ impl AckFrequencyState {
         frame: &AckFrequency,
         pending_acks: &mut PendingAcks,
     ) -> Result<bool, TransportError>
-        ensures { FrequencyReceived (view_of self.old) pending_acks.old frame.now result (view_of self.new) pending_acks.new }
+        ensures { FrequencyReceived (view_of self.old) pending_acks.old frame.now result
+            (view_of self.new) pending_acks.new }
     {
         let sequence = frame.sequence.into_inner();
         if let Some(last) = self.last_ack_frequency_frame {

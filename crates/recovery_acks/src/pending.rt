@@ -1,9 +1,9 @@
 //! The packets of one space that are to be acknowledged.
-ghost use Rattle.std.specs.Prelude.{◌≡◌, ℕ, ◌<◌, ◌≤◌, ◌^◌, ◌⊎◌, IsTrue, IsSome, IfSome, OnOk, OnErr, IsErr, MatchBool, nat_lt, true, false, length, [], ◌↔◌, None, Some};
+ghost use Rattle.std.specs.Prelude.{◌≡◌, ◌≢◌, ℕ, ◌<◌, ◌≤◌, ◌^◌, ◌⊎◌, IsTrue, IsSome, IfSome, OnOk, OnErr, IsErr, Decides, MatchBool, nat_lt, true, false, length, [], ◌↔◌, None, Some};
 ghost use Rattle.recovery_base.specs.Numbers.{With};
 ghost use Rattle.recovery_base.specs.Received.{Has};
 ghost use Rattle.recovery_base.specs.Ranges.{InRanges, AreApart};
-ghost use Rattle.recovery_acks.specs.Acks.{IsPending, CanSend, new_acks, with_thresholds, with_required, acks_sent, Receives, AddsPending, SubtractsBelow, delay_at, timeout_at, HasReached, IsOutOfOrder, IsReported, IsUpTo, largest_with};
+ghost use Rattle.recovery_acks.specs.Acks.{IsPending, CanSend, new_acks, with_thresholds, with_required, acks_sent, Receives, AddsPending, SubtractsBelow, delay_at, timeout_at, HasReached, IsOutOfOrder, IsReported, IsUpTo, largest_with, most_ranges};
 ghost use Rattle.recovery_acks.specs.Runs.{IsInHighest};
 
 use recovery_base::below::{AckFrequency, ArrayRangeSet, NoMemory};
@@ -12,10 +12,12 @@ use recovery_base::time::{Duration, Instant};
 use std::alloc::Global;
 use std::marker::Model;
 
-/// The most ranges that an ACK frame carries.
+/// The most ranges that an ACK frame carries: each takes 16 bytes at most (RFC 9000, 19.3.1), so that they fit into the least
+/// datagram, of 1200 bytes.
 const MAX_ACK_BLOCKS: usize = 64;
 
-/// How many packets that ask for no ACK may come before one is sent with other frames.
+/// How many packets that are not ack-eliciting may come before an ACK is sent with other frames: the peer keeps them
+/// until it hears of them, and nothing else tells it.
 const LAZY_ACK_THRESHOLD: u64 = 10;
 
 /// The packets to be acknowledged, and when an ACK is due (RFC 9000, 13.2).
@@ -34,35 +36,14 @@ pub struct PendingAcks {
 }
 
 impl Model for PendingAcks {
-    ghost use Rattle.recovery_acks.specs.Acks.{Acks, IsSound};
+    ghost use Rattle.recovery_acks.specs.Acks.{Acks, AreAcksSound};
+    ghost use Rattle.recovery_acks.specs.PendingAcks.{acks_in};
 
     ghost Value = { Acks };
 
-    ghost view = { λ acks. record {
-      required = acks.immediate_ack_required;
-      eliciting = acks.ack_eliciting_since_last_ack_sent;
-      silent = acks.non_ack_eliciting_since_last_ack_sent;
-      threshold = acks.ack_eliciting_threshold;
-      reordering = acks.reordering_threshold;
-      base = acks.earliest_ack_eliciting_since_last_ack_sent;
-      ranges = acks.ranges;
-      largest = acks.largest_packet;
-      greatest = acks.largest_ack_eliciting_packet;
-      acknowledged = acks.largest_acked;
-    } };
+    ghost view = { acks_in };
 
-    ghost invariant = { λ acks. IsSound (record {
-      required = acks.immediate_ack_required;
-      eliciting = acks.ack_eliciting_since_last_ack_sent;
-      silent = acks.non_ack_eliciting_since_last_ack_sent;
-      threshold = acks.ack_eliciting_threshold;
-      reordering = acks.reordering_threshold;
-      base = acks.earliest_ack_eliciting_since_last_ack_sent;
-      ranges = acks.ranges;
-      largest = acks.largest_packet;
-      greatest = acks.largest_ack_eliciting_packet;
-      acknowledged = acks.largest_acked;
-    }) };
+    ghost invariant = { λ acks. AreAcksSound (acks_in acks) };
 }
 
 impl PendingAcks {
@@ -118,14 +99,14 @@ impl PendingAcks {
 
     /// Whether an ACK may be sent in a packet of its own: one is required, and a number is to be acknowledged.
     pub fn can_send(&self) -> bool
-        ensures { MatchBool result (CanSend self.now) (¬ CanSend self.now) }
+        ensures { Decides result (CanSend self.now) }
     {
         may_send(self.immediate_ack_required, &self.ranges)
     }
 
     /// Whether an ACK may be sent with other frames: a number is to be acknowledged.
     pub fn can_send_with_other_frames(&self) -> bool
-        ensures { MatchBool result ((n : ℕ) × IsPending self.now n) ((n : ℕ) → ¬ IsPending self.now n) }
+        ensures { Decides result ((n : ℕ) × IsPending self.now n) }
     {
         !self.ranges.is_empty()
     }
@@ -150,9 +131,11 @@ impl PendingAcks {
     ) -> bool
         requires number { HasReached (Has dedup.now) packet_number }
         requires earlier { IfSome self.old.greatest (HasReached (Has dedup.now)) }
-        ensures receives { Receives (Has dedup.now) self.old now packet_number ack_eliciting result self.new }
+        ensures receives { Receives (Has dedup.now) self.old now packet_number ack_eliciting
+            result self.new }
         ensures noticed { IsTrue ack_eliciting → IsSome self.new.base ⊎ IsTrue self.new.required }
-        ensures within_threshold { IsTrue ack_eliciting → ¬ IsTrue self.new.required → self.new.eliciting ≤ self.new.threshold }
+        ensures within_threshold { IsTrue ack_eliciting → ¬ IsTrue self.new.required
+            → self.new.eliciting ≤ self.new.threshold }
     {
         if !ack_eliciting {
             self.non_ack_eliciting_since_last_ack_sent = self
@@ -220,7 +203,7 @@ impl PendingAcks {
     /// The numbers that are to be acknowledged: at most 64 ranges.
     pub fn ranges(&self) -> &ArrayRangeSet
         ensures value { result.now ≡ self.now.ranges }
-        ensures count { length self.now.ranges ≤ 64 }
+        ensures count { length self.now.ranges ≤ most_ranges }
     {
         &self.ranges
     }
@@ -239,20 +222,21 @@ impl PendingAcks {
 }
 
 fn may_send(required: bool, ranges: &ArrayRangeSet) -> bool
-    ensures { MatchBool result (IsTrue required × ((n : ℕ) × InRanges ranges.now n)) (¬ (IsTrue required × ((n : ℕ) × InRanges ranges.now n))) }
+    ensures { Decides result (IsTrue required × ((n : ℕ) × InRanges ranges.now n)) }
 {
     required && !ranges.is_empty()
 }
 
 fn is_any(first: bool, second: bool, third: bool) -> bool
-    ensures { MatchBool result (IsTrue first ⊎ (IsTrue second ⊎ IsTrue third)) (¬ (IsTrue first ⊎ (IsTrue second ⊎ IsTrue third))) }
+    ensures { Decides result (IsTrue first ⊎ (IsTrue second ⊎ IsTrue third)) }
 {
     first || second || third
 }
 
 /// Whether an ack-eliciting packet needs no timer of its own.
 fn is_noticed(base: Option<Instant>, can_send: bool) -> bool
-    ensures { MatchBool result ((¬ (base ≡ None)) ⊎ IsTrue can_send) ((base ≡ None) × ¬ IsTrue can_send) }
+    ensures { MatchBool result ((base ≢ None) ⊎ IsTrue can_send)
+        ((base ≡ None) × ¬ IsTrue can_send) }
 {
     base.is_some() || can_send
 }
@@ -270,10 +254,11 @@ fn larger(largest: Option<(u64, Instant)>, packet: u64, now: Instant) -> (u64, I
 /// Adds a number, and drops the lowest range where more than 64 stand.
 fn insert(ranges: &mut ArrayRangeSet, packet: u64) -> Result<(), NoMemory>
     requires small { packet < 2 ^ 62 }
-    requires count { length ranges.old ≤ 64 }
-    ensures pending { OnOk result ((n : ℕ) → InRanges ranges.new n ↔ IsInHighest 64 (With packet (InRanges ranges.old)) n) }
+    requires count { length ranges.old ≤ most_ranges }
+    ensures pending { OnOk result ((n : ℕ) → InRanges ranges.new n
+        ↔ IsInHighest most_ranges (With packet (InRanges ranges.old)) n) }
     ensures some { OnOk result ((n : ℕ) × InRanges ranges.new n) }
-    ensures kept { OnOk result ((length ranges.new ≤ 64) × AreApart 0 ranges.new) }
+    ensures kept { OnOk result ((length ranges.new ≤ most_ranges) × AreApart 0 ranges.new) }
     ensures only_new_takes_memory { IsErr result → ¬ InRanges ranges.old packet }
     ensures err { OnErr result (ranges.new ≡ ranges.old) }
 {
@@ -296,7 +281,8 @@ fn is_out_of_order(
     requires reached { HasReached (Has dedup.now) greatest }
     requires above { number ≤ greatest }
     requires order { IsUpTo acknowledged (Some greatest) }
-    ensures { MatchBool result (IsOutOfOrder (Has dedup.now) threshold acknowledged before greatest number) (¬ IsOutOfOrder (Has dedup.now) threshold acknowledged before greatest number) }
+    ensures { Decides result
+        (IsOutOfOrder (Has dedup.now) threshold acknowledged before greatest number) }
 {
     if threshold == 0 {
         return false;
@@ -312,7 +298,7 @@ fn is_reported(threshold: u64, greatest: u64, acknowledged: Option<u64>, dedup: 
     requires some { 1 < threshold }
     requires reached { HasReached (Has dedup.now) greatest }
     requires order { IsUpTo acknowledged (Some greatest) }
-    ensures { MatchBool result (IsReported (Has dedup.now) threshold greatest acknowledged) (¬ IsReported (Has dedup.now) threshold greatest acknowledged) }
+    ensures { Decides result (IsReported (Has dedup.now) threshold greatest acknowledged) }
 {
     let acknowledged = match acknowledged {
         Some(acknowledged) => acknowledged,
