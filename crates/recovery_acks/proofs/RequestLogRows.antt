@@ -1,7 +1,6 @@
 -- Worked rows: what the definitions of the log come to on one log, computed.
 use Rattle.std.proofs.Common.{◌≡◌, ℕ, List, [], ◌∷◌, Some, refl}
 use Rattle.recovery_base.specs.declared.below.frames.AckFrequency.{AckFrequency}
-use Rattle.recovery_acks.specs.AckFrequencies.{current_delay}
 use Rattle.recovery_acks.specs.RequestLog.{RequestEntry, taken, too_small, last_asked, own_delay, frequency_by}
 
 -- a frame with this number asks for so many microseconds

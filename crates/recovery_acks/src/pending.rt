@@ -67,7 +67,9 @@ impl PendingAcks {
 
     /// Takes both thresholds of an ACK_FREQUENCY frame.
     pub fn set_ack_frequency_params(&mut self, frame: &AckFrequency)
-        ensures { self.new ≡ with_thresholds frame.now.ack_eliciting_threshold frame.now.reordering_threshold self.old }
+        ensures { self.new
+            ≡ with_thresholds frame.now.ack_eliciting_threshold frame.now.reordering_threshold
+            self.old }
     {
         self.ack_eliciting_threshold = frame.ack_eliciting_threshold.into_inner();
         self.reordering_threshold = frame.reordering_threshold.into_inner();

@@ -2,7 +2,7 @@
 use Rattle.std.proofs.Common.{◌≡◌, ℕ, zero, suc, ◌+◌, ◌^◌, ◌<◌, ◌≤◌, nat_lt, nat_eq, cond, Bool, true, false, List, [], ◌∷◌, ◌++◌, length, map, take, get_or, Option, None, Some, refl, ap, ◌∙◌, arith}
 use Rattle.std.specs.List.{range_with_len}
 use Rattle.std.proofs.lemmas.Bool.Decides.{nat_tests}
-use Rattle.recovery_ids.specs.LocalIds.{without_last_at, with_deadline, tracked, tracked_last, tracked_each, Rise}
+use Rattle.recovery_ids.specs.LocalIds.{without_last_at, with_deadline, deadlines_with, deadlines_with_last, deadlines_with_each, Rise}
 use Rattle.recovery_ids.specs.declared.state.CidTimestamp.{CidTimestamp}
 use Rattle.recovery_ids.proofs.RiseLaws.{Rise-wider, Rise-append}
 
@@ -34,26 +34,26 @@ again_where : (fits : Bool) (moment first number : ℕ) (deadlines : List CidTim
 again_where true moment first number deadlines = with_deadline-again moment first number deadlines
 again_where false moment first number deadlines = refl
 
-tracked-again : (lifetime : Option ℕ) (now first number : ℕ) (deadlines : List CidTimestamp) →
-    tracked lifetime now number (tracked lifetime now first deadlines) ≡ tracked lifetime now number deadlines
-tracked-again None now first number deadlines = refl
-tracked-again (Some lifetime) now first number deadlines = again_where (nat_lt (now + lifetime) (2 ^ 64)) (now + lifetime) first number deadlines
+deadlines_with-again : (lifetime : Option ℕ) (now first number : ℕ) (deadlines : List CidTimestamp) →
+    deadlines_with lifetime now number (deadlines_with lifetime now first deadlines) ≡ deadlines_with lifetime now number deadlines
+deadlines_with-again None now first number deadlines = refl
+deadlines_with-again (Some lifetime) now first number deadlines = again_where (nat_lt (now + lifetime) (2 ^ 64)) (now + lifetime) first number deadlines
 
 -- deadlines for each number of a run, all made at one moment, are one for the last
-tracked_each-last : (lifetime : Option ℕ) (now first count : ℕ) (deadlines : List CidTimestamp) →
-    tracked_each lifetime now (range_with_len first (suc count)) deadlines ≡ tracked lifetime now (first + count) deadlines
-tracked_each-last lifetime now first zero deadlines = let none : first + 0 ≡ first = omega arith in rw none refl
-tracked_each-last lifetime now first (suc count) deadlines =
+deadlines_with_each-last : (lifetime : Option ℕ) (now first count : ℕ) (deadlines : List CidTimestamp) →
+    deadlines_with_each lifetime now (range_with_len first (suc count)) deadlines ≡ deadlines_with lifetime now (first + count) deadlines
+deadlines_with_each-last lifetime now first zero deadlines = let none : first + 0 ≡ first = omega arith in rw none refl
+deadlines_with_each-last lifetime now first (suc count) deadlines =
     let next : first + 1 + count ≡ first + suc count = omega arith in
-    tracked_each-last lifetime now (first + 1) count (tracked lifetime now first deadlines)
-    ∙ rw next (tracked-again lifetime now first (first + suc count) deadlines)
+    deadlines_with_each-last lifetime now (first + 1) count (deadlines_with lifetime now first deadlines)
+    ∙ rw next (deadlines_with-again lifetime now first (first + suc count) deadlines)
 
-pub tracked_each-tracked_last : (lifetime : Option ℕ) (now count : ℕ) →
-    tracked_each lifetime now (range_with_len 0 count) [] ≡ tracked_last lifetime now count []
-tracked_each-tracked_last lifetime now zero = refl
-tracked_each-tracked_last lifetime now (suc count) =
+pub deadlines_with_each-deadlines_with_last : (lifetime : Option ℕ) (now count : ℕ) →
+    deadlines_with_each lifetime now (range_with_len 0 count) [] ≡ deadlines_with_last lifetime now count []
+deadlines_with_each-deadlines_with_last lifetime now zero = refl
+deadlines_with_each-deadlines_with_last lifetime now (suc count) =
     let same : 0 + count ≡ count = omega arith in
-    tracked_each-last lifetime now 0 count [] ∙ rw same refl
+    deadlines_with_each-last lifetime now 0 count [] ∙ rw same refl
 
 -- ---- the numbers of the deadlines rise
 
@@ -88,22 +88,22 @@ rise_where true low high deadline deadlines rise below = with_deadline-rise low 
 rise_where false low high deadline deadlines rise below = Rise-wider low deadline.sequence low high (numbers_of deadlines) rise (omega arith) (omega arith)
 
 -- a number above all others keeps the numbers rising
-tracked-rise : (lifetime : Option ℕ) (now low number high : ℕ) (deadlines : List CidTimestamp) → Rise low number (numbers_of deadlines) → number < high →
-    Rise low high (numbers_of (tracked lifetime now number deadlines))
-tracked-rise None now low number high deadlines rise below = Rise-wider low number low high (numbers_of deadlines) rise (omega arith) (omega arith)
-tracked-rise (Some lifetime) now low number high deadlines rise below =
+deadlines_with-rise : (lifetime : Option ℕ) (now low number high : ℕ) (deadlines : List CidTimestamp) → Rise low number (numbers_of deadlines) → number < high →
+    Rise low high (numbers_of (deadlines_with lifetime now number deadlines))
+deadlines_with-rise None now low number high deadlines rise below = Rise-wider low number low high (numbers_of deadlines) rise (omega arith) (omega arith)
+deadlines_with-rise (Some lifetime) now low number high deadlines rise below =
     rise_where (nat_lt (now + lifetime) (2 ^ 64)) low high record { sequence = number; timestamp = now + lifetime } deadlines rise below
 
 -- a deadline for the last number issued, which lies above all others
-pub tracked_last-rise : (lifetime : Option ℕ) (now low bound issued : ℕ) (deadlines : List CidTimestamp) → Rise low bound (numbers_of deadlines) → bound < issued →
-    Rise low issued (numbers_of (tracked_last lifetime now issued deadlines))
-tracked_last-rise lifetime now low bound zero deadlines rise below = absurd (omega arith)
-tracked_last-rise lifetime now low bound (suc number) deadlines rise below =
-    tracked-rise lifetime now low number (suc number) deadlines (Rise-wider low bound low number (numbers_of deadlines) rise (omega arith) (omega arith)) (omega arith)
+pub deadlines_with_last-rise : (lifetime : Option ℕ) (now low bound issued : ℕ) (deadlines : List CidTimestamp) → Rise low bound (numbers_of deadlines) → bound < issued →
+    Rise low issued (numbers_of (deadlines_with_last lifetime now issued deadlines))
+deadlines_with_last-rise lifetime now low bound zero deadlines rise below = absurd (omega arith)
+deadlines_with_last-rise lifetime now low bound (suc number) deadlines rise below =
+    deadlines_with-rise lifetime now low number (suc number) deadlines (Rise-wider low bound low number (numbers_of deadlines) rise (omega arith) (omega arith)) (omega arith)
 
-pub tracked_last-rise_first : (lifetime : Option ℕ) (now issued : ℕ) → Rise 0 issued (numbers_of (tracked_last lifetime now issued []))
-tracked_last-rise_first lifetime now zero = omega arith
-tracked_last-rise_first lifetime now (suc number) = tracked-rise lifetime now 0 number (suc number) [] (omega arith) (omega arith)
+pub deadlines_with_last-rise_first : (lifetime : Option ℕ) (now issued : ℕ) → Rise 0 issued (numbers_of (deadlines_with_last lifetime now issued []))
+deadlines_with_last-rise_first lifetime now zero = omega arith
+deadlines_with_last-rise_first lifetime now (suc number) = deadlines_with-rise lifetime now 0 number (suc number) [] (omega arith) (omega arith)
 
 -- ---- the last deadline by its place
 

@@ -3,14 +3,14 @@ use Rattle.std.proofs.Common.{◌≡◌, ℕ, ◌+◌, ◌-◌, ◌<◌, ◌≤�
 use Rattle.std.specs.List.{filter_map, cons_option, range_with_len}
 use Rattle.std.proofs.lemmas.List.FromFn.{length-range_with_len}
 use Rattle.recovery_ids.specs.declared.window.TheConstants.{LEN}
-use Rattle.recovery_ids.specs.RemoteIds.{Entry, RemoteIds, item_at, items_from}
+use Rattle.recovery_ids.specs.RemoteIds.{HeldId, RemoteIds, item_at, items_from}
 
 step_first : (ids : RemoteIds) (step : ℕ) → step < LEN → items_from step ids ≡ cons_option (item_at ids step) (items_from (step + 1) ids)
 step_first ids step below =
     let one_more : LEN - step ≡ suc (LEN - (step + 1)) = omega arith in
     rw one_more refl
 
-pub items_where_held : (ids : RemoteIds) (step : ℕ) (entry : Entry) → step < LEN → ids.held (ids.active + step) ≡ Some entry →
+pub items_where_held : (ids : RemoteIds) (step : ℕ) (entry : HeldId) → step < LEN → ids.held (ids.active + step) ≡ Some entry →
     items_from step ids ≡ (step, entry) ∷ items_from (step + 1) ids
 items_where_held ids step entry below held = step_first ids step below ∙ rw held refl
 

@@ -5,8 +5,8 @@ use Rattle.std.proofs.lemmas.Bool.Decides.{nat_tests}
 use Rattle.recovery_base.specs.declared.below.ids.NewConnectionId.{NewConnectionId}
 use Rattle.recovery_ids.specs.declared.window.TheConstants.{LEN}
 use Rattle.recovery_ids.specs.declared.window.Window.{Window}
-use Rattle.recovery_ids.specs.RemoteIds.{Entry, Table, IsLeastHeld, with_entry, without_below, with_frame, AcceptsFrame, IsRetirement}
-use Rattle.recovery_ids.specs.Window.{entry_at, Advances}
+use Rattle.recovery_ids.specs.RemoteIds.{HeldId, Table, IsLeastHeld, with_id, without_below, with_frame, AcceptsFrame, IsRetirement}
+use Rattle.recovery_ids.specs.Window.{held_at, Advances}
 use Rattle.recovery_ids.specs.CidQueue.{remote_ids}
 
 pub without_below-kept : (low : ℕ) (held : Table) (n : ℕ) → low ≤ n → without_below low held n ≡ held n
@@ -15,61 +15,61 @@ without_below-kept low held n kept = grind (arith, nat_tests)
 pub without_below-dropped : (low : ℕ) (held : Table) (n : ℕ) → n < low → without_below low held n ≡ None
 without_below-dropped low held n dropped = grind (arith, nat_tests)
 
-with_entry-there : (number : ℕ) (entry : Entry) (held : Table) → with_entry number entry held number ≡ Some entry
-with_entry-there number entry held = grind (arith, nat_tests)
+with_id-there : (number : ℕ) (entry : HeldId) (held : Table) → with_id number entry held number ≡ Some entry
+with_id-there number entry held = grind (arith, nat_tests)
 
 -- a frame's number is at or above the least number held once it is in the table
-least_at_most : (held : Table) (low least number : ℕ) (entry : Entry) → IsLeastHeld held low least → held number ≡ Some entry → low ≤ number → least ≤ number
+pub least_at_most : (held : Table) (low least number : ℕ) (entry : HeldId) → IsLeastHeld held low least → held number ≡ Some entry → low ≤ number → least ≤ number
 least_at_most held low least number entry is_least there above =
     let below : number < least → held number ≡ None = is_least.least number above in
     grind (arith, below, there)
 
 -- a table to which a frame's number is added, and whose numbers below the least are dropped
-frame_table : (number low least : ℕ) (entry : Entry) (old mid new : Table) →
-    ((n : ℕ) → mid n ≡ with_entry number entry (without_below low old) n) → IsLeastHeld mid low least →
+frame_table : (number low least : ℕ) (entry : HeldId) (old mid new : Table) →
+    ((n : ℕ) → mid n ≡ with_id number entry (without_below low old) n) → IsLeastHeld mid low least →
     ((n : ℕ) → new n ≡ without_below least mid n) → low ≤ number →
-    (n : ℕ) → new n ≡ with_entry number entry (without_below low old) n
+    (n : ℕ) → new n ≡ with_id number entry (without_below low old) n
 frame_table number low least entry old mid new adds is_least drops ahead n =
     let added = adds n in
     let dropped = drops n in
     let none = is_least.least n in
-    let at_most : least ≤ number = least_at_most mid low least number entry is_least (adds number ∙ with_entry-there number entry (without_below low old)) ahead in
+    let at_most : least ≤ number = least_at_most mid low least number entry is_least (adds number ∙ with_id-there number entry (without_below low old)) ahead in
     let bound = is_least.bound in
     grind (arith, nat_tests, added, dropped, none, at_most, bound)
 
-pub with_entry-alike : (number : ℕ) (entry : Entry) (held other : Table) → ((n : ℕ) → held n ≡ other n) →
-    (n : ℕ) → with_entry number entry held n ≡ with_entry number entry other n
-with_entry-alike number entry held other alike n = let same = alike n in grind (arith, nat_tests, same)
+pub with_id-alike : (number : ℕ) (entry : HeldId) (held other : Table) → ((n : ℕ) → held n ≡ other n) →
+    (n : ℕ) → with_id number entry held n ≡ with_id number entry other n
+with_id-alike number entry held other alike n = let same = alike n in grind (arith, nat_tests, same)
 
 -- what the window holds lies in it
-entry_within : (window : Window) (n : ℕ) → IsSome (entry_at window n) → (window.start ≤ n) × (n < window.start + LEN)
+entry_within : (window : Window) (n : ℕ) → IsSome (held_at window n) → (window.start ≤ n) × (n < window.start + LEN)
 entry_within window n here = (grind (arith, nat_tests), grind (arith, nat_tests))
 
 -- the code's steps: numbers below low are dropped, the frame's id is added, and the start moves to the least number held
 module _ (old lower mid new : Window) (frame : NewConnectionId) (token : List ℕ) (low : ℕ) (ordered : frame.retire_prior_to ≤ frame.sequence)
     (is_low : low ≡ max old.start frame.retire_prior_to) (retires : low ≢ old.start) (above : old.start ≤ frame.sequence)
-    (below : frame.sequence - low < LEN) (drops : (n : ℕ) → entry_at lower n ≡ without_below low (entry_at old) n)
-    (adds : (n : ℕ) → entry_at mid n ≡ with_entry frame.sequence (frame.id, Some frame.reset_token) (entry_at lower) n)
+    (below : frame.sequence - low < LEN) (drops : (n : ℕ) → held_at lower n ≡ without_below low (held_at old) n)
+    (adds : (n : ℕ) → held_at mid n ≡ with_id frame.sequence (frame.id, Some frame.reset_token) (held_at lower) n)
     (moves : Advances mid low token new) where
-  mid_table : (n : ℕ) → entry_at mid n ≡ with_entry frame.sequence (frame.id, Some frame.reset_token) (without_below low (entry_at old)) n
-  mid_table n = adds n ∙ with_entry-alike frame.sequence (frame.id, Some frame.reset_token) (entry_at lower) (without_below low (entry_at old)) drops n
+  mid_table : (n : ℕ) → held_at mid n ≡ with_id frame.sequence (frame.id, Some frame.reset_token) (without_below low (held_at old)) n
+  mid_table n = adds n ∙ with_id-alike frame.sequence (frame.id, Some frame.reset_token) (held_at lower) (without_below low (held_at old)) drops n
 
   low_is : low ≡ frame.retire_prior_to
   low_is = omega arith
 
-  held_after : (n : ℕ) → entry_at new n ≡ with_frame frame (entry_at old) n
+  held_after : (n : ℕ) → held_at new n ≡ with_frame frame (held_at old) n
   held_after =
-      let table = frame_table frame.sequence low new.start (frame.id, Some frame.reset_token) (entry_at old) (entry_at mid) (entry_at new) mid_table moves.least moves.held (omega (arith, low_is)) in
+      let table = frame_table frame.sequence low new.start (frame.id, Some frame.reset_token) (held_at old) (held_at mid) (held_at new) mid_table moves.least moves.held (omega (arith, low_is)) in
       rw low_is at table
 
-  start_held : entry_at new new.start ≡ entry_at mid new.start
-  start_held = moves.held new.start ∙ without_below-kept new.start (entry_at mid) new.start (omega arith)
+  start_held : held_at new new.start ≡ held_at mid new.start
+  start_held = moves.held new.start ∙ without_below-kept new.start (held_at mid) new.start (omega arith)
 
-  least_after : IsLeastHeld (entry_at new) 0 new.start
+  least_after : IsLeastHeld (held_at new) 0 new.start
   least_after = record {
     bound = omega arith;
     is_held = rw start_held moves.least.is_held;
-    least = λ m above below. moves.held m ∙ without_below-dropped new.start (entry_at mid) m below;
+    least = λ m above below. moves.held m ∙ without_below-dropped new.start (held_at mid) m below;
   }
 
   pub accepts_move : (range : Range ℕ) → range.start ≡ old.start → range.end ≡ min new.start (old.start + LEN) →

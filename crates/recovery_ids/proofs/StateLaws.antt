@@ -2,9 +2,9 @@
 use Rattle.std.proofs.Common.{◌≡◌, ℕ, zero, suc, ◌+◌, ◌^◌, ◌<◌, ◌≤◌, ◌==◌, nat_lt, not, Bool, true, false, List, [], ◌∷◌, ◌++◌, map, drop, Option, refl, ap, sym, arith}
 use Rattle.std.specs.List.{list_any, range_with_len}
 use Rattle.recovery_ids.specs.declared.state.CidTimestamp.{CidTimestamp}
-use Rattle.recovery_ids.specs.LocalIds.{LocalIds, AreSound, Rise, timed_out, next_mark, holds_unretired, with_issued, without_number, tracked_last}
+use Rattle.recovery_ids.specs.LocalIds.{LocalIds, AreSound, Rise, timed_out, next_mark, holds_unretired, with_issued, without_number, deadlines_with_last}
 use Rattle.recovery_ids.proofs.RiseLaws.{Rise-bound, Rise-wider, Rise-from, Rise-filter, Rise-append, list_any-between, list_any-nowhere}
-use Rattle.recovery_ids.proofs.DeadlineLaws.{tracked_last-rise, tracked_last-rise_first}
+use Rattle.recovery_ids.proofs.DeadlineLaws.{deadlines_with_last-rise, deadlines_with_last-rise_first}
 
 abbrev pub any_below : ℕ → LocalIds → Bool
 any_below end ids = list_any (λ n. nat_lt n end) ids.unretired
@@ -62,7 +62,7 @@ module _ (ids : LocalIds) (sound : AreSound ids) where
       record ids {
         issued = ids.issued + count;
         unretired = ids.unretired ++ range_with_len ids.issued count;
-        deadlines = tracked_last ids.cid_lifetime now (ids.issued + count) ids.deadlines;
+        deadlines = deadlines_with_last ids.cid_lifetime now (ids.issued + count) ids.deadlines;
       } ≡ with_issued count now ids
   issued_more zero now some = absurd (omega arith)
   issued_more (suc count) now some =
@@ -74,13 +74,13 @@ module _ (ids : LocalIds) (sound : AreSound ids) where
       AreSound record ids {
         issued = ids.issued + count;
         unretired = ids.unretired ++ range_with_len ids.issued count;
-        deadlines = tracked_last ids.cid_lifetime now (ids.issued + count) ids.deadlines;
+        deadlines = deadlines_with_last ids.cid_lifetime now (ids.issued + count) ids.deadlines;
       }
   issued_sound count now some small = record {
     small = small;
     marks = sound.marks;
     unretired = Rise-append ids.retired_below ids.issued count (ids.issued + count) ids.unretired sound.unretired refl;
-    deadlines = tracked_last-rise ids.cid_lifetime now ids.retire_prior_to ids.issued (ids.issued + count) ids.deadlines sound.deadlines (omega arith);
+    deadlines = deadlines_with_last-rise ids.cid_lifetime now ids.retire_prior_to ids.issued (ids.issued + count) ids.deadlines sound.deadlines (omega arith);
   }
 
   pub retired_sound : (number : ℕ) → AreSound (without_number number ids)
@@ -100,11 +100,11 @@ pub first_sound : (cid_len : ℕ) (lifetime : Option ℕ) (now issued : ℕ) →
       unretired = range_with_len 0 issued;
       retired_below = 0;
       retire_prior_to = 0;
-      deadlines = tracked_last lifetime now issued [];
+      deadlines = deadlines_with_last lifetime now issued [];
     }
 first_sound cid_len lifetime now issued small = record {
   small = small;
   marks = omega arith;
   unretired = Rise-append 0 0 issued issued [] (omega arith) (omega arith);
-  deadlines = tracked_last-rise_first lifetime now issued;
+  deadlines = deadlines_with_last-rise_first lifetime now issued;
 }

@@ -2,10 +2,10 @@
 use Rattle.std.proofs.Common.{◌≡◌, ℕ, ◌+◌, ◌-◌, ◌%◌, ◌<◌, ◌≤◌, min, List, Option, None, get_or, arith, ap, ◌∙◌}
 use Rattle.std.proofs.lemmas.Bool.Decides.{nat_tests}
 use Rattle.recovery_ids.specs.declared.window.TheConstants.{LEN}
-use Rattle.recovery_ids.specs.RemoteIds.{Entry, without_below}
-use Rattle.recovery_ids.specs.Window.{entry_at}
+use Rattle.recovery_ids.specs.RemoteIds.{HeldId, without_below}
+use Rattle.recovery_ids.specs.Window.{held_at}
 
-module _ (old new : List (Option Entry)) (start low : ℕ) where
+module _ (old new : List (Option HeldId)) (start low : ℕ) where
   -- a number past the old window stands where a dropped one stood
   past_is_free : ((m : ℕ) → start ≤ m → m < min low (start + LEN) → get_or new (m % LEN) None ≡ None) →
       (n : ℕ) → start + LEN ≤ n → n < low + LEN → get_or new (n % LEN) None ≡ None
@@ -19,7 +19,7 @@ module _ (old new : List (Option Entry)) (start low : ℕ) where
   pub drops_below : start ≤ low →
       ((m : ℕ) → start ≤ m → m < min low (start + LEN) → get_or new (m % LEN) None ≡ None) →
       ((m : ℕ) → min low (start + LEN) ≤ m → m < start + LEN → get_or new (m % LEN) None ≡ get_or old (m % LEN) None) →
-      (n : ℕ) → entry_at record { entries = new; start = low } n ≡ without_below low (entry_at record { entries = old; start = start }) n
+      (n : ℕ) → held_at record { entries = new; start = low } n ≡ without_below low (held_at record { entries = old; start = start }) n
   drops_below ahead dropped kept n =
       let free = past_is_free dropped n in
       let same = kept n in

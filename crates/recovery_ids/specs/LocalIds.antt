@@ -33,20 +33,20 @@ abbrev pub with_deadline : Deadline → List Deadline → List Deadline
 with_deadline deadline deadlines = without_last_at deadline.timestamp deadlines ++ deadline ∷ []
 
 -- the deadlines once a number is issued: one more, a lifetime later, if there is a lifetime and the clock goes so far
-abbrev pub tracked : Option ℕ → ℕ → ℕ → List Deadline → List Deadline
-tracked None now number deadlines = deadlines
-tracked (Some lifetime) now number deadlines =
+abbrev pub deadlines_with : Option ℕ → ℕ → ℕ → List Deadline → List Deadline
+deadlines_with None now number deadlines = deadlines
+deadlines_with (Some lifetime) now number deadlines =
     if nat_lt (now + lifetime) (2 ^ 64) then with_deadline record { sequence = number; timestamp = now + lifetime } deadlines else deadlines
 
 -- the deadlines once numbers below a count are issued, with one for the last of them
-abbrev pub tracked_last : Option ℕ → ℕ → ℕ → List Deadline → List Deadline
-tracked_last lifetime now zero deadlines = deadlines
-tracked_last lifetime now (suc number) deadlines = tracked lifetime now number deadlines
+abbrev pub deadlines_with_last : Option ℕ → ℕ → ℕ → List Deadline → List Deadline
+deadlines_with_last lifetime now zero deadlines = deadlines
+deadlines_with_last lifetime now (suc number) deadlines = deadlines_with lifetime now number deadlines
 
 -- the deadlines once each of these numbers is issued in turn
-abbrev pub tracked_each : Option ℕ → ℕ → List ℕ → List Deadline → List Deadline
-tracked_each lifetime now [] deadlines = deadlines
-tracked_each lifetime now (number ∷ numbers) deadlines = tracked_each lifetime now numbers (tracked lifetime now number deadlines)
+abbrev pub deadlines_with_each : Option ℕ → ℕ → List ℕ → List Deadline → List Deadline
+deadlines_with_each lifetime now [] deadlines = deadlines
+deadlines_with_each lifetime now (number ∷ numbers) deadlines = deadlines_with_each lifetime now numbers (deadlines_with lifetime now number deadlines)
 
 -- the ids 0 to issued - 1, none of which is retired, each with a deadline
 abbrev pub first_issued : ℕ → Option ℕ → ℕ → ℕ → LocalIds
@@ -57,7 +57,7 @@ first_issued cid_len lifetime now issued = record {
   unretired = range_with_len 0 issued;
   retired_below = 0;
   retire_prior_to = 0;
-  deadlines = tracked_each lifetime now (range_with_len 0 issued) [];
+  deadlines = deadlines_with_each lifetime now (range_with_len 0 issued) [];
 }
 
 -- this many ids more, with a deadline for the last of them alone
@@ -66,7 +66,7 @@ with_issued zero now ids = ids
 with_issued (suc count) now ids = record ids {
   issued = ids.issued + suc count;
   unretired = ids.unretired ++ range_with_len ids.issued (suc count);
-  deadlines = tracked ids.cid_lifetime now (ids.issued + count) ids.deadlines;
+  deadlines = deadlines_with ids.cid_lifetime now (ids.issued + count) ids.deadlines;
 }
 
 -- whether one of the numbers low to high - 1 is not retired

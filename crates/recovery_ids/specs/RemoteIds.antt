@@ -4,21 +4,29 @@ use Rattle.std.specs.Prelude.{ℕ, ◌≡◌, ◌+◌, ◌-◌, ◌<◌, ◌≤�
 use Rattle.std.specs.List.{filter_map, range_with_len}
 use Rattle.std.specs.declared.ops.Range.{Range}
 use Rattle.recovery_base.specs.declared.below.ids.NewConnectionId.{NewConnectionId}
-use Rattle.recovery_ids.specs.declared.window.TheConstants.{LEN}
 use Rattle.recovery_ids.specs.declared.queue.InsertError.{InsertError}
 use Rattle.recovery_ids.specs.declared.queue.InsertError.TheVariants.{Retired, ExceedsLimit}
 
+-- the most ids of the peer that this end is willing to store, as it tells the peer (RFC 9000, 18.2): the peer issues no
+-- more than it stores (5.1.1)
+abbrev pub active_connection_id_limit : ℕ
+active_connection_id_limit = 5
+
 -- an id, with its token where there is one
-abbrev pub Entry : Type 0
-Entry = List ℕ × Option (List ℕ)
+abbrev pub HeldId : Type 0
+HeldId = List ℕ × Option (List ℕ)
 
 -- what is held for each number
 abbrev pub Table : Type 0
-Table = ℕ → Option Entry
+Table = ℕ → Option HeldId
 
 -- the table with an entry for one number
-abbrev pub with_entry : ℕ → Entry → Table → Table
-with_entry number entry held n = if n == number then Some entry else held n
+abbrev pub with_id : ℕ → HeldId → Table → Table
+with_id number entry held n = if n == number then Some entry else held n
+
+-- the table without one number
+abbrev pub without_id : ℕ → Table → Table
+without_id number held n = if n == number then None else held n
 
 -- the table without the numbers below another
 abbrev pub without_below : ℕ → Table → Table
@@ -37,18 +45,21 @@ pub record RemoteIds : Type 0 where
 
 -- the table with a frame's id, and without the numbers that the frame retires
 abbrev pub with_frame : NewConnectionId → Table → Table
-with_frame frame held = with_entry frame.sequence (frame.id, Some frame.reset_token) (without_below frame.retire_prior_to held)
+with_frame frame held =
+    with_id frame.sequence (frame.id, Some frame.reset_token) (without_below frame.retire_prior_to held)
 
--- the answer to a move of the active number: the numbers to be retired, at most LEN, and the new active id's token
+-- the answer to a move of the active number: the numbers to be retired, at most as many as are stored, and the new active
+-- id's token
 pub record TellsMove (old : RemoteIds) (range : Range ℕ) (token : List ℕ) (new : RemoteIds) : Type 0 where
   pub begins : range.start ≡ old.active
-  pub ends : range.end ≡ min new.active (old.active + LEN)
+  pub ends : range.end ≡ min new.active (old.active + active_connection_id_limit)
   pub token_held : (id : List ℕ) × (new.held new.active ≡ Some (id, Some token))
 
 -- what becomes of the ids where a frame is accepted: the active number is the least held one, and moves exactly where
 -- the frame retires it
 pub record AcceptsFrame (old : RemoteIds) (frame : NewConnectionId) (answer : Option (Range ℕ × List ℕ)) (new : RemoteIds) : Type 0 where
-  pub in_window : (old.active ≤ frame.sequence) × (frame.sequence < max old.active frame.retire_prior_to + LEN)
+  pub in_window : (old.active ≤ frame.sequence)
+      × (frame.sequence < max old.active frame.retire_prior_to + active_connection_id_limit)
   pub held : (n : ℕ) → new.held n ≡ with_frame frame old.held n
   pub active : IsLeastHeld new.held 0 new.active
   pub stays : frame.retire_prior_to ≤ old.active → (new.active ≡ old.active) × (answer ≡ None)
@@ -57,33 +68,34 @@ pub record AcceptsFrame (old : RemoteIds) (frame : NewConnectionId) (answer : Op
 -- why a frame is refused
 abbrev pub RefusesFrame : RemoteIds → NewConnectionId → InsertError → Type 0
 RefusesFrame old frame Retired = frame.sequence < old.active
-RefusesFrame old frame ExceedsLimit = max old.active frame.retire_prior_to + LEN ≤ frame.sequence
+RefusesFrame old frame ExceedsLimit =
+    max old.active frame.retire_prior_to + active_connection_id_limit ≤ frame.sequence
 
 -- a move to the next id: the active one is dropped, and the least number held above it is the new active one
 pub record TakesNext (old : RemoteIds) (token : List ℕ) (range : Range ℕ) (new : RemoteIds) : Type 0 where
   pub active : IsLeastHeld old.held (old.active + 1) new.active
-  pub held : (n : ℕ) → new.held n ≡ (if n == old.active then None else old.held n)
+  pub held : (n : ℕ) → new.held n ≡ without_id old.active old.held n
   pub told : TellsMove old range token new
   pub whole : range.end ≡ new.active
 
--- the range that an answer retires begins at the old active number, is not empty, ends at most at the new one, is cut
--- at LEN, and holds every number that was dropped
+-- the range that an answer retires begins at the old active number, is not empty, ends at most at the new one, has at
+-- most as many numbers as are stored, and holds every number that was dropped
 pub record IsRetirement (old : RemoteIds) (range : Range ℕ) (new : RemoteIds) : Type 0 where
   pub begins : range.start ≡ old.active
   pub not_empty : range.start < range.end
   pub ends : range.end ≤ new.active
-  pub cut : range.end ≤ old.active + LEN
+  pub cut : range.end ≤ old.active + active_connection_id_limit
   pub dropped : (n : ℕ) → IsSome (old.held n) → new.held n ≡ None → (range.start ≤ n) × (n < range.end)
 
--- the active number is held, and all that are held lie in the LEN numbers from it on
+-- the active number is held, and all that are held lie among as many numbers from it on as are stored
 pub record AreInWindow (ids : RemoteIds) : Type 0 where
   pub active_held : IsSome (ids.held ids.active)
-  pub within : (n : ℕ) → IsSome (ids.held n) → (ids.active ≤ n) × (n < ids.active + LEN)
+  pub within : (n : ℕ) → IsSome (ids.held n) → (ids.active ≤ n) × (n < ids.active + active_connection_id_limit)
 
 -- what is held a number of steps above the active number
-abbrev pub item_at : RemoteIds → ℕ → Option (ℕ × Entry)
+abbrev pub item_at : RemoteIds → ℕ → Option (ℕ × HeldId)
 item_at ids step = option_map (λ entry. (step, entry)) (ids.held (ids.active + step))
 
 -- what is held from a step on, in order
-abbrev pub items_from : ℕ → RemoteIds → List (ℕ × Entry)
-items_from step ids = filter_map (item_at ids) (range_with_len step (LEN - step))
+abbrev pub items_from : ℕ → RemoteIds → List (ℕ × HeldId)
+items_from step ids = filter_map (item_at ids) (range_with_len step (active_connection_id_limit - step))

@@ -19,10 +19,10 @@ pub struct CidIter<'a> {
 
 impl<'a> Model for CidIter<'a> {
     ghost use Rattle.std.specs.Prelude.{ℕ, List, ◌<◌, ◌^◌};
-    ghost use Rattle.recovery_ids.specs.RemoteIds.{Entry, items_from};
+    ghost use Rattle.recovery_ids.specs.RemoteIds.{HeldId, items_from};
     ghost use Rattle.recovery_ids.specs.Window.{ids_in};
 
-    ghost Value = { List (ℕ × Entry) };
+    ghost Value = { List (ℕ × HeldId) };
 
     ghost view = { λ it. items_from it.step (ids_in it.window.now) };
 

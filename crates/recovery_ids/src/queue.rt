@@ -1,8 +1,9 @@
 //! The ids of the peer that packets may be sent to.
-ghost use Rattle.std.specs.Prelude.{◌≡◌, ℕ, ◌+◌, ◌<◌, ◌≤◌, ◌^◌, ◌==◌, Some, None, IsSome, IfSome, IfOk, OnErr, IfNone, IsSomeAnd, MatchOption, MatchResult, length, if◌then◌else◌};
+ghost use Rattle.std.specs.Prelude.{◌≡◌, ℕ, ◌+◌, ◌<◌, ◌≤◌, ◌^◌, ◌==◌, Some, None, IsSome, IfSome, IfOk, OnOk, OnErr, IfNone, IsSomeAnd, MatchOption, MatchResult, length, if◌then◌else◌};
 ghost use Rattle.recovery_ids.specs.CidQueue.{held, active_of, remote_ids};
-ghost use Rattle.recovery_ids.specs.RemoteIds.{AcceptsFrame, RefusesFrame, TakesNext, IsRetirement, AreInWindow, with_entry, items_from};
-ghost use Rattle.recovery_ids.specs.Window.{entry_at, Advances, IsSound};
+ghost use Rattle.recovery_ids.specs.RemoteIds.{AcceptsFrame, RefusesFrame, TakesNext, IsRetirement, AreInWindow, with_id, items_from, active_connection_id_limit};
+ghost use Rattle.recovery_ids.specs.RemoteLog.{RemoteStep, given, used, replaced, first_ids};
+ghost use Rattle.recovery_ids.specs.Window.{held_at, Advances, IsWindowSound};
 
 use crate::iter::{self, CidIter};
 use crate::window::{self, CidData, Window};
@@ -22,13 +23,13 @@ pub struct CidQueue {
 
 impl Model for CidQueue {
     ghost use Rattle.recovery_ids.specs.declared.window.Window.{Window};
-    ghost use Rattle.recovery_ids.specs.Window.{IsSound};
+    ghost use Rattle.recovery_ids.specs.Window.{IsWindowSound};
 
     ghost Value = { Window };
 
     ghost view = { λ queue. queue.window };
 
-    ghost invariant = { λ queue. IsSound queue.window };
+    ghost invariant = { λ queue. IsWindowSound queue.window };
 
     ghost inverse = { λ window. record { window = window } };
 }
@@ -53,6 +54,8 @@ impl CidQueue {
         ensures active { active_of result ≡ 0 }
         ensures ids { (n : ℕ) → held result n ≡ (if n == 0 then Some (cid, None) else None) }
         ensures window { AreInWindow (remote_ids result) }
+        ensures limit { Self.LEN ≡ active_connection_id_limit }
+        ensures first { remote_ids result ≡ first_ids cid }
     {
         CidQueue {
             window: Window::new((cid, None)),
@@ -72,9 +75,14 @@ impl CidQueue {
     ) -> Result<Option<(Range<u64>, ResetToken)>, InsertError>
         requires ordered { cid.retire_prior_to ≤ cid.sequence }
         requires small { cid.sequence < 2 ^ 62 }
-        ensures reply { MatchResult result (λ answer. AcceptsFrame (remote_ids self.old) cid answer (remote_ids self.new)) (RefusesFrame (remote_ids self.old) cid) }
+        ensures reply { MatchResult result
+            (λ answer. AcceptsFrame (remote_ids self.old) cid answer (remote_ids self.new))
+            (RefusesFrame (remote_ids self.old) cid) }
         ensures err { OnErr result (self.new ≡ self.old) }
-        ensures range { IfOk result (λ answer. IfSome answer (λ told. IsRetirement (remote_ids self.old) told.0 (remote_ids self.new))) }
+        ensures range { IfOk result (λ answer. IfSome answer
+            (λ told. IsRetirement (remote_ids self.old) told.0 (remote_ids self.new))) }
+        ensures step { OnOk result
+            (RemoteStep (given cid) (remote_ids self.old) (remote_ids self.new)) }
         ensures window { AreInWindow (remote_ids self.new) }
     {
         let active = self.window.start();
@@ -105,9 +113,13 @@ impl CidQueue {
     /// Drops the active id and moves to the next one that is held: answers its token, and the numbers to be retired.
     /// `None`, where nothing else is held, changes nothing.
     pub fn next(&mut self) -> Option<(ResetToken, Range<u64>)>
-        ensures moves { MatchOption result ((n : ℕ) → active_of self.old < n → held self.old n ≡ None) (λ told. TakesNext (remote_ids self.old) told.0 told.1 (remote_ids self.new)) }
+        ensures moves { MatchOption result
+            ((n : ℕ) → active_of self.old < n → held self.old n ≡ None)
+            (λ told. TakesNext (remote_ids self.old) told.0 told.1 (remote_ids self.new)) }
         ensures none { IfNone result (self.new ≡ self.old) }
-        ensures range { IfSome result (λ told. IsRetirement (remote_ids self.old) told.1 (remote_ids self.new)) }
+        ensures range { IfSome result
+            (λ told. IsRetirement (remote_ids self.old) told.1 (remote_ids self.new)) }
+        ensures step { RemoteStep used (remote_ids self.old) (remote_ids self.new) }
         ensures window { AreInWindow (remote_ids self.new) }
     {
         let retired = self.window.start();
@@ -119,7 +131,8 @@ impl CidQueue {
     pub fn update_initial_cid(&mut self, cid: ConnectionId)
         requires { active_of self.old ≡ 0 }
         ensures active { active_of self.new ≡ 0 }
-        ensures ids { (n : ℕ) → held self.new n ≡ with_entry 0 (cid, None) (held self.old) n }
+        ensures ids { (n : ℕ) → held self.new n ≡ with_id 0 (cid, None) (held self.old) n }
+        ensures step { RemoteStep (replaced cid) (remote_ids self.old) (remote_ids self.new) }
         ensures window { AreInWindow (remote_ids self.new) }
     {
         self.window.set(0, (cid, None));
@@ -157,10 +170,11 @@ impl CidQueue {
 fn advance(window: &mut Window, low: u64) -> Option<ResetToken>
     requires ahead { window.old.start ≤ low }
     requires small { window.old.start < 2 ^ 62 }
-    requires tokens { (n : ℕ) → low ≤ n → IfSome (entry_at window.old n) (λ entry. IsSome entry.1) }
-    requires numbers { (n : ℕ) → IsSome (entry_at window.old n) → n < 2 ^ 62 }
-    ensures sound { IfSome result (λ _. IsSound window.new) }
-    ensures moves { MatchOption result ((n : ℕ) → low ≤ n → entry_at window.old n ≡ None) (λ token. Advances window.old low token window.new) }
+    requires tokens { (n : ℕ) → low ≤ n → IfSome (held_at window.old n) (λ entry. IsSome entry.1) }
+    requires numbers { (n : ℕ) → IsSome (held_at window.old n) → n < 2 ^ 62 }
+    ensures sound { IfSome result (λ _. IsWindowSound window.new) }
+    ensures moves { MatchOption result ((n : ℕ) → low ≤ n → held_at window.old n ≡ None)
+        (λ token. Advances window.old low token window.new) }
     ensures none { IfNone result (window.new ≡ window.old) }
 {
     let number = window.least_from(low)?;

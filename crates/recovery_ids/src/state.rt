@@ -2,7 +2,7 @@
 ghost use Rattle.std.specs.Prelude.{◌≡◌, ◌+◌, ◌-◌, ◌<◌, ◌≤◌, ◌^◌, ◌==◌, nat_lt, [], ◌++◌, length, map, filter, drop, not, IsOk, IfOk, OnOk, OnErr, MatchResult};
 ghost use Rattle.std.specs.List.{list_any, range_with_len};
 ghost use Rattle.std.specs.VecDeque.{deque_len, deque_capacity};
-ghost use Rattle.recovery_ids.specs.LocalIds.{without_last_at, with_deadline, tracked_last, next_mark, first_issued, with_issued, holds_unretired, timed_out, first_moment, RefusesRetirement, AcceptsRetirement, Rise, AreSound};
+ghost use Rattle.recovery_ids.specs.LocalIds.{without_last_at, with_deadline, deadlines_with_last, next_mark, first_issued, with_issued, holds_unretired, timed_out, first_moment, RefusesRetirement, AcceptsRetirement, Rise, AreSound};
 
 use recovery_base::below::{IssuedCid, NoMemory, TransportError};
 use recovery_base::time::{Duration, Instant};
@@ -126,7 +126,8 @@ impl CidState {
     /// does not depend on how many ids there are.
     pub fn on_cid_timeout(&mut self) -> bool
         ensures after { self.new ≡ timed_out self.old }
-        ensures answer { result ≡ holds_unretired self.old.retire_prior_to self.new.retire_prior_to self.new }
+        ensures answer { result
+            ≡ holds_unretired self.old.retire_prior_to self.new.retire_prior_to self.new }
         ensures never_falls { self.old.retire_prior_to ≤ self.new.retire_prior_to }
         ensures sound { AreSound self.new }
     {
@@ -144,7 +145,8 @@ impl CidState {
     ///
     /// `NoMemory` changes nothing.
     pub fn new_cids(&mut self, ids: &[IssuedCid], now: Instant) -> Result<(), NoMemory>
-        requires numbers { map (λ id. id.sequence) ids.now ≡ range_with_len self.old.issued (length ids.now) }
+        requires numbers { map (λ id. id.sequence) ids.now
+            ≡ range_with_len self.old.issued (length ids.now) }
         requires small { self.old.issued + length ids.now ≤ 2 ^ 62 }
         ensures ok { OnOk result (self.new ≡ with_issued (length ids.now) now self.old) }
         ensures err { OnErr result (self.new ≡ self.old) }
@@ -173,7 +175,9 @@ impl CidState {
     /// It takes no memory. It finds the number by halving, and moves at most half of the unretired numbers; the least
     /// one leaves at once.
     pub fn on_cid_retirement(&mut self, sequence: u64, limit: u64) -> Result<bool, RetireError>
-        ensures reply { MatchResult result (λ more. AcceptsRetirement self.old sequence limit more self.new) (RefusesRetirement self.old sequence) }
+        ensures reply { MatchResult result
+            (λ more. AcceptsRetirement self.old sequence limit more self.new)
+            (RefusesRetirement self.old sequence) }
         ensures err { OnErr result (self.new ≡ self.old) }
         ensures sound { AreSound self.new }
     {
@@ -231,7 +235,8 @@ fn track_lifetime(
     now: Instant,
 )
     requires room { deque_len deadlines.old < deque_capacity deadlines.old }
-    ensures { deadlines.new.items ≡ tracked_last cid_lifetime now issued deadlines.old.items }
+    ensures { deadlines.new.items
+        ≡ deadlines_with_last cid_lifetime now issued deadlines.old.items }
 {
     let Some(sequence) = issued.checked_sub(1) else {
         return;

@@ -1,7 +1,7 @@
 //! What is held for the numbers of a window.
 ghost use Rattle.std.specs.Prelude.{◌≡◌, ℕ, ◌+◌, ◌<◌, ◌≤◌, ◌^◌, ◌%◌, ◌==◌, nat_lt, Some, None, MatchOption, if◌then◌else◌};
-ghost use Rattle.recovery_ids.specs.RemoteIds.{IsLeastHeld, with_entry, without_below};
-ghost use Rattle.recovery_ids.specs.Window.{entry_at, IsWithin};
+ghost use Rattle.recovery_ids.specs.RemoteIds.{IsLeastHeld, with_id, without_below};
+ghost use Rattle.recovery_ids.specs.Window.{held_at, IsWithin};
 
 use recovery_base::below::{ConnectionId, ResetToken};
 
@@ -29,7 +29,7 @@ impl Window {
     /// A window from number 0 on, which holds this alone for it.
     pub fn new(entry: CidData) -> Self
         ensures start { result.start ≡ 0 }
-        ensures entries { (n : ℕ) → entry_at result n ≡ (if n == 0 then Some entry else None) }
+        ensures entries { (n : ℕ) → held_at result n ≡ (if n == 0 then Some entry else None) }
     {
         let mut entries = [None; LEN];
         entries[0] = Some(entry);
@@ -46,7 +46,7 @@ impl Window {
     /// What is held for a number of the window.
     pub fn get(&self, number: u64) -> Option<CidData>
         requires { IsWithin self.now number }
-        ensures { result ≡ entry_at self.now number }
+        ensures { result ≡ held_at self.now number }
     {
         self.entries[slot(number)]
     }
@@ -55,7 +55,7 @@ impl Window {
     pub fn set(&mut self, number: u64, entry: CidData)
         requires { IsWithin self.old number }
         ensures start { self.new.start ≡ self.old.start }
-        ensures entries { (n : ℕ) → entry_at self.new n ≡ with_entry number entry (entry_at self.old) n }
+        ensures entries { (n : ℕ) → held_at self.new n ≡ with_id number entry (held_at self.old) n }
     {
         self.entries[slot(number)] = Some(entry);
     }
@@ -65,7 +65,7 @@ impl Window {
         requires ahead { self.old.start ≤ low }
         requires small { self.old.start < 2 ^ 62 }
         ensures start { self.new.start ≡ low }
-        ensures entries { (n : ℕ) → entry_at self.new n ≡ without_below low (entry_at self.old) n }
+        ensures entries { (n : ℕ) → held_at self.new n ≡ without_below low (held_at self.old) n }
     {
         for number in self.start..low.min(self.start + LEN as u64) {
             self.entries[slot(number)] = None;
@@ -77,7 +77,8 @@ impl Window {
     pub fn least_from(&self, low: u64) -> Option<u64>
         requires ahead { self.now.start ≤ low }
         requires small { self.now.start < 2 ^ 62 }
-        ensures { MatchOption result ((n : ℕ) → low ≤ n → entry_at self.now n ≡ None) (IsLeastHeld (entry_at self.now) low) }
+        ensures { MatchOption result ((n : ℕ) → low ≤ n → held_at self.now n ≡ None)
+            (IsLeastHeld (held_at self.now) low) }
     {
         for number in low..self.start + LEN as u64 {
             if self.get(number).is_some() {

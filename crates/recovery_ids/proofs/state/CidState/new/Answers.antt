@@ -1,7 +1,7 @@
 use Rattle.std.proofs.Common.{refl, List, [], ◌++◌, ◌-◌, ◌≡◌, ℕ, arith}
 use Rattle.std.specs.List.{range_with_len}
 use Rattle.recovery_ids.proofs.StateLaws.{first_sound}
-use Rattle.recovery_ids.proofs.DeadlineLaws.{tracked_each-tracked_last}
+use Rattle.recovery_ids.proofs.DeadlineLaws.{deadlines_with_each-deadlines_with_last}
 use Rattle.recovery_ids.proofs.state.CidState.new.Goals as goal
 
 numbers_after : (held after : List ℕ) (issued : ℕ) → held ≡ [] → after ≡ held ++ range_with_len 0 (issued - 0) → after ≡ range_with_len 0 issued
@@ -19,7 +19,7 @@ pub returns-clause-ids : goal.returns-clause-ids
 returns-clause-ids c =
     let numbers = numbers_after c.in_ok-active_seq.active_seq.items c.issue.new.numbers.items c.args.issued c.in_ok-active_seq.ensures.items c.issue.ensures in
     let deadlines = rw c.in_ok-retire_timestamp.ensures.items at c.track_lifetime.ensures in
-    rw (numbers, deadlines, ← tracked_each-tracked_last c.args.cid_lifetime c.args.now c.args.issued) refl
+    rw (numbers, deadlines, ← deadlines_with_each-deadlines_with_last c.args.cid_lifetime c.args.now c.args.issued) refl
 
 pub returns-clause-sound : goal.returns-clause-sound
 returns-clause-sound c =
