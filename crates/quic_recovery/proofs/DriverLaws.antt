@@ -3,7 +3,7 @@ use Rattle.std.proofs.Common.{◌≡◌, ℕ, ◌<◌, ◌^◌, ap₂, arith, Bo
 use Rattle.recovery_base.specs.declared.below.SpaceId.{SpaceId}
 use Rattle.recovery_base.specs.declared.below.SpaceId.TheVariants.{Initial, Handshake, Data}
 use Rattle.recovery_base.specs.Received.{Has}
-use Rattle.recovery_parts.specs.CidQueue.{remote_ids}
+use Rattle.recovery_ids.specs.CidQueue.{remote_ids}
 use Rattle.quic_recovery.specs.declared.driver.Recovery.{Recovery}
 use Rattle.quic_recovery.specs.declared.event.Event.TheVariants.{Received, Send}
 use Rattle.quic_recovery.specs.declared.event.Answer.TheVariants.{New, Sent}

@@ -2,8 +2,8 @@
 use Rattle.std.proofs.Common.{◌≡◌, Bool, true, false, Result, Ok, Err, refl, sym, ap, subst}
 use Rattle.recovery_base.specs.declared.below.frames.AckFrequency.{AckFrequency}
 use Rattle.recovery_base.specs.declared.below.frames.TransportError.{TransportError}
-use Rattle.recovery_parts.specs.AckFrequencies.{Frequency, FrequencyReceived}
-use Rattle.recovery_parts.specs.Acks.{Acks}
+use Rattle.recovery_acks.specs.AckFrequencies.{Frequency, FrequencyReceived}
+use Rattle.recovery_acks.specs.Acks.{Acks}
 use Rattle.quic_recovery.specs.declared.event.Event.{Event}
 use Rattle.quic_recovery.specs.declared.event.Event.TheVariants.{AckFrequencyIn}
 use Rattle.quic_recovery.specs.declared.event.Answer.TheVariants.{Flag}

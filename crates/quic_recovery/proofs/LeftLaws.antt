@@ -1,6 +1,6 @@
 -- What a history with one event more leaves.
 use Rattle.std.proofs.Common.{ℕ, subst, ◌∙◌}
-use Rattle.recovery_parts.specs.CidQueue.{remote_ids}
+use Rattle.recovery_ids.specs.CidQueue.{remote_ids}
 use Rattle.quic_recovery.specs.declared.driver.Recovery.{Recovery}
 use Rattle.quic_recovery.specs.declared.event.Event.{Event}
 use Rattle.quic_recovery.specs.History.{Beginning, History, Reply, recorded}

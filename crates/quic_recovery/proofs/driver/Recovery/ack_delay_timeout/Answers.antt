@@ -1,5 +1,5 @@
 use Rattle.std.proofs.Common.{sym, ap, subst, ◌∙◌}
-use Rattle.recovery_parts.specs.Acks.{Acks}
+use Rattle.recovery_acks.specs.Acks.{Acks}
 use Rattle.quic_recovery.specs.declared.spaces.PacketSpace.{PacketSpace}
 use Rattle.quic_recovery.specs.Spaces.{tracking_of, next_number_of, HasGreatestCome}
 use Rattle.quic_recovery.proofs.LedgerLaws.{balanced_kept}

@@ -1,5 +1,5 @@
 use Rattle.std.proofs.Common.{rules, ap}
-use Rattle.recovery_parts.specs.AckFrequencies.{Frequency}
+use Rattle.recovery_acks.specs.AckFrequencies.{Frequency}
 use Rattle.quic_recovery.specs.History.{Beginning}
 use Rattle.quic_recovery.proofs.LedgerLaws.{fresh_balanced}
 use Rattle.quic_recovery.proofs.LocalIdLaws.{local_ids_first}
