@@ -13,7 +13,7 @@ cons-cond : {X : Type 0} (b : Bool) (x : X) (xs ys : List X) → x ∷ cond b xs
 cons-cond true x xs ys = refl
 cons-cond false x xs ys = refl
 
-pub without_last_at-end : (moment : ℕ) (front : List CidTimestamp) (last : CidTimestamp) →
+without_last_at-end : (moment : ℕ) (front : List CidTimestamp) (last : CidTimestamp) →
     without_last_at moment (front ++ last ∷ []) ≡ cond (nat_eq last.timestamp moment) front (front ++ last ∷ [])
 without_last_at-end moment [] last = refl
 without_last_at-end moment (first ∷ []) last = cons-cond (nat_eq last.timestamp moment) first [] (last ∷ [])

@@ -6,5 +6,6 @@ pub mod QueueLaws
 pub mod RemoteLogLaws
 mod RemoteLogRows
 pub mod RiseLaws
+pub mod SetLaws
 pub mod StateLaws
 pub mod WindowLaws

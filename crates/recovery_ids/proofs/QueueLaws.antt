@@ -9,10 +9,10 @@ use Rattle.recovery_ids.specs.RemoteIds.{HeldId, Table, IsLeastHeld, with_id, wi
 use Rattle.recovery_ids.specs.Window.{held_at, Advances}
 use Rattle.recovery_ids.specs.CidQueue.{remote_ids}
 
-pub without_below-kept : (low : ℕ) (held : Table) (n : ℕ) → low ≤ n → without_below low held n ≡ held n
+without_below-kept : (low : ℕ) (held : Table) (n : ℕ) → low ≤ n → without_below low held n ≡ held n
 without_below-kept low held n kept = grind (arith, nat_tests)
 
-pub without_below-dropped : (low : ℕ) (held : Table) (n : ℕ) → n < low → without_below low held n ≡ None
+without_below-dropped : (low : ℕ) (held : Table) (n : ℕ) → n < low → without_below low held n ≡ None
 without_below-dropped low held n dropped = grind (arith, nat_tests)
 
 with_id-there : (number : ℕ) (entry : HeldId) (held : Table) → with_id number entry held number ≡ Some entry
@@ -37,7 +37,7 @@ frame_table number low least entry old mid new adds is_least drops ahead n =
     let bound = is_least.bound in
     grind (arith, nat_tests, added, dropped, none, at_most, bound)
 
-pub with_id-alike : (number : ℕ) (entry : HeldId) (held other : Table) → ((n : ℕ) → held n ≡ other n) →
+with_id-alike : (number : ℕ) (entry : HeldId) (held other : Table) → ((n : ℕ) → held n ≡ other n) →
     (n : ℕ) → with_id number entry held n ≡ with_id number entry other n
 with_id-alike number entry held other alike n = let same = alike n in grind (arith, nat_tests, same)
 

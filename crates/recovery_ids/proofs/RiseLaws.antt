@@ -1,5 +1,5 @@
 -- Lists of numbers that rise.
-use Rattle.std.proofs.Common.{◌≡◌, ◌≢◌, ℕ, zero, suc, ◌+◌, ◌<◌, ◌≤◌, ◌==◌, ◌&&◌, ◌||◌, nat_lt, nat_le, nat_eq, not, cond, Bool, true, false, List, [], ◌∷◌, ◌++◌, length, filter, take, drop, get_or, refl, ap, sym, ◌∙◌, arith}
+use Rattle.std.proofs.Common.{◌≡◌, ℕ, zero, suc, ◌+◌, ◌<◌, ◌≤◌, ◌==◌, ◌&&◌, ◌||◌, nat_lt, nat_le, nat_eq, not, cond, Bool, true, false, List, [], ◌∷◌, ◌++◌, filter, refl, ap, sym, ◌∙◌, arith}
 use Rattle.std.specs.List.{list_any, range_with_len}
 use Rattle.std.proofs.lemmas.Bool.Decides.{nat_tests}
 use Rattle.recovery_ids.specs.LocalIds.{Rise}
@@ -35,10 +35,6 @@ filter_rises false test low high n ns below rise = Rise-wider (n + 1) high low h
 pub Rise-filter : (test : ℕ → Bool) (low high : ℕ) (ns : List ℕ) → Rise low high ns → Rise low high (filter test ns)
 Rise-filter test low high [] rise = rise
 Rise-filter test low high (n ∷ ns) rise = filter_rises (test n) test low high n ns rise.0 (Rise-filter test (n + 1) high ns rise.1)
-
-pub Rise-drop : (low high : ℕ) (ns : List ℕ) → Rise low high ns → Rise low high (drop 1 ns)
-Rise-drop low high [] rise = rise
-Rise-drop low high (n ∷ ns) rise = let first = rise.0 in Rise-wider (n + 1) high low high ns rise.1 (omega arith) (omega arith)
 
 -- ---- which numbers lie below another
 
@@ -85,54 +81,10 @@ Rise-from low high from (n ∷ ns) rise none below =
 
 -- ---- taking a number out
 
-absent_below : (low high x : ℕ) (ns : List ℕ) → Rise low high ns → x < low → filter (λ n. not (n == x)) ns ≡ ns
+pub absent_below : (low high x : ℕ) (ns : List ℕ) → Rise low high ns → x < low → filter (λ n. not (n == x)) ns ≡ ns
 absent_below low high x [] rise below = refl
 absent_below low high x (n ∷ ns) rise below =
     let first = rise.0 in
     let here : nat_eq n x ≡ false = grind (arith, nat_tests) in
     let later = absent_below (n + 1) high x ns rise.1 (omega arith) in
     rw (here, later) refl
-
-pub nth_above : (low high i : ℕ) (ns : List ℕ) → Rise low high ns → i < length ns → low ≤ get_or ns i 0
-nth_above low high i [] rise inside = absurd (omega arith)
-nth_above low high zero (n ∷ ns) rise inside = rise.0
-nth_above low high (suc i) (n ∷ ns) rise inside =
-    let first = rise.0 in
-    let later : n + 1 ≤ get_or ns i 0 = nth_above (n + 1) high i ns rise.1 (omega arith) in
-    omega arith
-
--- what stands at a place leaves by its number
-pub filter-found : (low high x i : ℕ) (ns : List ℕ) → Rise low high ns → i < length ns → get_or ns i 0 ≡ x →
-    take i ns ++ drop (suc i) ns ≡ filter (λ n. not (n == x)) ns
-filter-found low high x i [] rise inside there = absurd (omega arith)
-filter-found low high x zero (n ∷ ns) rise inside there =
-    let here : nat_eq n x ≡ true = grind (arith, nat_tests, there) in
-    rw here (sym (absent_below (n + 1) high x ns rise.1 (omega (arith, there))))
-filter-found low high x (suc i) (n ∷ ns) rise inside there =
-    let above : n + 1 ≤ get_or ns i 0 = nth_above (n + 1) high i ns rise.1 (omega arith) in
-    let here : nat_eq n x ≡ false = grind (arith, nat_tests, there, above) in
-    rw here (ap (λ rest. n ∷ rest) (filter-found (n + 1) high x i ns rise.1 (omega arith) there))
-
--- a number that is not there takes none out
-pub filter-absent : (x : ℕ) (ns : List ℕ) → ((k : ℕ) → k < length ns → get_or ns k 0 ≢ x) → filter (λ n. not (n == x)) ns ≡ ns
-filter-absent x [] absent = refl
-filter-absent x (n ∷ ns) absent =
-    let first = absent 0 (omega arith) in
-    let here : nat_eq n x ≡ false = grind (arith, nat_tests, first) in
-    let later = filter-absent x ns (λ k inside. absent (suc k) (omega arith)) in
-    rw (here, later) refl
-
-pub Rise-non_decreasing : (low high : ℕ) (ns : List ℕ) → Rise low high ns → (i j : ℕ) → i ≤ j → j < length ns → get_or ns i 0 ≤ get_or ns j 0
-Rise-non_decreasing low high [] rise i j ordered inside = absurd (omega arith)
-Rise-non_decreasing low high (n ∷ ns) rise zero zero ordered inside = omega arith
-Rise-non_decreasing low high (n ∷ ns) rise zero (suc j) ordered inside =
-    let above : n + 1 ≤ get_or ns j 0 = nth_above (n + 1) high j ns rise.1 (omega arith) in
-    omega arith
-Rise-non_decreasing low high (n ∷ ns) rise (suc i) zero ordered inside = absurd (omega arith)
-Rise-non_decreasing low high (n ∷ ns) rise (suc i) (suc j) ordered inside = Rise-non_decreasing (n + 1) high ns rise.1 i j (omega arith) (omega arith)
-
--- the least number by its place
-pub front_below : (low high end least : ℕ) (ns : List ℕ) → Rise low high ns → 0 < length ns → least ≡ get_or ns 0 least →
-    nat_lt least end ≡ list_any (λ n. nat_lt n end) ns
-front_below low high end least [] rise some there = absurd (omega arith)
-front_below low high end least (n ∷ ns) rise some there = rw there (sym (list_any-front low high n end ns rise))

@@ -1,5 +1,5 @@
 //! The ids that this end issued.
-ghost use Rattle.std.specs.Prelude.{◌≡◌, ◌+◌, ◌-◌, ◌<◌, ◌≤◌, ◌^◌, ◌==◌, nat_lt, [], ◌++◌, length, map, filter, drop, not, IsOk, IfOk, OnOk, OnErr, MatchResult};
+ghost use Rattle.std.specs.Prelude.{◌≡◌, ◌+◌, ◌-◌, ◌<◌, ◌≤◌, ◌^◌, ◌==◌, nat_lt, [], ◌++◌, length, map, filter, drop, take, not, IsOk, IfOk, OnOk, OnErr, MatchResult};
 ghost use Rattle.std.specs.List.{list_any, range_with_len};
 ghost use Rattle.std.specs.VecDeque.{deque_len, deque_capacity};
 ghost use Rattle.recovery_ids.specs.LocalIds.{without_last_at, with_deadline, deadlines_with_last, next_mark, first_issued, with_issued, holds_unretired, timed_out, first_moment, RefusesRetirement, AcceptsRetirement, Rise, AreSound};
@@ -7,7 +7,7 @@ ghost use Rattle.recovery_ids.specs.LocalIds.{without_last_at, with_deadline, de
 use recovery_base::below::{IssuedCid, NoMemory, TransportError};
 use recovery_base::time::{Duration, Instant};
 use std::alloc::Global;
-use std::collections::VecDeque;
+use std::collections::{BTreeSet, VecDeque};
 use std::marker::Model;
 use thiserror::Error;
 
@@ -21,15 +21,16 @@ struct CidTimestamp {
 /// The ids that this end issued: which of them the peer did not retire, and when it is to be asked to (RFC 9000,
 /// 5.1.2). The numbers begin at 0 and go on without gaps.
 ///
-/// Eight bytes are kept for each number issued and not retired, and a deadline for each batch of equal moments.
+/// What is kept grows with the numbers that are not retired, and not with how far they lie apart, and with the deadlines,
+/// of which each batch of equal moments has one.
 #[derive(Drop)]
 pub struct CidState {
     /// Deadlines, the oldest first.
     retire_timestamp: VecDeque<CidTimestamp>,
     /// How many ids were issued.
     issued: u64,
-    /// The numbers that the peer did not retire, in order.
-    active_seq: VecDeque<u64>,
+    /// The numbers that the peer did not retire.
+    active_seq: BTreeSet<u64>,
     /// The peer retired all numbers below.
     prev_retire_seq: u64,
     /// The peer is asked to retire all numbers below.
@@ -85,7 +86,7 @@ impl CidState {
     /// `now`. Without a lifetime, or where the deadline would pass the clock's end, none is stored.
     ///
     /// `NoMemory` is answered before anything is written where there is no room for so many numbers. The time is that of
-    /// writing each number once.
+    /// an insertion of each number.
     pub fn new(
         alloc: Global,
         cid_len: usize,
@@ -97,9 +98,11 @@ impl CidState {
         ensures ids { IfOk result (λ ids. ids ≡ first_issued cid_len cid_lifetime now issued) }
         ensures sound { IfOk result AreSound }
     {
-        let mut active_seq = VecDeque::with_capacity(alloc, issued as usize)?;
+        // The set takes its memory number by number, so that room for all is asked for once before.
+        let _room: Vec<u64> = Vec::with_capacity(alloc, issued as usize)?;
+        let mut active_seq = BTreeSet::new(alloc);
         let mut retire_timestamp = VecDeque::with_capacity(alloc, 1)?;
-        issue(&mut active_seq, 0, issued);
+        issue(&mut active_seq, 0, issued)?;
         let lifetime = cid_lifetime;
         track_lifetime(&mut retire_timestamp, lifetime, issued, now);
         Ok(CidState {
@@ -122,8 +125,8 @@ impl CidState {
 
     /// Takes the oldest deadline. Where the peer retired all numbers below the last retire-prior-to, that becomes the
     /// deadline's number and one: the answer is whether it asks for the retirement of a number that is not retired
-    /// yet, so that a NEW_CONNECTION_ID frame should tell the peer (RFC 9000, 5.1.2). It takes no memory, and its time
-    /// does not depend on how many ids there are.
+    /// yet, so that a NEW_CONNECTION_ID frame should tell the peer (RFC 9000, 5.1.2). It takes no memory, and at most
+    /// logarithmic time in the unretired numbers.
     pub fn on_cid_timeout(&mut self) -> bool
         ensures after { self.new ≡ timed_out self.old }
         ensures answer { result
@@ -157,9 +160,8 @@ impl CidState {
         if ids.is_empty() {
             return Ok(());
         }
-        self.active_seq.reserve(ids.len())?;
         self.retire_timestamp.reserve(1)?;
-        issue(&mut self.active_seq, self.issued, issued);
+        issue(&mut self.active_seq, self.issued, issued)?;
         track_lifetime(&mut self.retire_timestamp, self.cid_lifetime, issued, now);
         self.issued = issued;
         Ok(())
@@ -172,8 +174,7 @@ impl CidState {
     /// A refusal changes nothing: `CidsNotInUse` where the ids have no bytes, else `UnissuedCid` where the number was
     /// not issued.
     ///
-    /// It takes no memory. It finds the number by halving, and moves at most half of the unretired numbers; the least
-    /// one leaves at once.
+    /// It takes no memory, and at most logarithmic time in the unretired numbers.
     pub fn on_cid_retirement(&mut self, sequence: u64, limit: u64) -> Result<bool, RetireError>
         ensures reply { MatchResult result
             (λ more. AcceptsRetirement self.old sequence limit more self.new)
@@ -216,14 +217,31 @@ impl CidState {
     }
 }
 
-/// Adds the numbers from one up to another.
-fn issue(numbers: &mut VecDeque<u64>, first: u64, end: u64)
+/// Adds the numbers from one up to another, above all that are there. `NoMemory` changes nothing.
+fn issue(numbers: &mut BTreeSet<u64>, first: u64, end: u64) -> Result<(), NoMemory>
     requires ahead { first ≤ end }
-    requires room { deque_len numbers.old + (end - first) ≤ deque_capacity numbers.old }
-    ensures { numbers.new.items ≡ numbers.old.items ++ range_with_len first (end - first) }
+    requires above { Rise 0 first numbers.old.keys }
+    ensures ok { OnOk result (numbers.new.keys ≡ numbers.old.keys ++ range_with_len first (end - first)) }
+    ensures err { OnErr result (numbers.new.keys ≡ numbers.old.keys) }
 {
     for number in first..end {
-        numbers.push_back_reserved(number);
+        match numbers.insert(number) {
+            Ok(_added) => {}
+            Err(_refused) => {
+                drop_last(numbers, number - first);
+                return Err(NoMemory);
+            }
+        }
+    }
+    Ok(())
+}
+
+/// Drops the greatest numbers, so many.
+fn drop_last(numbers: &mut BTreeSet<u64>, count: u64)
+    ensures { numbers.new.keys ≡ take (length numbers.old.keys - count) numbers.old.keys }
+{
+    for _ in 0..count {
+        let _dropped = numbers.pop_last();
     }
 }
 
@@ -292,22 +310,20 @@ fn pop_mark(deadlines: &mut VecDeque<CidTimestamp>, mark: u64) -> u64
 }
 
 /// Whether one of the numbers lies below another.
-fn is_any_below(numbers: &VecDeque<u64>, end: u64) -> bool
-    requires { Rise 0 (2 ^ 62) numbers.now.items }
-    ensures { result ≡ list_any (λ n. nat_lt n end) numbers.now.items }
+fn is_any_below(numbers: &BTreeSet<u64>, end: u64) -> bool
+    requires { Rise 0 (2 ^ 62) numbers.now.keys }
+    ensures { result ≡ list_any (λ n. nat_lt n end) numbers.now.keys }
 {
-    match numbers.front() {
+    match numbers.first() {
         Some(least) => *least < end,
         None => false,
     }
 }
 
 /// Takes a number out, if it is there.
-fn remove(numbers: &mut VecDeque<u64>, number: u64)
-    requires { Rise 0 (2 ^ 62) numbers.old.items }
-    ensures { numbers.new.items ≡ filter (λ n. not (n == number)) numbers.old.items }
+fn remove(numbers: &mut BTreeSet<u64>, number: u64)
+    requires { Rise 0 (2 ^ 62) numbers.old.keys }
+    ensures { numbers.new.keys ≡ filter (λ n. not (n == number)) numbers.old.keys }
 {
-    if let Ok(index) = numbers.binary_search(&number) {
-        let _removed = numbers.remove(index);
-    }
+    let _removed = numbers.remove(&number);
 }

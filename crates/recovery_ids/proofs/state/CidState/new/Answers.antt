@@ -11,18 +11,18 @@ numbers_after held after issued empty added =
 
 pub invariant_of-result : goal.invariant_of-result
 invariant_of-result c =
-    let numbers = numbers_after c.in_ok-active_seq.active_seq.items c.issue.new.numbers.items c.args.issued c.in_ok-active_seq.ensures.items c.issue.ensures in
+    let numbers = numbers_after c.new-active_seq.result.keys c.issue.new.numbers.keys c.args.issued c.new-active_seq.ensures.empty c.in_ok-issue.ensures.ok in
     let deadlines = rw c.in_ok-retire_timestamp.ensures.items at c.track_lifetime.ensures in
     rw (numbers, deadlines) (first_sound c.args.cid_len c.args.cid_lifetime c.args.now c.args.issued c.requires)
 
 pub returns-clause-ids : goal.returns-clause-ids
 returns-clause-ids c =
-    let numbers = numbers_after c.in_ok-active_seq.active_seq.items c.issue.new.numbers.items c.args.issued c.in_ok-active_seq.ensures.items c.issue.ensures in
+    let numbers = numbers_after c.new-active_seq.result.keys c.issue.new.numbers.keys c.args.issued c.new-active_seq.ensures.empty c.in_ok-issue.ensures.ok in
     let deadlines = rw c.in_ok-retire_timestamp.ensures.items at c.track_lifetime.ensures in
     rw (numbers, deadlines, ← deadlines_with_each-deadlines_with_last c.args.cid_lifetime c.args.now c.args.issued) refl
 
 pub returns-clause-sound : goal.returns-clause-sound
 returns-clause-sound c =
-    let numbers = numbers_after c.in_ok-active_seq.active_seq.items c.issue.new.numbers.items c.args.issued c.in_ok-active_seq.ensures.items c.issue.ensures in
+    let numbers = numbers_after c.new-active_seq.result.keys c.issue.new.numbers.keys c.args.issued c.new-active_seq.ensures.empty c.in_ok-issue.ensures.ok in
     let deadlines = rw c.in_ok-retire_timestamp.ensures.items at c.track_lifetime.ensures in
     rw (numbers, deadlines) (first_sound c.args.cid_len c.args.cid_lifetime c.args.now c.args.issued c.requires)
