@@ -1,9 +1,3 @@
 //! Acknowledgements: what is to be acknowledged and when, and how often the peer is asked to.
-mod frequency;
-mod pending;
 
-pub use frequency::AckFrequencyState;
-pub use pending::PendingAcks;
-
-#[cfg(test)]
-mod tests;
+pub use recovery_acks::{AckFrequencyState, PendingAcks};

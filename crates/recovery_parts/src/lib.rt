@@ -1,4 +1,4 @@
-//! Parts of QUIC loss recovery, each by itself: pending ACKs and their frequency, connection ids.
+//! The parts of QUIC loss recovery that stand by themselves, under one name: each is a crate of its own.
 #![tactic(auto)]
 
 pub mod acks;

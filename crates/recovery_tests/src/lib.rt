@@ -1,9 +1,13 @@
-//! Tests of all crates, in a crate of their own: a crate without tests is proved once.
+//! Tests of all crates, over their public calls, so that no other crate is proved a second time for its tests.
 #![tactic(auto)]
 
+#[cfg(test)]
+mod acks;
 #[cfg(test)]
 mod base;
 #[cfg(test)]
 mod driver;
+#[cfg(test)]
+mod ids;
 #[cfg(test)]
 mod ledger;

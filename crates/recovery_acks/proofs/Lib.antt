@@ -1,0 +1,4 @@
+pub mod AckLaws
+pub mod RequestLogLaws
+mod RequestLogRows
+pub mod RunLaws

@@ -1,0 +1,5 @@
+pub mod AckFrequencies
+pub mod Acks
+pub mod PendingAcks
+pub mod RequestLog
+pub mod Runs

@@ -1,0 +1,192 @@
+//! How often the peer is asked to acknowledge, and how often it asks (draft-ietf-quic-ack-frequency-04).
+ghost use Rattle.std.specs.Prelude.{◌≡◌, ◌<◌, ◌≤◌, ◌^◌, ◌+◌, [], min, max, Decides, MatchOption, Some, None};
+ghost use Rattle.recovery_acks.specs.AckFrequencies.{pending_of, next_of, candidate_delay, current_delay, longest_delay, IsWorthSending, FrequencyReceived, AcksRequest, view_of};
+ghost use Rattle.recovery_acks.specs.RequestLog.{frequency_by};
+
+use crate::PendingAcks;
+use recovery_base::below::{AckFrequency, TransportError, TransportParameters, VarInt};
+use recovery_base::config::AckFrequencyConfig;
+use recovery_base::time::Duration;
+
+/// The least delay that a peer may ask for: what timers can keep (RFC 9002, 6.1.2).
+const TIMER_GRANULARITY_NANOS: u128 = 1_000_000;
+
+/// An RTT counts as this much at least, the default of `max_ack_delay` (RFC 9000, 18.2): on a short path more ACKs would
+/// else be asked for than come without a request.
+const MIN_AUTOMATIC_ACK_DELAY_MILLIS: u64 = 25;
+
+/// The delays of ACKs, as asked for and as asked by the peer.
+#[derive(Drop)]
+pub struct AckFrequencyState {
+    in_flight_ack_frequency_frame: Option<(u64, Duration)>,
+    next_outgoing_sequence_number: u64,
+    /// The longest delay that the peer is known to use.
+    pub peer_max_ack_delay: Duration,
+    last_ack_frequency_frame: Option<u64>,
+    /// The longest delay of our own ACKs.
+    pub max_ack_delay: Duration,
+}
+
+impl AckFrequencyState {
+    /// Nothing was asked yet; both delays are this one.
+    pub fn new(default_max_ack_delay: Duration) -> Self
+        ensures { view_of result ≡ frequency_by default_max_ack_delay [] }
+    {
+        AckFrequencyState {
+            in_flight_ack_frequency_frame: None,
+            next_outgoing_sequence_number: 0,
+            peer_max_ack_delay: default_max_ack_delay,
+            last_ack_frequency_frame: None,
+            max_ack_delay: default_max_ack_delay,
+        }
+    }
+
+    /// The delay to ask the peer for: the configured one or else the peer's, at most the RTT, which counts as 25 ms at
+    /// least, and at least the peer's `min_ack_delay`.
+    pub fn candidate_max_ack_delay(
+        &self,
+        rtt: Duration,
+        config: &AckFrequencyConfig,
+        peer_params: &TransportParameters,
+    ) -> Duration
+        ensures { result ≡ candidate_delay config.now.max_ack_delay
+            self.now.peer_max_ack_delay rtt peer_params.now.min_ack_delay }
+    {
+        let wanted = match config.max_ack_delay {
+            Some(configured) => configured,
+            None => self.peer_max_ack_delay,
+        };
+        let least = match peer_params.min_ack_delay {
+            Some(micros) => Duration::from_micros(micros.into_inner()),
+            None => Duration::ZERO,
+        };
+        longer(
+            shorter(
+                wanted,
+                longer(rtt, Duration::from_millis(MIN_AUTOMATIC_ACK_DELAY_MILLIS)),
+            ),
+            least,
+        )
+    }
+
+    /// The longest delay that the peer may use: its own, or the one asked for while that request is on its way.
+    pub fn max_ack_delay_for_pto(&self) -> Duration
+        ensures { result ≡ longest_delay (pending_of self.now) self.now.peer_max_ack_delay }
+    {
+        match self.in_flight_ack_frequency_frame {
+            Some((_, requested)) => longer(self.peer_max_ack_delay, requested),
+            None => self.peer_max_ack_delay,
+        }
+    }
+
+    /// The number of the next request, counted from 0. None past 2^62 - 1, and then nothing changes.
+    pub fn next_sequence_number(&mut self) -> Option<VarInt>
+        ensures number { MatchOption result (2 ^ 62 ≤ next_of self.old)
+            (λ number. number ≡ next_of self.old) }
+        ensures next { MatchOption result (self.new ≡ self.old)
+            (λ number. view_of self.new ≡ record (view_of self.old) { next = number + 1 }) }
+    {
+        match VarInt::from_u64(self.next_outgoing_sequence_number) {
+            Ok(number) => {
+                self.next_outgoing_sequence_number += 1;
+                Some(number)
+            }
+            Err(_) => None,
+        }
+    }
+
+    /// Whether a request is worth sending: none was made yet, or the delay wanted is more than a fifth away from the
+    /// one asked for last.
+    pub fn should_send_ack_frequency(
+        &self,
+        rtt: Duration,
+        config: &AckFrequencyConfig,
+        peer_params: &TransportParameters,
+    ) -> bool
+        ensures { let desired = candidate_delay config.now.max_ack_delay
+            self.now.peer_max_ack_delay rtt peer_params.now.min_ack_delay in
+            let current = current_delay (pending_of self.now) self.now.peer_max_ack_delay in
+            Decides result (IsWorthSending (next_of self.now) desired current) }
+    {
+        if self.next_outgoing_sequence_number == 0 {
+            return true;
+        }
+        let current = match self.in_flight_ack_frequency_frame {
+            Some((_, requested)) => requested.as_nanos(),
+            None => self.peer_max_ack_delay.as_nanos(),
+        };
+        let desired = self
+            .candidate_max_ack_delay(rtt, config, peer_params)
+            .as_nanos();
+        5 * (desired.saturating_sub(current) + current.saturating_sub(desired)) > current
+    }
+
+    /// A packet with a request went out.
+    pub fn ack_frequency_sent(&mut self, pn: u64, requested_max_ack_delay: Duration)
+        ensures { view_of self.new
+            ≡ record (view_of self.old) { pending = Some (pn, requested_max_ack_delay) } }
+    {
+        self.in_flight_ack_frequency_frame = Some((pn, requested_max_ack_delay));
+    }
+
+    /// A packet was acknowledged: where it held the request on its way, the peer uses that delay from now on.
+    pub fn on_acked(&mut self, pn: u64)
+        ensures { AcksRequest pn (view_of self.old) (view_of self.new) }
+    {
+        if let Some((number, requested)) = self.in_flight_ack_frequency_frame {
+            if number == pn {
+                self.in_flight_ack_frequency_frame = None;
+                self.peer_max_ack_delay = requested;
+            }
+        }
+    }
+
+    /// An ACK_FREQUENCY frame came. The answer is whether it is newer than the last and was taken.
+    ///
+    /// A delay below 1 ms is refused: the number of the frame is kept, and nothing else changes.
+    pub fn ack_frequency_received(
+        &mut self,
+        frame: &AckFrequency,
+        pending_acks: &mut PendingAcks,
+    ) -> Result<bool, TransportError>
+        ensures { FrequencyReceived (view_of self.old) pending_acks.old frame.now result
+            (view_of self.new) pending_acks.new }
+    {
+        let sequence = frame.sequence.into_inner();
+        if let Some(last) = self.last_ack_frequency_frame {
+            if sequence <= last {
+                return Ok(false);
+            }
+        }
+        self.last_ack_frequency_frame = Some(sequence);
+        let max_ack_delay = Duration::from_micros(frame.request_max_ack_delay.into_inner());
+        if max_ack_delay.as_nanos() < TIMER_GRANULARITY_NANOS {
+            return Err(TransportError::PROTOCOL_VIOLATION(
+                "Requested Max Ack Delay in ACK_FREQUENCY frame is less than min_ack_delay",
+            ));
+        }
+        self.max_ack_delay = max_ack_delay;
+        pending_acks.set_ack_frequency_params(frame);
+        Ok(true)
+    }
+}
+
+fn longer(first: Duration, second: Duration) -> Duration
+    ensures { result ≡ max first second }
+{
+    if first.as_nanos() < second.as_nanos() {
+        second
+    } else {
+        first
+    }
+}
+
+fn shorter(first: Duration, second: Duration) -> Duration
+    ensures { result ≡ min first second }
+{
+    if first.as_nanos() < second.as_nanos() {
+        first
+    } else {
+        second
+    }
+}

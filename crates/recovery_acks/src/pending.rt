@@ -1,0 +1,316 @@
+//! The packets of one space that are to be acknowledged.
+ghost use Rattle.std.specs.Prelude.{◌≡◌, ◌≢◌, ℕ, ◌<◌, ◌≤◌, ◌^◌, ◌⊎◌, IsTrue, IsSome, IfSome, OnOk, OnErr, IsErr, Decides, MatchBool, nat_lt, true, false, length, [], ◌↔◌, None, Some};
+ghost use Rattle.recovery_base.specs.Numbers.{With};
+ghost use Rattle.recovery_base.specs.Received.{Has};
+ghost use Rattle.recovery_base.specs.Ranges.{InRanges, AreApart};
+ghost use Rattle.recovery_acks.specs.Acks.{IsPending, CanSend, new_acks, with_thresholds, with_required, acks_sent, Receives, AddsPending, SubtractsBelow, delay_at, timeout_at, HasReached, IsOutOfOrder, IsReported, IsUpTo, largest_with, most_ranges};
+ghost use Rattle.recovery_acks.specs.Runs.{IsInHighest};
+
+use recovery_base::below::{AckFrequency, ArrayRangeSet, NoMemory};
+use recovery_base::dedup::Dedup;
+use recovery_base::time::{Duration, Instant};
+use std::alloc::Global;
+use std::marker::Model;
+
+/// The most ranges that an ACK frame carries: each takes 16 bytes at most (RFC 9000, 19.3.1), so that they fit into the least
+/// datagram, of 1200 bytes.
+const MAX_ACK_BLOCKS: usize = 64;
+
+/// How many packets that are not ack-eliciting may come before an ACK is sent with other frames: the peer keeps them
+/// until it hears of them, and nothing else tells it.
+const LAZY_ACK_THRESHOLD: u64 = 10;
+
+/// The packets to be acknowledged, and when an ACK is due (RFC 9000, 13.2).
+#[derive(Drop)]
+pub struct PendingAcks {
+    immediate_ack_required: bool,
+    ack_eliciting_since_last_ack_sent: u64,
+    non_ack_eliciting_since_last_ack_sent: u64,
+    ack_eliciting_threshold: u64,
+    reordering_threshold: u64,
+    earliest_ack_eliciting_since_last_ack_sent: Option<Instant>,
+    ranges: ArrayRangeSet,
+    largest_packet: Option<(u64, Instant)>,
+    largest_ack_eliciting_packet: Option<u64>,
+    largest_acked: Option<u64>,
+}
+
+impl Model for PendingAcks {
+    ghost use Rattle.recovery_acks.specs.Acks.{Acks, AreAcksSound};
+    ghost use Rattle.recovery_acks.specs.PendingAcks.{acks_in};
+
+    ghost Value = { Acks };
+
+    ghost view = { acks_in };
+
+    ghost invariant = { λ acks. AreAcksSound (acks_in acks) };
+}
+
+impl PendingAcks {
+    /// Nothing is to be acknowledged; both thresholds are 1. It takes no memory.
+    pub fn new(alloc: Global) -> Self
+        ensures value { result ≡ new_acks [] }
+    {
+        PendingAcks {
+            immediate_ack_required: false,
+            ack_eliciting_since_last_ack_sent: 0,
+            non_ack_eliciting_since_last_ack_sent: 0,
+            ack_eliciting_threshold: 1,
+            reordering_threshold: 1,
+            earliest_ack_eliciting_since_last_ack_sent: None,
+            ranges: ArrayRangeSet::new(alloc),
+            largest_packet: None,
+            largest_ack_eliciting_packet: None,
+            largest_acked: None,
+        }
+    }
+
+    /// Takes both thresholds of an ACK_FREQUENCY frame.
+    pub fn set_ack_frequency_params(&mut self, frame: &AckFrequency)
+        ensures { self.new
+            ≡ with_thresholds frame.now.ack_eliciting_threshold frame.now.reordering_threshold
+            self.old }
+    {
+        self.ack_eliciting_threshold = frame.ack_eliciting_threshold.into_inner();
+        self.reordering_threshold = frame.reordering_threshold.into_inner();
+    }
+
+    /// From now on an ACK is required at once.
+    pub fn set_immediate_ack_required(&mut self)
+        ensures { self.new ≡ with_required true self.old }
+    {
+        self.immediate_ack_required = true;
+    }
+
+    /// The longest delay is over: an ACK is required at once exactly where an ack-eliciting packet came since the last one.
+    pub fn on_max_ack_delay_timeout(&mut self)
+        ensures { self.new ≡ with_required (nat_lt 0 self.old.eliciting) self.old }
+    {
+        self.immediate_ack_required = self.ack_eliciting_since_last_ack_sent > 0;
+    }
+
+    /// When a delay ends that starts with the first ack-eliciting packet since the last ACK; none before one came.
+    pub fn max_ack_delay_timeout(&self, max_ack_delay: Duration) -> Option<Instant>
+        ensures { result ≡ timeout_at max_ack_delay self.now.base }
+    {
+        match self.earliest_ack_eliciting_since_last_ack_sent {
+            Some(earliest) => Some(earliest + max_ack_delay),
+            None => None,
+        }
+    }
+
+    /// Whether an ACK may be sent in a packet of its own: one is required, and a number is to be acknowledged.
+    pub fn can_send(&self) -> bool
+        ensures { Decides result (CanSend self.now) }
+    {
+        may_send(self.immediate_ack_required, &self.ranges)
+    }
+
+    /// Whether an ACK may be sent with other frames: a number is to be acknowledged.
+    pub fn can_send_with_other_frames(&self) -> bool
+        ensures { Decides result ((n : ℕ) × IsPending self.now n) }
+    {
+        !self.ranges.is_empty()
+    }
+
+    /// How long ago the largest packet came; zero before the first.
+    pub fn ack_delay(&self, now: Instant) -> Duration
+        ensures { result ≡ delay_at now self.now.largest }
+    {
+        match self.largest_packet {
+            Some((_, received)) => now - received,
+            None => Duration::ZERO,
+        }
+    }
+
+    /// A packet came, after its number went into `dedup`. The answer is whether the delay timer is to be armed.
+    pub fn packet_received(
+        &mut self,
+        now: Instant,
+        packet_number: u64,
+        ack_eliciting: bool,
+        dedup: &Dedup,
+    ) -> bool
+        requires number { HasReached (Has dedup.now) packet_number }
+        requires earlier { IfSome self.old.greatest (HasReached (Has dedup.now)) }
+        ensures receives { Receives (Has dedup.now) self.old now packet_number ack_eliciting
+            result self.new }
+        ensures noticed { IsTrue ack_eliciting → IsSome self.new.base ⊎ IsTrue self.new.required }
+        ensures within_threshold { IsTrue ack_eliciting → ¬ IsTrue self.new.required
+            → self.new.eliciting ≤ self.new.threshold }
+    {
+        if !ack_eliciting {
+            self.non_ack_eliciting_since_last_ack_sent = self
+                .non_ack_eliciting_since_last_ack_sent
+                .saturating_add(1);
+            return false;
+        }
+        let before = self.largest_ack_eliciting_packet.unwrap_or(0);
+        let greatest = before.max(packet_number);
+        self.largest_ack_eliciting_packet = Some(greatest);
+        self.ack_eliciting_since_last_ack_sent = self
+            .ack_eliciting_since_last_ack_sent
+            .saturating_add(1);
+        let out_of_order = is_out_of_order(
+            self.reordering_threshold,
+            self.largest_acked,
+            before,
+            greatest,
+            packet_number,
+            dedup,
+        );
+        let many = self.ack_eliciting_since_last_ack_sent > self.ack_eliciting_threshold;
+        self.immediate_ack_required = is_any(self.immediate_ack_required, many, out_of_order);
+        let can_send = may_send(self.immediate_ack_required, &self.ranges);
+        if is_noticed(self.earliest_ack_eliciting_since_last_ack_sent, can_send) {
+            return false;
+        }
+        self.earliest_ack_eliciting_since_last_ack_sent = Some(now);
+        true
+    }
+
+    /// An ACK was sent, which is taken to hold all numbers that are to be acknowledged.
+    pub fn acks_sent(&mut self)
+        ensures { self.new ≡ acks_sent self.old }
+    {
+        self.immediate_ack_required = false;
+        self.ack_eliciting_since_last_ack_sent = 0;
+        self.non_ack_eliciting_since_last_ack_sent = 0;
+        self.earliest_ack_eliciting_since_last_ack_sent = None;
+        self.largest_acked = self.largest_ack_eliciting_packet;
+    }
+
+    /// A number below 2^62 is to be acknowledged. Where more than 64 ranges stand, the lowest goes.
+    ///
+    /// `NoMemory` changes nothing.
+    pub fn insert_one(&mut self, packet: u64, now: Instant) -> Result<(), NoMemory>
+        requires { packet < 2 ^ 62 }
+        ensures inserts { OnOk result (AddsPending self.old packet now self.new) }
+        ensures only_new_takes_memory { IsErr result → ¬ IsPending self.old packet }
+        ensures err { OnErr result (self.new ≡ self.old) }
+    {
+        insert(&mut self.ranges, packet)?;
+        self.largest_packet = Some(larger(self.largest_packet, packet, now));
+        Ok(())
+    }
+
+    /// The numbers up to `max`, below 2^62, need no acknowledgement any more. It takes no memory.
+    pub fn subtract_below(&mut self, max: u64)
+        requires { max < 2 ^ 62 }
+        ensures { SubtractsBelow self.old max self.new }
+    {
+        let _ = self.ranges.remove(0..max + 1);
+    }
+
+    /// The numbers that are to be acknowledged: at most 64 ranges.
+    pub fn ranges(&self) -> &ArrayRangeSet
+        ensures value { result.now ≡ self.now.ranges }
+        ensures count { length self.now.ranges ≤ most_ranges }
+    {
+        &self.ranges
+    }
+
+    /// Requires an ACK at once where more than 10 packets came since the last one that ask for none.
+    ///
+    /// To be called where a packet is sent anyway.
+    pub fn maybe_ack_non_eliciting(&mut self)
+        ensures many { 10 < self.old.silent → self.new ≡ with_required true self.old }
+        ensures few { self.old.silent ≤ 10 → self.new ≡ self.old }
+    {
+        if self.non_ack_eliciting_since_last_ack_sent > LAZY_ACK_THRESHOLD {
+            self.set_immediate_ack_required();
+        }
+    }
+}
+
+fn may_send(required: bool, ranges: &ArrayRangeSet) -> bool
+    ensures { Decides result (IsTrue required × ((n : ℕ) × InRanges ranges.now n)) }
+{
+    required && !ranges.is_empty()
+}
+
+fn is_any(first: bool, second: bool, third: bool) -> bool
+    ensures { Decides result (IsTrue first ⊎ (IsTrue second ⊎ IsTrue third)) }
+{
+    first || second || third
+}
+
+/// Whether an ack-eliciting packet needs no timer of its own.
+fn is_noticed(base: Option<Instant>, can_send: bool) -> bool
+    ensures { MatchBool result ((base ≢ None) ⊎ IsTrue can_send)
+        ((base ≡ None) × ¬ IsTrue can_send) }
+{
+    base.is_some() || can_send
+}
+
+/// The largest packet, once another came.
+fn larger(largest: Option<(u64, Instant)>, packet: u64, now: Instant) -> (u64, Instant)
+    ensures { Some result ≡ largest_with largest packet now }
+{
+    match largest {
+        Some((number, received)) if number >= packet => (number, received),
+        _ => (packet, now),
+    }
+}
+
+/// Adds a number, and drops the lowest range where more than 64 stand.
+fn insert(ranges: &mut ArrayRangeSet, packet: u64) -> Result<(), NoMemory>
+    requires small { packet < 2 ^ 62 }
+    requires count { length ranges.old ≤ most_ranges }
+    ensures pending { OnOk result ((n : ℕ) → InRanges ranges.new n
+        ↔ IsInHighest most_ranges (With packet (InRanges ranges.old)) n) }
+    ensures some { OnOk result ((n : ℕ) × InRanges ranges.new n) }
+    ensures kept { OnOk result ((length ranges.new ≤ most_ranges) × AreApart 0 ranges.new) }
+    ensures only_new_takes_memory { IsErr result → ¬ InRanges ranges.old packet }
+    ensures err { OnErr result (ranges.new ≡ ranges.old) }
+{
+    ranges.insert_one(packet)?;
+    if ranges.len() > MAX_ACK_BLOCKS {
+        let _ = ranges.pop_min();
+    }
+    Ok(())
+}
+
+/// Whether an ack-eliciting packet requires an ACK at once by its place among the others.
+fn is_out_of_order(
+    threshold: u64,
+    acknowledged: Option<u64>,
+    before: u64,
+    greatest: u64,
+    number: u64,
+    dedup: &Dedup,
+) -> bool
+    requires reached { HasReached (Has dedup.now) greatest }
+    requires above { number ≤ greatest }
+    requires order { IsUpTo acknowledged (Some greatest) }
+    ensures { Decides result
+        (IsOutOfOrder (Has dedup.now) threshold acknowledged before greatest number) }
+{
+    if threshold == 0 {
+        return false;
+    }
+    if threshold == 1 {
+        return number < before || dedup.missing_in_interval(before, number);
+    }
+    is_reported(threshold, greatest, acknowledged, dedup)
+}
+
+/// Whether the peer would call a packet lost, if it knew what came.
+fn is_reported(threshold: u64, greatest: u64, acknowledged: Option<u64>, dedup: &Dedup) -> bool
+    requires some { 1 < threshold }
+    requires reached { HasReached (Has dedup.now) greatest }
+    requires order { IsUpTo acknowledged (Some greatest) }
+    ensures { Decides result (IsReported (Has dedup.now) threshold greatest acknowledged) }
+{
+    let acknowledged = match acknowledged {
+        Some(acknowledged) => acknowledged,
+        None => return false,
+    };
+    if threshold > acknowledged {
+        return false;
+    }
+    match dedup.smallest_missing_in_interval(acknowledged - threshold + 1, greatest) {
+        Some(missing) => greatest - missing >= threshold,
+        None => false,
+    }
+}

@@ -1,0 +1,124 @@
+-- The ids that this end issued (RFC 9000, 5.1.2 and 19.16): those that the peer did not retire, and when the peer is to
+-- be asked to retire them.
+use Rattle.std.specs.Prelude.{ℕ, zero, suc, ◌≡◌, ◌≢◌, ◌+◌, ◌^◌, ◌<◌, ◌≤◌, ◌==◌, ◌&&◌, nat_lt, nat_le, not, Bool, IsTrue, ◌↔◌, List, [], ◌∷◌, ◌++◌, length, map, filter, drop, Option, None, Some, if◌then◌else◌}
+use Rattle.std.specs.List.{list_any, range_with_len}
+use lib.Chars.{codes}
+use Rattle.recovery_ids.specs.declared.state.CidTimestamp.{CidTimestamp}
+use Rattle.recovery_ids.specs.declared.state.RetireError.{RetireError}
+use Rattle.recovery_ids.specs.declared.state.RetireError.TheVariants.{CidsNotInUse, UnissuedCid}
+
+-- a deadline: a number, and the moment when the numbers up to it are to be retired
+abbrev pub Deadline : Type 0
+Deadline = CidTimestamp
+
+-- the numbers issued and not retired, in order; the mark below which all are retired, and the mark below which the peer
+-- is asked to retire; the deadlines, the oldest first
+pub record LocalIds : Type 0 where
+  pub cid_len : ℕ
+  pub cid_lifetime : Option ℕ
+  pub issued : ℕ
+  pub unretired : List ℕ
+  pub retired_below : ℕ
+  pub retire_prior_to : ℕ
+  pub deadlines : List Deadline
+
+-- the list without its last deadline, where that has this moment
+abbrev pub without_last_at : ℕ → List Deadline → List Deadline
+without_last_at moment [] = []
+without_last_at moment (last ∷ []) = if last.timestamp == moment then [] else last ∷ []
+without_last_at moment (first ∷ next ∷ later) = first ∷ without_last_at moment (next ∷ later)
+
+-- the list with a deadline at its end; it replaces a last one with the same moment
+abbrev pub with_deadline : Deadline → List Deadline → List Deadline
+with_deadline deadline deadlines = without_last_at deadline.timestamp deadlines ++ deadline ∷ []
+
+-- the deadlines once a number is issued: one more, a lifetime later, if there is a lifetime and the clock goes so far
+abbrev pub deadlines_with : Option ℕ → ℕ → ℕ → List Deadline → List Deadline
+deadlines_with None now number deadlines = deadlines
+deadlines_with (Some lifetime) now number deadlines =
+    if nat_lt (now + lifetime) (2 ^ 64) then with_deadline record { sequence = number; timestamp = now + lifetime } deadlines else deadlines
+
+-- the deadlines once numbers below a count are issued, with one for the last of them
+abbrev pub deadlines_with_last : Option ℕ → ℕ → ℕ → List Deadline → List Deadline
+deadlines_with_last lifetime now zero deadlines = deadlines
+deadlines_with_last lifetime now (suc number) deadlines = deadlines_with lifetime now number deadlines
+
+-- the deadlines once each of these numbers is issued in turn
+abbrev pub deadlines_with_each : Option ℕ → ℕ → List ℕ → List Deadline → List Deadline
+deadlines_with_each lifetime now [] deadlines = deadlines
+deadlines_with_each lifetime now (number ∷ numbers) deadlines = deadlines_with_each lifetime now numbers (deadlines_with lifetime now number deadlines)
+
+-- the ids 0 to issued - 1, none of which is retired, each with a deadline
+abbrev pub first_issued : ℕ → Option ℕ → ℕ → ℕ → LocalIds
+first_issued cid_len lifetime now issued = record {
+  cid_len = cid_len;
+  cid_lifetime = lifetime;
+  issued = issued;
+  unretired = range_with_len 0 issued;
+  retired_below = 0;
+  retire_prior_to = 0;
+  deadlines = deadlines_with_each lifetime now (range_with_len 0 issued) [];
+}
+
+-- this many ids more, with a deadline for the last of them alone
+abbrev pub with_issued : ℕ → ℕ → LocalIds → LocalIds
+with_issued zero now ids = ids
+with_issued (suc count) now ids = record ids {
+  issued = ids.issued + suc count;
+  unretired = ids.unretired ++ range_with_len ids.issued (suc count);
+  deadlines = deadlines_with ids.cid_lifetime now (ids.issued + count) ids.deadlines;
+}
+
+-- whether one of the numbers low to high - 1 is not retired
+abbrev pub holds_unretired : ℕ → ℕ → LocalIds → Bool
+holds_unretired low high ids = list_any (λ n. nat_le low n && nat_lt n high) ids.unretired
+
+-- the mark behind the number of the oldest deadline; without one it stays
+abbrev pub next_mark : ℕ → List Deadline → ℕ
+next_mark mark [] = mark
+next_mark mark (oldest ∷ later) = oldest.sequence + 1
+
+-- a timeout takes the oldest deadline; the marks move on where all numbers between them are retired
+abbrev pub timed_out : LocalIds → LocalIds
+timed_out ids =
+    if holds_unretired ids.retired_below ids.retire_prior_to ids
+    then record ids { deadlines = drop 1 ids.deadlines }
+    else record ids { deadlines = drop 1 ids.deadlines; retired_below = ids.retire_prior_to; retire_prior_to = next_mark ids.retire_prior_to ids.deadlines }
+
+-- the ids without a number that the peer retires
+abbrev pub without_number : ℕ → LocalIds → LocalIds
+without_number number ids = record ids { unretired = filter (λ n. not (n == number)) ids.unretired }
+
+-- why a retirement is refused
+abbrev pub RefusesRetirement : LocalIds → ℕ → RetireError → Type 0
+RefusesRetirement ids number CidsNotInUse = ids.cid_len ≡ 0
+RefusesRetirement ids number UnissuedCid = (ids.cid_len ≢ 0) × (ids.issued ≤ number)
+
+-- the same in words
+abbrev pub retire_text : RetireError → List ℕ
+retire_text CidsNotInUse = codes "RETIRE_CONNECTION_ID when CIDs aren't in use"
+retire_text UnissuedCid = codes "RETIRE_CONNECTION_ID for unissued sequence number"
+
+-- what a retirement does: the answer says whether the limit leaves room for one more id
+pub record AcceptsRetirement (old : LocalIds) (number limit : ℕ) (more : Bool) (new : LocalIds) : Type 0 where
+  pub in_use : old.cid_len ≢ 0
+  pub issued : number < old.issued
+  pub retired : new ≡ without_number number old
+  pub room : IsTrue more ↔ (length new.unretired < limit)
+
+-- the numbers rise, and lie from low up to high - 1
+abbrev pub Rise : ℕ → ℕ → List ℕ → Type 0
+Rise low high [] = low ≤ high
+Rise low high (n ∷ ns) = (low ≤ n) × Rise (n + 1) high ns
+
+-- the unretired numbers rise from the first mark, the deadlines' numbers from the second, all below the count issued
+pub record AreSound (ids : LocalIds) : Type 0 where
+  pub small : ids.issued ≤ 2 ^ 62
+  pub marks : ids.retired_below ≤ ids.retire_prior_to
+  pub unretired : Rise ids.retired_below ids.issued ids.unretired
+  pub deadlines : Rise ids.retire_prior_to ids.issued (map (λ deadline. deadline.sequence) ids.deadlines)
+
+-- the moment of the oldest deadline
+abbrev pub first_moment : List Deadline → Option ℕ
+first_moment [] = None
+first_moment (oldest ∷ later) = Some oldest.timestamp

@@ -1,0 +1,101 @@
+-- The ids that the peer issued and that are held (RFC 9000, 5.1.1 and 19.15): a table from numbers to ids with their
+-- tokens, and the number of the active id.
+use Rattle.std.specs.Prelude.{ℕ, ◌≡◌, ◌+◌, ◌-◌, ◌<◌, ◌≤◌, ◌==◌, nat_lt, max, min, List, Option, Some, None, IsSome, IsSomeAnd, option_map, if◌then◌else◌}
+use Rattle.std.specs.List.{filter_map, range_with_len}
+use Rattle.std.specs.declared.ops.Range.{Range}
+use Rattle.recovery_base.specs.declared.below.ids.NewConnectionId.{NewConnectionId}
+use Rattle.recovery_ids.specs.declared.queue.InsertError.{InsertError}
+use Rattle.recovery_ids.specs.declared.queue.InsertError.TheVariants.{Retired, ExceedsLimit}
+
+-- the most ids of the peer that this end is willing to store, as it tells the peer (RFC 9000, 18.2): the peer issues no
+-- more than it stores (5.1.1)
+abbrev pub active_connection_id_limit : ℕ
+active_connection_id_limit = 5
+
+-- an id, with its token where there is one
+abbrev pub HeldId : Type 0
+HeldId = List ℕ × Option (List ℕ)
+
+-- what is held for each number
+abbrev pub Table : Type 0
+Table = ℕ → Option HeldId
+
+-- the table with an entry for one number
+abbrev pub with_id : ℕ → HeldId → Table → Table
+with_id number entry held n = if n == number then Some entry else held n
+
+-- the table without one number
+abbrev pub without_id : ℕ → Table → Table
+without_id number held n = if n == number then None else held n
+
+-- the table without the numbers below another
+abbrev pub without_below : ℕ → Table → Table
+without_below low held n = if nat_lt n low then None else held n
+
+-- n is the least number held at or above another
+pub record IsLeastHeld (held : Table) (low n : ℕ) : Type 0 where
+  pub bound : low ≤ n
+  pub is_held : IsSome (held n)
+  pub least : (m : ℕ) → low ≤ m → m < n → held m ≡ None
+
+-- the ids that are held, and the number of the active one
+pub record RemoteIds : Type 0 where
+  pub active : ℕ
+  pub held : Table
+
+-- the table with a frame's id, and without the numbers that the frame retires
+abbrev pub with_frame : NewConnectionId → Table → Table
+with_frame frame held =
+    with_id frame.sequence (frame.id, Some frame.reset_token) (without_below frame.retire_prior_to held)
+
+-- the answer to a move of the active number: the numbers to be retired, at most as many as are stored, and the new active
+-- id's token
+pub record TellsMove (old : RemoteIds) (range : Range ℕ) (token : List ℕ) (new : RemoteIds) : Type 0 where
+  pub begins : range.start ≡ old.active
+  pub ends : range.end ≡ min new.active (old.active + active_connection_id_limit)
+  pub token_held : (id : List ℕ) × (new.held new.active ≡ Some (id, Some token))
+
+-- what becomes of the ids where a frame is accepted: the active number is the least held one, and moves exactly where
+-- the frame retires it
+pub record AcceptsFrame (old : RemoteIds) (frame : NewConnectionId) (answer : Option (Range ℕ × List ℕ)) (new : RemoteIds) : Type 0 where
+  pub in_window : (old.active ≤ frame.sequence)
+      × (frame.sequence < max old.active frame.retire_prior_to + active_connection_id_limit)
+  pub held : (n : ℕ) → new.held n ≡ with_frame frame old.held n
+  pub active : IsLeastHeld new.held 0 new.active
+  pub stays : frame.retire_prior_to ≤ old.active → (new.active ≡ old.active) × (answer ≡ None)
+  pub moves : old.active < frame.retire_prior_to → IsSomeAnd answer (λ told. TellsMove old told.0 told.1 new)
+
+-- why a frame is refused
+abbrev pub RefusesFrame : RemoteIds → NewConnectionId → InsertError → Type 0
+RefusesFrame old frame Retired = frame.sequence < old.active
+RefusesFrame old frame ExceedsLimit =
+    max old.active frame.retire_prior_to + active_connection_id_limit ≤ frame.sequence
+
+-- a move to the next id: the active one is dropped, and the least number held above it is the new active one
+pub record TakesNext (old : RemoteIds) (token : List ℕ) (range : Range ℕ) (new : RemoteIds) : Type 0 where
+  pub active : IsLeastHeld old.held (old.active + 1) new.active
+  pub held : (n : ℕ) → new.held n ≡ without_id old.active old.held n
+  pub told : TellsMove old range token new
+  pub whole : range.end ≡ new.active
+
+-- the range that an answer retires begins at the old active number, is not empty, ends at most at the new one, has at
+-- most as many numbers as are stored, and holds every number that was dropped
+pub record IsRetirement (old : RemoteIds) (range : Range ℕ) (new : RemoteIds) : Type 0 where
+  pub begins : range.start ≡ old.active
+  pub not_empty : range.start < range.end
+  pub ends : range.end ≤ new.active
+  pub cut : range.end ≤ old.active + active_connection_id_limit
+  pub dropped : (n : ℕ) → IsSome (old.held n) → new.held n ≡ None → (range.start ≤ n) × (n < range.end)
+
+-- the active number is held, and all that are held lie among as many numbers from it on as are stored
+pub record AreInWindow (ids : RemoteIds) : Type 0 where
+  pub active_held : IsSome (ids.held ids.active)
+  pub within : (n : ℕ) → IsSome (ids.held n) → (ids.active ≤ n) × (n < ids.active + active_connection_id_limit)
+
+-- what is held a number of steps above the active number
+abbrev pub item_at : RemoteIds → ℕ → Option (ℕ × HeldId)
+item_at ids step = option_map (λ entry. (step, entry)) (ids.held (ids.active + step))
+
+-- what is held from a step on, in order
+abbrev pub items_from : ℕ → RemoteIds → List (ℕ × HeldId)
+items_from step ids = filter_map (item_at ids) (range_with_len step (active_connection_id_limit - step))

@@ -1,0 +1,61 @@
+-- The ids of the peer by what happened to them (RFC 9000, 5.1.1 and 5.1.2): a log, the newest entry first.
+use Rattle.std.specs.Prelude.{◌≡◌, ℕ, zero, suc, ◌+◌, max, List, [], ◌∷◌, Option, None, Some, is_some, unwrap_or, if◌then◌else◌}
+use Rattle.recovery_base.specs.declared.below.ids.NewConnectionId.{NewConnectionId}
+use Rattle.recovery_ids.specs.RemoteIds.{Table, RemoteIds, active_connection_id_limit, with_id, with_frame, without_id}
+
+pub data RemoteEntry : Type 0 where
+  -- a NEW_CONNECTION_ID frame is accepted (19.15)
+  given : (frame : NewConnectionId) → RemoteEntry
+  -- this end moves to the next id that it holds (5.1.2)
+  used : RemoteEntry
+  -- the initial id is replaced (7.2)
+  replaced : (id : List ℕ) → RemoteEntry
+
+-- the first of so many numbers that is held, if one is
+unfoldable pub first_held : Table → ℕ → ℕ → Option ℕ
+first_held held low zero = None
+first_held held low (suc more) = if is_some (held low) then Some low else first_held held (low + 1) more
+
+-- the least number held from one on, if one is: what is stored lies among so many numbers
+abbrev pub least_held : Table → ℕ → Option ℕ
+least_held held low = first_held held low active_connection_id_limit
+
+-- a frame's id is held, the numbers that the frame retires are not, and the least one that is held is active
+abbrev pub ids_given : NewConnectionId → RemoteIds → RemoteIds
+ids_given frame ids =
+    let held = with_frame frame ids.held in
+    let least = least_held held (max ids.active frame.retire_prior_to) in
+    record { active = unwrap_or least ids.active; held = held }
+
+-- the active id is dropped, and the next one is active; where there is none, all stays
+abbrev pub moved_to : Option ℕ → RemoteIds → RemoteIds
+moved_to None ids = ids
+moved_to (Some next) ids = record { active = next; held = without_id ids.active ids.held }
+
+-- the next id is the one of the least number held above the active one
+abbrev pub ids_used : RemoteIds → RemoteIds
+ids_used ids = moved_to (least_held ids.held (ids.active + 1)) ids
+
+-- what one entry makes of the ids
+unfoldable pub ids_with : RemoteEntry → RemoteIds → RemoteIds
+ids_with (given frame) ids = ids_given frame ids
+ids_with used ids = ids_used ids
+ids_with (replaced id) ids = record ids { held = with_id 0 (id, None) ids.held }
+
+-- at first the initial id is held, as number 0, and no other (5.1.1)
+abbrev pub first_ids : List ℕ → RemoteIds
+first_ids initial = record { active = 0; held = with_id 0 (initial, None) (λ n. None) }
+
+abbrev pub remote_ids_by : List ℕ → List RemoteEntry → RemoteIds
+remote_ids_by initial [] = first_ids initial
+remote_ids_by initial (entry ∷ earlier) = ids_with entry (remote_ids_by initial earlier)
+
+-- ---- what an entry changes
+
+abbrev pub RemoteStep : RemoteEntry → RemoteIds → RemoteIds → Type 0
+RemoteStep entry old new = new ≡ ids_with entry old
+
+-- ---- what a log leaves
+
+abbrev pub RemoteIdsLeft : List ℕ → List RemoteEntry → RemoteIds → Type 0
+RemoteIdsLeft initial log ids = ids ≡ remote_ids_by initial log

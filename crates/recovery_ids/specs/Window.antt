@@ -1,0 +1,31 @@
+-- What a window holds for each number.
+use Rattle.std.specs.Prelude.{ℕ, ◌≡◌, ◌+◌, ◌%◌, ◌^◌, ◌<◌, ◌≤◌, ◌&&◌, nat_lt, nat_le, List, Option, None, Some, IsSome, IfSome, slice_index_or, if◌then◌else◌}
+use Rattle.recovery_ids.specs.RemoteIds.{HeldId, RemoteIds, IsLeastHeld, without_below}
+use Rattle.recovery_ids.specs.declared.window.TheConstants.{LEN}
+use Rattle.recovery_ids.specs.declared.window.Window.{Window}
+
+-- the window has room for a number
+abbrev pub IsWithin : Window → ℕ → Type 0
+IsWithin window n = (window.start ≤ n) × (n < window.start + LEN)
+
+-- what a window holds for a number: nothing outside
+abbrev pub held_at : Window → ℕ → Option HeldId
+held_at window n =
+    if nat_le window.start n && nat_lt n (window.start + LEN) then slice_index_or window.entries (n % LEN) None else None
+
+-- what a window holds, the active number being its start
+abbrev pub ids_in : Window → RemoteIds
+ids_in window = record { active = window.start; held = held_at window }
+
+-- the least number of the window is held, each number above it that is held has a token, and all lie below 2^62
+pub record IsWindowSound (window : Window) : Type 0 where
+  pub small : window.start < 2 ^ 62
+  pub active_held : IsSome (held_at window window.start)
+  pub tokens : (n : ℕ) → window.start < n → IfSome (held_at window n) (λ entry. IsSome entry.1)
+  pub numbers : (n : ℕ) → IsSome (held_at window n) → n < 2 ^ 62
+
+-- a move of the start to the least number held at or above another, which has a token
+pub record Advances (old : Window) (low : ℕ) (token : List ℕ) (new : Window) : Type 0 where
+  pub least : IsLeastHeld (held_at old) low new.start
+  pub held : (n : ℕ) → held_at new n ≡ without_below new.start (held_at old) n
+  pub token_held : (id : List ℕ) × (held_at old new.start ≡ Some (id, Some token))

@@ -1,0 +1,184 @@
+//! The ids of the peer that packets may be sent to.
+ghost use Rattle.std.specs.Prelude.{◌≡◌, ℕ, ◌+◌, ◌<◌, ◌≤◌, ◌^◌, ◌==◌, Some, None, IsSome, IfSome, IfOk, OnOk, OnErr, IfNone, IsSomeAnd, MatchOption, MatchResult, length, if◌then◌else◌};
+ghost use Rattle.recovery_ids.specs.CidQueue.{held, active_of, remote_ids};
+ghost use Rattle.recovery_ids.specs.RemoteIds.{AcceptsFrame, RefusesFrame, TakesNext, IsRetirement, AreInWindow, with_id, items_from, active_connection_id_limit};
+ghost use Rattle.recovery_ids.specs.RemoteLog.{RemoteStep, given, used, replaced, first_ids};
+ghost use Rattle.recovery_ids.specs.Window.{held_at, Advances, IsWindowSound};
+
+use crate::iter::{self, CidIter};
+use crate::window::{self, CidData, Window};
+use recovery_base::below::{ConnectionId, NewConnectionId, ResetToken};
+use std::marker::Model;
+use std::ops::Range;
+use thiserror::Error;
+
+/// The ids that the peer issued and that are held, at most `LEN`, of which the one with the least number is active
+/// (RFC 9000, 5.1.1). The initial id has number 0 and no token.
+///
+/// Contracts see what is held for each number, and the active number.
+#[derive(Drop)]
+pub struct CidQueue {
+    window: Window,
+}
+
+impl Model for CidQueue {
+    ghost use Rattle.recovery_ids.specs.declared.window.Window.{Window};
+    ghost use Rattle.recovery_ids.specs.Window.{IsWindowSound};
+
+    ghost Value = { Window };
+
+    ghost view = { λ queue. queue.window };
+
+    ghost invariant = { λ queue. IsWindowSound queue.window };
+
+    ghost inverse = { λ window. record { window = window } };
+}
+
+/// Why an id of the peer is refused.
+#[derive(Clone, Copy, Debug, PartialEq, Eq, Error)]
+pub enum InsertError {
+    /// The number lies below the active one.
+    #[error("the connection id was already retired")]
+    Retired,
+    /// The number lies past the window.
+    #[error("the connection id exceeds the limit")]
+    ExceedsLimit,
+}
+
+impl CidQueue {
+    /// The most ids that are held.
+    pub const LEN: usize = window::LEN;
+
+    /// Holds the initial id alone, as number 0 and without a token.
+    pub fn new(cid: ConnectionId) -> Self
+        ensures active { active_of result ≡ 0 }
+        ensures ids { (n : ℕ) → held result n ≡ (if n == 0 then Some (cid, None) else None) }
+        ensures window { AreInWindow (remote_ids result) }
+        ensures limit { Self.LEN ≡ active_connection_id_limit }
+        ensures first { remote_ids result ≡ first_ids cid }
+    {
+        CidQueue {
+            window: Window::new((cid, None)),
+        }
+    }
+
+    /// Takes the id of a NEW_CONNECTION_ID frame (RFC 9000, 19.15). It is accepted where its number lies in the window
+    /// of `LEN` numbers that begins at the active number or, where that is greater, at the frame's retire-prior-to;
+    /// it replaces what was held for its number. Where the frame retires the active id, the least number held is the
+    /// new active one, and the answer is the range of numbers to be retired, at most `LEN` of them, with the new
+    /// active id's token.
+    ///
+    /// A refusal changes nothing: `Retired` below the active number, `ExceedsLimit` past the window.
+    pub fn insert(
+        &mut self,
+        cid: NewConnectionId,
+    ) -> Result<Option<(Range<u64>, ResetToken)>, InsertError>
+        requires ordered { cid.retire_prior_to ≤ cid.sequence }
+        requires small { cid.sequence < 2 ^ 62 }
+        ensures reply { MatchResult result
+            (λ answer. AcceptsFrame (remote_ids self.old) cid answer (remote_ids self.new))
+            (RefusesFrame (remote_ids self.old) cid) }
+        ensures err { OnErr result (self.new ≡ self.old) }
+        ensures range { IfOk result (λ answer. IfSome answer
+            (λ told. IsRetirement (remote_ids self.old) told.0 (remote_ids self.new))) }
+        ensures step { OnOk result
+            (RemoteStep (given cid) (remote_ids self.old) (remote_ids self.new)) }
+        ensures window { AreInWindow (remote_ids self.new) }
+    {
+        let active = self.window.start();
+        let low = active.max(cid.retire_prior_to);
+        if cid.sequence < active {
+            return Err(InsertError::Retired);
+        }
+        if cid.sequence - low >= Self::LEN as u64 {
+            return Err(InsertError::ExceedsLimit);
+        }
+        self.window.drop_below(low);
+        self.window
+            .set(cid.sequence, (cid.id, Some(cid.reset_token)));
+        if low == active {
+            return Ok(None);
+        }
+        match advance(&mut self.window, low) {
+            // Numbers past the old window were never held. A frame that brings one later is refused, and its number
+            // retired then, so that no frame makes this end retire more than a window at once.
+            Some(token) => {
+                let end = self.window.start().min(active + Self::LEN as u64);
+                Ok(Some((active..end, token)))
+            }
+            None => unreachable!(),
+        }
+    }
+
+    /// Drops the active id and moves to the next one that is held: answers its token, and the numbers to be retired.
+    /// `None`, where nothing else is held, changes nothing.
+    pub fn next(&mut self) -> Option<(ResetToken, Range<u64>)>
+        ensures moves { MatchOption result
+            ((n : ℕ) → active_of self.old < n → held self.old n ≡ None)
+            (λ told. TakesNext (remote_ids self.old) told.0 told.1 (remote_ids self.new)) }
+        ensures none { IfNone result (self.new ≡ self.old) }
+        ensures range { IfSome result
+            (λ told. IsRetirement (remote_ids self.old) told.1 (remote_ids self.new)) }
+        ensures step { RemoteStep used (remote_ids self.old) (remote_ids self.new) }
+        ensures window { AreInWindow (remote_ids self.new) }
+    {
+        let retired = self.window.start();
+        let token = advance(&mut self.window, retired + 1)?;
+        Some((token, retired..self.window.start()))
+    }
+
+    /// Replaces the initial id while it is the active one, as a server may do (RFC 9000, 7.2). It has no token.
+    pub fn update_initial_cid(&mut self, cid: ConnectionId)
+        requires { active_of self.old ≡ 0 }
+        ensures active { active_of self.new ≡ 0 }
+        ensures ids { (n : ℕ) → held self.new n ≡ with_id 0 (cid, None) (held self.old) n }
+        ensures step { RemoteStep (replaced cid) (remote_ids self.old) (remote_ids self.new) }
+        ensures window { AreInWindow (remote_ids self.new) }
+    {
+        self.window.set(0, (cid, None));
+    }
+
+    /// The ids held, each with its steps from the active number: the active one first, at most `LEN`.
+    pub fn iter(&self) -> CidIter<'_>
+        ensures items { result ≡ items_from 0 (remote_ids self.now) }
+        ensures few { length result ≤ Self.LEN }
+    {
+        iter::items(&self.window)
+    }
+
+    /// The active id.
+    pub fn active(&self) -> ConnectionId
+        ensures id { IsSomeAnd (held self.now (active_of self.now)) (λ entry. entry.0 ≡ result) }
+    {
+        match self.window.get(self.window.start()) {
+            Some((cid, _token)) => cid,
+            None => unreachable!(),
+        }
+    }
+
+    /// The number of the active id.
+    pub fn active_seq(&self) -> u64
+        ensures number { result ≡ active_of self.now }
+        ensures bound { result < 2 ^ 62 }
+        ensures window { AreInWindow (remote_ids self.now) }
+    {
+        self.window.start()
+    }
+}
+
+/// Moves to the least number held at or above another, where there is one, and answers its token.
+fn advance(window: &mut Window, low: u64) -> Option<ResetToken>
+    requires ahead { window.old.start ≤ low }
+    requires small { window.old.start < 2 ^ 62 }
+    requires tokens { (n : ℕ) → low ≤ n → IfSome (held_at window.old n) (λ entry. IsSome entry.1) }
+    requires numbers { (n : ℕ) → IsSome (held_at window.old n) → n < 2 ^ 62 }
+    ensures sound { IfSome result (λ _. IsWindowSound window.new) }
+    ensures moves { MatchOption result ((n : ℕ) → low ≤ n → held_at window.old n ≡ None)
+        (λ token. Advances window.old low token window.new) }
+    ensures none { IfNone result (window.new ≡ window.old) }
+{
+    let number = window.least_from(low)?;
+    let (_cid, token) = window.get(number).unwrap();
+    window.drop_below(number);
+    token
+}

@@ -1,0 +1,329 @@
+//! The ids that this end issued.
+ghost use Rattle.std.specs.Prelude.{◌≡◌, ◌+◌, ◌-◌, ◌<◌, ◌≤◌, ◌^◌, ◌==◌, nat_lt, [], ◌++◌, length, map, filter, drop, take, not, IsOk, IfOk, OnOk, OnErr, MatchResult};
+ghost use Rattle.std.specs.List.{list_any, range_with_len};
+ghost use Rattle.std.specs.VecDeque.{deque_len, deque_capacity};
+ghost use Rattle.recovery_ids.specs.LocalIds.{without_last_at, with_deadline, deadlines_with_last, next_mark, first_issued, with_issued, holds_unretired, timed_out, first_moment, RefusesRetirement, AcceptsRetirement, Rise, AreSound};
+
+use recovery_base::below::{IssuedCid, NoMemory, TransportError};
+use recovery_base::time::{Duration, Instant};
+use std::alloc::Global;
+use std::collections::{BTreeSet, VecDeque};
+use std::marker::Model;
+use thiserror::Error;
+
+/// When the numbers up to one are to be retired.
+#[derive(Clone, Copy)]
+struct CidTimestamp {
+    sequence: u64,
+    timestamp: Instant,
+}
+
+/// The ids that this end issued: which of them the peer did not retire, and when it is to be asked to (RFC 9000,
+/// 5.1.2). The numbers begin at 0 and go on without gaps.
+///
+/// What is kept grows with the numbers that are not retired, and not with how far they lie apart, and with the deadlines,
+/// of which each batch of equal moments has one.
+#[derive(Drop)]
+pub struct CidState {
+    /// Deadlines, the oldest first.
+    retire_timestamp: VecDeque<CidTimestamp>,
+    /// How many ids were issued.
+    issued: u64,
+    /// The numbers that the peer did not retire.
+    active_seq: BTreeSet<u64>,
+    /// The peer retired all numbers below.
+    prev_retire_seq: u64,
+    /// The peer is asked to retire all numbers below.
+    retire_seq: u64,
+    cid_len: usize,
+    cid_lifetime: Option<Duration>,
+}
+
+impl Model for CidState {
+    ghost use Rattle.recovery_ids.specs.LocalIds.{LocalIds, AreSound};
+
+    ghost Value = { LocalIds };
+
+    ghost use Rattle.recovery_ids.specs.CidState.{local_ids};
+
+    ghost view = { local_ids };
+
+    ghost invariant = { λ state. AreSound (local_ids state) };
+}
+
+/// Why a retirement by the peer is refused (RFC 9000, 19.16).
+#[derive(Clone, Copy, Debug, PartialEq, Eq, Error)]
+pub enum RetireError {
+    /// This end uses ids of no bytes, of which none can be retired.
+    #[error("RETIRE_CONNECTION_ID when CIDs aren't in use")]
+    CidsNotInUse,
+    /// The number was not issued.
+    #[error("RETIRE_CONNECTION_ID for unissued sequence number")]
+    UnissuedCid,
+}
+
+impl From<RetireError> for TransportError {
+    ghost use Rattle.std.specs.Prelude.{◌≡◌};
+    ghost use Rattle.recovery_ids.specs.LocalIds.{retire_text};
+
+    // It is a violation of the protocol, with the refusal's text.
+    ghost from_gives = { λ error transport. (transport.code ≡ 10) × (transport.reason.now ≡ retire_text error) };
+
+    fn from(error: RetireError) -> Self {
+        match error {
+            RetireError::CidsNotInUse => TransportError::PROTOCOL_VIOLATION(
+                "RETIRE_CONNECTION_ID when CIDs aren't in use",
+            ),
+            RetireError::UnissuedCid => TransportError::PROTOCOL_VIOLATION(
+                "RETIRE_CONNECTION_ID for unissued sequence number",
+            ),
+        }
+    }
+}
+
+impl CidState {
+    /// Counts the numbers 0 to `issued - 1` as issued, none of them retired, each with a deadline one lifetime from
+    /// `now`. Without a lifetime, or where the deadline would pass the clock's end, none is stored.
+    ///
+    /// `NoMemory` is answered before anything is written where there is no room for so many numbers. The time is that of
+    /// an insertion of each number.
+    pub fn new(
+        alloc: Global,
+        cid_len: usize,
+        cid_lifetime: Option<Duration>,
+        now: Instant,
+        issued: u64,
+    ) -> Result<Self, NoMemory>
+        requires { issued ≤ 2 ^ 62 }
+        ensures ids { IfOk result (λ ids. ids ≡ first_issued cid_len cid_lifetime now issued) }
+        ensures sound { IfOk result AreSound }
+    {
+        // The set takes its memory number by number, so that room for all is asked for once before.
+        let _room: Vec<u64> = Vec::with_capacity(alloc, issued as usize)?;
+        let mut active_seq = BTreeSet::new(alloc);
+        let mut retire_timestamp = VecDeque::with_capacity(alloc, 1)?;
+        issue(&mut active_seq, 0, issued)?;
+        let lifetime = cid_lifetime;
+        track_lifetime(&mut retire_timestamp, lifetime, issued, now);
+        Ok(CidState {
+            retire_timestamp,
+            issued,
+            active_seq,
+            prev_retire_seq: 0,
+            retire_seq: 0,
+            cid_len,
+            cid_lifetime,
+        })
+    }
+
+    /// The moment of the oldest deadline, even where a later one has an earlier moment.
+    pub fn next_timeout(&self) -> Option<Instant>
+        ensures { result ≡ first_moment self.now.deadlines }
+    {
+        self.retire_timestamp.front().map(|oldest| oldest.timestamp)
+    }
+
+    /// Takes the oldest deadline. Where the peer retired all numbers below the last retire-prior-to, that becomes the
+    /// deadline's number and one: the answer is whether it asks for the retirement of a number that is not retired
+    /// yet, so that a NEW_CONNECTION_ID frame should tell the peer (RFC 9000, 5.1.2). It takes no memory, and at most
+    /// logarithmic time in the unretired numbers.
+    pub fn on_cid_timeout(&mut self) -> bool
+        ensures after { self.new ≡ timed_out self.old }
+        ensures answer { result
+            ≡ holds_unretired self.old.retire_prior_to self.new.retire_prior_to self.new }
+        ensures never_falls { self.old.retire_prior_to ≤ self.new.retire_prior_to }
+        ensures sound { AreSound self.new }
+    {
+        let next = pop_mark(&mut self.retire_timestamp, self.retire_seq);
+        if is_any_below(&self.active_seq, self.retire_seq) {
+            return false;
+        }
+        self.prev_retire_seq = self.retire_seq;
+        self.retire_seq = next;
+        is_any_below(&self.active_seq, next)
+    }
+
+    /// Counts these ids as issued, and stores a deadline for the last of them, one lifetime from `now`. No ids change
+    /// nothing, and take no memory.
+    ///
+    /// `NoMemory` changes nothing.
+    pub fn new_cids(&mut self, ids: &[IssuedCid], now: Instant) -> Result<(), NoMemory>
+        requires numbers { map (λ id. id.sequence) ids.now
+            ≡ range_with_len self.old.issued (length ids.now) }
+        requires small { self.old.issued + length ids.now ≤ 2 ^ 62 }
+        ensures ok { OnOk result (self.new ≡ with_issued (length ids.now) now self.old) }
+        ensures err { OnErr result (self.new ≡ self.old) }
+        ensures empty { ids.now ≡ [] → IsOk result }
+        ensures sound { AreSound self.new }
+    {
+        let issued = self.issued + ids.len() as u64;
+        if ids.is_empty() {
+            return Ok(());
+        }
+        self.retire_timestamp.reserve(1)?;
+        issue(&mut self.active_seq, self.issued, issued)?;
+        track_lifetime(&mut self.retire_timestamp, self.cid_lifetime, issued, now);
+        self.issued = issued;
+        Ok(())
+    }
+
+    /// Retires a number, as a RETIRE_CONNECTION_ID frame of the peer asks (RFC 9000, 19.16), and says whether one more
+    /// id may be issued: whether `limit` exceeds the count of unretired numbers. A number that was retired before
+    /// changes nothing.
+    ///
+    /// A refusal changes nothing: `CidsNotInUse` where the ids have no bytes, else `UnissuedCid` where the number was
+    /// not issued.
+    ///
+    /// It takes no memory, and at most logarithmic time in the unretired numbers.
+    pub fn on_cid_retirement(&mut self, sequence: u64, limit: u64) -> Result<bool, RetireError>
+        ensures reply { MatchResult result
+            (λ more. AcceptsRetirement self.old sequence limit more self.new)
+            (RefusesRetirement self.old sequence) }
+        ensures err { OnErr result (self.new ≡ self.old) }
+        ensures sound { AreSound self.new }
+    {
+        if self.cid_len == 0 {
+            return Err(RetireError::CidsNotInUse);
+        }
+        if sequence >= self.issued {
+            return Err(RetireError::UnissuedCid);
+        }
+        remove(&mut self.active_seq, sequence);
+        Ok(limit > self.active_seq.len() as u64)
+    }
+
+    /// The bytes of this end's ids.
+    pub fn cid_len(&self) -> usize
+        ensures { result ≡ self.now.cid_len }
+    {
+        self.cid_len
+    }
+
+    /// The number below which the peer is asked to retire all ids: the retire-prior-to of NEW_CONNECTION_ID frames.
+    pub fn retire_prior_to(&self) -> u64
+        ensures value { result ≡ self.now.retire_prior_to }
+        ensures bound { result ≤ self.now.issued }
+    {
+        self.retire_seq
+    }
+
+    /// How many ids were issued.
+    pub fn issued(&self) -> u64
+        ensures value { result ≡ self.now.issued }
+        ensures bound { result ≤ 2 ^ 62 }
+        ensures sound { AreSound self.now }
+    {
+        self.issued
+    }
+}
+
+/// Adds the numbers from one up to another, above all that are there. `NoMemory` changes nothing.
+fn issue(numbers: &mut BTreeSet<u64>, first: u64, end: u64) -> Result<(), NoMemory>
+    requires ahead { first ≤ end }
+    requires above { Rise 0 first numbers.old.keys }
+    ensures ok { OnOk result (numbers.new.keys ≡ numbers.old.keys ++ range_with_len first (end - first)) }
+    ensures err { OnErr result (numbers.new.keys ≡ numbers.old.keys) }
+{
+    for number in first..end {
+        match numbers.insert(number) {
+            Ok(_added) => {}
+            Err(_refused) => {
+                drop_last(numbers, number - first);
+                return Err(NoMemory);
+            }
+        }
+    }
+    Ok(())
+}
+
+/// Drops the greatest numbers, so many.
+fn drop_last(numbers: &mut BTreeSet<u64>, count: u64)
+    ensures { numbers.new.keys ≡ take (length numbers.old.keys - count) numbers.old.keys }
+{
+    for _ in 0..count {
+        let _dropped = numbers.pop_last();
+    }
+}
+
+/// Stores a deadline for the last number issued, if there is one and a lifetime, and the clock goes so far.
+fn track_lifetime(
+    deadlines: &mut VecDeque<CidTimestamp>,
+    cid_lifetime: Option<Duration>,
+    issued: u64,
+    now: Instant,
+)
+    requires room { deque_len deadlines.old < deque_capacity deadlines.old }
+    ensures { deadlines.new.items
+        ≡ deadlines_with_last cid_lifetime now issued deadlines.old.items }
+{
+    let Some(sequence) = issued.checked_sub(1) else {
+        return;
+    };
+    let Some(lifetime) = cid_lifetime else {
+        return;
+    };
+    let Some(timestamp) = now.checked_add(lifetime) else {
+        return;
+    };
+    store(
+        deadlines,
+        CidTimestamp {
+            sequence,
+            timestamp,
+        },
+    );
+}
+
+/// Stores a deadline. It replaces the last one where the moments are equal.
+fn store(deadlines: &mut VecDeque<CidTimestamp>, deadline: CidTimestamp)
+    requires room { deque_len deadlines.old < deque_capacity deadlines.old }
+    ensures { deadlines.new.items ≡ with_deadline deadline deadlines.old.items }
+{
+    drop_last_at(deadlines, deadline.timestamp);
+    deadlines.push_back_reserved(deadline);
+}
+
+/// Drops the last deadline where it has this moment.
+fn drop_last_at(deadlines: &mut VecDeque<CidTimestamp>, timestamp: Instant)
+    ensures items { deadlines.new.items ≡ without_last_at timestamp deadlines.old.items }
+    ensures len { deque_len deadlines.new ≤ deque_len deadlines.old }
+    ensures capacity { deque_capacity deadlines.new ≡ deque_capacity deadlines.old }
+{
+    let Some(last) = deadlines.back() else {
+        return;
+    };
+    if last.timestamp == timestamp {
+        let _replaced = deadlines.pop_back();
+    }
+}
+
+/// Takes the oldest deadline, and answers the mark behind its number. Without one the mark stays.
+fn pop_mark(deadlines: &mut VecDeque<CidTimestamp>, mark: u64) -> u64
+    requires { Rise 0 (2 ^ 62) (map (λ deadline. deadline.sequence) deadlines.old.items) }
+    ensures mark { result ≡ next_mark mark deadlines.old.items }
+    ensures items { deadlines.new.items ≡ drop 1 deadlines.old.items }
+{
+    match deadlines.pop_front() {
+        Some(oldest) => oldest.sequence + 1,
+        None => mark,
+    }
+}
+
+/// Whether one of the numbers lies below another.
+fn is_any_below(numbers: &BTreeSet<u64>, end: u64) -> bool
+    requires { Rise 0 (2 ^ 62) numbers.now.keys }
+    ensures { result ≡ list_any (λ n. nat_lt n end) numbers.now.keys }
+{
+    match numbers.first() {
+        Some(least) => *least < end,
+        None => false,
+    }
+}
+
+/// Takes a number out, if it is there.
+fn remove(numbers: &mut BTreeSet<u64>, number: u64)
+    requires { Rise 0 (2 ^ 62) numbers.old.keys }
+    ensures { numbers.new.keys ≡ filter (λ n. not (n == number)) numbers.old.keys }
+{
+    let _removed = numbers.remove(&number);
+}

@@ -1,0 +1,90 @@
+//! What is held for the numbers of a window.
+ghost use Rattle.std.specs.Prelude.{◌≡◌, ℕ, ◌+◌, ◌<◌, ◌≤◌, ◌^◌, ◌%◌, ◌==◌, nat_lt, Some, None, MatchOption, if◌then◌else◌};
+ghost use Rattle.recovery_ids.specs.RemoteIds.{IsLeastHeld, with_id, without_below};
+ghost use Rattle.recovery_ids.specs.Window.{held_at, IsWithin};
+
+use recovery_base::below::{ConnectionId, ResetToken};
+
+/// An id, with its token where there is one.
+pub type CidData = (ConnectionId, Option<ResetToken>);
+
+/// The most ids of the peer that are held.
+pub const LEN: usize = 5;
+
+/// What is held for each of `LEN` numbers from `start` on. The entry of a number stands at its rest by `LEN`.
+#[derive(Drop)]
+pub struct Window {
+    entries: [Option<CidData>; LEN],
+    start: u64,
+}
+
+/// Where a number's entry stands.
+fn slot(number: u64) -> usize
+    ensures { result ≡ number % LEN }
+{
+    (number % LEN as u64) as usize
+}
+
+impl Window {
+    /// A window from number 0 on, which holds this alone for it.
+    pub fn new(entry: CidData) -> Self
+        ensures start { result.start ≡ 0 }
+        ensures entries { (n : ℕ) → held_at result n ≡ (if n == 0 then Some entry else None) }
+    {
+        let mut entries = [None; LEN];
+        entries[0] = Some(entry);
+        Window { entries, start: 0 }
+    }
+
+    /// The first number of the window.
+    pub fn start(&self) -> u64
+        ensures { result ≡ self.now.start }
+    {
+        self.start
+    }
+
+    /// What is held for a number of the window.
+    pub fn get(&self, number: u64) -> Option<CidData>
+        requires { IsWithin self.now number }
+        ensures { result ≡ held_at self.now number }
+    {
+        self.entries[slot(number)]
+    }
+
+    /// Holds this for a number of the window.
+    pub fn set(&mut self, number: u64, entry: CidData)
+        requires { IsWithin self.old number }
+        ensures start { self.new.start ≡ self.old.start }
+        ensures entries { (n : ℕ) → held_at self.new n ≡ with_id number entry (held_at self.old) n }
+    {
+        self.entries[slot(number)] = Some(entry);
+    }
+
+    /// Moves the start up to a number, and drops what was held below.
+    pub fn drop_below(&mut self, low: u64)
+        requires ahead { self.old.start ≤ low }
+        requires small { self.old.start < 2 ^ 62 }
+        ensures start { self.new.start ≡ low }
+        ensures entries { (n : ℕ) → held_at self.new n ≡ without_below low (held_at self.old) n }
+    {
+        for number in self.start..low.min(self.start + LEN as u64) {
+            self.entries[slot(number)] = None;
+        }
+        self.start = low;
+    }
+
+    /// The least number at or above another for which something is held.
+    pub fn least_from(&self, low: u64) -> Option<u64>
+        requires ahead { self.now.start ≤ low }
+        requires small { self.now.start < 2 ^ 62 }
+        ensures { MatchOption result ((n : ℕ) → low ≤ n → held_at self.now n ≡ None)
+            (IsLeastHeld (held_at self.now) low) }
+    {
+        for number in low..self.start + LEN as u64 {
+            if self.get(number).is_some() {
+                return Some(number);
+            }
+        }
+        None
+    }
+}

@@ -1,8 +1,0 @@
-pub mod AckLaws
-pub mod DeadlineLaws
-pub mod IterLaws
-pub mod QueueLaws
-pub mod RiseLaws
-pub mod RunLaws
-pub mod StateLaws
-pub mod WindowLaws

@@ -1,8 +1,0 @@
-use Rattle.std.proofs.Common.{arith}
-use Rattle.recovery_parts.proofs.RiseLaws.{Rise-bound}
-use Rattle.recovery_parts.proofs.cids.state.pop_mark.Goals as goal
-
-pub overflow_add-result : goal.overflow_add-result
-overflow_add-result c =
-    let rise = rw c.in-Some.ensures.items at c.requires in
-    omega (arith, Rise-bound _ _ _ rise.1)

@@ -1,0 +1,262 @@
+//! Acknowledgements. Rows are what happens, and what is seen after it.
+ghost use Rattle.std.specs.Prelude.{◌≡◌, ◌<◌, ◌≤◌, ◌^◌, None};
+ghost use Rattle.recovery_acks.specs.Acks.{number_or_zero};
+
+use recovery_base::below::{AckFrequency, NoMemory, TransportParameters, VarInt};
+use recovery_base::config::AckFrequencyConfig;
+use recovery_base::dedup::Dedup;
+use recovery_base::time::{Duration, Instant};
+use recovery_parts::acks::{AckFrequencyState, PendingAcks};
+use std::process::Abort;
+
+/// Asserts that in each row the two are equal.
+fn same<T: PartialEq>(rt: &impl Abort, rows: &[(T, T)]) {
+    let mut row = 0u64;
+    for (found, wanted) in rows {
+        assert!(rt; found == wanted, "row {row}");
+        row = row.saturating_add(1);
+    }
+}
+
+/// An ACK_FREQUENCY frame with thresholds 3 and 2.
+fn frame(sequence: u32, micros: u32) -> AckFrequency {
+    AckFrequency {
+        sequence: VarInt::from_u32(sequence),
+        ack_eliciting_threshold: VarInt::from_u32(3),
+        request_max_ack_delay: VarInt::from_u32(micros),
+        reordering_threshold: VarInt::from_u32(2),
+    }
+}
+
+/// What happens to the ACKs of a space.
+#[derive(Clone, Copy)]
+enum Call {
+    /// An ack-eliciting packet comes.
+    Eliciting,
+    /// Another packet comes.
+    Silent,
+    /// The peer asks for thresholds 3 and 2.
+    Asked,
+    /// An ACK is sent.
+    Sent,
+    /// A packet is sent anyway.
+    Lazy,
+    /// The delay is over.
+    Late,
+    /// An ACK is to be sent at once.
+    AtOnce,
+}
+
+/// A packet of a new number, at least as great as those before, comes at the moment of its number.
+fn receive(
+    acks: &mut PendingAcks,
+    dedup: &mut Dedup,
+    number: u64,
+    ack_eliciting: bool,
+) -> Option<bool>
+    requires small { number < 2 ^ 62 }
+    requires above { number_or_zero acks.old.greatest ≤ number }
+    ensures { number_or_zero acks.new.greatest ≤ number }
+{
+    let now = Instant::from_nanos(number);
+    if dedup.insert(number) {
+        return Some(false);
+    }
+    acks.insert_one(number, now).ok()?;
+    Some(acks.packet_received(now, number, ack_eliciting, dedup))
+}
+
+/// What happens, to the packet of a number where it is one that comes: whether it starts the timer.
+fn apply(acks: &mut PendingAcks, dedup: &mut Dedup, call: Call, number: u64) -> Option<bool>
+    requires small { number < 2 ^ 62 }
+    requires above { number_or_zero acks.old.greatest ≤ number }
+    ensures { number_or_zero acks.new.greatest ≤ number }
+{
+    match call {
+        Call::Eliciting => return receive(acks, dedup, number, true),
+        Call::Silent => return receive(acks, dedup, number, false),
+        Call::Asked => acks.set_ack_frequency_params(&frame(0, 1000)),
+        Call::Sent => acks.acks_sent(),
+        Call::Lazy => acks.maybe_ack_non_eliciting(),
+        Call::Late => acks.on_max_ack_delay_timeout(),
+        Call::AtOnce => acks.set_immediate_ack_required(),
+    }
+    Some(false)
+}
+
+/// A call and its packet's number; then whether the timer starts and an ACK may be sent, and where a delay of 1 us would end.
+type Row = (Call, u64, bool, bool, Option<u64>);
+
+/// Asserts that in each row all is seen as it says. Numbers rise.
+fn play(rt: &impl Abort, acks: &mut PendingAcks, rows: &[Row])
+    requires { acks.old.greatest ≡ None }
+{
+    let mut dedup = Dedup::new();
+    let mut last = 0u64;
+    let mut place = 0u64;
+    for (call, number, arms, can_send, ends) in rows {
+        assert!(rt; last <= *number && *number < 1 << 62, "row {place}: number");
+        last = *number;
+        let started = apply(acks, &mut dedup, *call, last);
+        assert!(rt; started == Some(*arms), "row {place}: timer");
+        assert!(rt; acks.can_send() == *can_send, "row {place}: ACK");
+        let timeout = acks.max_ack_delay_timeout(Duration::from_micros(1));
+        assert!(rt;
+            timeout == ends.map(Instant::from_nanos),
+            "row {place}: timeout"
+        );
+        place = place.saturating_add(1);
+    }
+}
+
+#[test]
+fn acknowledges_many_silent_packets(rt: HostRuntime) {
+    let mut acks = PendingAcks::new(rt.alloc());
+    play(
+        &rt,
+        &mut acks,
+        &[
+            (Call::Sent, 0, false, false, None),
+            (Call::Silent, 0, false, false, None),
+            (Call::Silent, 1, false, false, None),
+            (Call::Silent, 2, false, false, None),
+            (Call::Silent, 3, false, false, None),
+            (Call::Silent, 4, false, false, None),
+            (Call::Silent, 5, false, false, None),
+            (Call::Silent, 6, false, false, None),
+            (Call::Silent, 7, false, false, None),
+            (Call::Silent, 8, false, false, None),
+            (Call::Silent, 9, false, false, None),
+            (Call::Silent, 10, false, false, None),
+            (Call::Lazy, 10, false, true, None),
+            (Call::Late, 10, false, false, None),
+            (Call::AtOnce, 10, false, true, None),
+        ],
+    );
+    assert!(rt; acks.can_send_with_other_frames());
+}
+
+/// Three packets in order, an ACK, and then this one.
+fn after_three(last: Row) -> [Row; 6] {
+    [
+        (Call::Asked, 0, false, false, None),
+        (Call::Eliciting, 0, true, false, Some(1000)),
+        (Call::Eliciting, 1, false, false, Some(1000)),
+        (Call::Eliciting, 2, false, false, Some(1000)),
+        (Call::Sent, 2, false, false, None),
+        last,
+    ]
+}
+
+#[test]
+fn arms_the_timer_unless_out_of_order(rt: HostRuntime) {
+    for last in [
+        (Call::Eliciting, 5, false, true, None),
+        (Call::Eliciting, 4, true, false, Some(1004)),
+    ] {
+        let mut acks = PendingAcks::new(rt.alloc());
+        play(&rt, &mut acks, &after_three(last));
+    }
+}
+
+/// The numbers 0, 2, .. 128.
+fn insert_even(acks: &mut PendingAcks) -> Result<(), NoMemory> {
+    for half in 0..65 {
+        acks.insert_one(2 * half, Instant::from_nanos(0))?;
+    }
+    Ok(())
+}
+
+/// Asserts that 2, 4, .. 128 are to be acknowledged.
+fn holds_64(rt: &impl Abort, acks: &PendingAcks) {
+    let mut start = 2u64;
+    for range in acks.ranges().iter() {
+        let end = start.saturating_add(1);
+        assert!(rt; range.start == start && range.end == end, "at {start}");
+        start = end.saturating_add(1);
+    }
+    assert!(rt; start == 130);
+}
+
+#[test]
+fn keeps_the_64_highest_ranges(rt: HostRuntime) {
+    let mut acks = PendingAcks::new(rt.alloc());
+    assert!(rt; insert_even(&mut acks).is_ok());
+    holds_64(&rt, &acks);
+    assert!(rt; acks.insert_one(0, Instant::from_nanos(0)).is_ok());
+    holds_64(&rt, &acks);
+    acks.subtract_below(4);
+    assert!(rt; acks.ranges().len() == 62);
+}
+
+#[test]
+fn measures_the_delay_of_the_largest(rt: HostRuntime) {
+    let start = Instant::from_nanos(1_000_000_000);
+    let mut acks = PendingAcks::new(rt.alloc());
+    let first = acks.ack_delay(Instant::from_nanos(9));
+    for (number, millis) in [(0, 0), (3, 2), (2, 7)] {
+        let now = start + Duration::from_millis(millis);
+        assert!(rt; acks.insert_one(number, now).is_ok(), "at {number}");
+    }
+    let last = acks.ack_delay(start + Duration::from_millis(7));
+    same(
+        &rt,
+        &[(first, Duration::ZERO), (last, Duration::from_millis(5))],
+    );
+}
+
+#[test]
+fn asks_for_a_delay(rt: HostRuntime) {
+    let params = TransportParameters {
+        min_ack_delay: Some(VarInt::from_u32(100_000)),
+        max_ack_delay: VarInt::from_u32(25),
+    };
+    let config = AckFrequencyConfig::default();
+    let rtt = Duration::from_millis(5);
+    let mut state = AckFrequencyState::new(Duration::from_millis(100));
+    let candidate = state.candidate_max_ack_delay(rtt, &config, &params);
+    let at_first = state.should_send_ack_frequency(rtt, &config, &params);
+    let number = state.next_sequence_number();
+    let again = state.should_send_ack_frequency(rtt, &config, &params);
+    state.ack_frequency_sent(7, Duration::from_millis(200));
+    let on_its_way = state.max_ack_delay_for_pto();
+    state.on_acked(6);
+    let other_acked = state.peer_max_ack_delay;
+    state.on_acked(7);
+    same(
+        &rt,
+        &[
+            (candidate, Duration::from_millis(100)),
+            (on_its_way, Duration::from_millis(200)),
+            (other_acked, Duration::from_millis(100)),
+            (state.peer_max_ack_delay, Duration::from_millis(200)),
+        ],
+    );
+    assert!(rt; at_first && !again);
+    assert!(rt; number == Some(VarInt::from_u32(0)));
+}
+
+#[test]
+fn takes_a_frame_once(rt: HostRuntime) {
+    let mut acks = PendingAcks::new(rt.alloc());
+    let mut state = AckFrequencyState::new(Duration::from_millis(25));
+    for (sequence, micros, taken) in [
+        (5, 999, None),
+        (5, 999, Some(false)),
+        (4, 5000, Some(false)),
+        (6, 1000, Some(true)),
+    ] {
+        let answer = state.ack_frequency_received(&frame(sequence, micros), &mut acks);
+        assert!(rt; answer.ok() == taken, "at {sequence}");
+    }
+    assert!(rt; state.max_ack_delay == Duration::from_millis(1));
+}
+
+#[test]
+fn too_small_a_delay_closes_the_connection(rt: HostRuntime) {
+    let mut acks = PendingAcks::new(rt.alloc());
+    let mut state = AckFrequencyState::new(Duration::from_millis(25));
+    let answer = state.ack_frequency_received(&frame(5, 999), &mut acks);
+    let reason = "Requested Max Ack Delay in ACK_FREQUENCY frame is less than min_ack_delay";
+    assert!(rt; matches!(answer, Err(error) if error.code == 10 && error.reason == reason));
+}

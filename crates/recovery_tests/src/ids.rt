@@ -1,0 +1,352 @@
+//! Connection ids. Rows are calls, and what is seen after each.
+ghost use Rattle.std.specs.Prelude.{◌≡◌, ◌≤◌};
+
+use recovery_base::below::{
+    ConnectionId, IssuedCid, NewConnectionId, NoMemory, ResetToken, TransportError,
+};
+use recovery_base::time::{Duration, Instant};
+use recovery_parts::cids::{CidQueue, CidState, InsertError, RetireError};
+use std::process::Abort;
+
+/// An id of eight bytes, all the same.
+fn cid(byte: u8) -> ConnectionId {
+    ConnectionId::new(&[byte; 8])
+}
+
+/// A token whose bytes are not those of the id.
+fn token(byte: u8) -> ResetToken {
+    ResetToken::from([byte ^ 0x55; 16])
+}
+
+// ---- the ids of the peer
+
+/// A frame of this number, retire-prior-to and byte, and the other calls.
+#[derive(Clone, Copy)]
+enum Call {
+    Insert(u64, u64, u8),
+    Next,
+    Replace(u8),
+}
+
+/// What the queue answers: the numbers to be retired, and the byte of the new active id.
+#[derive(Clone, Copy, PartialEq)]
+enum Answer {
+    Stays,
+    Retires(u64, u64, u8),
+    Retired,
+    ExceedsLimit,
+}
+
+/// A range that is to be retired, with the token of this byte.
+fn retires(start: u64, end: u64, given: &ResetToken, byte: u8) -> Option<Answer> {
+    if *given == token(byte) {
+        Some(Answer::Retires(start, end, byte))
+    } else {
+        None
+    }
+}
+
+fn insert(
+    queue: &mut CidQueue,
+    sequence: u64,
+    retire_prior_to: u64,
+    byte: u8,
+    active: u8,
+) -> Option<Answer> {
+    if retire_prior_to > sequence || sequence >= 1 << 62 {
+        return None;
+    }
+    let frame = NewConnectionId {
+        sequence,
+        retire_prior_to,
+        id: cid(byte),
+        reset_token: token(byte),
+    };
+    match queue.insert(frame) {
+        Ok(None) => Some(Answer::Stays),
+        Ok(Some((range, given))) => retires(range.start, range.end, &given, active),
+        Err(InsertError::Retired) => Some(Answer::Retired),
+        Err(InsertError::ExceedsLimit) => Some(Answer::ExceedsLimit),
+    }
+}
+
+/// What a call is told; the byte is that of the id which is active then.
+fn apply(queue: &mut CidQueue, call: Call, active: u8) -> Option<Answer> {
+    match call {
+        Call::Insert(sequence, retire_prior_to, byte) => {
+            insert(queue, sequence, retire_prior_to, byte, active)
+        }
+        Call::Next => match queue.next() {
+            Some((given, range)) => retires(range.start, range.end, &given, active),
+            None => Some(Answer::Stays),
+        },
+        Call::Replace(byte) => {
+            if queue.active_seq() != 0 {
+                return None;
+            }
+            queue.update_initial_cid(cid(byte));
+            Some(Answer::Stays)
+        }
+    }
+}
+
+/// A call; what it is told, and then the number and the byte of the active id.
+type Row = (Call, Answer, u64, u8);
+
+/// Asserts that in each row the queue answers and stands as it says.
+fn play(rt: &impl Abort, queue: &mut CidQueue, rows: &[Row]) {
+    let mut place = 0u64;
+    for (call, wanted, number, byte) in rows {
+        let found = apply(queue, *call, *byte);
+        assert!(rt; found == Some(*wanted), "row {place}: answer");
+        assert!(rt; queue.active_seq() == *number, "row {place}: number");
+        assert!(rt; queue.active() == cid(*byte), "row {place}: id");
+        place = place.saturating_add(1);
+    }
+}
+
+#[test]
+fn a_frame_retires_the_initial_id(rt: HostRuntime) {
+    play(
+        &rt,
+        &mut CidQueue::new(cid(255)),
+        &[
+            (Call::Insert(2, 0, 7), Answer::Stays, 0, 255),
+            (Call::Insert(3, 1, 8), Answer::Retires(0, 2, 7), 2, 7),
+        ],
+    );
+}
+
+#[test]
+fn a_range_is_cut_at_the_window(rt: HostRuntime) {
+    play(
+        &rt,
+        &mut CidQueue::new(cid(255)),
+        &[
+            (Call::Insert(2, 0, 7), Answer::Stays, 0, 255),
+            (
+                Call::Insert(1_000_000, 1_000_000, 8),
+                Answer::Retires(0, 5, 8),
+                1_000_000,
+                8,
+            ),
+        ],
+    );
+}
+
+#[test]
+fn the_window_ends_and_the_next_id_comes(rt: HostRuntime) {
+    play(
+        &rt,
+        &mut CidQueue::new(cid(255)),
+        &[
+            (Call::Next, Answer::Stays, 0, 255),
+            (Call::Insert(4, 0, 7), Answer::Stays, 0, 255),
+            (Call::Insert(5, 0, 8), Answer::ExceedsLimit, 0, 255),
+            (Call::Next, Answer::Retires(0, 4, 7), 4, 7),
+            (Call::Insert(0, 0, 9), Answer::Retired, 4, 7),
+        ],
+    );
+}
+
+#[test]
+fn the_ids_held_come_in_order(rt: HostRuntime) {
+    let mut queue = CidQueue::new(cid(255));
+    play(
+        &rt,
+        &mut queue,
+        &[
+            (Call::Replace(254), Answer::Stays, 0, 254),
+            (Call::Insert(3, 0, 8), Answer::Stays, 0, 254),
+        ],
+    );
+    let mut ids = queue.iter();
+    for wanted in [
+        Some((0, (cid(254), None))),
+        Some((3, (cid(8), Some(token(8))))),
+        None,
+    ] {
+        assert!(rt; ids.next() == wanted);
+    }
+}
+
+// ---- the ids that this end issued
+
+const LIFETIME: u64 = 10_000_000_000;
+
+/// The calls: one id more or two at a moment, a deadline passes, a number is retired under a limit.
+#[derive(Clone, Copy)]
+enum LocalCall {
+    IssueOne(u64),
+    IssueTwo(u64),
+    Timeout,
+    Retire(u64, u64),
+}
+
+#[derive(Clone, Copy, PartialEq)]
+enum LocalAnswer {
+    Done,
+    Flag(bool),
+    CidsNotInUse,
+    UnissuedCid,
+    NoMemory,
+}
+
+fn issued(sequence: u64) -> IssuedCid
+    ensures { result.sequence ≡ sequence }
+{
+    IssuedCid {
+        sequence,
+        id: cid(1),
+        reset_token: token(1),
+    }
+}
+
+fn done(answer: Result<(), NoMemory>) -> LocalAnswer {
+    match answer {
+        Ok(()) => LocalAnswer::Done,
+        Err(NoMemory) => LocalAnswer::NoMemory,
+    }
+}
+
+fn apply_local(state: &mut CidState, call: LocalCall) -> LocalAnswer {
+    let next = state.issued();
+    match call {
+        LocalCall::IssueOne(now) if next < 1 << 61 => {
+            done(state.new_cids(&[issued(next)], Instant::from_nanos(now)))
+        }
+        LocalCall::IssueTwo(now) if next < 1 << 61 => done(state.new_cids(
+            &[issued(next), issued(next + 1)],
+            Instant::from_nanos(now),
+        )),
+        LocalCall::IssueOne(_) => LocalAnswer::NoMemory,
+        LocalCall::IssueTwo(_) => LocalAnswer::NoMemory,
+        LocalCall::Timeout => LocalAnswer::Flag(state.on_cid_timeout()),
+        LocalCall::Retire(sequence, limit) => match state.on_cid_retirement(sequence, limit) {
+            Ok(more) => LocalAnswer::Flag(more),
+            Err(RetireError::CidsNotInUse) => LocalAnswer::CidsNotInUse,
+            Err(RetireError::UnissuedCid) => LocalAnswer::UnissuedCid,
+        },
+    }
+}
+
+/// A call; what it is told, and then the retire-prior-to and the oldest deadline.
+type LocalRow = (LocalCall, LocalAnswer, u64, Option<u64>);
+
+/// Asserts that in each row the ids answer and stand as it says.
+fn play_local(rt: &impl Abort, state: &mut CidState, rows: &[LocalRow]) {
+    let mut place = 0u64;
+    for (call, wanted, mark, timeout) in rows {
+        let found = apply_local(state, *call);
+        assert!(rt; found == *wanted, "row {place}: answer");
+        assert!(rt; state.retire_prior_to() == *mark, "row {place}: mark");
+        let next = state.next_timeout();
+        assert!(rt;
+            next == timeout.map(Instant::from_nanos),
+            "row {place}: timeout"
+        );
+        place = place.saturating_add(1);
+    }
+}
+
+/// Plays rows on ids that were just made; how many are issued at the end.
+fn play_from(rt: &impl Abort, made: Result<CidState, NoMemory>, rows: &[LocalRow]) -> Option<u64> {
+    let mut state = made.ok()?;
+    play_local(rt, &mut state, rows);
+    Some(state.issued())
+}
+
+#[test]
+fn deadlines_move_the_marks(rt: HostRuntime) {
+    let lifetime = Some(Duration::from_nanos(LIFETIME));
+    let made = CidState::new(rt.alloc(), 8, lifetime, Instant::from_nanos(0), 2);
+    let later = 1_000_000_000;
+    let next = Some(LIFETIME + later);
+    let issued = play_from(
+        &rt,
+        made,
+        &[
+            (
+                LocalCall::Retire(2, 5),
+                LocalAnswer::UnissuedCid,
+                0,
+                Some(LIFETIME),
+            ),
+            (
+                LocalCall::IssueTwo(later),
+                LocalAnswer::Done,
+                0,
+                Some(LIFETIME),
+            ),
+            (LocalCall::Timeout, LocalAnswer::Flag(true), 2, next),
+            (LocalCall::Retire(0, 5), LocalAnswer::Flag(true), 2, next),
+            (LocalCall::Timeout, LocalAnswer::Flag(false), 2, None),
+            (LocalCall::Retire(4, 5), LocalAnswer::UnissuedCid, 2, None),
+        ],
+    );
+    assert!(rt; issued == Some(4));
+}
+
+#[test]
+fn equal_deadlines_are_one(rt: HostRuntime) {
+    let lifetime = Some(Duration::from_nanos(LIFETIME));
+    let made = CidState::new(rt.alloc(), 8, lifetime, Instant::from_nanos(0), 1);
+    let issued = play_from(
+        &rt,
+        made,
+        &[
+            (LocalCall::IssueTwo(0), LocalAnswer::Done, 0, Some(LIFETIME)),
+            (LocalCall::IssueOne(0), LocalAnswer::Done, 0, Some(LIFETIME)),
+            (LocalCall::Timeout, LocalAnswer::Flag(true), 4, None),
+            (LocalCall::Timeout, LocalAnswer::Flag(false), 4, None),
+        ],
+    );
+    assert!(rt; issued == Some(4));
+}
+
+#[test]
+fn no_deadline_passes_the_end_of_the_clock(rt: HostRuntime) {
+    let lifetime = Some(Duration::from_nanos(1));
+    let made = CidState::new(rt.alloc(), 8, lifetime, Instant::from_nanos(u64::MAX), 1);
+    let before_end = LocalCall::IssueOne(u64::MAX - 1);
+    let issued = play_from(
+        &rt,
+        made,
+        &[
+            (LocalCall::Retire(9, 5), LocalAnswer::UnissuedCid, 0, None),
+            (before_end, LocalAnswer::Done, 0, Some(u64::MAX)),
+        ],
+    );
+    assert!(rt; issued == Some(2));
+}
+
+#[test]
+fn ids_of_no_bytes_are_not_retired(rt: HostRuntime) {
+    let made = CidState::new(rt.alloc(), 0, None, Instant::from_nanos(0), 1);
+    assert!(rt; matches!(&made, Ok(state) if state.cid_len() == 0));
+    let issued = play_from(
+        &rt,
+        made,
+        &[
+            (LocalCall::Retire(0, 5), LocalAnswer::CidsNotInUse, 0, None),
+            (LocalCall::Retire(7, 5), LocalAnswer::CidsNotInUse, 0, None),
+        ],
+    );
+    assert!(rt; issued == Some(1));
+}
+
+#[test]
+fn too_many_ids_are_answered_at_once(rt: HostRuntime) {
+    let made = CidState::new(rt.alloc(), 8, None, Instant::from_nanos(0), 1 << 62);
+    assert!(rt; made.is_err());
+}
+
+#[test]
+fn refused_retirements_close_the_connection(rt: HostRuntime) {
+    for error in [RetireError::CidsNotInUse, RetireError::UnissuedCid] {
+        let closed = TransportError::from(error);
+        assert!(rt; closed.code == 10);
+        let text = format!(in rt.alloc(); "{error}");
+        assert!(rt; matches!(&text, Ok(text) if text.as_str() == closed.reason));
+    }
+}
