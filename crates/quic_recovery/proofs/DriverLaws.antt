@@ -4,7 +4,7 @@ use Rattle.recovery_base.specs.declared.below.SpaceId.{SpaceId}
 use Rattle.recovery_base.specs.declared.below.SpaceId.TheVariants.{Initial, Handshake, Data}
 use Rattle.recovery_base.specs.Numbers.{IsNew}
 use Rattle.recovery_base.specs.Received.{Has}
-use Rattle.recovery_parts.specs.CidQueue.{remote_ids}
+use Rattle.recovery_ids.specs.CidQueue.{remote_ids}
 use Rattle.recovery_ledger.specs.declared.paths.PathData.{PathData}
 use Rattle.quic_recovery.specs.declared.event.Event.TheVariants.{Received, Send}
 use Rattle.quic_recovery.specs.declared.event.Answer.TheVariants.{Sent}

@@ -3,10 +3,10 @@ use Rattle.std.proofs.Common.{◌≡◌, ℕ, Bool, List, Option, ap, subst, ◌
 use Rattle.std.proofs.Math.Path.{fun_ext}
 use Rattle.recovery_base.specs.declared.below.SpaceId.{SpaceId}
 use Rattle.recovery_base.specs.declared.timer.Timer.{Timer}
-use Rattle.recovery_parts.specs.AckFrequencies.{Frequency}
-use Rattle.recovery_parts.specs.CidQueue.{remote_ids}
-use Rattle.recovery_parts.specs.LocalIds.{LocalIds}
-use Rattle.recovery_parts.specs.RemoteIds.{RemoteIds}
+use Rattle.recovery_acks.specs.AckFrequencies.{Frequency}
+use Rattle.recovery_ids.specs.CidQueue.{remote_ids}
+use Rattle.recovery_ids.specs.LocalIds.{LocalIds}
+use Rattle.recovery_ids.specs.RemoteIds.{RemoteIds}
 use Rattle.quic_recovery.specs.declared.event.Event.{Event}
 use Rattle.recovery_ledger.specs.declared.paths.PathData.{PathData}
 use Rattle.recovery_ledger.specs.declared.spaces.PacketSpaces.{PacketSpaces}
@@ -17,21 +17,23 @@ use Rattle.quic_recovery.specs.History.{Beginning, Reply}
 use Rattle.recovery_ledger.specs.InFlight.{in_flight}
 use Rattle.recovery_ledger.specs.Ledger.{tracked_by, IsBalanced}
 use Rattle.quic_recovery.specs.Known.{SpaceKnown, Known, Logs, known_by, tracked_known, first_ids}
-use Rattle.quic_recovery.specs.LocalHistory.{FirstIds, LocalStep, LocalIdsLeft}
+use Rattle.recovery_ids.specs.LocalLog.{FirstIds, LocalStep, LocalIdsLeft}
 use Rattle.recovery_ledger.specs.Packets.{Packets}
 use Rattle.quic_recovery.specs.Parts.{Parts}
 use Rattle.recovery_ledger.specs.PathLog.{OfPaths, PathKnown, PathsStep, PathsLeft}
 use Rattle.recovery_ledger.specs.Paths.{generation_of, paths_known}
-use Rattle.quic_recovery.specs.RemoteHistory.{RemoteStep, RemoteIdsLeft}
-use Rattle.quic_recovery.specs.Requests.{RequestStep, FrequencyLeft}
+use Rattle.recovery_ids.specs.RemoteLog.{RemoteStep, RemoteIdsLeft}
+use Rattle.recovery_acks.specs.RequestLog.{RequestStep, FrequencyLeft}
 use Rattle.recovery_ledger.specs.Spaces.{space_of, sent_of, acks_of, counts_of, SpaceStep, SpaceLeft}
 use Rattle.quic_recovery.specs.State.{InFlightLeft, LeftBy, Steps, ChangesBy, Changes, known_to}
-use Rattle.quic_recovery.specs.Timers.{TimerStep, TimersLeft}
+use Rattle.recovery_base.specs.TimerLog.{TimerStep, TimersLeft}
 use Rattle.recovery_ledger.specs.Tracked.{Sent, sent_by}
-use Rattle.quic_recovery.proofs.LocalIdLaws.{local_law}
+use Rattle.recovery_ids.proofs.LocalLogLaws.{local_law}
 use Rattle.quic_recovery.proofs.LogLaws.{left_by}
-use Rattle.quic_recovery.proofs.PartLaws.{paths_law, timer_law, discarded_law, request_law}
-use Rattle.quic_recovery.proofs.RemoteIdLaws.{remote_law, remote_ids_same}
+use Rattle.quic_recovery.proofs.PartLaws.{paths_law, discarded_law}
+use Rattle.recovery_base.proofs.TimerLogLaws.{timer_law}
+use Rattle.recovery_acks.proofs.RequestLogLaws.{request_law}
+use Rattle.recovery_ids.proofs.RemoteLogLaws.{remote_law}
 use Rattle.recovery_ledger.proofs.SpaceLaws.{space_law}
 
 -- the packets that the spaces track are those of their logs
@@ -54,7 +56,7 @@ pub known_same : (beginning : Beginning) (logs : Logs) (state : Parts) → LeftB
 known_same beginning logs state left =
     ap (λ (s : SpaceId → SpaceKnown). record old { spaces = s }) (fun_ext spaces)
     ∙ ap (λ (a : Option ℕ). record k₁ { last_asked = a }) (ap (λ (f : Frequency). f.last) left.frequency)
-    ∙ ap (λ (r : RemoteIds). record k₂ { remote_ids = r }) (remote_ids_same beginning.config.initial_cid logs.remote_ids (remote_ids state.remote_cids) left.remote_ids)
+    ∙ ap (λ (r : RemoteIds). record k₂ { remote_ids = r }) left.remote_ids
     ∙ ap (λ (l : LocalIds). record k₃ { local_ids = l }) left.local_ids.same
     ∙ ap (λ (m : Timer → Option ℕ). record k₄ { moment_of = m }) (fun_ext left.timers)
     ∙ ap (λ (p : OfPaths PathKnown). record k₅ { paths = p }) left.paths

@@ -10,14 +10,14 @@ use Rattle.quic_recovery.specs.declared.event.Refusal.{Refusal}
 use Rattle.quic_recovery.specs.declared.event.Refusal.TheVariants.{DelayTooSmall}
 use Rattle.quic_recovery.specs.History.{Beginning, History, Reply}
 use Rattle.quic_recovery.specs.Known.{Known, Logs, no_logs, known_by}
-use Rattle.quic_recovery.specs.LocalHistory.{LocalEntry, issues, passes, retires}
+use Rattle.recovery_ids.specs.LocalLog.{LocalEntry, issues, passes, retires}
 use Rattle.quic_recovery.specs.Logs.{onto}
 use Rattle.recovery_ledger.specs.PathLog.{PathEntry, PathsEntry}
-use Rattle.quic_recovery.specs.RemoteHistory.{RemoteEntry, given, used, replaced}
-use Rattle.quic_recovery.specs.Requests.{RequestEntry, taken, too_small}
+use Rattle.recovery_ids.specs.RemoteLog.{RemoteEntry, given, used, replaced}
+use Rattle.recovery_acks.specs.RequestLog.{RequestEntry, taken, too_small}
 use Rattle.recovery_ledger.specs.SpaceIds.{same_space}
 use Rattle.recovery_ledger.specs.SpaceLog.{SpaceEntry, heard, heard_again, sends, acknowledged, loses, emptied, ack_goes, ack_is_late, asked}
-use Rattle.quic_recovery.specs.Timers.{TimerEntry}
+use Rattle.recovery_base.specs.TimerLog.{TimerEntry}
 use Rattle.recovery_ledger.specs.Tracked.{packet_sent}
 
 -- what happens in one space is nothing to another
@@ -49,7 +49,7 @@ answered known (Send space now size ack_eliciting largest_acked) answer = in_spa
 answered known (Acked space now number app_limited) answer = in_space space (acknowledged number)
 answered known (Lost space number) answer = in_space space (loses number)
 answered known (NewId frame) answer = record nothing { remote_ids = Some (given frame) }
-answered known NextId (Retire (Some told)) = record nothing { remote_ids = Some (used told.0.end) }
+answered known NextId answer = record nothing { remote_ids = Some used }
 answered known (InitialId id) answer = record nothing { remote_ids = Some (replaced id) }
 answered known (IssueIds now ids) answer = record nothing { local_ids = Some (issues now (length ids.items)) }
 answered known IdTimeout answer = record nothing { local_ids = Some passes }

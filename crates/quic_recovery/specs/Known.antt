@@ -2,18 +2,18 @@
 use Rattle.std.specs.Prelude.{ℕ, Bool, List, [], Option}
 use Rattle.recovery_base.specs.declared.below.SpaceId.{SpaceId}
 use Rattle.recovery_base.specs.declared.timer.Timer.{Timer}
-use Rattle.recovery_parts.specs.LocalIds.{LocalIds}
-use Rattle.recovery_parts.specs.RemoteIds.{RemoteIds}
+use Rattle.recovery_ids.specs.LocalIds.{LocalIds}
+use Rattle.recovery_ids.specs.RemoteIds.{RemoteIds}
 use Rattle.recovery_ledger.specs.Acks.{AckCounts, counts_by}
 use Rattle.recovery_ledger.specs.Discarded.{was_discarded}
 use Rattle.quic_recovery.specs.History.{Beginning}
-use Rattle.quic_recovery.specs.LocalHistory.{LocalEntry, FirstIds, local_ids_by}
+use Rattle.recovery_ids.specs.LocalLog.{LocalEntry, FirstIds, local_ids_by}
 use Rattle.recovery_ledger.specs.Packets.{Packets}
 use Rattle.recovery_ledger.specs.PathLog.{PathEntry, PathsEntry, PathKnown, OfPaths, paths_known_by}
-use Rattle.quic_recovery.specs.RemoteHistory.{RemoteEntry, remote_ids_by}
-use Rattle.quic_recovery.specs.Requests.{RequestEntry, last_asked}
+use Rattle.recovery_ids.specs.RemoteLog.{RemoteEntry, remote_ids_by}
+use Rattle.recovery_acks.specs.RequestLog.{RequestEntry, last_asked}
 use Rattle.recovery_ledger.specs.SpaceLog.{SpaceEntry}
-use Rattle.quic_recovery.specs.Timers.{TimerEntry, last_set}
+use Rattle.recovery_base.specs.TimerLog.{TimerEntry, last_set}
 use Rattle.recovery_ledger.specs.Tracked.{Sent, sent_by}
 
 -- what replies and entries depend on, but for the sets of numbers: values, which are the same by the state and by the logs

@@ -1,13 +1,10 @@
 pub mod Entries
 pub mod History
+pub mod IdReplies
 pub mod Known
-pub mod LocalHistory
 pub mod Logs
 pub mod Parts
 pub mod Refusals
-pub mod RemoteHistory
 pub mod Replies
-pub mod Requests
 pub mod State
-pub mod Timers
 pub mod Told

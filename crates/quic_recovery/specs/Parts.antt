@@ -1,8 +1,8 @@
 -- What a recovery is to those who call it: its parts.
 use Rattle.recovery_base.specs.declared.timer.TimerTable.{TimerTable}
-use Rattle.recovery_parts.specs.AckFrequencies.{Frequency}
-use Rattle.recovery_parts.specs.declared.cids.queue.CidQueue.{CidQueue}
-use Rattle.recovery_parts.specs.LocalIds.{LocalIds}
+use Rattle.recovery_acks.specs.AckFrequencies.{Frequency}
+use Rattle.recovery_ids.specs.declared.queue.CidQueue.{CidQueue}
+use Rattle.recovery_ids.specs.LocalIds.{LocalIds}
 use Rattle.recovery_ledger.specs.declared.discarded.DiscardedSpaces.{DiscardedSpaces}
 use Rattle.recovery_ledger.specs.declared.paths.PathData.{PathData}
 use Rattle.recovery_ledger.specs.PathLog.{OfPaths}

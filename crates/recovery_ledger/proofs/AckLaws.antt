@@ -5,9 +5,9 @@ use Rattle.std.proofs.lemmas.Bool.{cases_lt}
 use Rattle.recovery_base.specs.Received.{Has}
 use Rattle.recovery_base.proofs.WindowLaws.{HasGreatest, greatest_with}
 use Rattle.recovery_base.proofs.MissingLaws.{has_greatest, reached, stays_reached, least_missing_left, least_missing_cut}
-use Rattle.recovery_parts.specs.Acks.{Acks, AddsPending, HasReached, Receives, ReceivesEliciting, IsPending, CanSend, IsOutOfOrder, counted, number_or_zero, silent_received}
-use Rattle.recovery_parts.specs.Runs.{IsInHighest}
-use Rattle.recovery_parts.proofs.AckLaws.{out_of_order_by}
+use Rattle.recovery_acks.specs.Acks.{Acks, AddsPending, HasReached, Receives, ReceivesEliciting, IsPending, CanSend, IsOutOfOrder, counted, number_or_zero, silent_received}
+use Rattle.recovery_acks.specs.Runs.{IsInHighest}
+use Rattle.recovery_acks.proofs.AckLaws.{out_of_order_by}
 use Rattle.recovery_ledger.specs.Acks.{AckCounts, AsksAtOnce, Arms, greatest_with as greatest_number}
 use Rattle.recovery_base.specs.declared.dedup.Dedup.{Dedup}
 use Rattle.recovery_ledger.specs.declared.spaces.PacketSpace.{PacketSpace}

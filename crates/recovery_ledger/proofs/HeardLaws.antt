@@ -4,10 +4,10 @@ use Rattle.recovery_base.specs.declared.below.frames.AckFrequency.{AckFrequency}
 use Rattle.recovery_base.specs.Numbers.{Recent, With}
 use Rattle.recovery_base.proofs.WindowLaws.{HasGreatest, iff_trans}
 use Rattle.recovery_base.proofs.MissingLaws.{least_missing_with, least_missing_back}
-use Rattle.recovery_parts.specs.Acks.{Acks, IsPending, largest_with, counted, acks_sent, with_required, with_thresholds}
-use Rattle.recovery_parts.specs.Runs.{IsInHighest}
-use Rattle.recovery_parts.proofs.AckLaws.{out_of_order_by}
-use Rattle.recovery_parts.proofs.RunLaws.{highest_alike}
+use Rattle.recovery_acks.specs.Acks.{Acks, IsPending, largest_with, counted, acks_sent, with_required, with_thresholds}
+use Rattle.recovery_acks.specs.Runs.{IsInHighest}
+use Rattle.recovery_acks.proofs.AckLaws.{out_of_order_by}
+use Rattle.recovery_acks.proofs.RunLaws.{highest_alike}
 use Rattle.recovery_ledger.specs.declared.spaces.SentPacket.{SentPacket}
 use Rattle.recovery_ledger.specs.Acks.{AckCounts, ToAcknowledge, IsRequired, AsksAtOnce, Arms, StartedAt, heard_by, acks_by, counts_by, counts_with, counts_acked, counts_asked}
 use Rattle.recovery_ledger.specs.Packets.{packet_at, is_above, largest_acked_by}

@@ -6,7 +6,7 @@ use Rattle.recovery_base.specs.declared.below.SpaceId.{SpaceId}
 use Rattle.recovery_base.specs.declared.below.SpaceId.TheVariants.{Initial, Handshake, Data}
 use Rattle.recovery_base.specs.Numbers.{Exceeds}
 use Rattle.recovery_base.specs.Received.{Has}
-use Rattle.recovery_parts.specs.Acks.{Acks, new_acks}
+use Rattle.recovery_acks.specs.Acks.{Acks, new_acks}
 use Rattle.recovery_ledger.specs.declared.paths.InFlight.{InFlight}
 use Rattle.recovery_ledger.specs.declared.paths.PathData.{PathData}
 use Rattle.recovery_ledger.specs.declared.spaces.PacketSpace.{PacketSpace}

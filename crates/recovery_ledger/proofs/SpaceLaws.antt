@@ -5,7 +5,7 @@ use Rattle.recovery_base.specs.Numbers.{Recent, With}
 use Rattle.recovery_base.specs.Received.{Has}
 use Rattle.recovery_base.proofs.WindowLaws.{left_with, iff_trans}
 use Rattle.recovery_base.specs.Ranges.{InRanges}
-use Rattle.recovery_parts.specs.Acks.{Acks, new_acks}
+use Rattle.recovery_acks.specs.Acks.{Acks, new_acks}
 use Rattle.recovery_ledger.specs.declared.spaces.PacketSpace.{PacketSpace}
 use Rattle.recovery_ledger.specs.Acks.{acks_by}
 use Rattle.recovery_ledger.specs.declared.spaces.SentPacket.{SentPacket}

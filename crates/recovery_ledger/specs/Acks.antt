@@ -2,8 +2,8 @@
 use Rattle.std.specs.Prelude.{ℕ, ◌≡◌, ◌<◌, ◌⊎◌, max, List, [], ◌∷◌, Bool, IsTrue, Option, None, Some, if◌then◌else◌}
 use Rattle.recovery_base.specs.declared.below.frames.AckFrequency.{AckFrequency}
 use Rattle.recovery_base.specs.Numbers.{With}
-use Rattle.recovery_parts.specs.Acks.{counted, number_or_zero, largest_with, IsOutOfOrder}
-use Rattle.recovery_parts.specs.Runs.{IsInHighest}
+use Rattle.recovery_acks.specs.Acks.{counted, number_or_zero, largest_with, IsOutOfOrder}
+use Rattle.recovery_acks.specs.Runs.{IsInHighest}
 use Rattle.recovery_ledger.specs.Packets.{packet_at, is_above, largest_acked_by}
 use Rattle.recovery_ledger.specs.Received.{CameIn}
 use Rattle.recovery_ledger.specs.SpaceLog.{SpaceEntry, heard, acknowledged, ack_goes, ack_is_late, asked}

@@ -5,13 +5,13 @@ use Rattle.recovery_base.specs.declared.below.SpaceId.TheVariants.{Initial, Hand
 use Rattle.recovery_base.specs.declared.below.frames.AckFrequency.{AckFrequency}
 use Rattle.recovery_base.specs.Numbers.{Recent, With, Exceeds, IsNew}
 use Rattle.recovery_base.specs.Received.{Has}
-use Rattle.recovery_parts.specs.Acks.{Acks, IsPending, counted, largest_with, SubtractsBelow, acks_sent, with_required, with_thresholds}
+use Rattle.recovery_acks.specs.Acks.{Acks, IsPending, counted, largest_with, SubtractsBelow, acks_sent, with_required, with_thresholds}
 use Rattle.recovery_ledger.specs.declared.spaces.PacketSpace.{PacketSpace}
 use Rattle.recovery_ledger.specs.declared.spaces.PacketSpaces.{PacketSpaces}
 use Rattle.recovery_ledger.specs.declared.spaces.Receipt.{Receipt}
 use Rattle.recovery_ledger.specs.declared.spaces.Receipt.TheVariants.{New, Duplicate}
 use Rattle.recovery_ledger.specs.declared.spaces.SentPacket.{SentPacket}
-use Rattle.recovery_parts.specs.Runs.{IsInHighest}
+use Rattle.recovery_acks.specs.Runs.{IsInHighest}
 use Rattle.recovery_ledger.specs.Acks.{AckCounts, AcksSaid, Heard, AsksAtOnce, Arms, counts_with, acks_by}
 use Rattle.recovery_ledger.specs.Kept.{Kept, kept_by}
 use Rattle.recovery_ledger.specs.SpaceLog.{SpaceEntry, heard, heard_again, sends, acknowledged, loses, emptied, ack_goes, ack_is_late, asked}

@@ -1,5 +1,5 @@
 use Rattle.std.proofs.Common.{sym, ap, subst, ◌∙◌}
-use Rattle.recovery_parts.specs.Acks.{Acks}
+use Rattle.recovery_acks.specs.Acks.{Acks}
 use Rattle.recovery_ledger.specs.declared.spaces.PacketSpace.{PacketSpace}
 use Rattle.recovery_ledger.specs.Spaces.{tracking_of, next_number_of, HasGreatestCome}
 use Rattle.recovery_ledger.proofs.LedgerLaws.{balanced_kept}

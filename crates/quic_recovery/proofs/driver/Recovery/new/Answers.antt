@@ -2,7 +2,7 @@ use Rattle.std.proofs.Common.{rules}
 use Rattle.quic_recovery.specs.History.{Beginning}
 use Rattle.quic_recovery.specs.Known.{first_ids}
 use Rattle.recovery_ledger.proofs.LedgerLaws.{fresh_balanced}
-use Rattle.quic_recovery.proofs.LocalIdLaws.{local_ids_first}
+use Rattle.recovery_ids.proofs.LocalLogLaws.{local_ids_first}
 use Rattle.recovery_ledger.proofs.SpaceLaws.{fresh_space}
 use Rattle.quic_recovery.proofs.driver.Recovery.new.Goals as goal
 

@@ -1,7 +1,7 @@
 use Rattle.std.proofs.Common.{rules, IsTrue, false, ◌≡◌, ◌+◌, ◌<◌, map, get_or, length, sym, ap, ◌∙◌, refl, arith}
 use Rattle.std.proofs.lemmas.List.{get_or-map}
 use Rattle.recovery_base.specs.declared.below.ids.IssuedCid.{IssuedCid}
-use Rattle.quic_recovery.proofs.LocalIdLaws.{number_at, numbers_go_on}
+use Rattle.recovery_ids.proofs.LocalLogLaws.{number_at, numbers_go_on}
 use Rattle.quic_recovery.proofs.driver.ids.go_on.Goals as goal
 
 false_fails : IsTrue false → ⊥
