@@ -172,6 +172,3 @@ pub fn replay<R: Read, W: Write, E: Write>(
     let (outcome, _) = replay_and_tell(alloc, words, input, output, errors);
     outcome.status()
 }
-
-#[cfg(test)]
-mod tests;
