@@ -20,7 +20,7 @@ use std::io;
 use std::io::{Read, Write};
 
 /// How the program ends.
-#[derive(Clone, Copy, Debug, PartialEq, Eq)]
+#[derive(Clone, Copy)]
 pub enum Outcome {
     /// The answers were written, and the input ended so.
     Ended(Ending),
