@@ -241,3 +241,8 @@ line_of line = do
 abbrev pub Means : Line → Event → Type 0
 Means (Said said) event = event ≡ said
 Means (Ids now first count) event = (ids : Vec IssuedCid) × (event ≡ IssueIds now ids) × (ids.items ≡ zero_ids first count) × (first + count ≤ 2 ^ 64)
+
+-- ids are made of what was read, so memory is taken
+abbrev pub TakesMemory : Line → Type 0
+TakesMemory (Said said) = ⊥
+TakesMemory (Ids now first count) = (0 < count) × (first + count ≤ 2 ^ 64)

@@ -1,8 +1,8 @@
 //! The event that a line of a script spells.
-ghost use Rattle.std.specs.Prelude.{◌≡◌, ◌+◌, ◌≤◌, ◌^◌, IfSome, IfOk, IsSome, IsSomeAnd};
+ghost use Rattle.std.specs.Prelude.{◌≡◌, ◌+◌, ◌<◌, ◌≤◌, ◌^◌, IfSome, IfOk, OnErr, IsSome, IsSomeAnd};
 ghost use Rattle.quic_recovery.specs.declared.event.Event.{Event};
-ghost use Rattle.recovery_replay.specs.Lines.{id_of, token_of, zero_ids, Spells, IsSame};
-ghost use Rattle.recovery_replay.specs.Reading.{Reads, words_left, received_at, send_at, acked_at, lost_at, new_id_at, initial_id_at, peer_retired_at, ack_frequency_at, acks_sent_at, ack_delay_timeout_at, set_timer_at, stop_timer_at, discard_at, in_flight_at, event_at, ids_at, line_at, line_of, Means};
+ghost use Rattle.recovery_replay.specs.Lines.{id_of, token_of, zero_ids, Spells, IsSame, IssuesIds};
+ghost use Rattle.recovery_replay.specs.Reading.{Reads, words_left, received_at, send_at, acked_at, lost_at, new_id_at, initial_id_at, peer_retired_at, ack_frequency_at, acks_sent_at, ack_delay_timeout_at, set_timer_at, stop_timer_at, discard_at, in_flight_at, event_at, ids_at, line_at, line_of, Means, TakesMemory};
 
 use crate::words::Words;
 use quic_recovery::event::Event;
@@ -252,7 +252,8 @@ fn said(line: &str) -> Option<Line>
 /// The ids of a line that issues them, each of zero bytes.
 fn zero_ids(alloc: Global, first: u64, count: u64) -> Result<Vec<IssuedCid>, NoMemory>
     requires { first + count ≤ 2 ^ 64 }
-    ensures { IfOk result (λ ids. ids.items ≡ zero_ids first count) }
+    ensures made { IfOk result (λ ids. ids.items ≡ zero_ids first count) }
+    ensures memory { OnErr result (0 < count) }
 {
     let mut ids = Vec::with_capacity(alloc, count as usize)?;
     for index in 0..count {
@@ -269,6 +270,7 @@ fn zero_ids(alloc: Global, first: u64, count: u64) -> Result<Vec<IssuedCid>, NoM
 fn meant(alloc: Global, line: Line) -> Result<Option<Event>, NoMemory>
     ensures found { IfOk result (λ read. IfSome read (λ event. Means line event)) }
     ensures only { (event : Event) → Means line event → IfOk result IsSome }
+    ensures memory { OnErr result (TakesMemory line) }
 {
     match line {
         Line::Said(event) => Ok(Some(event)),
@@ -283,12 +285,14 @@ fn meant(alloc: Global, line: Line) -> Result<Option<Event>, NoMemory>
 }
 
 /// The event that a line, given without its line feed, spells; `None` where it spells none. The one refusal is
-/// `NoMemory`, and only a line that issues ids takes memory.
+/// `NoMemory`.
 pub fn read_event(alloc: Global, line: &[u8]) -> Result<Option<Event>, NoMemory>
     // What is read is spelled so.
     ensures found { IfOk result (λ read. IfSome read (λ event. Spells line.now event)) }
     // What is spelled so is read: a line spells at most one event.
     ensures only { (event : Event) → Spells line.now event → IfOk result (λ read. IsSomeAnd read (IsSame event)) }
+    // Memory is refused to a line that issues ids, and to no other.
+    ensures memory { OnErr result (IssuesIds line.now) }
 {
     if line.len() > LINE_LIMIT {
         return Ok(None);
