@@ -1,5 +1,5 @@
 //! Readers and writers that stop, fail or give and take little at a time.
-use recovery_replay::replay::{Outcome, replay, replay_and_tell};
+use recovery_replay::replay::{Outcome, replay};
 use recovery_replay::script::Ending;
 use std::alloc::Global;
 use std::io;
@@ -134,10 +134,10 @@ fn long_lines(rt: HostRuntime) -> Result<(), Fail> {
         let mut input = Source::new(&line, 1000, fails);
         let mut output = Vec::new(rt.alloc());
         let mut errors = Vec::new(rt.alloc());
-        let status = replay(rt.alloc(), &words, &mut input, &mut output, &mut errors);
+        let (outcome, _) = replay(rt.alloc(), &words, &mut input, &mut output, &mut errors);
         assert_eq!(rt; output.len(), 0);
         assert_eq!(rt; String::from_utf8(errors)?.as_str(), want_errors);
-        assert_eq!(rt; status, want_status);
+        assert_eq!(rt; outcome.status(), want_status);
     }
     Ok(())
 }
@@ -155,7 +155,7 @@ fn failed_reads(rt: HostRuntime) -> Result<(), Fail> {
                 let mut input = Source::new(script, step, fails);
                 let mut output = Vec::new(rt.alloc());
                 let mut errors = Vec::new(rt.alloc());
-                let status = replay(rt.alloc(), &words, &mut input, &mut output, &mut errors);
+                let (outcome, _) = replay(rt.alloc(), &words, &mut input, &mut output, &mut errors);
                 let want = first_lines(ANSWERS.as_bytes(), line_feeds(script));
                 assert!(rt; output.as_slice() == want, "after {kept} bytes");
                 if fails {
@@ -163,10 +163,10 @@ fn failed_reads(rt: HostRuntime) -> Result<(), Fail> {
                         String::from_utf8(errors)?.as_str(),
                         "replay: read failed\n"
                     );
-                    assert_eq!(rt; status, 1);
+                    assert_eq!(rt; outcome.status(), 1);
                 } else {
                     assert_eq!(rt; errors.len(), 0);
-                    assert_eq!(rt; status, 0);
+                    assert_eq!(rt; outcome.status(), 0);
                 }
             }
         }
@@ -183,7 +183,7 @@ fn failed_writes(rt: HostRuntime) -> Result<(), Fail> {
             let mut input = SCRIPT.as_bytes();
             let mut output = Sink::new(rt.alloc(), room, fails, flush_fails);
             let mut errors = Vec::new(rt.alloc());
-            let status = replay(rt.alloc(), &words, &mut input, &mut output, &mut errors);
+            let (outcome, _) = replay(rt.alloc(), &words, &mut input, &mut output, &mut errors);
             assert!(rt;
                 output.taken.as_slice() == &answers[..room],
                 "after {room} bytes"
@@ -193,10 +193,10 @@ fn failed_writes(rt: HostRuntime) -> Result<(), Fail> {
                     String::from_utf8(errors)?.as_str(),
                     "replay: write failed\n"
                 );
-                assert_eq!(rt; status, 1);
+                assert_eq!(rt; outcome.status(), 1);
             } else {
                 assert_eq!(rt; errors.len(), 0);
-                assert_eq!(rt; status, 0);
+                assert_eq!(rt; outcome.status(), 0);
             }
         }
     }
@@ -211,14 +211,8 @@ fn failed_texts(rt: HostRuntime) -> Result<(), Fail> {
         let mut input = b"received data".as_slice();
         let mut output = Vec::new(rt.alloc());
         let mut errors = Sink::new(rt.alloc(), room, true, false);
-        let (outcome, told) = replay_and_tell(
-            rt.alloc(),
-            &words,
-            &mut input,
-            &mut output,
-            &mut errors,
-        );
-        assert_eq!(rt; outcome, Outcome::Ended(Ending::BadLine(1)));
+        let (outcome, told) = replay(rt.alloc(), &words, &mut input, &mut output, &mut errors);
+        assert!(rt; matches!(outcome, Outcome::Ended(Ending::BadLine(1))));
         assert_eq!(rt; told.is_ok(), room == text.len());
         assert!(rt;
             errors.taken.as_slice() == &text[..room],
