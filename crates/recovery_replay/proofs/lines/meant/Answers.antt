@@ -1,7 +1,7 @@
 use Rattle.std.proofs.Common.{refl, subst, sym, rules}
 use Rattle.quic_recovery.specs.declared.event.Event.TheVariants.{IssueIds}
 use Rattle.recovery_replay.specs.declared.lines.Line.{Line}
-use Rattle.recovery_replay.specs.Reading.{Means}
+use Rattle.recovery_replay.specs.Lines.{Means}
 use Rattle.recovery_replay.proofs.lines.meant.Goals as goal
 
 pub returns-in_ok-ids-in-Ids-clause-found : goal.returns-in_ok-ids-in-Ids-clause-found
