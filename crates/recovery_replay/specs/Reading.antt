@@ -85,6 +85,10 @@ left_of text (Some rest) = words_of (text rest)
 abbrev pub words_left : Words → List (List ℕ)
 words_left words = left_of (λ s. s.now) words.rest
 
+-- what a function returned, with the words that it left, is what reading gives
+abbrev pub ReadsBy : {A : Type 0} → (List (List ℕ) → Option (A × List (List ℕ))) → Words → Words → Option A → Type 0
+ReadsBy read old new result = Reads (λ x. x) result (words_left new) (read (words_left old))
+
 -- how a field is read from its word
 abbrev pub value_of : (field : Field) → List ℕ → Option (Value field)
 value_of a_space = space_of

@@ -1,5 +1,5 @@
 //! What is written for each reply: one line.
-ghost use Rattle.std.specs.Prelude.{◌≡◌, ◌++◌, IfOk, OnOk, string_bytes};
+ghost use Rattle.std.specs.Prelude.{◌≡◌, IfOk, OnOk, string_bytes};
 ghost use Rattle.recovery_replay.specs.Answers.{Writes, new_text, sent_text, done_with_text, retire_text, flag_text, timeout_text, in_flight_text, refusal_text, answer_text, answer_lines};
 
 use quic_recovery::event::{Answer, Refusal};
@@ -9,7 +9,7 @@ use std::alloc::{AllocError, Global};
 use std::ops::Range;
 
 fn write_new(text: &mut String, arm: bool) -> Result<(), AllocError>
-    ensures { OnOk result (Writes (string_bytes text.old) (new_text arm) (string_bytes text.new)) }
+    ensures { OnOk result (Writes text.old (new_text arm) text.new) }
 {
     if arm {
         writeln!(text, "new arm")
@@ -19,7 +19,7 @@ fn write_new(text: &mut String, arm: bool) -> Result<(), AllocError>
 }
 
 fn write_sent(text: &mut String, number: u64, forgotten: Option<u64>) -> Result<(), AllocError>
-    ensures { OnOk result (Writes (string_bytes text.old) (sent_text number forgotten) (string_bytes text.new)) }
+    ensures { OnOk result (Writes text.old (sent_text number forgotten) text.new) }
 {
     match forgotten {
         None => writeln!(text, "sent {number}"),
@@ -29,7 +29,7 @@ fn write_sent(text: &mut String, number: u64, forgotten: Option<u64>) -> Result<
 
 /// Of a packet that is tracked no longer: what became of it, and whether it was a probe.
 fn write_done_with(text: &mut String, fate: &str, probe: bool) -> Result<(), AllocError>
-    ensures { OnOk result (Writes (string_bytes text.old) (done_with_text fate.now probe) (string_bytes text.new)) }
+    ensures { OnOk result (Writes text.old (done_with_text fate.now probe) text.new) }
 {
     if probe {
         writeln!(text, "{fate} probe")
@@ -42,7 +42,7 @@ fn write_retire(
     text: &mut String,
     retired: &Option<(Range<u64>, ResetToken)>,
 ) -> Result<(), AllocError>
-    ensures { OnOk result (Writes (string_bytes text.old) (retire_text retired.now) (string_bytes text.new)) }
+    ensures { OnOk result (Writes text.old (retire_text retired.now) text.new) }
 {
     match retired {
         Some((numbers, _)) => writeln!(text, "retire {} {}", numbers.start, numbers.end),
@@ -51,7 +51,7 @@ fn write_retire(
 }
 
 fn write_flag(text: &mut String, flag: bool) -> Result<(), AllocError>
-    ensures { OnOk result (Writes (string_bytes text.old) (flag_text flag) (string_bytes text.new)) }
+    ensures { OnOk result (Writes text.old (flag_text flag) text.new) }
 {
     if flag {
         writeln!(text, "yes")
@@ -61,7 +61,7 @@ fn write_flag(text: &mut String, flag: bool) -> Result<(), AllocError>
 }
 
 fn write_timeout(text: &mut String, time: Option<Instant>) -> Result<(), AllocError>
-    ensures { OnOk result (Writes (string_bytes text.old) (timeout_text time) (string_bytes text.new)) }
+    ensures { OnOk result (Writes text.old (timeout_text time) text.new) }
 {
     match time {
         Some(time) => writeln!(text, "timeout {}", time.as_nanos()),
@@ -70,20 +70,20 @@ fn write_timeout(text: &mut String, time: Option<Instant>) -> Result<(), AllocEr
 }
 
 fn write_in_flight(text: &mut String, bytes: u64, ack_eliciting: u64) -> Result<(), AllocError>
-    ensures { OnOk result (Writes (string_bytes text.old) (in_flight_text bytes ack_eliciting) (string_bytes text.new)) }
+    ensures { OnOk result (Writes text.old (in_flight_text bytes ack_eliciting) text.new) }
 {
     writeln!(text, "in-flight {bytes} {ack_eliciting}")
 }
 
 fn write_refusal(text: &mut String, refusal: Refusal) -> Result<(), AllocError>
-    ensures { OnOk result (Writes (string_bytes text.old) (refusal_text refusal) (string_bytes text.new)) }
+    ensures { OnOk result (Writes text.old (refusal_text refusal) text.new) }
 {
     writeln!(text, "refused {} {}", refusal.number(), refusal.name())
 }
 
 /// Appends the line of what an event came to. The one refusal is want of memory; nothing is then promised of the text.
 pub fn write_reply(text: &mut String, reply: &Result<Answer, Refusal>) -> Result<(), AllocError>
-    ensures { OnOk result (Writes (string_bytes text.old) (answer_text reply.now) (string_bytes text.new)) }
+    ensures { OnOk result (Writes text.old (answer_text reply.now) text.new) }
 {
     match reply {
         Ok(Answer::New { arm }) => write_new(text, *arm),

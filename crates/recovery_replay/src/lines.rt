@@ -2,7 +2,7 @@
 ghost use Rattle.std.specs.Prelude.{◌≡◌, ◌+◌, ◌<◌, ◌≤◌, ◌^◌, IfSome, IfOk, OnErr, IsSome, IsSomeAnd};
 ghost use Rattle.quic_recovery.specs.declared.event.Event.{Event};
 ghost use Rattle.recovery_replay.specs.Lines.{id_of, token_of, zero_ids, received, send, acked, lost, new_id, initial_id, issue_ids, peer_retired, ack_frequency, acks_sent, ack_delay_timeout, set_timer, stop_timer, discard, in_flight, Means, Spells, IsSame, IssuesIds};
-ghost use Rattle.recovery_replay.specs.Reading.{Reads, words_left, reading, line_behind, line_at, line_of, TakesMemory};
+ghost use Rattle.recovery_replay.specs.Reading.{ReadsBy, reading, line_behind, line_at, line_of, TakesMemory};
 
 use crate::words::Words;
 use quic_recovery::event::Event;
@@ -44,7 +44,7 @@ fn token_of(byte: u8) -> ResetToken
 
 #[tactic(auto, unfolding(crate::specs::Reading::fields_read))]
 fn received(words: &mut Words<'_>) -> Option<Line>
-    ensures { Reads (λ l. l) result (words_left words.new) (reading received (words_left words.old)) }
+    ensures { ReadsBy (reading received) words.old words.new result }
 {
     Some(Line::Said(Event::Received {
         space: words.space()?,
@@ -56,7 +56,7 @@ fn received(words: &mut Words<'_>) -> Option<Line>
 
 #[tactic(auto, unfolding(crate::specs::Reading::fields_read))]
 fn send(words: &mut Words<'_>) -> Option<Line>
-    ensures { Reads (λ l. l) result (words_left words.new) (reading send (words_left words.old)) }
+    ensures { ReadsBy (reading send) words.old words.new result }
 {
     Some(Line::Said(Event::Send {
         space: words.space()?,
@@ -69,7 +69,7 @@ fn send(words: &mut Words<'_>) -> Option<Line>
 
 #[tactic(auto, unfolding(crate::specs::Reading::fields_read))]
 fn acked(words: &mut Words<'_>) -> Option<Line>
-    ensures { Reads (λ l. l) result (words_left words.new) (reading acked (words_left words.old)) }
+    ensures { ReadsBy (reading acked) words.old words.new result }
 {
     Some(Line::Said(Event::Acked {
         space: words.space()?,
@@ -81,7 +81,7 @@ fn acked(words: &mut Words<'_>) -> Option<Line>
 
 #[tactic(auto, unfolding(crate::specs::Reading::fields_read))]
 fn lost(words: &mut Words<'_>) -> Option<Line>
-    ensures { Reads (λ l. l) result (words_left words.new) (reading lost (words_left words.old)) }
+    ensures { ReadsBy (reading lost) words.old words.new result }
 {
     Some(Line::Said(Event::Lost {
         space: words.space()?,
@@ -91,7 +91,7 @@ fn lost(words: &mut Words<'_>) -> Option<Line>
 
 #[tactic(auto, unfolding(crate::specs::Reading::fields_read))]
 fn new_id(words: &mut Words<'_>) -> Option<Line>
-    ensures { Reads (λ l. l) result (words_left words.new) (reading new_id (words_left words.old)) }
+    ensures { ReadsBy (reading new_id) words.old words.new result }
 {
     let sequence = words.number()?;
     let retire_prior_to = words.number()?;
@@ -106,14 +106,14 @@ fn new_id(words: &mut Words<'_>) -> Option<Line>
 
 #[tactic(auto, unfolding(crate::specs::Reading::fields_read))]
 fn initial_id(words: &mut Words<'_>) -> Option<Line>
-    ensures { Reads (λ l. l) result (words_left words.new) (reading initial_id (words_left words.old)) }
+    ensures { ReadsBy (reading initial_id) words.old words.new result }
 {
     Some(Line::Said(Event::InitialId(id_of(words.byte()?))))
 }
 
 #[tactic(auto, unfolding(crate::specs::Reading::fields_read))]
 fn peer_retired(words: &mut Words<'_>) -> Option<Line>
-    ensures { Reads (λ l. l) result (words_left words.new) (reading peer_retired (words_left words.old)) }
+    ensures { ReadsBy (reading peer_retired) words.old words.new result }
 {
     Some(Line::Said(Event::PeerRetired {
         sequence: words.number()?,
@@ -123,7 +123,7 @@ fn peer_retired(words: &mut Words<'_>) -> Option<Line>
 
 #[tactic(auto, unfolding(crate::specs::Reading::fields_read))]
 fn ack_frequency(words: &mut Words<'_>) -> Option<Line>
-    ensures { Reads (λ l. l) result (words_left words.new) (reading ack_frequency (words_left words.old)) }
+    ensures { ReadsBy (reading ack_frequency) words.old words.new result }
 {
     Some(Line::Said(Event::AckFrequencyIn(AckFrequency {
         sequence: words.var_int()?,
@@ -135,7 +135,7 @@ fn ack_frequency(words: &mut Words<'_>) -> Option<Line>
 
 #[tactic(auto, unfolding(crate::specs::Reading::fields_read))]
 fn acks_sent(words: &mut Words<'_>) -> Option<Line>
-    ensures { Reads (λ l. l) result (words_left words.new) (reading acks_sent (words_left words.old)) }
+    ensures { ReadsBy (reading acks_sent) words.old words.new result }
 {
     Some(Line::Said(Event::AcksSent {
         space: words.space()?,
@@ -144,7 +144,7 @@ fn acks_sent(words: &mut Words<'_>) -> Option<Line>
 
 #[tactic(auto, unfolding(crate::specs::Reading::fields_read))]
 fn ack_delay_timeout(words: &mut Words<'_>) -> Option<Line>
-    ensures { Reads (λ l. l) result (words_left words.new) (reading ack_delay_timeout (words_left words.old)) }
+    ensures { ReadsBy (reading ack_delay_timeout) words.old words.new result }
 {
     Some(Line::Said(Event::AckDelayTimeout {
         space: words.space()?,
@@ -153,7 +153,7 @@ fn ack_delay_timeout(words: &mut Words<'_>) -> Option<Line>
 
 #[tactic(auto, unfolding(crate::specs::Reading::fields_read))]
 fn set_timer(words: &mut Words<'_>) -> Option<Line>
-    ensures { Reads (λ l. l) result (words_left words.new) (reading set_timer (words_left words.old)) }
+    ensures { ReadsBy (reading set_timer) words.old words.new result }
 {
     Some(Line::Said(Event::SetTimer {
         timer: words.timer()?,
@@ -163,7 +163,7 @@ fn set_timer(words: &mut Words<'_>) -> Option<Line>
 
 #[tactic(auto, unfolding(crate::specs::Reading::fields_read))]
 fn stop_timer(words: &mut Words<'_>) -> Option<Line>
-    ensures { Reads (λ l. l) result (words_left words.new) (reading stop_timer (words_left words.old)) }
+    ensures { ReadsBy (reading stop_timer) words.old words.new result }
 {
     Some(Line::Said(Event::StopTimer {
         timer: words.timer()?,
@@ -172,7 +172,7 @@ fn stop_timer(words: &mut Words<'_>) -> Option<Line>
 
 #[tactic(auto, unfolding(crate::specs::Reading::fields_read))]
 fn discard(words: &mut Words<'_>) -> Option<Line>
-    ensures { Reads (λ l. l) result (words_left words.new) (reading discard (words_left words.old)) }
+    ensures { ReadsBy (reading discard) words.old words.new result }
 {
     Some(Line::Said(Event::DiscardSpace {
         space: words.space()?,
@@ -181,7 +181,7 @@ fn discard(words: &mut Words<'_>) -> Option<Line>
 
 #[tactic(auto, unfolding(crate::specs::Reading::fields_read))]
 fn in_flight(words: &mut Words<'_>) -> Option<Line>
-    ensures { Reads (λ l. l) result (words_left words.new) (reading in_flight (words_left words.old)) }
+    ensures { ReadsBy (reading in_flight) words.old words.new result }
 {
     Some(Line::Said(Event::InFlight {
         path: words.path()?,
@@ -190,7 +190,7 @@ fn in_flight(words: &mut Words<'_>) -> Option<Line>
 
 #[tactic(auto, unfolding(crate::specs::Reading::fields_read))]
 fn issue_ids(words: &mut Words<'_>) -> Option<Line>
-    ensures { Reads (λ l. l) result (words_left words.new) (reading issue_ids (words_left words.old)) }
+    ensures { ReadsBy (reading issue_ids) words.old words.new result }
 {
     Some(Line::Ids {
         now: words.moment()?,
@@ -202,7 +202,7 @@ fn issue_ids(words: &mut Words<'_>) -> Option<Line>
 /// What a line says behind its name.
 #[tactic(auto, unfolding(crate::specs::Reading::line_behind))]
 fn line_behind(name: &str, words: &mut Words<'_>) -> Option<Line>
-    ensures { Reads (λ l. l) result (words_left words.new) (line_behind name.now (words_left words.old)) }
+    ensures { ReadsBy (line_behind name.now) words.old words.new result }
 {
     match name {
         "received" => received(words),
@@ -229,7 +229,7 @@ fn line_behind(name: &str, words: &mut Words<'_>) -> Option<Line>
 
 #[tactic(auto, unfolding(crate::specs::Reading::line_at))]
 fn line_in(words: &mut Words<'_>) -> Option<Line>
-    ensures { Reads (λ l. l) result (words_left words.new) (line_at (words_left words.old)) }
+    ensures { ReadsBy line_at words.old words.new result }
 {
     line_behind(words.next()?, words)
 }
@@ -288,7 +288,8 @@ pub fn read_event(alloc: Global, line: &[u8]) -> Result<Option<Event>, NoMemory>
     // What is read is spelled so.
     ensures found { IfOk result (λ read. IfSome read (λ event. Spells line.now event)) }
     // What is spelled so is read: a line spells at most one event.
-    ensures only { (event : Event) → Spells line.now event → IfOk result (λ read. IsSomeAnd read (IsSame event)) }
+    ensures only { (event : Event) → Spells line.now event
+        → IfOk result (λ read. IsSomeAnd read (IsSame event)) }
     // Memory is refused to a line that issues ids, and to no other.
     ensures memory { OnErr result (IssuesIds line.now) }
 {

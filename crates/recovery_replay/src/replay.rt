@@ -69,7 +69,8 @@ impl Outcome {
 
     /// Writes the text. After a failure a beginning of it was written.
     pub fn report<E: Write>(self, errors: &mut E) -> io::Result<()>
-        ensures whole { OnOk result (Appends (E.contents errors.old) (E.contents errors.new) (error_text self)) }
+        ensures whole { OnOk result
+            (Appends (E.contents errors.old) (E.contents errors.new) (error_text self)) }
         ensures front { Tells self (E.contents errors.old) (E.contents errors.new) }
     {
         deliver(errors, self.text().as_str().as_bytes())
@@ -100,7 +101,8 @@ fn replies(alloc: Global, events: Vec<Event>) -> Result<Vec<Result<Answer, Refus
 
 /// The lines that are written for events.
 fn answers(alloc: Global, events: Vec<Event>) -> Result<String, NoMemory>
-    ensures { IfOk result (λ text. Session (λ said. said ≡ events.items) (λ lines. string_bytes text ≡ lines)) }
+    ensures { IfOk result (λ text.
+        Session (λ said. said ≡ events.items) (λ lines. string_bytes text ≡ lines)) }
 {
     render(alloc, &replies(alloc, events)?)
 }
@@ -126,7 +128,8 @@ pub fn play_bytes(
     words: &[String],
     input: &[u8],
 ) -> Result<(Outcome, String), NoMemory>
-    ensures played { IfOk result (λ played. PlaysBytes words.now input.now played.0 (string_bytes played.1)) }
+    ensures played { IfOk result (λ played.
+        PlaysBytes words.now input.now played.0 (string_bytes played.1)) }
     ensures memory { OnErr result (AreArguments words.now) }
 {
     if !are_arguments(words) {
@@ -138,7 +141,9 @@ pub fn play_bytes(
 
 /// The answers to an input that is read as it comes, and how it ended.
 fn answer_all<R: Read>(alloc: Global, input: &mut R) -> Result<(Ending, String), NoMemory>
-    ensures { IfOk result (λ all. Session (λ events. Hears (R.remaining input.old) (R.remaining input.new) events all.0) (λ lines. string_bytes all.1 ≡ lines)) }
+    ensures { IfOk result (λ all. Session
+        (λ events. Hears (R.remaining input.old) (R.remaining input.new) events all.0)
+        (λ lines. string_bytes all.1 ≡ lines)) }
 {
     let (events, ending) = read_script(alloc, input)?;
     Ok((ending, answers(alloc, events)?))
@@ -151,7 +156,8 @@ fn play<R: Read, W: Write>(
     input: &mut R,
     output: &mut W,
 ) -> Outcome
-    ensures { Plays words.now (R.remaining input.old) (R.remaining input.new) (W.contents output.old) (W.contents output.new) result }
+    ensures { Plays words.now (R.remaining input.old) (R.remaining input.new)
+        (W.contents output.old) (W.contents output.new) result }
 {
     if !are_arguments(words) {
         return Outcome::WrongArguments;
@@ -176,8 +182,10 @@ pub fn replay<R: Read, W: Write, E: Write>(
     output: &mut W,
     errors: &mut E,
 ) -> (Outcome, io::Result<()>)
-    ensures outcome { Plays words.now (R.remaining input.old) (R.remaining input.new) (W.contents output.old) (W.contents output.new) result.0 }
-    ensures told { OnOk result.1 (Appends (E.contents errors.old) (E.contents errors.new) (error_text result.0)) }
+    ensures outcome { Plays words.now (R.remaining input.old) (R.remaining input.new)
+        (W.contents output.old) (W.contents output.new) result.0 }
+    ensures told { OnOk result.1
+        (Appends (E.contents errors.old) (E.contents errors.new) (error_text result.0)) }
     ensures front { Tells result.0 (E.contents errors.old) (E.contents errors.new) }
 {
     let outcome = play(alloc, words, input, output);
