@@ -1,10 +1,7 @@
 //! Events in, answers out.
 ghost use Rattle.std.specs.Prelude.{◌≡◌, IfOk, OnOk, OnErr, Decides, string_bytes};
 ghost use Rattle.std.specs.Io.KnownBytes.{Appends};
-ghost use Rattle.quic_recovery.specs.History.{Throughout};
-ghost use Rattle.quic_recovery.specs.Told.{Told};
-ghost use Rattle.recovery_replay.specs.Answers.{answer_lines};
-ghost use Rattle.recovery_replay.specs.Script.{Says, Hears};
+ghost use Rattle.recovery_replay.specs.Script.{Hears};
 ghost use Rattle.recovery_replay.specs.Replay.{status_of, error_text, beginning, AreArguments, Session, PlaysBytes, Plays, Tells};
 
 use crate::answers::render;
@@ -14,7 +11,7 @@ use crate::writing::deliver;
 use arrayvec::ArrayString;
 use itoa::Buffer;
 use quic_recovery::driver::{Recovery, RecoveryConfig};
-use quic_recovery::event::{Answer, Event, Refusal};
+use quic_recovery::event::Event;
 use recovery_base::below::{ConnectionId, NoMemory};
 use recovery_base::time::{Duration, Instant};
 use std::alloc::Global;
@@ -90,21 +87,14 @@ fn config() -> RecoveryConfig
     }
 }
 
-/// What a run answers to the events.
-fn replies(alloc: Global, events: Vec<Event>) -> Result<Vec<Result<Answer, Refusal>>, NoMemory>
-    ensures { IfOk result (λ replies. Throughout (Told beginning) events.items replies.items) }
-{
-    let start = Instant::from_nanos(0);
-    let (_, replies) = Recovery::run(alloc, config(), start, events)?;
-    Ok(replies)
-}
-
 /// The lines that are written for events.
 fn answers(alloc: Global, events: Vec<Event>) -> Result<String, NoMemory>
     ensures { IfOk result (λ text.
         Session (λ said. said ≡ events.items) (λ lines. string_bytes text ≡ lines)) }
 {
-    render(alloc, &replies(alloc, events)?)
+    let start = Instant::from_nanos(0);
+    let (_, replies) = Recovery::run(alloc, config(), start, events)?;
+    render(alloc, &replies)
 }
 
 /// Are these the arguments of a run: nothing, or a number?
