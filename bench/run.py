@@ -16,7 +16,7 @@ import time
 
 ROOT = pathlib.Path(__file__).resolve().parent.parent
 SCRIPT = ROOT / "recovery-replay"
-PROGRAM = ROOT / "crates" / "recovery_replay" / "out" / "recovery_replay"
+PROGRAM = ROOT / "crates" / "recovery_program" / "out" / "recovery_program"
 SPACES = ["initial", "handshake", "data"]
 TIMERS = ["loss-detection", "idle", "close", "key-discard", "path-validation", "keep-alive", "pacing", "push-new-cid",
           "max-ack-delay"]

@@ -1,5 +1,5 @@
 -- The ids that a line issues.
-use Rattle.std.proofs.Common.{◌≡◌, ℕ, zero, suc, ◌+◌, ◌<◌, ◌≤◌, ◌^◌, List, [], ◌∷◌, ◌++◌, length, refl, sym, ap, arith}
+use Rattle.std.proofs.Common.{◌≡◌, ℕ, zero, suc, ◌+◌, ◌≤◌, ◌^◌, List, [], ◌∷◌, ◌++◌, length, refl, sym, ap, arith}
 use Rattle.std.proofs.lemmas.List.FromFn.{length-map-range_with_len, map-range_with_len_more}
 use Rattle.recovery_base.specs.declared.below.ids.IssuedCid.{IssuedCid}
 use Rattle.recovery_replay.specs.Lines.{id_of, token_of, zero_id, zero_ids, first_number}
@@ -16,16 +16,6 @@ zero_ids_are first zero = record { first-is = refl; count-is = refl; own = refl;
 zero_ids_are first (suc n) =
     let len : length (zero_ids (first + 1) n) ≡ n = length-map-range_with_len zero_id (first + 1) n in
     record { first-is = refl; count-is = ap suc len; own = ap (λ (k : ℕ). zero_ids first (suc k)) (sym len); bound = λ le. omega (arith, len, le) }
-
--- ids whose first number is said
-pub record AreSaid (unkept : ℕ) (ids : List IssuedCid) : Type 0 where
-  pub fits : first_number unkept ids < 2 ^ 64
-  pub own : ids ≡ zero_ids (first_number unkept ids) (length ids)
-  pub bound : first_number unkept ids + length ids ≤ 2 ^ 64
-
-pub are_said : (unkept : ℕ) (ids : List IssuedCid) → unkept < 2 ^ 64 → first_number 0 ids + length ids ≤ 2 ^ 64 → ids ≡ zero_ids (first_number 0 ids) (length ids) → AreSaid unkept ids
-are_said unkept [] fits le own = record { fits = fits; own = refl; bound = omega (arith, fits) }
-are_said unkept (id ∷ ids) fits le own = record { fits = omega (arith, le); own = own; bound = le }
 
 -- one id more
 pub one_more_id : (first count : ℕ) (ids : List IssuedCid) (id token : List ℕ) → ids ≡ zero_ids first count → id ≡ id_of 0 → token ≡ token_of 0

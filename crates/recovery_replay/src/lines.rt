@@ -1,8 +1,8 @@
 //! The event that a line of a script spells.
-ghost use Rattle.std.specs.Prelude.{◌≡◌, ◌+◌, ◌≤◌, ◌^◌, IfSome, IfOk, IsSome, IsSomeAnd};
+ghost use Rattle.std.specs.Prelude.{◌≡◌, ◌+◌, ◌<◌, ◌≤◌, ◌^◌, IfSome, IfOk, OnErr, IsSome, IsSomeAnd};
 ghost use Rattle.quic_recovery.specs.declared.event.Event.{Event};
-ghost use Rattle.recovery_replay.specs.Lines.{id_of, token_of, zero_ids, Spells, IsSame};
-ghost use Rattle.recovery_replay.specs.Reading.{Reads, words_left, received_at, send_at, acked_at, lost_at, new_id_at, initial_id_at, peer_retired_at, ack_frequency_at, acks_sent_at, ack_delay_timeout_at, set_timer_at, stop_timer_at, discard_at, in_flight_at, event_at, ids_at, line_at, line_of, Means};
+ghost use Rattle.recovery_replay.specs.Lines.{id_of, token_of, zero_ids, received, send, acked, lost, new_id, initial_id, issue_ids, peer_retired, ack_frequency, acks_sent, ack_delay_timeout, set_timer, stop_timer, discard, in_flight, Means, Spells, IsSame, IssuesIds};
+ghost use Rattle.recovery_replay.specs.Reading.{ReadsBy, reading, line_behind, line_at, line_of, TakesMemory};
 
 use crate::words::Words;
 use quic_recovery::event::Event;
@@ -42,182 +42,155 @@ fn token_of(byte: u8) -> ResetToken
     ResetToken::from([byte; 16])
 }
 
-#[tactic(auto, unfolding(crate::specs::Reading::received_at))]
-fn received(words: &mut Words<'_>) -> Option<Event>
-    ensures { Reads (λ e. e) result (words_left words.new) (received_at (words_left words.old)) }
+#[tactic(auto, unfolding(crate::specs::Reading::fields_read))]
+fn received(words: &mut Words<'_>) -> Option<Line>
+    ensures { ReadsBy (reading received) words.old words.new result }
 {
-    Some(Event::Received {
+    Some(Line::Said(Event::Received {
         space: words.space()?,
         now: words.moment()?,
         number: words.number()?,
         ack_eliciting: words.flag()?,
-    })
+    }))
 }
 
-#[tactic(auto, unfolding(crate::specs::Reading::send_at))]
-fn send(words: &mut Words<'_>) -> Option<Event>
-    ensures { Reads (λ e. e) result (words_left words.new) (send_at (words_left words.old)) }
+#[tactic(auto, unfolding(crate::specs::Reading::fields_read))]
+fn send(words: &mut Words<'_>) -> Option<Line>
+    ensures { ReadsBy (reading send) words.old words.new result }
 {
-    Some(Event::Send {
+    Some(Line::Said(Event::Send {
         space: words.space()?,
         now: words.moment()?,
         size: words.size()?,
         ack_eliciting: words.flag()?,
         largest_acked: words.largest()?,
-    })
+    }))
 }
 
-#[tactic(auto, unfolding(crate::specs::Reading::acked_at))]
-fn acked(words: &mut Words<'_>) -> Option<Event>
-    ensures { Reads (λ e. e) result (words_left words.new) (acked_at (words_left words.old)) }
+#[tactic(auto, unfolding(crate::specs::Reading::fields_read))]
+fn acked(words: &mut Words<'_>) -> Option<Line>
+    ensures { ReadsBy (reading acked) words.old words.new result }
 {
-    Some(Event::Acked {
+    Some(Line::Said(Event::Acked {
         space: words.space()?,
         now: words.moment()?,
         number: words.number()?,
         app_limited: words.flag()?,
-    })
+    }))
 }
 
-#[tactic(auto, unfolding(crate::specs::Reading::lost_at))]
-fn lost(words: &mut Words<'_>) -> Option<Event>
-    ensures { Reads (λ e. e) result (words_left words.new) (lost_at (words_left words.old)) }
+#[tactic(auto, unfolding(crate::specs::Reading::fields_read))]
+fn lost(words: &mut Words<'_>) -> Option<Line>
+    ensures { ReadsBy (reading lost) words.old words.new result }
 {
-    Some(Event::Lost {
+    Some(Line::Said(Event::Lost {
         space: words.space()?,
         number: words.number()?,
-    })
+    }))
 }
 
-#[tactic(auto, unfolding(crate::specs::Reading::new_id_at))]
-fn new_id(words: &mut Words<'_>) -> Option<Event>
-    ensures { Reads (λ e. e) result (words_left words.new) (new_id_at (words_left words.old)) }
+#[tactic(auto, unfolding(crate::specs::Reading::fields_read))]
+fn new_id(words: &mut Words<'_>) -> Option<Line>
+    ensures { ReadsBy (reading new_id) words.old words.new result }
 {
     let sequence = words.number()?;
     let retire_prior_to = words.number()?;
     let byte = words.byte()?;
-    Some(Event::NewId(NewConnectionId {
+    Some(Line::Said(Event::NewId(NewConnectionId {
         sequence,
         retire_prior_to,
         id: id_of(byte),
         reset_token: token_of(byte),
+    })))
+}
+
+#[tactic(auto, unfolding(crate::specs::Reading::fields_read))]
+fn initial_id(words: &mut Words<'_>) -> Option<Line>
+    ensures { ReadsBy (reading initial_id) words.old words.new result }
+{
+    Some(Line::Said(Event::InitialId(id_of(words.byte()?))))
+}
+
+#[tactic(auto, unfolding(crate::specs::Reading::fields_read))]
+fn peer_retired(words: &mut Words<'_>) -> Option<Line>
+    ensures { ReadsBy (reading peer_retired) words.old words.new result }
+{
+    Some(Line::Said(Event::PeerRetired {
+        sequence: words.number()?,
+        limit: words.number()?,
     }))
 }
 
-#[tactic(auto, unfolding(crate::specs::Reading::initial_id_at))]
-fn initial_id(words: &mut Words<'_>) -> Option<Event>
-    ensures { Reads (λ e. e) result (words_left words.new) (initial_id_at (words_left words.old)) }
+#[tactic(auto, unfolding(crate::specs::Reading::fields_read))]
+fn ack_frequency(words: &mut Words<'_>) -> Option<Line>
+    ensures { ReadsBy (reading ack_frequency) words.old words.new result }
 {
-    Some(Event::InitialId(id_of(words.byte()?)))
-}
-
-#[tactic(auto, unfolding(crate::specs::Reading::peer_retired_at))]
-fn peer_retired(words: &mut Words<'_>) -> Option<Event>
-    ensures { Reads (λ e. e) result (words_left words.new) (peer_retired_at (words_left words.old)) }
-{
-    Some(Event::PeerRetired {
-        sequence: words.number()?,
-        limit: words.number()?,
-    })
-}
-
-#[tactic(auto, unfolding(crate::specs::Reading::ack_frequency_at))]
-fn ack_frequency(words: &mut Words<'_>) -> Option<Event>
-    ensures { Reads (λ e. e) result (words_left words.new) (ack_frequency_at (words_left words.old)) }
-{
-    Some(Event::AckFrequencyIn(AckFrequency {
+    Some(Line::Said(Event::AckFrequencyIn(AckFrequency {
         sequence: words.var_int()?,
         ack_eliciting_threshold: words.var_int()?,
         request_max_ack_delay: words.var_int()?,
         reordering_threshold: words.var_int()?,
+    })))
+}
+
+#[tactic(auto, unfolding(crate::specs::Reading::fields_read))]
+fn acks_sent(words: &mut Words<'_>) -> Option<Line>
+    ensures { ReadsBy (reading acks_sent) words.old words.new result }
+{
+    Some(Line::Said(Event::AcksSent {
+        space: words.space()?,
     }))
 }
 
-#[tactic(auto, unfolding(crate::specs::Reading::acks_sent_at))]
-fn acks_sent(words: &mut Words<'_>) -> Option<Event>
-    ensures { Reads (λ e. e) result (words_left words.new) (acks_sent_at (words_left words.old)) }
+#[tactic(auto, unfolding(crate::specs::Reading::fields_read))]
+fn ack_delay_timeout(words: &mut Words<'_>) -> Option<Line>
+    ensures { ReadsBy (reading ack_delay_timeout) words.old words.new result }
 {
-    Some(Event::AcksSent {
+    Some(Line::Said(Event::AckDelayTimeout {
         space: words.space()?,
-    })
+    }))
 }
 
-#[tactic(auto, unfolding(crate::specs::Reading::ack_delay_timeout_at))]
-fn ack_delay_timeout(words: &mut Words<'_>) -> Option<Event>
-    ensures { Reads (λ e. e) result (words_left words.new) (ack_delay_timeout_at (words_left words.old)) }
+#[tactic(auto, unfolding(crate::specs::Reading::fields_read))]
+fn set_timer(words: &mut Words<'_>) -> Option<Line>
+    ensures { ReadsBy (reading set_timer) words.old words.new result }
 {
-    Some(Event::AckDelayTimeout {
-        space: words.space()?,
-    })
-}
-
-#[tactic(auto, unfolding(crate::specs::Reading::set_timer_at))]
-fn set_timer(words: &mut Words<'_>) -> Option<Event>
-    ensures { Reads (λ e. e) result (words_left words.new) (set_timer_at (words_left words.old)) }
-{
-    Some(Event::SetTimer {
+    Some(Line::Said(Event::SetTimer {
         timer: words.timer()?,
         time: words.moment()?,
-    })
+    }))
 }
 
-#[tactic(auto, unfolding(crate::specs::Reading::stop_timer_at))]
-fn stop_timer(words: &mut Words<'_>) -> Option<Event>
-    ensures { Reads (λ e. e) result (words_left words.new) (stop_timer_at (words_left words.old)) }
+#[tactic(auto, unfolding(crate::specs::Reading::fields_read))]
+fn stop_timer(words: &mut Words<'_>) -> Option<Line>
+    ensures { ReadsBy (reading stop_timer) words.old words.new result }
 {
-    Some(Event::StopTimer {
+    Some(Line::Said(Event::StopTimer {
         timer: words.timer()?,
-    })
+    }))
 }
 
-#[tactic(auto, unfolding(crate::specs::Reading::discard_at))]
-fn discard(words: &mut Words<'_>) -> Option<Event>
-    ensures { Reads (λ e. e) result (words_left words.new) (discard_at (words_left words.old)) }
+#[tactic(auto, unfolding(crate::specs::Reading::fields_read))]
+fn discard(words: &mut Words<'_>) -> Option<Line>
+    ensures { ReadsBy (reading discard) words.old words.new result }
 {
-    Some(Event::DiscardSpace {
+    Some(Line::Said(Event::DiscardSpace {
         space: words.space()?,
-    })
+    }))
 }
 
-#[tactic(auto, unfolding(crate::specs::Reading::in_flight_at))]
-fn in_flight(words: &mut Words<'_>) -> Option<Event>
-    ensures { Reads (λ e. e) result (words_left words.new) (in_flight_at (words_left words.old)) }
+#[tactic(auto, unfolding(crate::specs::Reading::fields_read))]
+fn in_flight(words: &mut Words<'_>) -> Option<Line>
+    ensures { ReadsBy (reading in_flight) words.old words.new result }
 {
-    Some(Event::InFlight {
+    Some(Line::Said(Event::InFlight {
         path: words.path()?,
-    })
+    }))
 }
 
-/// An event that holds no list, behind its name.
-#[tactic(auto, unfolding(crate::specs::Reading::event_at, crate::specs::Reading::next_id_at, crate::specs::Reading::id_timeout_at, crate::specs::Reading::next_timeout_at))]
-fn event_in(name: &str, words: &mut Words<'_>) -> Option<Event>
-    ensures { Reads (λ e. e) result (words_left words.new) (event_at name.now (words_left words.old)) }
-{
-    match name {
-        "received" => received(words),
-        "send" => send(words),
-        "acked" => acked(words),
-        "lost" => lost(words),
-        "new-id" => new_id(words),
-        "next-id" => Some(Event::NextId),
-        "initial-id" => initial_id(words),
-        "id-timeout" => Some(Event::IdTimeout),
-        "peer-retired" => peer_retired(words),
-        "ack-frequency" => ack_frequency(words),
-        "acks-sent" => acks_sent(words),
-        "ack-delay-timeout" => ack_delay_timeout(words),
-        "set-timer" => set_timer(words),
-        "stop-timer" => stop_timer(words),
-        "next-timeout" => Some(Event::NextTimeout),
-        "discard" => discard(words),
-        "in-flight" => in_flight(words),
-        _ => None,
-    }
-}
-
-#[tactic(auto, unfolding(crate::specs::Reading::ids_at))]
-fn ids(words: &mut Words<'_>) -> Option<Line>
-    ensures { Reads (λ l. l) result (words_left words.new) (ids_at (words_left words.old)) }
+#[tactic(auto, unfolding(crate::specs::Reading::fields_read))]
+fn issue_ids(words: &mut Words<'_>) -> Option<Line>
+    ensures { ReadsBy (reading issue_ids) words.old words.new result }
 {
     Some(Line::Ids {
         now: words.moment()?,
@@ -226,14 +199,39 @@ fn ids(words: &mut Words<'_>) -> Option<Line>
     })
 }
 
+/// What a line says behind its name.
+#[tactic(auto, unfolding(crate::specs::Reading::line_behind))]
+fn line_behind(name: &str, words: &mut Words<'_>) -> Option<Line>
+    ensures { ReadsBy (line_behind name.now) words.old words.new result }
+{
+    match name {
+        "received" => received(words),
+        "send" => send(words),
+        "acked" => acked(words),
+        "lost" => lost(words),
+        "new-id" => new_id(words),
+        "next-id" => Some(Line::Said(Event::NextId)),
+        "initial-id" => initial_id(words),
+        "issue-ids" => issue_ids(words),
+        "id-timeout" => Some(Line::Said(Event::IdTimeout)),
+        "peer-retired" => peer_retired(words),
+        "ack-frequency" => ack_frequency(words),
+        "acks-sent" => acks_sent(words),
+        "ack-delay-timeout" => ack_delay_timeout(words),
+        "set-timer" => set_timer(words),
+        "stop-timer" => stop_timer(words),
+        "next-timeout" => Some(Line::Said(Event::NextTimeout)),
+        "discard" => discard(words),
+        "in-flight" => in_flight(words),
+        _ => None,
+    }
+}
+
 #[tactic(auto, unfolding(crate::specs::Reading::line_at))]
 fn line_in(words: &mut Words<'_>) -> Option<Line>
-    ensures { Reads (λ l. l) result (words_left words.new) (line_at (words_left words.old)) }
+    ensures { ReadsBy line_at words.old words.new result }
 {
-    match words.next()? {
-        "issue-ids" => ids(words),
-        name => Some(Line::Said(event_in(name, words)?)),
-    }
+    line_behind(words.next()?, words)
 }
 
 /// What the words of a line say, all of them.
@@ -252,7 +250,8 @@ fn said(line: &str) -> Option<Line>
 /// The ids of a line that issues them, each of zero bytes.
 fn zero_ids(alloc: Global, first: u64, count: u64) -> Result<Vec<IssuedCid>, NoMemory>
     requires { first + count ≤ 2 ^ 64 }
-    ensures { IfOk result (λ ids. ids.items ≡ zero_ids first count) }
+    ensures made { IfOk result (λ ids. ids.items ≡ zero_ids first count) }
+    ensures memory { OnErr result (0 < count) }
 {
     let mut ids = Vec::with_capacity(alloc, count as usize)?;
     for index in 0..count {
@@ -269,6 +268,7 @@ fn zero_ids(alloc: Global, first: u64, count: u64) -> Result<Vec<IssuedCid>, NoM
 fn meant(alloc: Global, line: Line) -> Result<Option<Event>, NoMemory>
     ensures found { IfOk result (λ read. IfSome read (λ event. Means line event)) }
     ensures only { (event : Event) → Means line event → IfOk result IsSome }
+    ensures memory { OnErr result (TakesMemory line) }
 {
     match line {
         Line::Said(event) => Ok(Some(event)),
@@ -283,12 +283,15 @@ fn meant(alloc: Global, line: Line) -> Result<Option<Event>, NoMemory>
 }
 
 /// The event that a line, given without its line feed, spells; `None` where it spells none. The one refusal is
-/// `NoMemory`, and only a line that issues ids takes memory.
+/// `NoMemory`.
 pub fn read_event(alloc: Global, line: &[u8]) -> Result<Option<Event>, NoMemory>
     // What is read is spelled so.
     ensures found { IfOk result (λ read. IfSome read (λ event. Spells line.now event)) }
     // What is spelled so is read: a line spells at most one event.
-    ensures only { (event : Event) → Spells line.now event → IfOk result (λ read. IsSomeAnd read (IsSame event)) }
+    ensures only { (event : Event) → Spells line.now event
+        → IfOk result (λ read. IsSomeAnd read (IsSame event)) }
+    // Memory is refused to a line that issues ids, and to no other.
+    ensures memory { OnErr result (IssuesIds line.now) }
 {
     if line.len() > LINE_LIMIT {
         return Ok(None);

@@ -1,18 +1,17 @@
 //! Events in, answers out.
-ghost use Rattle.std.specs.Prelude.{◌≡◌, IfOk, OnOk, Decides, string_bytes};
+ghost use Rattle.std.specs.Prelude.{◌≡◌, IfOk, OnOk, OnErr, Decides, string_bytes};
 ghost use Rattle.std.specs.Io.KnownBytes.{Appends};
-ghost use Rattle.quic_recovery.specs.History.{Throughout};
-ghost use Rattle.quic_recovery.specs.Told.{Told};
-ghost use Rattle.recovery_replay.specs.Replay.{status_of, error_text, beginning, AreArguments, Session, Plays, Tells, EndsSo};
+ghost use Rattle.recovery_replay.specs.Script.{Hears};
+ghost use Rattle.recovery_replay.specs.Replay.{status_of, error_text, beginning, AreArguments, Session, PlaysBytes, Plays, Tells};
 
 use crate::answers::render;
-use crate::script::{Ending, read_script};
+use crate::script::{Ending, read_bytes, read_script};
 use crate::words::number_in;
 use crate::writing::deliver;
 use arrayvec::ArrayString;
 use itoa::Buffer;
 use quic_recovery::driver::{Recovery, RecoveryConfig};
-use quic_recovery::event::{Answer, Event, Refusal};
+use quic_recovery::event::Event;
 use recovery_base::below::{ConnectionId, NoMemory};
 use recovery_base::time::{Duration, Instant};
 use std::alloc::Global;
@@ -20,7 +19,7 @@ use std::io;
 use std::io::{Read, Write};
 
 /// How the program ends.
-#[derive(Clone, Copy, Debug, PartialEq, Eq)]
+#[derive(Clone, Copy)]
 pub enum Outcome {
     /// The answers were written, and the input ended so.
     Ended(Ending),
@@ -67,7 +66,8 @@ impl Outcome {
 
     /// Writes the text. After a failure a beginning of it was written.
     pub fn report<E: Write>(self, errors: &mut E) -> io::Result<()>
-        ensures whole { OnOk result (Appends (E.contents errors.old) (E.contents errors.new) (error_text self)) }
+        ensures whole { OnOk result
+            (Appends (E.contents errors.old) (E.contents errors.new) (error_text self)) }
         ensures front { Tells self (E.contents errors.old) (E.contents errors.new) }
     {
         deliver(errors, self.text().as_str().as_bytes())
@@ -87,22 +87,14 @@ fn config() -> RecoveryConfig
     }
 }
 
-/// What a run answers to the events.
-fn replies(alloc: Global, events: Vec<Event>) -> Result<Vec<Result<Answer, Refusal>>, NoMemory>
-    ensures { IfOk result (λ replies. Throughout (Told beginning) events.items replies.items) }
+/// The lines that are written for events.
+fn answers(alloc: Global, events: Vec<Event>) -> Result<String, NoMemory>
+    ensures { IfOk result (λ text.
+        Session (λ said. said ≡ events.items) (λ lines. string_bytes text ≡ lines)) }
 {
     let start = Instant::from_nanos(0);
     let (_, replies) = Recovery::run(alloc, config(), start, events)?;
-    Ok(replies)
-}
-
-/// The lines to be written for an input, and how it ended.
-fn answer_all<R: Read>(alloc: Global, input: &mut R) -> Result<(String, Ending), NoMemory>
-    ensures { IfOk result (λ all. Session (R.remaining input.old) (R.remaining input.new) all.1 (λ lines. string_bytes all.0 ≡ lines)) }
-{
-    let (events, ending) = read_script(alloc, input)?;
-    let text = render(alloc, &replies(alloc, events)?)?;
-    Ok((text, ending))
+    render(alloc, &replies)
 }
 
 /// Are these the arguments of a run: nothing, or a number?
@@ -116,6 +108,37 @@ fn are_arguments(words: &[String]) -> bool
     }
 }
 
+/// What the program comes to with an input that lies in memory: the outcome, whose text and status are the program's, and
+/// the answers. The one refusal is `NoMemory`.
+///
+/// `words` are the arguments behind the program's name: nothing, or a seed (0 to `u64::MAX`, without sign or leading
+/// zeros), which has no effect yet.
+pub fn play_bytes(
+    alloc: Global,
+    words: &[String],
+    input: &[u8],
+) -> Result<(Outcome, String), NoMemory>
+    ensures played { IfOk result (λ played.
+        PlaysBytes words.now input.now played.0 (string_bytes played.1)) }
+    ensures memory { OnErr result (AreArguments words.now) }
+{
+    if !are_arguments(words) {
+        return Ok((Outcome::WrongArguments, String::new(alloc)));
+    }
+    let (events, ending) = read_bytes(alloc, input)?;
+    Ok((Outcome::Ended(ending), answers(alloc, events)?))
+}
+
+/// The answers to an input that is read as it comes, and how it ended.
+fn answer_all<R: Read>(alloc: Global, input: &mut R) -> Result<(Ending, String), NoMemory>
+    ensures { IfOk result (λ all. Session
+        (λ events. Hears (R.remaining input.old) (R.remaining input.new) events all.0)
+        (λ lines. string_bytes all.1 ≡ lines)) }
+{
+    let (events, ending) = read_script(alloc, input)?;
+    Ok((ending, answers(alloc, events)?))
+}
+
 /// Reads events and writes their answers.
 fn play<R: Read, W: Write>(
     alloc: Global,
@@ -123,12 +146,13 @@ fn play<R: Read, W: Write>(
     input: &mut R,
     output: &mut W,
 ) -> Outcome
-    ensures { Plays words.now (R.remaining input.old) (R.remaining input.new) (W.contents output.old) (W.contents output.new) result }
+    ensures { Plays words.now (R.remaining input.old) (R.remaining input.new)
+        (W.contents output.old) (W.contents output.new) result }
 {
     if !are_arguments(words) {
         return Outcome::WrongArguments;
     }
-    let Ok((text, ending)) = answer_all(alloc, input) else {
+    let Ok((ending, text)) = answer_all(alloc, input) else {
         return Outcome::OutOfMemory;
     };
     match deliver(output, text.as_bytes()) {
@@ -139,39 +163,21 @@ fn play<R: Read, W: Write>(
 
 /// Reads events, writes their answers and then what is wrong: how it ended, and whether that could be told.
 ///
-/// `words` are the arguments behind the program's name: nothing, or a seed (0 to `u64::MAX`, without sign or leading
-/// zeros), which has no effect yet. The answers are written once the input was read; they are held in memory.
-pub fn replay_and_tell<R: Read, W: Write, E: Write>(
-    alloc: Global,
-    words: &[String],
-    input: &mut R,
-    output: &mut W,
-    errors: &mut E,
-) -> (Outcome, io::Result<()>)
-    ensures outcome { Plays words.now (R.remaining input.old) (R.remaining input.new) (W.contents output.old) (W.contents output.new) result.0 }
-    ensures told { OnOk result.1 (Appends (E.contents errors.old) (E.contents errors.new) (error_text result.0)) }
-    ensures front { Tells result.0 (E.contents errors.old) (E.contents errors.new) }
-{
-    let outcome = play(alloc, words, input, output);
-    (outcome, outcome.report(errors))
-}
-
-/// Reads events, writes their answers and then what is wrong; gives the exit status.
-///
-/// As `replay_and_tell`; a failed write to `errors` changes no status.
+/// It does what `play_bytes` does with the bytes that are read, unless a read or a write fails. The answers are written
+/// once the input was read; they are held in memory. A failed write to `errors` changes no outcome.
 pub fn replay<R: Read, W: Write, E: Write>(
     alloc: Global,
     words: &[String],
     input: &mut R,
     output: &mut W,
     errors: &mut E,
-) -> u8
-    ensures { EndsSo (λ outcome. Plays words.now (R.remaining input.old) (R.remaining input.new) (W.contents output.old) (W.contents output.new) outcome
-        × Tells outcome (E.contents errors.old) (E.contents errors.new)) result }
+) -> (Outcome, io::Result<()>)
+    ensures outcome { Plays words.now (R.remaining input.old) (R.remaining input.new)
+        (W.contents output.old) (W.contents output.new) result.0 }
+    ensures told { OnOk result.1
+        (Appends (E.contents errors.old) (E.contents errors.new) (error_text result.0)) }
+    ensures front { Tells result.0 (E.contents errors.old) (E.contents errors.new) }
 {
-    let (outcome, _) = replay_and_tell(alloc, words, input, output, errors);
-    outcome.status()
+    let outcome = play(alloc, words, input, output);
+    (outcome, outcome.report(errors))
 }
-
-#[cfg(test)]
-mod tests;

@@ -1,7 +1,7 @@
 //! The words of a line, read one after the other.
 ghost use Rattle.std.specs.Prelude.{◌≡◌, ◌^◌};
 ghost use Rattle.recovery_replay.specs.Words.{words_of};
-ghost use Rattle.recovery_replay.specs.Reading.{Reads, words_left, first_word, field, flag_of, space_of, timer_of, path_of, largest_of, number_of};
+ghost use Rattle.recovery_replay.specs.Reading.{Reads, ReadsBy, words_left, first_word, field, flag_of, space_of, timer_of, path_of, largest_of, number_of};
 
 use quic_recovery::event::PathName;
 use recovery_base::below::{SpaceId, VarInt};
@@ -141,7 +141,8 @@ impl<'a> Words<'a> {
 
     /// The next word; `None` behind the last one.
     pub fn next(&mut self) -> Option<&'a str>
-        ensures { Reads (λ s. s.now) result (words_left self.new) (first_word (words_left self.old)) }
+        ensures { Reads (λ s. s.now) result
+            (words_left self.new) (first_word (words_left self.old)) }
     {
         let rest = self.rest?;
         match rest.split_once(' ') {
@@ -159,7 +160,7 @@ impl<'a> Words<'a> {
     /// The next word as a number, 0 to `u64::MAX`.
     #[tactic(auto, unfolding(crate::specs::Reading::field))]
     pub fn number(&mut self) -> Option<u64>
-        ensures { Reads (λ n. n) result (words_left self.new) (field (number_of (2 ^ 64)) (words_left self.old)) }
+        ensures { ReadsBy (field (number_of (2 ^ 64))) self.old self.new result }
     {
         number_in(self.next()?)
     }
@@ -167,7 +168,7 @@ impl<'a> Words<'a> {
     /// The next word as a moment: nanoseconds, 0 to `u64::MAX`.
     #[tactic(auto, unfolding(crate::specs::Reading::field))]
     pub fn moment(&mut self) -> Option<Instant>
-        ensures { Reads (λ n. n) result (words_left self.new) (field (number_of (2 ^ 64)) (words_left self.old)) }
+        ensures { ReadsBy (field (number_of (2 ^ 64))) self.old self.new result }
     {
         Some(Instant::from_nanos(self.number()?))
     }
@@ -175,7 +176,7 @@ impl<'a> Words<'a> {
     /// The next word as a size in bytes, 0 to `u16::MAX`.
     #[tactic(auto, unfolding(crate::specs::Reading::field))]
     pub fn size(&mut self) -> Option<u16>
-        ensures { Reads (λ n. n) result (words_left self.new) (field (number_of (2 ^ 16)) (words_left self.old)) }
+        ensures { ReadsBy (field (number_of (2 ^ 16))) self.old self.new result }
     {
         size_in(self.next()?)
     }
@@ -183,7 +184,7 @@ impl<'a> Words<'a> {
     /// The next word as a byte, 0 to 255.
     #[tactic(auto, unfolding(crate::specs::Reading::field))]
     pub fn byte(&mut self) -> Option<u8>
-        ensures { Reads (λ n. n) result (words_left self.new) (field (number_of (2 ^ 8)) (words_left self.old)) }
+        ensures { ReadsBy (field (number_of (2 ^ 8))) self.old self.new result }
     {
         byte_in(self.next()?)
     }
@@ -191,7 +192,7 @@ impl<'a> Words<'a> {
     /// The next word as a count of ids, 0 to 64.
     #[tactic(auto, unfolding(crate::specs::Reading::field))]
     pub fn count(&mut self) -> Option<u64>
-        ensures { Reads (λ n. n) result (words_left self.new) (field (number_of 65) (words_left self.old)) }
+        ensures { ReadsBy (field (number_of 65)) self.old self.new result }
     {
         count_in(self.next()?)
     }
@@ -199,7 +200,7 @@ impl<'a> Words<'a> {
     /// The next word as a number below 2^62.
     #[tactic(auto, unfolding(crate::specs::Reading::field))]
     pub fn var_int(&mut self) -> Option<VarInt>
-        ensures { Reads (λ n. n) result (words_left self.new) (field (number_of (2 ^ 62)) (words_left self.old)) }
+        ensures { ReadsBy (field (number_of (2 ^ 62))) self.old self.new result }
     {
         var_int_in(self.next()?)
     }
@@ -207,7 +208,7 @@ impl<'a> Words<'a> {
     /// The next word as a packet number, 0 to `u64::MAX`, or as none, which is spelled `-`.
     #[tactic(auto, unfolding(crate::specs::Reading::field))]
     pub fn largest(&mut self) -> Option<Option<u64>>
-        ensures { Reads (λ n. n) result (words_left self.new) (field largest_of (words_left self.old)) }
+        ensures { ReadsBy (field largest_of) self.old self.new result }
     {
         largest_in(self.next()?)
     }
@@ -215,7 +216,7 @@ impl<'a> Words<'a> {
     /// The next word as a path: `current` or `previous`.
     #[tactic(auto, unfolding(crate::specs::Reading::field))]
     pub fn path(&mut self) -> Option<PathName>
-        ensures { Reads (λ n. n) result (words_left self.new) (field path_of (words_left self.old)) }
+        ensures { ReadsBy (field path_of) self.old self.new result }
     {
         path_in(self.next()?)
     }
@@ -223,7 +224,7 @@ impl<'a> Words<'a> {
     /// The next word as a flag: 0 or 1.
     #[tactic(auto, unfolding(crate::specs::Reading::field))]
     pub fn flag(&mut self) -> Option<bool>
-        ensures { Reads (λ n. n) result (words_left self.new) (field flag_of (words_left self.old)) }
+        ensures { ReadsBy (field flag_of) self.old self.new result }
     {
         flag_in(self.next()?)
     }
@@ -231,7 +232,7 @@ impl<'a> Words<'a> {
     /// The next word as a packet number space: `initial`, `handshake` or `data`.
     #[tactic(auto, unfolding(crate::specs::Reading::field))]
     pub fn space(&mut self) -> Option<SpaceId>
-        ensures { Reads (λ n. n) result (words_left self.new) (field space_of (words_left self.old)) }
+        ensures { ReadsBy (field space_of) self.old self.new result }
     {
         space_in(self.next()?)
     }
@@ -239,7 +240,7 @@ impl<'a> Words<'a> {
     /// The next word as a timer, by its name in small letters with hyphens.
     #[tactic(auto, unfolding(crate::specs::Reading::field))]
     pub fn timer(&mut self) -> Option<Timer>
-        ensures { Reads (λ n. n) result (words_left self.new) (field timer_of (words_left self.old)) }
+        ensures { ReadsBy (field timer_of) self.old self.new result }
     {
         timer_in(self.next()?)
     }

@@ -11,3 +11,5 @@ mod driver;
 mod ids;
 #[cfg(test)]
 mod ledger;
+#[cfg(test)]
+mod lines;
