@@ -9,10 +9,10 @@ ghost use Rattle.recovery_ledger.specs.Packets.{AreBelow, IsAboveLast, HasSize, 
 ghost use Rattle.recovery_ledger.specs.Spaces.{space_of, tracking_of, with_tracking, packets_of, kept_of, acks_of, with_acks, counts_of, next_number_of, after_number, after_eliciting, after_acknowledging, space_takes, HasGreatestCome, SpaceStep, IsReceipt, heard_of, came, SubtractsLargest};
 
 use crate::sent_packets::SentPackets;
+use recovery_acks::PendingAcks;
 use recovery_base::below::{NoMemory, SpaceId};
 use recovery_base::dedup::Dedup;
 use recovery_base::time::Instant;
-use recovery_parts::acks::PendingAcks;
 use std::alloc::Global;
 use std::ops::{Index, IndexMut};
 

@@ -1,8 +1,20 @@
-use Rattle.std.proofs.Common.{rules, IsTrue, false, ◌≡◌, ◌+◌, ◌<◌, map, get_or, length, sym, ap, ◌∙◌, refl, arith}
-use Rattle.std.proofs.lemmas.List.{get_or-map}
+use Rattle.std.proofs.Common.{rules, ℕ, List, IsTrue, false, ◌≡◌, ◌+◌, ◌<◌, map, get_or, length, sym, ap, ◌∙◌, refl, arith}
+use Rattle.std.specs.List.{range_with_len}
+use Rattle.std.proofs.lemmas.List.{ext_get_or, get_or-map, length-map}
+use Rattle.std.proofs.lemmas.List.FromFn.{get_or-range_with_len, length-range_with_len}
 use Rattle.recovery_base.specs.declared.below.ids.IssuedCid.{IssuedCid}
-use Rattle.recovery_ids.proofs.LocalLogLaws.{number_at, numbers_go_on}
 use Rattle.quic_recovery.proofs.driver.ids.go_on.Goals as goal
+
+-- the number at a place of ids that go on
+number_at : (first i : ℕ) (ids : List IssuedCid) (other : IssuedCid) → i < length ids → map (λ id. id.sequence) ids ≡ range_with_len first (length ids) → (get_or ids i other).sequence ≡ first + i
+number_at first i ids other inside run =
+    sym (get_or-map (λ id. id.sequence) ids i other 0 inside) ∙ ap (λ (ns : List ℕ). get_or ns i 0) run ∙ get_or-range_with_len first (length ids) i 0 inside
+
+numbers_go_on : (first : ℕ) (ids : List IssuedCid) → ((i : ℕ) → i < length ids → get_or (map (λ id. id.sequence) ids) i 0 ≡ first + i) → map (λ id. id.sequence) ids ≡ range_with_len first (length ids)
+numbers_go_on first ids each =
+    let long = length-map ids (λ (id : IssuedCid). id.sequence) in
+    ext_get_or 0 (map (λ id. id.sequence) ids) (range_with_len first (length ids)) (long ∙ sym (length-range_with_len first (length ids)))
+    (λ i inside. let within : i < length ids = omega (arith, inside, long) in each i within ∙ sym (get_or-range_with_len first (length ids) i 0 within))
 
 false_fails : IsTrue false → ⊥
 false_fails holds = cc
