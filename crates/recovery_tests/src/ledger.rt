@@ -34,7 +34,7 @@ fn a_space_begins_at_0(rt: HostRuntime) {
     let mut space = PacketSpace::new(rt.alloc(), at(0));
     assert!(rt; space.get_tx_number() == Some(0));
     assert!(rt; space.sent_with_keys == 1);
-    assert!(rt; space.take(0) == None);
+    assert!(rt; space.take(0).is_none());
     assert!(rt; space.take_first().is_none());
 }
 
