@@ -4,7 +4,6 @@ use Rattle.std.proofs.Math.Path.{fun_ext}
 use Rattle.recovery_base.specs.declared.below.SpaceId.{SpaceId}
 use Rattle.recovery_base.specs.declared.timer.Timer.{Timer}
 use Rattle.recovery_acks.specs.AckFrequencies.{Frequency}
-use Rattle.recovery_ids.specs.CidQueue.{remote_ids}
 use Rattle.recovery_ids.specs.LocalIds.{LocalIds}
 use Rattle.recovery_ids.specs.RemoteIds.{RemoteIds}
 use Rattle.quic_recovery.specs.declared.event.Event.{Event}

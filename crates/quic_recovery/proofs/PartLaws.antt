@@ -1,18 +1,10 @@
 -- Timers, discarded spaces and requests of ACKs, one entry at a time.
-use Rattle.std.proofs.Common.{◌≡◌, ℕ, Bool, true, false, List, ◌∷◌, ◌||◌, Some, Result, Ok, Err, if◌then◌else◌, ap, ◌∙◌}
+use Rattle.std.proofs.Common.{List, ◌∷◌, ◌||◌, ap, ◌∙◌}
 use Rattle.recovery_base.specs.declared.below.SpaceId.{SpaceId}
-use Rattle.recovery_base.specs.declared.below.frames.AckFrequency.{AckFrequency}
-use Rattle.recovery_base.specs.declared.below.frames.TransportError.{TransportError}
-use Rattle.recovery_base.specs.declared.timer.TimerTable.{TimerTable}
-use Rattle.recovery_base.specs.Timers.{same_timer}
-use Rattle.recovery_acks.specs.AckFrequencies.{Frequency, FrequencyReceived, delay_of, with_last}
-use Rattle.recovery_acks.specs.Acks.{Acks}
 use Rattle.recovery_ledger.specs.declared.discarded.DiscardedSpaces.{DiscardedSpaces}
 use Rattle.recovery_ledger.specs.Discarded.{DiscardedStep, DiscardedLeft}
 use Rattle.recovery_ledger.specs.PathLog.{PathEntry, PathKnown, PathsEntry, OfPaths, PathsStep, PathsLeft, path_with, paths_with}
-use Rattle.recovery_acks.specs.RequestLog.{RequestEntry, taken, too_small, RequestStep, FrequencyLeft}
 use Rattle.recovery_ledger.specs.SpaceIds.{same_space}
-use Rattle.recovery_base.specs.TimerLog.{TimerEntry, TimerStep, TimersLeft}
 
 pub discarded_law : (entry : SpaceId) (log : List SpaceId) (old new : DiscardedSpaces) → DiscardedLeft log old → DiscardedStep entry old new → DiscardedLeft (entry ∷ log) new
 discarded_law entry log old new left step = λ space. step space ∙ ap (λ b. same_space entry space || b) (left space)

@@ -5,11 +5,11 @@ use Rattle.recovery_base.specs.declared.below.SpaceId.TheVariants.{Data}
 use Rattle.quic_recovery.specs.declared.event.Event.{Event}
 use Rattle.quic_recovery.specs.declared.event.Event.TheVariants.{Received, Send, Acked, Lost, NewId, NextId, InitialId, IssueIds, IdTimeout, PeerRetired, AckFrequencyIn, AcksSent, AckDelayTimeout, SetTimer, StopTimer, DiscardSpace}
 use Rattle.quic_recovery.specs.declared.event.Answer.{Answer}
-use Rattle.quic_recovery.specs.declared.event.Answer.TheVariants.{New, Flag, Retire}
+use Rattle.quic_recovery.specs.declared.event.Answer.TheVariants.{New, Flag}
 use Rattle.quic_recovery.specs.declared.event.Refusal.{Refusal}
 use Rattle.quic_recovery.specs.declared.event.Refusal.TheVariants.{DelayTooSmall}
 use Rattle.quic_recovery.specs.History.{Beginning, History, Reply}
-use Rattle.quic_recovery.specs.Known.{Known, Logs, no_logs, known_by}
+use Rattle.quic_recovery.specs.Known.{Known, Logs, no_logs, known_by, packet_now}
 use Rattle.recovery_ids.specs.LocalLog.{LocalEntry, issues, passes, retires}
 use Rattle.quic_recovery.specs.Logs.{onto}
 use Rattle.recovery_ledger.specs.PathLog.{PathEntry, PathsEntry}
@@ -18,7 +18,6 @@ use Rattle.recovery_acks.specs.RequestLog.{RequestEntry, taken, too_small}
 use Rattle.recovery_ledger.specs.SpaceIds.{same_space}
 use Rattle.recovery_ledger.specs.SpaceLog.{SpaceEntry, heard, heard_again, sends, acknowledged, loses, emptied, ack_goes, ack_is_late, asked}
 use Rattle.recovery_base.specs.TimerLog.{TimerEntry}
-use Rattle.recovery_ledger.specs.Tracked.{packet_sent}
 
 -- what happens in one space is nothing to another
 abbrev pub here : SpaceId → SpaceId → SpaceEntry → Option SpaceEntry
@@ -35,7 +34,15 @@ pub record Entries : Type 0 where
   pub paths : Option (PathsEntry PathEntry)
 
 abbrev pub nothing : Entries
-nothing = record { spaces = λ space. None; discarded = None; requests = None; timers = None; remote_ids = None; local_ids = None; paths = None }
+nothing = record {
+  spaces = λ space. None;
+  discarded = None;
+  requests = None;
+  timers = None;
+  remote_ids = None;
+  local_ids = None;
+  paths = None;
+}
 
 -- something that happens in one space alone
 abbrev pub in_space : SpaceId → SpaceEntry → Entries
@@ -43,9 +50,10 @@ in_space space entry = record nothing { spaces = λ other. here space other entr
 
 -- what an event is by its answer, and by what was known before it
 abbrev pub answered : Known → Event → Answer → Entries
-answered known (Received space now number ack_eliciting) (New arm) = in_space space (heard now number ack_eliciting)
-answered known (Received space now number ack_eliciting) answer = in_space space (heard_again number)
-answered known (Send space now size ack_eliciting largest_acked) answer = in_space space (sends (packet_sent known.paths.current.generation now size ack_eliciting largest_acked))
+answered known (Received space now number eliciting) (New arm) = in_space space (heard now number eliciting)
+answered known (Received space now number eliciting) answer = in_space space (heard_again number)
+answered known (Send space now size eliciting largest) answer =
+    in_space space (sends (packet_now known now size eliciting largest))
 answered known (Acked space now number app_limited) answer = in_space space (acknowledged number)
 answered known (Lost space number) answer = in_space space (loses number)
 answered known (NewId frame) answer = record nothing { remote_ids = Some (given frame) }
@@ -54,7 +62,8 @@ answered known (InitialId id) answer = record nothing { remote_ids = Some (repla
 answered known (IssueIds now ids) answer = record nothing { local_ids = Some (issues now (length ids.items)) }
 answered known IdTimeout answer = record nothing { local_ids = Some passes }
 answered known (PeerRetired sequence limit) answer = record nothing { local_ids = Some (retires sequence) }
-answered known (AckFrequencyIn frame) (Flag true) = record (in_space Data (asked frame)) { requests = Some (taken frame) }
+answered known (AckFrequencyIn frame) (Flag true) =
+    record (in_space Data (asked frame)) { requests = Some (taken frame) }
 answered known (AcksSent space) answer = in_space space ack_goes
 answered known (AckDelayTimeout space) answer = in_space space ack_is_late
 answered known (SetTimer timer time) answer = record nothing { timers = Some (timer, Some time) }

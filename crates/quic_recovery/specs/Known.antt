@@ -8,15 +8,19 @@ use Rattle.recovery_ledger.specs.Acks.{AckCounts, counts_by}
 use Rattle.recovery_ledger.specs.Discarded.{was_discarded}
 use Rattle.quic_recovery.specs.History.{Beginning}
 use Rattle.recovery_ids.specs.LocalLog.{LocalEntry, FirstIds, local_ids_by}
+use Rattle.recovery_ledger.specs.declared.paths.InFlight.{InFlight}
+use Rattle.recovery_ledger.specs.declared.spaces.SentPacket.{SentPacket}
+use Rattle.recovery_ledger.specs.InFlight.{in_flight}
 use Rattle.recovery_ledger.specs.Packets.{Packets}
 use Rattle.recovery_ledger.specs.PathLog.{PathEntry, PathsEntry, PathKnown, OfPaths, paths_known_by}
 use Rattle.recovery_ids.specs.RemoteLog.{RemoteEntry, remote_ids_by}
 use Rattle.recovery_acks.specs.RequestLog.{RequestEntry, last_asked}
 use Rattle.recovery_ledger.specs.SpaceLog.{SpaceEntry}
 use Rattle.recovery_base.specs.TimerLog.{TimerEntry, last_set}
-use Rattle.recovery_ledger.specs.Tracked.{Sent, sent_by}
+use Rattle.recovery_ledger.specs.Tracked.{Sent, sent_by, packet_sent}
 
--- what replies and entries depend on, but for the sets of numbers: values, which are the same by the state and by the logs
+-- what replies and entries depend on, but for the sets of numbers: values, which are the same by the state and by
+-- the logs
 pub record SpaceKnown : Type 0 where
   -- the space was discarded
   pub discarded : Bool
@@ -42,6 +46,14 @@ pub record Known : Type 0 where
 abbrev pub tracked_known : Known → SpaceId → Packets
 tracked_known known space = (known.spaces space).sent.tracked
 
+-- a packet as it is sent on the path in use
+abbrev pub packet_now : Known → ℕ → ℕ → Bool → Option ℕ → SentPacket
+packet_now known = packet_sent known.paths.current.generation
+
+-- what is in flight on the path in use
+abbrev pub current_in_flight : Known → InFlight
+current_in_flight known = in_flight known.paths.current.generation (tracked_known known)
+
 -- ---- the logs of all parts
 
 pub record Logs : Type 0 where
@@ -54,7 +66,15 @@ pub record Logs : Type 0 where
   pub paths : List (PathsEntry PathEntry)
 
 abbrev pub no_logs : Logs
-no_logs = record { spaces = λ space. []; discarded = []; requests = []; timers = []; remote_ids = []; local_ids = []; paths = [] }
+no_logs = record {
+  spaces = λ space. [];
+  discarded = [];
+  requests = [];
+  timers = [];
+  remote_ids = [];
+  local_ids = [];
+  paths = [];
+}
 
 -- what the logs know, in a run that begins so
 abbrev pub first_ids : Beginning → FirstIds
@@ -67,7 +87,11 @@ first_ids beginning = record {
 
 abbrev pub known_by : Beginning → Logs → Known
 known_by beginning logs = record {
-  spaces = λ space. record { discarded = was_discarded space logs.discarded; counts = counts_by (logs.spaces space); sent = sent_by (logs.spaces space) };
+  spaces = λ space. record {
+    discarded = was_discarded space logs.discarded;
+    counts = counts_by (logs.spaces space);
+    sent = sent_by (logs.spaces space);
+  };
   last_asked = last_asked logs.requests;
   remote_ids = remote_ids_by beginning.config.initial_cid logs.remote_ids;
   local_ids = local_ids_by (first_ids beginning) logs.local_ids;

@@ -1,7 +1,7 @@
 -- Packets sent in a space, and those still tracked (RFC 9002, A.1).
 use Rattle.std.specs.Prelude.{ℕ, ◌+◌, List, [], ◌∷◌, Bool, Option, None, Some, if◌then◌else◌}
 use Rattle.recovery_ledger.specs.declared.spaces.SentPacket.{SentPacket}
-use Rattle.recovery_ledger.specs.Packets.{Packets, without, sent_onto}
+use Rattle.recovery_ledger.specs.Packets.{Packets, without, forgotten_number, sent_onto}
 use Rattle.recovery_ledger.specs.SpaceLog.{SpaceEntry, sends, acknowledged, loses, emptied}
 
 -- a packet as it is sent
@@ -21,6 +21,10 @@ pub record Sent : Type 0 where
   pub last : Option ℕ
   -- the packets sent, and since then not acknowledged, lost, forgotten or discarded
   pub tracked : Packets
+
+-- the number that is forgotten when a packet is sent
+abbrev pub forgotten_by : Sent → SentPacket → Option ℕ
+forgotten_by sent packet = forgotten_number sent.last packet sent.tracked
 
 abbrev pub sent_more : SentPacket → Sent → Sent
 sent_more packet sent = record {

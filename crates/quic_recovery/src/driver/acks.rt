@@ -6,11 +6,11 @@ use recovery_base::below::{AckFrequency, SpaceId};
 
 impl Recovery {
     ghost use Rattle.quic_recovery.specs.declared.event.Event.TheVariants.{AckFrequencyIn, AcksSent, AckDelayTimeout};
-    ghost use Rattle.quic_recovery.specs.State.{parts_of, Changes};
+    ghost use Rattle.quic_recovery.specs.State.{Does};
 
     /// The peer asks for fewer ACKs.
     pub(super) fn ack_frequency_in(&mut self, frame: AckFrequency) -> Result<Answer, Refusal>
-        ensures { Changes (parts_of self.old) (AckFrequencyIn frame) result (parts_of self.new) }
+        ensures { Does (AckFrequencyIn frame) self.old result self.new }
     {
         if self.discarded.contains(SpaceId::Data) {
             return Err(Refusal::SpaceDiscarded);
@@ -27,7 +27,7 @@ impl Recovery {
 
     /// An ACK is sent (RFC 9000, 13.2).
     pub(super) fn acks_sent(&mut self, space: SpaceId) -> Result<Answer, Refusal>
-        ensures { Changes (parts_of self.old) (AcksSent space) result (parts_of self.new) }
+        ensures { Does (AcksSent space) self.old result self.new }
     {
         if self.discarded.contains(space) {
             return Err(Refusal::SpaceDiscarded);
@@ -38,7 +38,7 @@ impl Recovery {
 
     /// The timer for a late ACK expired (RFC 9000, 13.2.1).
     pub(super) fn ack_delay_timeout(&mut self, space: SpaceId) -> Result<Answer, Refusal>
-        ensures { Changes (parts_of self.old) (AckDelayTimeout space) result (parts_of self.new) }
+        ensures { Does (AckDelayTimeout space) self.old result self.new }
     {
         if self.discarded.contains(space) {
             return Err(Refusal::SpaceDiscarded);

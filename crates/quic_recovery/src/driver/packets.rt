@@ -12,8 +12,7 @@ use recovery_ledger::spaces::{NUMBER_LIMIT, Receipt, SentPacket};
 
 impl Recovery {
     ghost use Rattle.quic_recovery.specs.declared.event.Event.TheVariants.{Received, Send, Acked, Lost, DiscardSpace, InFlight};
-    ghost use Rattle.quic_recovery.specs.State.{parts_of, known_to, heard_to, Changes};
-    ghost use Rattle.quic_recovery.specs.Told.{ToldBy};
+    ghost use Rattle.quic_recovery.specs.State.{Does, Tells};
 
     /// A packet comes in (RFC 9000, 12.3).
     pub(super) fn received(
@@ -23,7 +22,7 @@ impl Recovery {
         number: u64,
         ack_eliciting: bool,
     ) -> Result<Answer, Refusal>
-        ensures { Changes (parts_of self.old) (Received space now number ack_eliciting) result (parts_of self.new) }
+        ensures { Does (Received space now number ack_eliciting) self.old result self.new }
     {
         if self.discarded.contains(space) {
             return Err(Refusal::SpaceDiscarded);
@@ -43,7 +42,7 @@ impl Recovery {
         ack_eliciting: bool,
         largest_acked: Option<u64>,
     ) -> Result<Answer, Refusal>
-        ensures { Changes (parts_of self.old) (Send space now size ack_eliciting largest_acked) result (parts_of self.new) }
+        ensures { Does (Send space now size ack_eliciting largest_acked) self.old result self.new }
     {
         if self.discarded.contains(space) {
             return Err(Refusal::SpaceDiscarded);
@@ -83,7 +82,7 @@ impl Recovery {
         number: u64,
         app_limited: bool,
     ) -> Result<Answer, Refusal>
-        ensures { Changes (parts_of self.old) (Acked space now number app_limited) result (parts_of self.new) }
+        ensures { Does (Acked space now number app_limited) self.old result self.new }
     {
         if self.discarded.contains(space) {
             return Err(Refusal::SpaceDiscarded);
@@ -99,7 +98,7 @@ impl Recovery {
 
     /// A packet is lost (RFC 9002, A.10).
     pub(super) fn lost(&mut self, space: SpaceId, number: u64) -> Result<Answer, Refusal>
-        ensures { Changes (parts_of self.old) (Lost space number) result (parts_of self.new) }
+        ensures { Does (Lost space number) self.old result self.new }
     {
         if self.discarded.contains(space) {
             return Err(Refusal::SpaceDiscarded);
@@ -113,7 +112,7 @@ impl Recovery {
 
     /// The keys of a space are dropped (RFC 9001, 4.9).
     pub(super) fn discard(&mut self, space: SpaceId) -> Result<Answer, Refusal>
-        ensures { Changes (parts_of self.old) (DiscardSpace space) result (parts_of self.new) }
+        ensures { Does (DiscardSpace space) self.old result self.new }
     {
         if self.discarded.contains(space) {
             return Err(Refusal::SpaceDiscarded);
@@ -125,7 +124,7 @@ impl Recovery {
 
     /// What is in flight on a path? (RFC 9002, B.2)
     pub(super) fn in_flight(&self, path: PathName) -> Result<Answer, Refusal>
-        ensures { ToldBy (heard_to (parts_of self.now)) (known_to (parts_of self.now)) (InFlight path) result }
+        ensures { Tells (InFlight path) self.now result }
     {
         match path {
             PathName::Current => {

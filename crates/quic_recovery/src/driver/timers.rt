@@ -7,12 +7,11 @@ use recovery_base::timer::Timer;
 
 impl Recovery {
     ghost use Rattle.quic_recovery.specs.declared.event.Event.TheVariants.{SetTimer, StopTimer, NextTimeout};
-    ghost use Rattle.quic_recovery.specs.State.{parts_of, known_to, heard_to, Changes};
-    ghost use Rattle.quic_recovery.specs.Told.{ToldBy};
+    ghost use Rattle.quic_recovery.specs.State.{Does, Tells};
 
     /// A timer is set, or set anew.
     pub(super) fn set_timer(&mut self, timer: Timer, time: Instant) -> Result<Answer, Refusal>
-        ensures { Changes (parts_of self.old) (SetTimer timer time) result (parts_of self.new) }
+        ensures { Does (SetTimer timer time) self.old result self.new }
     {
         self.timers.set(timer, time);
         Ok(Answer::Done)
@@ -20,7 +19,7 @@ impl Recovery {
 
     /// A timer is stopped.
     pub(super) fn stop_timer(&mut self, timer: Timer) -> Result<Answer, Refusal>
-        ensures { Changes (parts_of self.old) (StopTimer timer) result (parts_of self.new) }
+        ensures { Does (StopTimer timer) self.old result self.new }
     {
         self.timers.stop(timer);
         Ok(Answer::Done)
@@ -28,7 +27,7 @@ impl Recovery {
 
     /// When does the next timer expire?
     pub(super) fn next_timeout(&self) -> Result<Answer, Refusal>
-        ensures { ToldBy (heard_to (parts_of self.now)) (known_to (parts_of self.now)) NextTimeout result }
+        ensures { Tells NextTimeout self.now result }
     {
         Ok(Answer::Timeout(self.timers.next_timeout()))
     }
