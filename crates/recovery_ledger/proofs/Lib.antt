@@ -3,6 +3,7 @@ pub mod AmongLaws
 pub mod CountLaws
 pub mod HeardLaws
 pub mod LedgerLaws
+mod LogRows
 pub mod PacketLaws
 pub mod ReceivedLaws
 pub mod SpaceLaws

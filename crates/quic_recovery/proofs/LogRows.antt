@@ -1,0 +1,39 @@
+-- A worked row of a history, computed: what its events were to the parts, the newest first.
+use Rattle.std.proofs.Common.{◌≡◌, ◌^◌, true, [], ◌∷◌, None, Some, Ok, Err, refl}
+use Rattle.recovery_base.specs.declared.below.SpaceId.TheVariants.{Initial, Data}
+use Rattle.recovery_base.specs.declared.timer.Timer.TheVariants.{Idle, Pacing}
+use Rattle.recovery_base.specs.TimerLog.{last_set}
+use Rattle.recovery_ledger.specs.Received.{greatest_new}
+use Rattle.recovery_ledger.specs.Tracked.{packet_sent, sent_by}
+use Rattle.quic_recovery.specs.declared.event.Event.TheVariants.{Received, Send, SetTimer, StopTimer}
+use Rattle.quic_recovery.specs.declared.event.Answer.TheVariants as answer
+use Rattle.quic_recovery.specs.declared.event.Refusal.TheVariants.{NumberTooLarge}
+use Rattle.quic_recovery.specs.Entries.{logs_of}
+use Rattle.quic_recovery.specs.History.{Beginning, History}
+
+-- packet 0 came, one too large was refused, one was sent, Idle was set to 50 and Pacing to 20, and Pacing was stopped
+abbrev row : History
+row =
+    (StopTimer Pacing, Ok answer.Done)
+    ∷ (SetTimer Pacing 20, Ok answer.Done)
+    ∷ (SetTimer Idle 50, Ok answer.Done)
+    ∷ (Send Data 7 500 true None, Ok (answer.Sent 0 None))
+    ∷ (Received Data 6 (2 ^ 62) true, Err NumberTooLarge)
+    ∷ (Received Data 5 0 true, Ok (answer.New true))
+    ∷ []
+
+module _ (beginning : Beginning) where
+  idle_is_set : last_set Idle (logs_of beginning row).timers ≡ Some 50
+  idle_is_set = refl
+
+  pacing_is_stopped : last_set Pacing (logs_of beginning row).timers ≡ None
+  pacing_is_stopped = refl
+
+  one_is_tracked : (sent_by ((logs_of beginning row).spaces Data)).tracked ≡ (0, packet_sent 0 7 500 true None) ∷ []
+  one_is_tracked = refl
+
+  nothing_in_initial : (logs_of beginning row).spaces Initial ≡ []
+  nothing_in_initial = refl
+
+  refused_is_nothing : greatest_new ((logs_of beginning row).spaces Data) ≡ 0
+  refused_is_nothing = refl
