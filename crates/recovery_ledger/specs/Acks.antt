@@ -1,4 +1,5 @@
--- What is to be acknowledged and when (RFC 9000, 13.2 and 19.3; the QUIC ACK frequency extension), by what happened in a space.
+-- What is to be acknowledged and when, by what happened in a space (RFC 9000, 13.2 and 19.3; the QUIC ACK frequency
+-- extension, draft-ietf-quic-ack-frequency-04).
 use Rattle.std.specs.Prelude.{ℕ, ◌≡◌, ◌<◌, ◌⊎◌, max, List, [], ◌∷◌, Bool, IsTrue, Option, None, Some, if◌then◌else◌}
 use Rattle.recovery_base.specs.declared.below.frames.AckFrequency.{AckFrequency}
 use Rattle.recovery_base.specs.Numbers.{With}
@@ -14,20 +15,24 @@ use Rattle.recovery_ledger.specs.Tracked.{sent_by}
 -- the numbers that were new and not subtracted, cut after each to the 64 highest runs
 abbrev pub ToAcknowledge : List SpaceEntry → ℕ → Type 0
 ToAcknowledge [] n = ⊥
-ToAcknowledge (heard now number ack_eliciting ∷ earlier) n = IsInHighest 64 (With number (ToAcknowledge earlier)) n
-ToAcknowledge (acknowledged number ∷ earlier) n = ToAcknowledge earlier n × IsTrue (is_above (largest_acked_by (packet_at (sent_by earlier).tracked number)) n)
+ToAcknowledge (heard now number eliciting ∷ earlier) n =
+    IsInHighest 64 (With number (ToAcknowledge earlier)) n
+ToAcknowledge (acknowledged number ∷ earlier) n =
+    ToAcknowledge earlier n
+    × IsTrue (is_above (largest_acked_by (packet_at (sent_by earlier).tracked number)) n)
 ToAcknowledge (entry ∷ earlier) n = ToAcknowledge earlier n
 
 -- the largest new number, with the moment when it came (RFC 9000, 13.2.5)
 abbrev pub largest_new : List SpaceEntry → Option (ℕ × ℕ)
 largest_new [] = None
-largest_new (heard now number ack_eliciting ∷ earlier) = largest_with (largest_new earlier) number now
+largest_new (heard now number eliciting ∷ earlier) = largest_with (largest_new earlier) number now
 largest_new (entry ∷ earlier) = largest_new earlier
 
 -- how many new packets that are not ack-eliciting came since the last ACK
 abbrev pub silent_since : List SpaceEntry → ℕ
 silent_since [] = 0
-silent_since (heard now number ack_eliciting ∷ earlier) = if ack_eliciting then silent_since earlier else counted (silent_since earlier)
+silent_since (heard now number eliciting ∷ earlier) =
+    if eliciting then silent_since earlier else counted (silent_since earlier)
 silent_since (ack_goes ∷ earlier) = 0
 silent_since (entry ∷ earlier) = silent_since earlier
 
@@ -48,10 +53,10 @@ greatest_with greatest number = max (number_or_zero greatest) number
 
 -- the counts once a new packet came
 abbrev pub counts_with : Bool → ℕ → AckCounts → AckCounts
-counts_with ack_eliciting number counts = record {
-  eliciting = (if ack_eliciting then counted counts.eliciting else counts.eliciting);
+counts_with eliciting number counts = record {
+  eliciting = (if eliciting then counted counts.eliciting else counts.eliciting);
   thresholds = counts.thresholds;
-  greatest = (if ack_eliciting then Some (greatest_with counts.greatest number) else counts.greatest);
+  greatest = (if eliciting then Some (greatest_with counts.greatest number) else counts.greatest);
   acknowledged = counts.acknowledged;
 }
 
@@ -61,11 +66,12 @@ counts_acked counts = record counts { eliciting = 0; acknowledged = counts.great
 
 -- the counts once the peer asked for other thresholds
 abbrev pub counts_asked : AckFrequency → AckCounts → AckCounts
-counts_asked frame counts = record counts { thresholds = (frame.ack_eliciting_threshold, frame.reordering_threshold) }
+counts_asked frame counts =
+    record counts { thresholds = (frame.ack_eliciting_threshold, frame.reordering_threshold) }
 
 abbrev pub counts_by : List SpaceEntry → AckCounts
 counts_by [] = record { eliciting = 0; thresholds = (1, 1); greatest = None; acknowledged = None }
-counts_by (heard now number ack_eliciting ∷ earlier) = counts_with ack_eliciting number (counts_by earlier)
+counts_by (heard now number eliciting ∷ earlier) = counts_with eliciting number (counts_by earlier)
 counts_by (ack_goes ∷ earlier) = counts_acked (counts_by earlier)
 counts_by (asked frame ∷ earlier) = counts_asked frame (counts_by earlier)
 counts_by (entry ∷ earlier) = counts_by earlier
@@ -74,12 +80,14 @@ counts_by (entry ∷ earlier) = counts_by earlier
 abbrev pub AsksAtOnce : (ℕ → Type 0) → AckCounts → ℕ → Type 0
 AsksAtOnce Numbers counts number =
     (counts.thresholds.0 < counted counts.eliciting)
-    ⊎ IsOutOfOrder (With number Numbers) counts.thresholds.1 counts.acknowledged (number_or_zero counts.greatest) (greatest_with counts.greatest number) number
+    ⊎ IsOutOfOrder (With number Numbers) counts.thresholds.1 counts.acknowledged
+    (number_or_zero counts.greatest) (greatest_with counts.greatest number) number
 
 -- an ACK is required at once
 abbrev pub IsRequired : List SpaceEntry → Type 0
 IsRequired [] = ⊥
-IsRequired (heard now number ack_eliciting ∷ earlier) = IsRequired earlier ⊎ (IsTrue ack_eliciting × AsksAtOnce (CameIn earlier) (counts_by earlier) number)
+IsRequired (heard now number eliciting ∷ earlier) =
+    IsRequired earlier ⊎ (IsTrue eliciting × AsksAtOnce (CameIn earlier) (counts_by earlier) number)
 IsRequired (ack_goes ∷ earlier) = ⊥
 IsRequired (ack_is_late ∷ earlier) = 0 < (counts_by earlier).eliciting
 IsRequired (entry ∷ earlier) = IsRequired earlier
@@ -94,21 +102,31 @@ pub record Heard : Type 1 where
 -- the timer for a late ACK starts at a new ack-eliciting packet, where it was not started since the last ACK and no ACK is
 -- required at once
 abbrev pub Arms : Heard → AckCounts → ℕ → Bool → Type 0
-Arms known counts number ack_eliciting =
-    IsTrue ack_eliciting × (¬ known.started) × ¬ (known.required ⊎ AsksAtOnce known.came counts number)
+Arms known counts number eliciting =
+    IsTrue eliciting × (¬ known.started) × ¬ (known.required ⊎ AsksAtOnce known.came counts number)
 
 -- the moment when the timer for a late ACK was started since the last ACK
 abbrev pub StartedAt : List SpaceEntry → ℕ → Type 0
 StartedAt [] moment = ⊥
-StartedAt (heard now number ack_eliciting ∷ earlier) moment =
+StartedAt (heard now number eliciting ∷ earlier) moment =
     StartedAt earlier moment
     ⊎ ((moment ≡ now)
-    × Arms (record { came = λ n. CameIn earlier n; required = IsRequired earlier; started = (m : ℕ) × StartedAt earlier m }) (counts_by earlier) number ack_eliciting)
+    × Arms
+    (record {
+      came = λ n. CameIn earlier n;
+      required = IsRequired earlier;
+      started = (m : ℕ) × StartedAt earlier m;
+    })
+    (counts_by earlier) number eliciting)
 StartedAt (ack_goes ∷ earlier) moment = ⊥
 StartedAt (entry ∷ earlier) moment = StartedAt earlier moment
 
 abbrev pub heard_by : List SpaceEntry → Heard
-heard_by log = record { came = λ n. CameIn log n; required = IsRequired log; started = (m : ℕ) × StartedAt log m }
+heard_by log = record {
+  came = λ n. CameIn log n;
+  required = IsRequired log;
+  started = (m : ℕ) × StartedAt log m;
+}
 
 -- ---- all of it
 
@@ -121,4 +139,11 @@ pub record AcksSaid : Type 1 where
   pub largest : Option (ℕ × ℕ)
 
 abbrev pub acks_by : List SpaceEntry → AcksSaid
-acks_by log = record { pending = λ n. ToAcknowledge log n; required = IsRequired log; started = λ m. StartedAt log m; counts = counts_by log; silent = silent_since log; largest = largest_new log }
+acks_by log = record {
+  pending = λ n. ToAcknowledge log n;
+  required = IsRequired log;
+  started = λ m. StartedAt log m;
+  counts = counts_by log;
+  silent = silent_since log;
+  largest = largest_new log;
+}

@@ -16,7 +16,8 @@ was_discarded space [] = false
 was_discarded space (other ∷ earlier) = same_space other space || was_discarded space earlier
 
 abbrev pub DiscardedStep : SpaceId → DiscardedSpaces → DiscardedSpaces → Type 0
-DiscardedStep space old new = (other : SpaceId) → is_discarded other new ≡ (same_space space other || is_discarded other old)
+DiscardedStep space old new =
+    (other : SpaceId) → is_discarded other new ≡ (same_space space other || is_discarded other old)
 
 abbrev pub DiscardedLeft : List SpaceId → DiscardedSpaces → Type 0
 DiscardedLeft log discarded = (space : SpaceId) → is_discarded space discarded ≡ was_discarded space log

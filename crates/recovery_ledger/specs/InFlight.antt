@@ -11,7 +11,8 @@ abbrev pub size_in : ℕ → ℕ × SentPacket → ℕ
 size_in generation entry = if entry.1.path_generation == generation then entry.1.size else 0
 
 abbrev pub eliciting_in : ℕ → ℕ × SentPacket → ℕ
-eliciting_in generation entry = if entry.1.path_generation == generation && entry.1.ack_eliciting then 1 else 0
+eliciting_in generation entry =
+    if entry.1.path_generation == generation && entry.1.ack_eliciting then 1 else 0
 
 abbrev pub over_spaces : (SpaceId → ℕ) → ℕ
 over_spaces count = count Initial + count Handshake + count Data
@@ -29,23 +30,36 @@ abbrev pub eliciting_one : SentPacket → ℕ
 eliciting_one packet = if packet.ack_eliciting then 1 else 0
 
 abbrev pub with_packet : InFlight → SentPacket → InFlight
-with_packet counters packet = record { bytes = counters.bytes + packet.size; ack_eliciting = counters.ack_eliciting + eliciting_one packet }
+with_packet counters packet = record {
+  bytes = counters.bytes + packet.size;
+  ack_eliciting = counters.ack_eliciting + eliciting_one packet;
+}
 
 abbrev pub without_packet : InFlight → SentPacket → InFlight
-without_packet counters packet = record { bytes = counters.bytes - packet.size; ack_eliciting = counters.ack_eliciting - eliciting_one packet }
+without_packet counters packet = record {
+  bytes = counters.bytes - packet.size;
+  ack_eliciting = counters.ack_eliciting - eliciting_one packet;
+}
 
 -- the packet is among those counted
 abbrev pub IsCounted : InFlight → SentPacket → Type 0
-IsCounted counters packet = (packet.size ≤ counters.bytes) × (eliciting_one packet ≤ counters.ack_eliciting)
+IsCounted counters packet =
+    (packet.size ≤ counters.bytes) × (eliciting_one packet ≤ counters.ack_eliciting)
 
 -- all packets of a space are among those counted
 abbrev pub IsCountedIn : InFlight → ℕ → Packets → Type 0
-IsCountedIn counters generation packets = (sum_by (size_in generation) packets ≤ counters.bytes) × (sum_by (eliciting_in generation) packets ≤ counters.ack_eliciting)
+IsCountedIn counters generation packets =
+    (sum_by (size_in generation) packets ≤ counters.bytes)
+    × (sum_by (eliciting_in generation) packets ≤ counters.ack_eliciting)
 
 -- all packets of a space leave the counters
 abbrev pub SumsLeave : InFlight → ℕ → Packets → InFlight → Type 0
-SumsLeave old generation packets new = (new.bytes + sum_by (size_in generation) packets ≡ old.bytes) × (new.ack_eliciting + sum_by (eliciting_in generation) packets ≡ old.ack_eliciting)
+SumsLeave old generation packets new =
+    (new.bytes + sum_by (size_in generation) packets ≡ old.bytes)
+    × (new.ack_eliciting + sum_by (eliciting_in generation) packets ≡ old.ack_eliciting)
 
 -- a counter would pass the end of its type
 abbrev pub Overflows : InFlight → SentPacket → Type 0
-Overflows counters packet = (2 ^ 64 ≤ counters.bytes + packet.size) ⊎ (2 ^ 64 ≤ counters.ack_eliciting + eliciting_one packet)
+Overflows counters packet =
+    (2 ^ 64 ≤ counters.bytes + packet.size)
+    ⊎ (2 ^ 64 ≤ counters.ack_eliciting + eliciting_one packet)

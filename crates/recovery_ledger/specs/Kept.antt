@@ -13,24 +13,29 @@ pub record Acknowledged : Type 0 where
 -- the greater of a number that was acknowledged and one that is now, if its packet is tracked
 abbrev pub acknowledged_with : Option SentPacket → ℕ → Acknowledged → Acknowledged
 acknowledged_with None number old = old
-acknowledged_with (Some packet) number old = if is_above old.number number then record { number = Some number; sent = packet.time_sent } else old
+acknowledged_with (Some packet) number old =
+    if is_above old.number number then record { number = Some number; sent = packet.time_sent } else old
 
 -- the largest number that was acknowledged; before the first none, and the moment when the space was made
 abbrev pub largest_acknowledged : ℕ → List SpaceEntry → Acknowledged
 largest_acknowledged start [] = record { number = None; sent = start }
-largest_acknowledged start (acknowledged number ∷ earlier) = acknowledged_with (packet_at (sent_by earlier).tracked number) number (largest_acknowledged start earlier)
+largest_acknowledged start (acknowledged number ∷ earlier) =
+    acknowledged_with (packet_at (sent_by earlier).tracked number) number
+    (largest_acknowledged start earlier)
 largest_acknowledged start (entry ∷ earlier) = largest_acknowledged start earlier
 
 -- when the last ack-eliciting packet was sent
 abbrev pub last_eliciting_sent : List SpaceEntry → Option ℕ
 last_eliciting_sent [] = None
-last_eliciting_sent (sends packet ∷ earlier) = if packet.ack_eliciting then Some packet.time_sent else last_eliciting_sent earlier
+last_eliciting_sent (sends packet ∷ earlier) =
+    if packet.ack_eliciting then Some packet.time_sent else last_eliciting_sent earlier
 last_eliciting_sent (entry ∷ earlier) = last_eliciting_sent earlier
 
 -- how many probes are still to be sent: each ack-eliciting packet is one of them
 abbrev pub probes_by : List SpaceEntry → ℕ
 probes_by [] = 0
-probes_by (sends packet ∷ earlier) = if packet.ack_eliciting then probes_by earlier - 1 else probes_by earlier
+probes_by (sends packet ∷ earlier) =
+    if packet.ack_eliciting then probes_by earlier - 1 else probes_by earlier
 probes_by (entry ∷ earlier) = probes_by earlier
 
 -- ---- all of it
@@ -43,4 +48,9 @@ pub record Kept : Type 0 where
   pub given_out : ℕ
 
 abbrev pub kept_by : ℕ → List SpaceEntry → Kept
-kept_by start log = record { largest = largest_acknowledged start log; last_sent = last_eliciting_sent log; probes = probes_by log; given_out = min (sent_by log).next (2 ^ 64 - 1) }
+kept_by start log = record {
+  largest = largest_acknowledged start log;
+  last_sent = last_eliciting_sent log;
+  probes = probes_by log;
+  given_out = min (sent_by log).next (2 ^ 64 - 1);
+}

@@ -18,7 +18,8 @@ without packets number = remove_entry (is_at (nat_cmp number)) packets
 
 -- every packet has a number below this one
 abbrev pub AreBelow : Packets → ℕ → Type 0
-AreBelow packets limit = (number : ℕ) (packet : SentPacket) → packet_at packets number ≡ Some packet → number < limit
+AreBelow packets limit =
+    (number : ℕ) (packet : SentPacket) → packet_at packets number ≡ Some packet → number < limit
 
 -- a number above another, where there is one
 abbrev pub IsAboveLast : Option ℕ → ℕ → Type 0
@@ -49,11 +50,14 @@ first_number (entry ∷ packets) = Some entry.0
 
 -- the number that is forgotten when one more silent packet is sent: the least of 1001 silent ones
 abbrev pub forgotten_silent : Option ℕ → Packets → Option ℕ
-forgotten_silent last packets = if nat_lt 1000 (length (silent_above last packets)) then first_number (silent_above last packets) else None
+forgotten_silent last packets =
+    let silent = silent_above last packets in
+    if nat_lt 1000 (length silent) then first_number silent else None
 
 -- the number that is forgotten when a packet is sent
 abbrev pub forgotten_number : Option ℕ → SentPacket → Packets → Option ℕ
-forgotten_number last packet packets = if packet.ack_eliciting then None else forgotten_silent last packets
+forgotten_number last packet packets =
+    if packet.ack_eliciting then None else forgotten_silent last packets
 
 abbrev pub without_some : Packets → Option ℕ → Packets
 without_some packets None = packets
@@ -61,7 +65,8 @@ without_some packets (Some number) = without packets number
 
 -- the packets when one more was sent
 abbrev pub sent_onto : Option ℕ → ℕ → SentPacket → Packets → Packets
-sent_onto last number packet packets = without_some packets (forgotten_number last packet packets) ++ (number, packet) ∷ []
+sent_onto last number packet packets =
+    without_some packets (forgotten_number last packet packets) ++ (number, packet) ∷ []
 
 abbrev pub numbered : ℕ → Option SentPacket → Option (ℕ × SentPacket)
 numbered number None = None
@@ -92,7 +97,8 @@ IsAmong (entry ∷ packets) packet = (entry.1 ≡ packet) ⊎ IsAmong packets pa
 
 -- what the packets acknowledge are numbers of packets
 abbrev pub AreAcknowledging : Packets → Type 0
-AreAcknowledging packets = (packet : SentPacket) → IsAmong packets packet → ¬ IsTooLarge packet.largest_acked
+AreAcknowledging packets =
+    (packet : SentPacket) → IsAmong packets packet → ¬ IsTooLarge packet.largest_acked
 
 -- ---- what a space tracks
 
@@ -103,6 +109,11 @@ pub record Tracking : Type 0 where
 
 abbrev pub no_packets : Tracking
 no_packets = record { packets = []; last_eliciting = None }
+
+-- the packet that is forgotten when one is sent, with its number
+abbrev pub forgotten_entry : SentPacket → Tracking → Option (ℕ × SentPacket)
+forgotten_entry packet old =
+    entry_at old.packets (forgotten_number old.last_eliciting packet old.packets)
 
 abbrev pub after_sending : ℕ → SentPacket → Tracking → Tracking
 after_sending number packet old = record {

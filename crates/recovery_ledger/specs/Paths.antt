@@ -24,7 +24,10 @@ with_counters counters path = record path { in_flight = counters }
 
 -- the counters without a packet that left, if it is one of the path's
 abbrev pub counters_left : PathData → SentPacket → InFlight
-counters_left path packet = if packet.path_generation == generation_of path then without_packet (counters_of path) packet else counters_of path
+counters_left path packet =
+    if packet.path_generation == generation_of path
+    then without_packet (counters_of path) packet
+    else counters_of path
 
 abbrev pub after_leaving : PathData → SentPacket → PathData
 after_leaving path packet = with_counters (counters_left path packet) path
@@ -35,4 +38,5 @@ after_forgetting path (Some entry) = after_leaving path entry.1
 
 -- the path when a packet was sent on it, and perhaps another forgotten
 abbrev pub path_after_sending : PathData → SentPacket → Option (ℕ × SentPacket) → PathData
-path_after_sending path packet forgotten = after_forgetting (with_counters (with_packet (counters_of path) packet) path) forgotten
+path_after_sending path packet forgotten =
+    after_forgetting (with_counters (with_packet (counters_of path) packet) path) forgotten

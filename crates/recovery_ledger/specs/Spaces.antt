@@ -42,7 +42,11 @@ packets_of space = (tracking_of space).packets
 
 -- what is known of the packets sent
 abbrev pub sent_of : PacketSpace → Sent
-sent_of space = record { next = space.next_packet_number; last = (tracking_of space).last_eliciting; tracked = packets_of space }
+sent_of space = record {
+  next = space.next_packet_number;
+  last = (tracking_of space).last_eliciting;
+  tracked = packets_of space;
+}
 
 -- what is kept of the packets sent
 abbrev pub kept_of : PacketSpace → Kept
@@ -73,7 +77,8 @@ next_number_of space = space.next_packet_number
 
 -- the greatest ack-eliciting number was received
 abbrev pub HasGreatestCome : PacketSpace → Type 0
-HasGreatestCome space = (number : ℕ) → (acks_of space).greatest ≡ Some number → ¬ Exceeds (Has space.dedup) number
+HasGreatestCome space =
+    (number : ℕ) → (acks_of space).greatest ≡ Some number → ¬ Exceeds (Has space.dedup) number
 
 -- all that was sent has a number below the next one, and acknowledges numbers of packets; what asks for an ACK was received
 pub record IsCoherent (space : PacketSpace) : Type 0 where
@@ -84,7 +89,10 @@ pub record IsCoherent (space : PacketSpace) : Type 0 where
 
 -- the next number is given out
 abbrev pub after_number : PacketSpace → PacketSpace
-after_number space = record space { next_packet_number = space.next_packet_number + 1; sent_with_keys = min (space.sent_with_keys + 1) (2 ^ 64 - 1) }
+after_number space = record space {
+  next_packet_number = space.next_packet_number + 1;
+  sent_with_keys = min (space.sent_with_keys + 1) (2 ^ 64 - 1);
+}
 
 -- a packet that elicits an ACK was sent at this moment
 abbrev pub after_eliciting : Bool → ℕ → PacketSpace → PacketSpace
@@ -104,24 +112,34 @@ after_acknowledging number sent space = record space {
 
 -- what is known of the packets that came, where these are the numbers
 abbrev pub heard_with : (ℕ → Type 0) → Acks → Heard
-heard_with Numbers acks = record { came = Numbers; required = IsTrue acks.required; started = (m : ℕ) × (acks.base ≡ Some m) }
+heard_with Numbers acks = record {
+  came = Numbers;
+  required = IsTrue acks.required;
+  started = (m : ℕ) × (acks.base ≡ Some m);
+}
 
 abbrev pub heard_of : PacketSpace → Heard
 heard_of space = heard_with (Has space.dedup) (acks_of space)
 
 -- a new number came and is to be acknowledged
-pub record HearsNew (Numbers : ℕ → Type 0) (old : Acks) (now number : ℕ) (ack_eliciting : Bool) (new : Acks) : Type 0 where
+pub record HearsNew (Numbers : ℕ → Type 0) (old : Acks) (now number : ℕ) (eliciting : Bool) (new : Acks) : Type 0 where
   pub pending : (n : ℕ) → IsPending new n ↔ IsInHighest 64 (With number (IsPending old)) n
-  pub required : IsTrue new.required ↔ (IsTrue old.required ⊎ (IsTrue ack_eliciting × AsksAtOnce Numbers (counts_of old) number))
-  pub started : (m : ℕ) → (new.base ≡ Some m) ↔ ((old.base ≡ Some m) ⊎ ((m ≡ now) × Arms (heard_with Numbers old) (counts_of old) number ack_eliciting))
-  pub counts : counts_of new ≡ counts_with ack_eliciting number (counts_of old)
-  pub silent : new.silent ≡ (if ack_eliciting then old.silent else counted old.silent)
+  pub required : IsTrue new.required
+      ↔ (IsTrue old.required ⊎ (IsTrue eliciting × AsksAtOnce Numbers (counts_of old) number))
+  pub started : (m : ℕ) → (new.base ≡ Some m)
+      ↔ ((old.base ≡ Some m) ⊎ ((m ≡ now) × Arms (heard_with Numbers old) (counts_of old) number eliciting))
+  pub counts : counts_of new ≡ counts_with eliciting number (counts_of old)
+  pub silent : new.silent ≡ (if eliciting then old.silent else counted old.silent)
   pub largest : new.largest ≡ largest_with old.largest number now
 
-pub record ReceivesNew (old : PacketSpace) (now number : ℕ) (ack_eliciting : Bool) (new : PacketSpace) : Type 0 where
+pub record ReceivesNew (old : PacketSpace) (now number : ℕ) (eliciting : Bool) (new : PacketSpace) : Type 0 where
   pub numbers : (n : ℕ) → Has new.dedup n ↔ Recent (With number (Has old.dedup)) n
-  pub hears : HearsNew (Has old.dedup) (acks_of old) now number ack_eliciting (acks_of new)
-  pub others : new ≡ record old { dedup = new.dedup; pending_acks = new.pending_acks; rx_packet = max old.rx_packet number }
+  pub hears : HearsNew (Has old.dedup) (acks_of old) now number eliciting (acks_of new)
+  pub others : new ≡ record old {
+    dedup = new.dedup;
+    pending_acks = new.pending_acks;
+    rx_packet = max old.rx_packet number;
+  }
 
 -- a packet was sent under the next number
 abbrev pub space_sends : SentPacket → PacketSpace → PacketSpace
@@ -142,7 +160,8 @@ pub record SpaceAcks (number : ℕ) (old new : PacketSpace) : Type 0 where
   pub packet : SentPacket
   pub found : packet_at (packets_of old) number ≡ Some packet
   pub subtracts : SubtractsLargest packet.largest_acked (acks_of old) (acks_of new)
-  pub others : new ≡ with_acks (acks_of new) (after_acknowledging number packet.time_sent (space_takes number old))
+  pub others : new ≡ with_acks (acks_of new)
+      (after_acknowledging number packet.time_sent (space_takes number old))
 
 -- nothing is tracked any more
 abbrev pub space_empties : PacketSpace → PacketSpace
@@ -154,11 +173,15 @@ space_acked space = with_acks (acks_sent (acks_of space)) space
 
 -- the timer for a late ACK expired
 abbrev pub space_late : PacketSpace → PacketSpace
-space_late space = with_acks (with_required (nat_lt 0 (acks_of space).eliciting) (acks_of space)) space
+space_late space =
+    with_acks (with_required (nat_lt 0 (acks_of space).eliciting) (acks_of space)) space
 
 -- the peer asked for other thresholds
 abbrev pub space_asked : AckFrequency → PacketSpace → PacketSpace
-space_asked frame space = with_acks (with_thresholds frame.ack_eliciting_threshold frame.reordering_threshold (acks_of space)) space
+space_asked frame space =
+    with_acks
+    (with_thresholds frame.ack_eliciting_threshold frame.reordering_threshold (acks_of space))
+    space
 
 -- a packet came in
 abbrev pub came : ℕ → ℕ → Bool → Receipt → SpaceEntry
@@ -167,12 +190,14 @@ came now number ack_eliciting Duplicate = heard_again number
 
 -- what a received packet is, by the numbers that came before it and by what decides of the next ACK
 abbrev pub IsReceipt : Heard → AckCounts → ℕ → Bool → Receipt → Type 0
-IsReceipt known counts number ack_eliciting (New arm) = IsNew known.came number × (IsTrue arm ↔ Arms known counts number ack_eliciting)
-IsReceipt known counts number ack_eliciting Duplicate = ¬ IsNew known.came number
+IsReceipt known counts number eliciting (New arm) =
+    IsNew known.came number × (IsTrue arm ↔ Arms known counts number eliciting)
+IsReceipt known counts number eliciting Duplicate = ¬ IsNew known.came number
 
 abbrev pub SpaceStep : SpaceEntry → PacketSpace → PacketSpace → Type 0
 SpaceStep (heard now number ack_eliciting) old new = ReceivesNew old now number ack_eliciting new
-SpaceStep (heard_again number) old new = ((n : ℕ) → Has new.dedup n ↔ Recent (With number (Has old.dedup)) n) × (new ≡ old)
+SpaceStep (heard_again number) old new =
+    ((n : ℕ) → Has new.dedup n ↔ Recent (With number (Has old.dedup)) n) × (new ≡ old)
 SpaceStep (sends packet) old new = new ≡ space_sends packet old
 SpaceStep (acknowledged number) old new = SpaceAcks number old new
 SpaceStep (loses number) old new = new ≡ space_takes number old

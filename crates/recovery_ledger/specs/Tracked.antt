@@ -33,10 +33,14 @@ sent_more packet sent = record {
   tracked = sent_onto sent.last sent.next packet sent.tracked;
 }
 
+-- a packet is tracked no more
+abbrev pub sent_less : ℕ → Sent → Sent
+sent_less number sent = record sent { tracked = without sent.tracked number }
+
 abbrev pub sent_by : List SpaceEntry → Sent
 sent_by [] = record { next = 0; last = None; tracked = [] }
 sent_by (sends packet ∷ earlier) = sent_more packet (sent_by earlier)
-sent_by (acknowledged number ∷ earlier) = record (sent_by earlier) { tracked = without (sent_by earlier).tracked number }
-sent_by (loses number ∷ earlier) = record (sent_by earlier) { tracked = without (sent_by earlier).tracked number }
+sent_by (acknowledged number ∷ earlier) = sent_less number (sent_by earlier)
+sent_by (loses number ∷ earlier) = sent_less number (sent_by earlier)
 sent_by (emptied ∷ earlier) = record (sent_by earlier) { tracked = [] }
 sent_by (entry ∷ earlier) = sent_by earlier

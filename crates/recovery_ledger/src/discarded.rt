@@ -1,8 +1,7 @@
 //! Which packet number spaces were discarded with their keys (RFC 9001, 4.9).
-ghost use Rattle.std.specs.Prelude.{◌≡◌, ◌||◌, false};
+ghost use Rattle.std.specs.Prelude.{◌≡◌, false};
 ghost use Rattle.recovery_base.specs.declared.below.SpaceId.{SpaceId};
-ghost use Rattle.recovery_ledger.specs.Discarded.{is_discarded};
-ghost use Rattle.recovery_ledger.specs.SpaceIds.{same_space};
+ghost use Rattle.recovery_ledger.specs.Discarded.{is_discarded, DiscardedStep};
 
 use recovery_base::below::SpaceId;
 
@@ -39,7 +38,7 @@ impl DiscardedSpaces {
 
     /// A space is discarded.
     pub fn insert(&mut self, space: SpaceId)
-        ensures { (other : SpaceId) → is_discarded other self.new ≡ (same_space space other || is_discarded other self.old) }
+        ensures { DiscardedStep space self.old self.new }
     {
         match space {
             SpaceId::Initial => self.initial = true,

@@ -1,7 +1,7 @@
 //! What is kept for each network path: its generation, and the bytes in flight on it (RFC 9002, B.2).
 ghost use Rattle.std.specs.Prelude.{◌≡◌, ◌↔◌, ℕ, ◌<◌, IsTrue, IfOk, OnOk, OnErr, IfSome, IsErrOf};
 ghost use Rattle.std.specs.Option.{SomeIff, ForSome};
-ghost use Rattle.recovery_ledger.specs.Packets.{AreBelow, IsAboveLast, forgotten_number, entry_at, after_sending};
+ghost use Rattle.recovery_ledger.specs.Packets.{AreBelow, IsAboveLast, forgotten_entry, after_sending};
 ghost use Rattle.recovery_ledger.specs.InFlight.{with_packet, without_packet, IsCounted, IsCountedIn, SumsLeave, Overflows};
 ghost use Rattle.recovery_ledger.specs.Paths.{generation_of, counters_of, after_leaving, path_after_sending};
 ghost use Rattle.recovery_ledger.specs.Spaces.{tracking_of, with_tracking, packets_of, space_empties};
@@ -100,12 +100,12 @@ impl PathData {
         requires above { AreBelow (tracking_of space.old).packets number }
         requires above_last { IsAboveLast (tracking_of space.old).last_eliciting number }
         requires own { packet.path_generation ≡ generation_of self.old }
-        requires counted { ForSome (entry_at (tracking_of space.old).packets (forgotten_number (tracking_of space.old).last_eliciting packet (tracking_of space.old).packets))
-            (λ entry. entry.1.path_generation ≡ generation_of self.old → IsCounted (counters_of self.old) entry.1) }
-        ensures space { OnOk result (space.new ≡ with_tracking (after_sending number packet (tracking_of space.old)) space.old) }
-        ensures path { IfOk result (λ forgotten. self.new ≡ path_after_sending self.old packet forgotten) }
-        ensures forgotten { IfOk result (λ forgotten. forgotten ≡ entry_at (tracking_of space.old).packets
-            (forgotten_number (tracking_of space.old).last_eliciting packet (tracking_of space.old).packets)) }
+        requires counted { ForSome (forgotten_entry packet (tracking_of space.old)) (λ entry.
+            entry.1.path_generation ≡ generation_of self.old → IsCounted (counters_of self.old) entry.1) }
+        ensures space { OnOk result
+            (space.new ≡ with_tracking (after_sending number packet (tracking_of space.old)) space.old) }
+        ensures path { IfOk result (λ gone. self.new ≡ path_after_sending self.old packet gone) }
+        ensures forgotten { IfOk result (λ gone. gone ≡ forgotten_entry packet (tracking_of space.old)) }
         ensures overflow { IsErrOf result LedgerError.Overflow ↔ Overflows (counters_of self.old) packet }
         ensures err_path { OnErr result (self.new ≡ self.old) }
         ensures err_space { OnErr result (space.new ≡ space.old) }
@@ -126,7 +126,8 @@ impl PathData {
 
     /// Counts a packet no more: false, and nothing, for a packet of another path.
     pub fn remove_in_flight(&mut self, packet: &SentPacket) -> bool
-        requires { packet.now.path_generation ≡ generation_of self.old → IsCounted (counters_of self.old) packet.now }
+        requires { packet.now.path_generation ≡ generation_of self.old
+            → IsCounted (counters_of self.old) packet.now }
         ensures own { IsTrue result ↔ (packet.now.path_generation ≡ generation_of self.old) }
         ensures after { self.new ≡ after_leaving self.old packet.now }
     {
@@ -143,7 +144,8 @@ impl PathData {
         requires { IsCountedIn (counters_of self.old) (generation_of self.old) (packets_of space.old) }
         ensures space { space.new ≡ space_empties space.old }
         ensures generation { generation_of self.new ≡ generation_of self.old }
-        ensures counters { SumsLeave (counters_of self.old) (generation_of self.old) (packets_of space.old) (counters_of self.new) }
+        ensures counters { SumsLeave (counters_of self.old) (generation_of self.old)
+            (packets_of space.old) (counters_of self.new) }
     {
         while let Some((_, packet)) = space.take_first() {
             self.remove_in_flight(&packet);

@@ -1,6 +1,6 @@
 //! The packets that a packet number space tracks (RFC 9002, A.1), by number.
 ghost use Rattle.std.specs.Prelude.{◌≡◌, ℕ, ◌<◌, ◌≤◌, ◌↔◌, [], ◌∷◌, IfOk, OnOk, OnErr, IsTrue, IfSome, IfNone, MatchOption, length, filter};
-ghost use Rattle.recovery_ledger.specs.Packets.{Packets, Tracking, no_packets, packet_at, AreBelow, IsAboveLast, HasSize, is_above, first_number, silent_above, forgotten_number, entry_at, after_sending, after_taking};
+ghost use Rattle.recovery_ledger.specs.Packets.{Packets, Tracking, no_packets, packet_at, AreBelow, IsAboveLast, HasSize, is_above, first_number, silent_above, forgotten_number, forgotten_entry, after_sending, after_taking};
 ghost use Rattle.recovery_ledger.specs.Counts.{silent_count, size_count};
 
 use crate::spaces::SentPacket;
@@ -72,7 +72,7 @@ impl SentPackets {
         requires above { AreBelow self.old.packets number }
         requires above_last { IsAboveLast self.old.last_eliciting number }
         ensures ok { OnOk result (self.new ≡ after_sending number packet self.old) }
-        ensures forgotten { IfOk result (λ gone. gone ≡ entry_at self.old.packets (forgotten_number self.old.last_eliciting packet self.old.packets)) }
+        ensures forgotten { IfOk result (λ gone. gone ≡ forgotten_entry packet self.old) }
         ensures bound { length (silent_above self.new.last_eliciting self.new.packets) ≤ 1001 }
         ensures err { OnErr result (self.new ≡ self.old) }
     {
@@ -112,7 +112,8 @@ impl SentPackets {
 
     /// Takes the packet with the least number out.
     pub fn pop_first(&mut self) -> Option<(u64, SentPacket)>
-        ensures packets { MatchOption result (self.old.packets ≡ []) (λ entry. self.old.packets ≡ entry ∷ self.new.packets) }
+        ensures packets { MatchOption result (self.old.packets ≡ [])
+            (λ entry. self.old.packets ≡ entry ∷ self.new.packets) }
         ensures none { IfNone result (self.new ≡ self.old) }
         ensures last { self.new.last_eliciting ≡ self.old.last_eliciting }
     {

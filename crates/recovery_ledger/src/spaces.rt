@@ -5,7 +5,7 @@ ghost use Rattle.recovery_base.specs.Numbers.{IsNew};
 ghost use Rattle.recovery_base.specs.Received.{Has};
 ghost use Rattle.recovery_acks.specs.Acks.{new_acks};
 ghost use Rattle.recovery_ledger.specs.Kept.{kept_by};
-ghost use Rattle.recovery_ledger.specs.Packets.{AreBelow, IsAboveLast, HasSize, IsTooLarge, no_packets, packet_at, silent_above, forgotten_number, entry_at, after_sending};
+ghost use Rattle.recovery_ledger.specs.Packets.{AreBelow, IsAboveLast, HasSize, IsTooLarge, no_packets, packet_at, silent_above, forgotten_entry, after_sending};
 ghost use Rattle.recovery_ledger.specs.Spaces.{space_of, tracking_of, with_tracking, packets_of, kept_of, acks_of, with_acks, counts_of, next_number_of, after_number, after_eliciting, after_acknowledging, space_takes, HasGreatestCome, SpaceStep, IsReceipt, heard_of, came, SubtractsLargest};
 
 use crate::sent_packets::SentPackets;
@@ -133,9 +133,11 @@ impl PacketSpace {
     ) -> Result<Receipt, NoMemory>
         requires number { number < 2 ^ 62 }
         requires received { HasGreatestCome self.old }
-        ensures receipt { IfOk result (IsReceipt (heard_of self.old) (counts_of (acks_of self.old)) number ack_eliciting) }
+        ensures receipt { IfOk result
+            (IsReceipt (heard_of self.old) (counts_of (acks_of self.old)) number ack_eliciting) }
         ensures grows { OnErr result (IsNew (Has self.old.dedup) number) }
-        ensures step { IfOk result (λ receipt. SpaceStep (came now number ack_eliciting receipt) self.old self.new) }
+        ensures step { IfOk result
+            (λ receipt. SpaceStep (came now number ack_eliciting receipt) self.old self.new) }
         ensures refused { OnErr result (self.new ≡ self.old) }
     {
         let before = self.dedup;
@@ -167,8 +169,9 @@ impl PacketSpace {
     ) -> Result<Option<(u64, SentPacket)>, NoMemory>
         requires above { AreBelow (packets_of self.old) number }
         requires above_last { IsAboveLast (tracking_of self.old).last_eliciting number }
-        ensures ok { OnOk result (self.new ≡ with_tracking (after_sending number packet (tracking_of self.old)) self.old) }
-        ensures forgotten { IfOk result (λ forgotten. forgotten ≡ entry_at (packets_of self.old) (forgotten_number (tracking_of self.old).last_eliciting packet (packets_of self.old))) }
+        ensures ok { OnOk result
+            (self.new ≡ with_tracking (after_sending number packet (tracking_of self.old)) self.old) }
+        ensures forgotten { IfOk result (λ gone. gone ≡ forgotten_entry packet (tracking_of self.old)) }
         ensures bound { length (silent_above (tracking_of self.new).last_eliciting (packets_of self.new)) ≤ 1001 }
         ensures err { OnErr result (self.new ≡ self.old) }
     {
@@ -186,7 +189,8 @@ impl PacketSpace {
 
     /// Takes out the packet with the least number, if any is tracked. Cost: logarithmic in the packets tracked.
     pub fn take_first(&mut self) -> Option<(u64, SentPacket)>
-        ensures first { MatchOption result (packets_of self.old ≡ []) (λ entry. packets_of self.old ≡ entry ∷ packets_of self.new) }
+        ensures first { MatchOption result (packets_of self.old ≡ [])
+            (λ entry. packets_of self.old ≡ entry ∷ packets_of self.new) }
         ensures last { (tracking_of self.new).last_eliciting ≡ (tracking_of self.old).last_eliciting }
         ensures others { self.new ≡ with_tracking (tracking_of self.new) self.old }
         ensures none { IfNone result (self.new ≡ self.old) }
@@ -219,7 +223,8 @@ impl PacketSpace {
     pub fn on_acked(&mut self, number: u64, packet: &SentPacket)
         requires { ¬ IsTooLarge packet.now.largest_acked }
         ensures subtracts { SubtractsLargest packet.now.largest_acked (acks_of self.old) (acks_of self.new) }
-        ensures others { self.new ≡ with_acks (acks_of self.new) (after_acknowledging number packet.now.time_sent self.old) }
+        ensures others { self.new
+            ≡ with_acks (acks_of self.new) (after_acknowledging number packet.now.time_sent self.old) }
     {
         if let Some(largest) = packet.largest_acked {
             self.pending_acks.subtract_below(largest);
