@@ -4,7 +4,7 @@ ghost use Rattle.std.specs.Prelude.{◌≡◌, None};
 use crate::below::VarInt;
 use crate::time::Duration;
 
-/// What the peer is asked for by ACK_FREQUENCY frames (the QUIC ACK frequency extension).
+/// What the peer is asked for by ACK_FREQUENCY frames (draft-ietf-quic-ack-frequency-04, section 4).
 ///
 /// Each field has a setter of its name.
 #[derive(Clone, Copy)]

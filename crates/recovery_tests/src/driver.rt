@@ -153,17 +153,25 @@ fn told(rt: &impl Abort, recovery: &mut Recovery, row: u64, event: Event, want: 
 fn check<const N: usize>(rt: &impl Abort, alloc: Global, rows: [(Event, Reply); N])
     requires { N < 1000 }
 {
-    walk(rt, alloc, rows);
+    walk(rt, alloc, settings(8), rows);
 }
 
-/// Asserts what the events of a run are replied, one a row, and hands back what they leave.
-fn walk<const N: usize>(rt: &impl Abort, alloc: Global, rows: [(Event, Reply); N]) -> Recovery
-    requires { N < 1000 }
+/// Asserts what the events of a run are replied, one a row, and something of what they leave.
+fn check_left<const N: usize, F: FnOnce(&Recovery) -> bool>(
+    rt: &impl Abort,
+    alloc: Global,
+    rows: [(Event, Reply); N],
+    is_left: F,
+)
+    requires rows { N < 1000 }
+    requires callable { F.IsAlwaysCallable is_left }
 {
-    walk_with(rt, alloc, settings(8), rows)
+    let recovery = walk(rt, alloc, settings(8), rows);
+    let is_wanted = is_left(&recovery);
+    assert!(rt; is_wanted, "what is left");
 }
 
-fn walk_with<const N: usize>(
+fn walk<const N: usize>(
     rt: &impl Abort,
     alloc: Global,
     config: RecoveryConfig,
@@ -252,9 +260,14 @@ fn run_answers_at_the_ends(rt: HostRuntime) {
     );
 }
 
+fn leaves_idle_set(left: &Recovery) -> bool {
+    let timers = left.timers();
+    timers.get(Timer::Idle) == Some(at(50)) && timers.get(Timer::Pacing) == None
+}
+
 #[test]
 fn the_next_timeout_is_the_least(rt: HostRuntime) {
-    let recovery = walk(
+    check_left(
         &rt,
         rt.alloc(),
         [
@@ -265,15 +278,14 @@ fn the_next_timeout_is_the_least(rt: HostRuntime) {
             (stop(Timer::Pacing), DONE),
             (Event::NextTimeout, timeout(50)),
         ],
+        leaves_idle_set,
     );
-    assert!(rt; recovery.timers().get(Timer::Idle) == Some(at(50)));
-    assert!(rt; recovery.timers().get(Timer::Pacing) == None);
 }
 
 #[test]
 fn packets_are_tracked_until_they_leave(rt: HostRuntime) {
     let (initial, data) = (SpaceId::Initial, SpaceId::Data);
-    let recovery = walk(
+    check_left(
         &rt,
         rt.alloc(),
         [
@@ -291,20 +303,23 @@ fn packets_are_tracked_until_they_leave(rt: HostRuntime) {
             (acked(data, 0), ACKED),
             (DISCARD_INITIAL, DISCARDED),
         ],
+        leaves_nothing_in_flight,
     );
-    leaves_nothing_in_flight(&rt, &recovery);
 }
 
-fn leaves_nothing_in_flight(rt: &impl Abort, recovery: &Recovery) {
-    let left = recovery.current().in_flight();
-    assert!(rt; left.bytes == 0 && left.ack_eliciting == 0);
-    assert!(rt; recovery.current().generation() == 0);
-    assert!(rt; recovery.space(SpaceId::Initial).is_none());
-    let space = kept(rt, recovery, SpaceId::Data);
-    assert!(rt; space.next_packet_number() == 2);
-    assert!(rt; space.largest_ack_eliciting_sent() == Some(1));
-    assert!(rt; space.largest_acked_packet == Some(0));
-    assert!(rt; !space.has_in_flight());
+fn leaves_nothing_in_flight(left: &Recovery) -> bool {
+    let counters = left.current().in_flight();
+    let Some(space) = left.space(SpaceId::Data) else {
+        return false;
+    };
+    counters.bytes == 0
+        && counters.ack_eliciting == 0
+        && left.current().generation() == 0
+        && left.space(SpaceId::Initial).is_none()
+        && space.next_packet_number() == 2
+        && space.largest_ack_eliciting_sent() == Some(1)
+        && space.largest_acked_packet == Some(0)
+        && !space.has_in_flight()
 }
 
 #[test]

@@ -85,7 +85,7 @@ impl TryFrom<u128> for VarInt {
 #[error("value too large for a variable-length integer")]
 pub struct VarIntBoundsExceeded;
 
-/// What an ACK_FREQUENCY frame asks for (the QUIC ACK frequency extension, section 4).
+/// What an ACK_FREQUENCY frame asks for (draft-ietf-quic-ack-frequency-04, section 4).
 #[derive(Clone, Copy, PartialEq, Eq)]
 pub struct AckFrequency {
     /// Its number in the order of sending.
@@ -118,7 +118,7 @@ impl TransportError {
     }
 }
 
-/// What the peer said of its ACK delays (RFC 9000, 18.2; the QUIC ACK frequency extension, section 3).
+/// What the peer said of its ACK delays (RFC 9000, 18.2; draft-ietf-quic-ack-frequency-04, section 3).
 #[derive(Clone, Copy, PartialEq, Eq)]
 pub struct TransportParameters {
     /// The least delay that it can be asked for, in microseconds.

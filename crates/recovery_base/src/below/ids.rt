@@ -75,7 +75,7 @@ impl From<[u8; 16]> for ResetToken {
 }
 
 /// A NEW_CONNECTION_ID frame: an id that the peer issues (RFC 9000, 19.15).
-#[derive(Clone, Copy, PartialEq, Eq)]
+#[derive(Clone, Copy)]
 pub struct NewConnectionId {
     /// The number of the id, below 2^62.
     pub sequence: u64,
@@ -88,7 +88,7 @@ pub struct NewConnectionId {
 }
 
 /// An id that this end issues, as a NEW_CONNECTION_ID frame tells it (RFC 9000, 19.15).
-#[derive(Clone, Copy, PartialEq, Eq)]
+#[derive(Clone, Copy)]
 pub struct IssuedCid {
     /// The number of the id, below 2^62.
     pub sequence: u64,

@@ -77,7 +77,7 @@ fn retire(start: u64, end: u64, byte: u8) -> Reply {
 
 #[test]
 fn ids_of_the_peer_come_and_go(rt: HostRuntime) {
-    let recovery = walk(
+    check_left(
         &rt,
         rt.alloc(),
         [
@@ -89,14 +89,13 @@ fn ids_of_the_peer_come_and_go(rt: HostRuntime) {
             (initial_id(1), NOT_INITIAL_ID),
             (new_id(3, 4, 1), BAD_RETIRE_PRIOR_TO),
         ],
+        |left| left.remote_ids().active_seq() == 1_000_000 && left.remote_ids().active() == cid(9),
     );
-    assert!(rt; recovery.remote_ids().active_seq() == 1_000_000);
-    assert!(rt; recovery.remote_ids().active() == cid(9));
 }
 
 #[test]
 fn ids_of_the_peer_have_bounds(rt: HostRuntime) {
-    let recovery = walk(
+    check_left(
         &rt,
         rt.alloc(),
         [
@@ -109,26 +108,26 @@ fn ids_of_the_peer_have_bounds(rt: HostRuntime) {
             (new_id(3, 0, 3), RETIRED),
             (new_id(8, 3, 8), NOTHING),
         ],
+        |left| left.remote_ids().active() == cid(4),
     );
-    assert!(rt; recovery.remote_ids().active() == cid(4));
 }
 
 #[test]
 fn tokens_are_not_ids(rt: HostRuntime) {
-    let recovery = walk(
+    check_left(
         &rt,
         rt.alloc(),
         [
             (new_id_with(1, 0, 7, 9), NOTHING),
             (new_id_with(2, 2, 8, 10), retire(0, 2, 10)),
         ],
+        |left| left.remote_ids().active() == cid(8),
     );
-    assert!(rt; recovery.remote_ids().active() == cid(8));
 }
 
 #[test]
 fn ids_of_this_end_come_and_go(rt: HostRuntime) {
-    let recovery = walk(
+    check_left(
         &rt,
         rt.alloc(),
         [
@@ -139,9 +138,8 @@ fn ids_of_this_end_come_and_go(rt: HostRuntime) {
             (Event::IdTimeout, NO),
             (issue_ids(&rt, rt.alloc(), 5, &[4]), BAD_RANGE),
         ],
+        |left| left.local_ids().issued() == 3 && left.local_ids().retire_prior_to() == 3,
     );
-    assert!(rt; recovery.local_ids().issued() == 3);
-    assert!(rt; recovery.local_ids().retire_prior_to() == 3);
 }
 
 #[test]
@@ -169,7 +167,7 @@ fn ids_of_one_moment_have_one_deadline(rt: HostRuntime) {
 
 #[test]
 fn numbers_go_on_from_the_count_issued(rt: HostRuntime) {
-    let recovery = walk(
+    check_left(
         &rt,
         rt.alloc(),
         [
@@ -179,13 +177,13 @@ fn numbers_go_on_from_the_count_issued(rt: HostRuntime) {
             (issue_ids(&rt, rt.alloc(), 0, &[1, 3]), BAD_RANGE),
             (issue_ids(&rt, rt.alloc(), 0, &[1, 2]), DONE),
         ],
+        |left| left.local_ids().issued() == 3,
     );
-    assert!(rt; recovery.local_ids().issued() == 3);
 }
 
 #[test]
 fn ids_of_no_bytes_are_not_retired(rt: HostRuntime) {
-    walk_with(
+    walk(
         &rt,
         rt.alloc(),
         settings(0),
