@@ -43,11 +43,11 @@ ids_with used ids = ids_used ids
 ids_with (replaced id) ids = record ids { held = with_id 0 (id, None) ids.held }
 
 -- at first the initial id is held, as number 0, and no other (5.1.1)
-abbrev pub first_ids : List ℕ → RemoteIds
-first_ids initial = record { active = 0; held = with_id 0 (initial, None) (λ n. None) }
+abbrev pub initial_ids : List ℕ → RemoteIds
+initial_ids initial = record { active = 0; held = with_id 0 (initial, None) (λ n. None) }
 
 abbrev pub remote_ids_by : List ℕ → List RemoteEntry → RemoteIds
-remote_ids_by initial [] = first_ids initial
+remote_ids_by initial [] = initial_ids initial
 remote_ids_by initial (entry ∷ earlier) = ids_with entry (remote_ids_by initial earlier)
 
 -- ---- what an entry changes
