@@ -52,7 +52,7 @@ impl Model for CidState {
 }
 
 /// Why a retirement by the peer is refused (RFC 9000, 19.16).
-#[derive(Clone, Copy, Debug, PartialEq, Eq, Error)]
+#[derive(Clone, Copy, Debug, Error)]
 pub enum RetireError {
     /// This end uses ids of no bytes, of which none can be retired.
     #[error("RETIRE_CONNECTION_ID when CIDs aren't in use")]
