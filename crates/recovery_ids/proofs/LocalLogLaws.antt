@@ -6,7 +6,7 @@ use Rattle.std.proofs.lemmas.List.{append-nil, append_assoc}
 use Rattle.std.proofs.lemmas.List.Elements.{filter-append}
 use Rattle.recovery_ids.specs.LocalIds.{LocalIds, first_issued, with_issued, timed_out, without_number, holds_unretired, next_mark}
 use Rattle.recovery_ids.proofs.RiseLaws.{range_more}
-use Rattle.recovery_ids.specs.LocalLog.{FirstIds, LocalEntry, issues, passes, retires, issued_by, was_retired, deadlines_with_batch, deadlines_by, Marks, ids_with, marks_by, local_ids_by, LocalStep, LocalIdsLeft}
+use Rattle.recovery_ids.specs.LocalLog.{FirstIds, LocalEntry, issues, passes, retires, issued_by, was_retired, deadlines_with_batch, deadlines_by, Marks, local_ids_with, marks_by, local_ids_by, LocalStep, LocalIdsLeft}
 
 -- ---- numbers issued and retired
 
@@ -88,7 +88,7 @@ local_law first (issues now count) log old new left step = record {
   retired = λ number was. let below = left.retired number was in omega (arith, below);
 }
 local_law first passes log old new left step = record {
-  same = step ∙ ap timed_out left.same ∙ go (holds_unretired marks.retired_below marks.retire_prior_to (ids_with first log marks));
+  same = step ∙ ap timed_out left.same ∙ go (holds_unretired marks.retired_below marks.retire_prior_to (local_ids_with first log marks));
   retired = left.retired;
 }
   where
@@ -99,9 +99,9 @@ local_law first passes log old new left step = record {
     moved = record { retired_below = marks.retire_prior_to; retire_prior_to = next_mark marks.retire_prior_to (deadlines_by first log) }
 
     go : (b : Bool) → (if b
-        then record (ids_with first log marks) { deadlines = drop 1 (deadlines_by first log) }
-        else record (ids_with first log marks) { deadlines = drop 1 (deadlines_by first log); retired_below = marks.retire_prior_to; retire_prior_to = next_mark marks.retire_prior_to (deadlines_by first log) })
-        ≡ ids_with first (passes ∷ log) (if b then marks else moved)
+        then record (local_ids_with first log marks) { deadlines = drop 1 (deadlines_by first log) }
+        else record (local_ids_with first log marks) { deadlines = drop 1 (deadlines_by first log); retired_below = marks.retire_prior_to; retire_prior_to = next_mark marks.retire_prior_to (deadlines_by first log) })
+        ≡ local_ids_with first (passes ∷ log) (if b then marks else moved)
     go true = refl
     go false = refl
 local_law first (retires sequence) log old new left step = record {

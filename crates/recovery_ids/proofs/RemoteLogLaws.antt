@@ -6,11 +6,11 @@ use Rattle.std.proofs.Math.Path.{fun_ext}
 use Rattle.recovery_base.specs.declared.below.ids.NewConnectionId.{NewConnectionId}
 use Rattle.recovery_ids.specs.RemoteIds.{Table, RemoteIds, IsLeastHeld, AcceptsFrame, TakesNext, AreInWindow, active_connection_id_limit, with_id, with_frame, without_id}
 use Rattle.recovery_ids.proofs.QueueLaws.{least_at_most}
-use Rattle.recovery_ids.specs.RemoteLog.{RemoteEntry, given, used, replaced, first_held, ids_with, RemoteStep, RemoteIdsLeft}
+use Rattle.recovery_ids.specs.RemoteLog.{RemoteEntry, given, used, replaced, first_held, remote_ids_with, RemoteStep, RemoteIdsLeft}
 
 pub remote_law : (initial : List ℕ) (entry : RemoteEntry) (log : List RemoteEntry) (old new : RemoteIds) →
     RemoteIdsLeft initial log old → RemoteStep entry old new → RemoteIdsLeft initial (entry ∷ log) new
-remote_law initial entry log old new left step = step ∙ ap (ids_with entry) left
+remote_law initial entry log old new left step = step ∙ ap (remote_ids_with entry) left
 
 -- ---- the least number held
 
@@ -60,7 +60,7 @@ frame_held frame held = grind (arith, nat_tests)
 
 pub gives : (old new : RemoteIds) (frame : NewConnectionId) (answer : Option (Range ℕ × List ℕ)) → frame.retire_prior_to ≤ frame.sequence →
     AcceptsFrame old frame answer new → AreInWindow old → RemoteStep (given frame) old new
-unfolding ids_with
+unfolding remote_ids_with
 gives old new frame answer ordered accepts window =
     let low = max old.active frame.retire_prior_to in
     let held = with_frame frame old.held in
@@ -77,19 +77,19 @@ gives old new frame answer ordered accepts window =
     rw found (same_ids new.active held new refl accepts.held)
 
 pub uses : (old new : RemoteIds) (token : List ℕ) (range : Range ℕ) → TakesNext old token range new → AreInWindow old → RemoteStep used old new
-unfolding ids_with
+unfolding remote_ids_with
 uses old new token range takes window =
     let within = window.within new.active takes.active.is_held in
     let found = first_held_is old.held new.active (old.active + 1) active_connection_id_limit takes.active (omega (arith, within)) in
     rw found (same_ids new.active (without_id old.active old.held) new refl takes.held)
 
 pub uses_none : (old new : RemoteIds) → ((n : ℕ) → old.active < n → old.held n ≡ None) → new ≡ old → RemoteStep used old new
-unfolding ids_with
+unfolding remote_ids_with
 uses_none old new none same =
     let found = none_held old.held (old.active + 1) active_connection_id_limit (λ n above. none n (omega arith)) in
     rw found same
 
 pub replaces : (old new : RemoteIds) (id : List ℕ) → old.active ≡ 0 → new.active ≡ 0 → ((n : ℕ) → new.held n ≡ with_id 0 (id, None) old.held n) →
     RemoteStep (replaced id) old new
-unfolding ids_with
+unfolding remote_ids_with
 replaces old new id was is adds = same_ids old.active (with_id 0 (id, None) old.held) new (is ∙ sym was) adds

@@ -36,7 +36,9 @@ with_deadline deadline deadlines = without_last_at deadline.timestamp deadlines 
 abbrev pub deadlines_with : Option ℕ → ℕ → ℕ → List Deadline → List Deadline
 deadlines_with None now number deadlines = deadlines
 deadlines_with (Some lifetime) now number deadlines =
-    if nat_lt (now + lifetime) (2 ^ 64) then with_deadline record { sequence = number; timestamp = now + lifetime } deadlines else deadlines
+    if nat_lt (now + lifetime) (2 ^ 64)
+    then with_deadline record { sequence = number; timestamp = now + lifetime } deadlines
+    else deadlines
 
 -- the deadlines once numbers below a count are issued, with one for the last of them
 abbrev pub deadlines_with_last : Option ℕ → ℕ → ℕ → List Deadline → List Deadline
@@ -46,7 +48,8 @@ deadlines_with_last lifetime now (suc number) deadlines = deadlines_with lifetim
 -- the deadlines once each of these numbers is issued in turn
 abbrev pub deadlines_with_each : Option ℕ → ℕ → List ℕ → List Deadline → List Deadline
 deadlines_with_each lifetime now [] deadlines = deadlines
-deadlines_with_each lifetime now (number ∷ numbers) deadlines = deadlines_with_each lifetime now numbers (deadlines_with lifetime now number deadlines)
+deadlines_with_each lifetime now (number ∷ numbers) deadlines =
+    deadlines_with_each lifetime now numbers (deadlines_with lifetime now number deadlines)
 
 -- the ids 0 to issued - 1, none of which is retired, each with a deadline
 abbrev pub first_issued : ℕ → Option ℕ → ℕ → ℕ → LocalIds
@@ -83,7 +86,11 @@ abbrev pub timed_out : LocalIds → LocalIds
 timed_out ids =
     if holds_unretired ids.retired_below ids.retire_prior_to ids
     then record ids { deadlines = drop 1 ids.deadlines }
-    else record ids { deadlines = drop 1 ids.deadlines; retired_below = ids.retire_prior_to; retire_prior_to = next_mark ids.retire_prior_to ids.deadlines }
+    else record ids {
+      deadlines = drop 1 ids.deadlines;
+      retired_below = ids.retire_prior_to;
+      retire_prior_to = next_mark ids.retire_prior_to ids.deadlines;
+    }
 
 -- the ids without a number that the peer retires
 abbrev pub without_number : ℕ → LocalIds → LocalIds

@@ -55,8 +55,8 @@ pub record Marks : Type 0 where
   pub retire_prior_to : ℕ
 
 -- the ids by their parts
-abbrev pub ids_with : FirstIds → List LocalEntry → Marks → LocalIds
-ids_with first log marks = record {
+abbrev pub local_ids_with : FirstIds → List LocalEntry → Marks → LocalIds
+local_ids_with first log marks = record {
   cid_len = first.cid_len;
   cid_lifetime = first.cid_lifetime;
   issued = issued_by first log;
@@ -72,7 +72,7 @@ abbrev pub marks_by : FirstIds → List LocalEntry → Marks
 marks_by first [] = record { retired_below = 0; retire_prior_to = 0 }
 marks_by first (passes ∷ earlier) =
     let marks = marks_by first earlier in
-    if holds_unretired marks.retired_below marks.retire_prior_to (ids_with first earlier marks)
+    if holds_unretired marks.retired_below marks.retire_prior_to (local_ids_with first earlier marks)
     then marks
     else record {
       retired_below = marks.retire_prior_to;
@@ -81,7 +81,7 @@ marks_by first (passes ∷ earlier) =
 marks_by first (entry ∷ earlier) = marks_by first earlier
 
 abbrev pub local_ids_by : FirstIds → List LocalEntry → LocalIds
-local_ids_by first log = ids_with first log (marks_by first log)
+local_ids_by first log = local_ids_with first log (marks_by first log)
 
 -- ---- what an entry changes
 

@@ -37,23 +37,23 @@ abbrev pub ids_used : RemoteIds → RemoteIds
 ids_used ids = moved_to (least_held ids.held (ids.active + 1)) ids
 
 -- what one entry makes of the ids
-unfoldable pub ids_with : RemoteEntry → RemoteIds → RemoteIds
-ids_with (given frame) ids = ids_given frame ids
-ids_with used ids = ids_used ids
-ids_with (replaced id) ids = record ids { held = with_id 0 (id, None) ids.held }
+unfoldable pub remote_ids_with : RemoteEntry → RemoteIds → RemoteIds
+remote_ids_with (given frame) ids = ids_given frame ids
+remote_ids_with used ids = ids_used ids
+remote_ids_with (replaced id) ids = record ids { held = with_id 0 (id, None) ids.held }
 
 -- at first the initial id is held, as number 0, and no other (5.1.1)
-abbrev pub first_ids : List ℕ → RemoteIds
-first_ids initial = record { active = 0; held = with_id 0 (initial, None) (λ n. None) }
+abbrev pub initial_ids : List ℕ → RemoteIds
+initial_ids initial = record { active = 0; held = with_id 0 (initial, None) (λ n. None) }
 
 abbrev pub remote_ids_by : List ℕ → List RemoteEntry → RemoteIds
-remote_ids_by initial [] = first_ids initial
-remote_ids_by initial (entry ∷ earlier) = ids_with entry (remote_ids_by initial earlier)
+remote_ids_by initial [] = initial_ids initial
+remote_ids_by initial (entry ∷ earlier) = remote_ids_with entry (remote_ids_by initial earlier)
 
 -- ---- what an entry changes
 
 abbrev pub RemoteStep : RemoteEntry → RemoteIds → RemoteIds → Type 0
-RemoteStep entry old new = new ≡ ids_with entry old
+RemoteStep entry old new = new ≡ remote_ids_with entry old
 
 -- ---- what a log leaves
 

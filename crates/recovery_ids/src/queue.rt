@@ -2,7 +2,7 @@
 ghost use Rattle.std.specs.Prelude.{◌≡◌, ℕ, ◌+◌, ◌<◌, ◌≤◌, ◌^◌, ◌==◌, Some, None, IsSome, IfSome, IfOk, OnOk, OnErr, IfNone, IsSomeAnd, MatchOption, MatchResult, length, if◌then◌else◌};
 ghost use Rattle.recovery_ids.specs.CidQueue.{held, active_of, remote_ids};
 ghost use Rattle.recovery_ids.specs.RemoteIds.{AcceptsFrame, RefusesFrame, TakesNext, IsRetirement, AreInWindow, with_id, items_from, active_connection_id_limit};
-ghost use Rattle.recovery_ids.specs.RemoteLog.{RemoteStep, given, used, replaced, first_ids};
+ghost use Rattle.recovery_ids.specs.RemoteLog.{RemoteStep, given, used, replaced, initial_ids};
 ghost use Rattle.recovery_ids.specs.Window.{held_at, Advances, IsWindowSound};
 
 use crate::iter::{self, CidIter};
@@ -55,7 +55,7 @@ impl CidQueue {
         ensures ids { (n : ℕ) → held result n ≡ (if n == 0 then Some (cid, None) else None) }
         ensures window { AreInWindow (remote_ids result) }
         ensures limit { Self.LEN ≡ active_connection_id_limit }
-        ensures first { remote_ids result ≡ first_ids cid }
+        ensures first { remote_ids result ≡ initial_ids cid }
     {
         CidQueue {
             window: Window::new((cid, None)),

@@ -52,7 +52,7 @@ impl Model for CidState {
 }
 
 /// Why a retirement by the peer is refused (RFC 9000, 19.16).
-#[derive(Clone, Copy, Debug, PartialEq, Eq, Error)]
+#[derive(Clone, Copy, Debug, Error)]
 pub enum RetireError {
     /// This end uses ids of no bytes, of which none can be retired.
     #[error("RETIRE_CONNECTION_ID when CIDs aren't in use")]
@@ -98,8 +98,7 @@ impl CidState {
         ensures ids { IfOk result (λ ids. ids ≡ first_issued cid_len cid_lifetime now issued) }
         ensures sound { IfOk result AreSound }
     {
-        // The set takes its memory number by number, so that room for all is asked for once before.
-        let _room: Vec<u64> = Vec::with_capacity(alloc, issued as usize)?;
+        ask_for_room(alloc, issued)?;
         let mut active_seq = BTreeSet::new(alloc);
         let mut retire_timestamp = VecDeque::with_capacity(alloc, 1)?;
         issue(&mut active_seq, 0, issued)?;
@@ -215,6 +214,13 @@ impl CidState {
     {
         self.issued
     }
+}
+
+/// Asks for room for so many numbers at once and gives it back, since a set takes its memory number by number: a count
+/// past all memory would else be refused only once all memory is taken.
+fn ask_for_room(alloc: Global, count: u64) -> Result<(), NoMemory> {
+    let _room: Vec<u64> = Vec::with_capacity(alloc, count as usize)?;
+    Ok(())
 }
 
 /// Adds the numbers from one up to another, above all that are there. `NoMemory` changes nothing.

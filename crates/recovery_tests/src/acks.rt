@@ -97,8 +97,10 @@ fn play(rt: &impl Abort, acks: &mut PendingAcks, rows: &[Row])
     for (call, number, arms, can_send, ends) in rows {
         assert!(rt; last <= *number && *number < 1 << 62, "row {place}: number");
         last = *number;
-        let started = apply(acks, &mut dedup, *call, last);
-        assert!(rt; started == Some(*arms), "row {place}: timer");
+        let Some(started) = apply(acks, &mut dedup, *call, last) else {
+            panic!(rt; "row {place}: NoMemory")
+        };
+        assert!(rt; started == *arms, "row {place}: timer");
         assert!(rt; acks.can_send() == *can_send, "row {place}: ACK");
         let timeout = acks.max_ack_delay_timeout(Duration::from_micros(1));
         assert!(rt;
@@ -181,9 +183,12 @@ fn holds_64(rt: &impl Abort, acks: &PendingAcks) {
 #[test]
 fn keeps_the_64_highest_ranges(rt: HostRuntime) {
     let mut acks = PendingAcks::new(rt.alloc());
-    assert!(rt; insert_even(&mut acks).is_ok());
+    assert!(rt; insert_even(&mut acks).is_ok(), "NoMemory");
     holds_64(&rt, &acks);
-    assert!(rt; acks.insert_one(0, Instant::from_nanos(0)).is_ok());
+    assert!(rt;
+        acks.insert_one(0, Instant::from_nanos(0)).is_ok(),
+        "NoMemory"
+    );
     holds_64(&rt, &acks);
     acks.subtract_below(4);
     assert!(rt; acks.ranges().len() == 62);
@@ -196,7 +201,10 @@ fn measures_the_delay_of_the_largest(rt: HostRuntime) {
     let first = acks.ack_delay(Instant::from_nanos(9));
     for (number, millis) in [(0, 0), (3, 2), (2, 7)] {
         let now = start + Duration::from_millis(millis);
-        assert!(rt; acks.insert_one(number, now).is_ok(), "at {number}");
+        assert!(rt;
+            acks.insert_one(number, now).is_ok(),
+            "at {number}: NoMemory"
+        );
     }
     let last = acks.ack_delay(start + Duration::from_millis(7));
     same(

@@ -238,6 +238,7 @@ fn play_local(rt: &impl Abort, state: &mut CidState, rows: &[LocalRow]) {
     let mut place = 0u64;
     for (call, wanted, mark, timeout) in rows {
         let found = apply_local(state, *call);
+        assert!(rt; found != LocalAnswer::NoMemory, "row {place}: NoMemory");
         assert!(rt; found == *wanted, "row {place}: answer");
         assert!(rt; state.retire_prior_to() == *mark, "row {place}: mark");
         let next = state.next_timeout();
@@ -250,10 +251,12 @@ fn play_local(rt: &impl Abort, state: &mut CidState, rows: &[LocalRow]) {
 }
 
 /// Plays rows on ids that were just made; how many are issued at the end.
-fn play_from(rt: &impl Abort, made: Result<CidState, NoMemory>, rows: &[LocalRow]) -> Option<u64> {
-    let mut state = made.ok()?;
+fn play_from(rt: &impl Abort, made: Result<CidState, NoMemory>, rows: &[LocalRow]) -> u64 {
+    let Ok(mut state) = made else {
+        panic!(rt; "NoMemory")
+    };
     play_local(rt, &mut state, rows);
-    Some(state.issued())
+    state.issued()
 }
 
 #[test]
@@ -284,7 +287,7 @@ fn deadlines_move_the_marks(rt: HostRuntime) {
             (LocalCall::Retire(4, 5), LocalAnswer::UnissuedCid, 2, None),
         ],
     );
-    assert!(rt; issued == Some(4));
+    assert!(rt; issued == 4);
 }
 
 #[test]
@@ -301,7 +304,7 @@ fn equal_deadlines_are_one(rt: HostRuntime) {
             (LocalCall::Timeout, LocalAnswer::Flag(false), 4, None),
         ],
     );
-    assert!(rt; issued == Some(4));
+    assert!(rt; issued == 4);
 }
 
 #[test]
@@ -317,12 +320,13 @@ fn no_deadline_passes_the_end_of_the_clock(rt: HostRuntime) {
             (before_end, LocalAnswer::Done, 0, Some(u64::MAX)),
         ],
     );
-    assert!(rt; issued == Some(2));
+    assert!(rt; issued == 2);
 }
 
 #[test]
 fn ids_of_no_bytes_are_not_retired(rt: HostRuntime) {
     let made = CidState::new(rt.alloc(), 0, None, Instant::from_nanos(0), 1);
+    assert!(rt; made.is_ok(), "NoMemory");
     assert!(rt; matches!(&made, Ok(state) if state.cid_len() == 0));
     let issued = play_from(
         &rt,
@@ -332,7 +336,7 @@ fn ids_of_no_bytes_are_not_retired(rt: HostRuntime) {
             (LocalCall::Retire(7, 5), LocalAnswer::CidsNotInUse, 0, None),
         ],
     );
-    assert!(rt; issued == Some(1));
+    assert!(rt; issued == 1);
 }
 
 #[test]
@@ -346,7 +350,9 @@ fn refused_retirements_close_the_connection(rt: HostRuntime) {
     for error in [RetireError::CidsNotInUse, RetireError::UnissuedCid] {
         let closed = TransportError::from(error);
         assert!(rt; closed.code == 10);
-        let text = format!(in rt.alloc(); "{error}");
-        assert!(rt; matches!(&text, Ok(text) if text.as_str() == closed.reason));
+        let Ok(text) = format!(in rt.alloc(); "{error}") else {
+            panic!(rt; "NoMemory")
+        };
+        assert!(rt; text.as_str() == closed.reason);
     }
 }
