@@ -4,6 +4,7 @@ use recovery_replay::script::Ending;
 use std::alloc::Global;
 use std::io;
 use std::io::{ErrorKind, Read, Write};
+use std::process::Abort;
 use std::test::Fail;
 
 const SCRIPT: &str =
@@ -117,6 +118,66 @@ fn line_feeds(text: &[u8]) -> usize {
     seen
 }
 
+/// Asserts what a run on a source writes and how it ends; `row` names it where it does not.
+fn assert_read(
+    rt: &impl Abort,
+    alloc: Global,
+    row: usize,
+    mut input: Source<'_>,
+    answers: &[u8],
+    (status, text): (u8, &str),
+) {
+    let words: Vec<String> = Vec::new(alloc);
+    let mut output = Vec::new(alloc);
+    let mut errors = Vec::new(alloc);
+    let (outcome, _) = replay(alloc, &words, &mut input, &mut output, &mut errors);
+    assert!(rt; output.as_slice() == answers, "row {row}: other answers");
+    assert!(rt;
+        errors.as_slice() == text.as_bytes(),
+        "row {row}: another text"
+    );
+    assert!(rt; outcome.status() == status, "row {row}: another status");
+}
+
+/// Asserts how a run ends that reads a front of the script, which then ends or fails.
+fn assert_front(rt: &impl Abort, alloc: Global, front: &[u8], fails: bool) {
+    let answers = first_lines(ANSWERS.as_bytes(), line_feeds(front));
+    let end = if fails {
+        (1, "replay: read failed\n")
+    } else {
+        (0, "")
+    };
+    for step in [1, 4096] {
+        let input = Source::new(front, step, fails);
+        assert_read(rt, alloc, front.len(), input, answers, end);
+    }
+}
+
+/// Asserts how a run ends whose output takes some bytes of the answers, and maybe no flush.
+fn assert_room(rt: &impl Abort, alloc: Global, front: &[u8], fails: bool, flush_fails: bool) {
+    let room = front.len();
+    let words: Vec<String> = Vec::new(alloc);
+    let mut input = SCRIPT.as_bytes();
+    let mut output = Sink::new(alloc, room, fails, flush_fails);
+    let mut errors = Vec::new(alloc);
+    let (outcome, _) = replay(alloc, &words, &mut input, &mut output, &mut errors);
+    let is_whole = room == ANSWERS.len() && !flush_fails;
+    let (status, text) = if is_whole {
+        (0, "")
+    } else {
+        (1, "replay: write failed\n")
+    };
+    assert!(rt;
+        output.taken.as_slice() == front,
+        "room {room}: other answers"
+    );
+    assert!(rt;
+        errors.as_slice() == text.as_bytes(),
+        "room {room}: another text"
+    );
+    assert!(rt; outcome.status() == status, "room {room}: another status");
+}
+
 #[test]
 fn long_lines(rt: HostRuntime) -> Result<(), Fail> {
     let rows = [
@@ -125,86 +186,36 @@ fn long_lines(rt: HostRuntime) -> Result<(), Fail> {
         (4096, true, 1, "replay: read failed\n"),
         (4097, true, 2, "line 1: cannot be read\n"),
     ];
-    for (length, fails, want_status, want_errors) in rows {
-        let mut line = Vec::new(rt.alloc());
-        for _ in 0..length {
-            line.push(b'a')?;
-        }
-        let words: Vec<String> = Vec::new(rt.alloc());
-        let mut input = Source::new(&line, 1000, fails);
-        let mut output = Vec::new(rt.alloc());
-        let mut errors = Vec::new(rt.alloc());
-        let (outcome, _) = replay(rt.alloc(), &words, &mut input, &mut output, &mut errors);
-        assert_eq!(rt; output.len(), 0);
-        assert_eq!(rt; String::from_utf8(errors)?.as_str(), want_errors);
-        assert_eq!(rt; outcome.status(), want_status);
+    for (row, (length, fails, status, text)) in rows.into_iter().enumerate() {
+        let line = vec![in rt.alloc(); b'a'; length]?;
+        let input = Source::new(&line, 1000, fails);
+        assert_read(&rt, rt.alloc(), row, input, b"", (status, text));
     }
     Ok(())
 }
 
 #[test]
-fn failed_reads(rt: HostRuntime) -> Result<(), Fail> {
-    let words: Vec<String> = Vec::new(rt.alloc());
-    for kept in 0..=SCRIPT.len() {
-        for step in [1, 4096] {
-            for fails in [false, true] {
-                if !fails && kept < SCRIPT.len() {
-                    continue;
-                }
-                let script = &SCRIPT.as_bytes()[..kept];
-                let mut input = Source::new(script, step, fails);
-                let mut output = Vec::new(rt.alloc());
-                let mut errors = Vec::new(rt.alloc());
-                let (outcome, _) = replay(rt.alloc(), &words, &mut input, &mut output, &mut errors);
-                let want = first_lines(ANSWERS.as_bytes(), line_feeds(script));
-                assert!(rt; output.as_slice() == want, "after {kept} bytes");
-                if fails {
-                    assert_eq!(rt;
-                        String::from_utf8(errors)?.as_str(),
-                        "replay: read failed\n"
-                    );
-                    assert_eq!(rt; outcome.status(), 1);
-                } else {
-                    assert_eq!(rt; errors.len(), 0);
-                    assert_eq!(rt; outcome.status(), 0);
-                }
-            }
-        }
+fn failed_reads(rt: HostRuntime) {
+    let script = SCRIPT.as_bytes();
+    assert_front(&rt, rt.alloc(), script, false);
+    for kept in 0..=script.len() {
+        assert_front(&rt, rt.alloc(), &script[..kept], true);
     }
-    Ok(())
 }
 
 #[test]
-fn failed_writes(rt: HostRuntime) -> Result<(), Fail> {
-    let words: Vec<String> = Vec::new(rt.alloc());
+fn failed_writes(rt: HostRuntime) {
     let answers = ANSWERS.as_bytes();
-    for room in 0..=ANSWERS.len() {
-        for (fails, flush_fails) in [(false, false), (true, false), (false, true)] {
-            let mut input = SCRIPT.as_bytes();
-            let mut output = Sink::new(rt.alloc(), room, fails, flush_fails);
-            let mut errors = Vec::new(rt.alloc());
-            let (outcome, _) = replay(rt.alloc(), &words, &mut input, &mut output, &mut errors);
-            assert!(rt;
-                output.taken.as_slice() == &answers[..room],
-                "after {room} bytes"
-            );
-            if room < ANSWERS.len() || flush_fails {
-                assert_eq!(rt;
-                    String::from_utf8(errors)?.as_str(),
-                    "replay: write failed\n"
-                );
-                assert_eq!(rt; outcome.status(), 1);
-            } else {
-                assert_eq!(rt; errors.len(), 0);
-                assert_eq!(rt; outcome.status(), 0);
-            }
-        }
+    for room in 0..=answers.len() {
+        let front = &answers[..room];
+        assert_room(&rt, rt.alloc(), front, false, false);
+        assert_room(&rt, rt.alloc(), front, true, false);
+        assert_room(&rt, rt.alloc(), front, false, true);
     }
-    Ok(())
 }
 
 #[test]
-fn failed_texts(rt: HostRuntime) -> Result<(), Fail> {
+fn failed_texts(rt: HostRuntime) {
     let words: Vec<String> = Vec::new(rt.alloc());
     let text = b"line 1: cannot be read\n";
     for room in 0..=text.len() {
@@ -213,12 +224,11 @@ fn failed_texts(rt: HostRuntime) -> Result<(), Fail> {
         let mut errors = Sink::new(rt.alloc(), room, true, false);
         let (outcome, told) = replay(rt.alloc(), &words, &mut input, &mut output, &mut errors);
         assert!(rt; matches!(outcome, Outcome::Ended(Ending::BadLine(1))));
-        assert_eq!(rt; told.is_ok(), room == text.len());
+        assert!(rt; told.is_ok() == (room == text.len()));
         assert!(rt;
             errors.taken.as_slice() == &text[..room],
-            "after {room} bytes"
+            "room {room}: another text"
         );
-        assert_eq!(rt; outcome.status(), 2);
+        assert!(rt; outcome.status() == 2);
     }
-    Ok(())
 }
