@@ -4,4 +4,6 @@
 pub mod answers;
 pub mod laws;
 pub mod lines;
-pub mod words;
+mod words;
+
+pub use words::number_in;

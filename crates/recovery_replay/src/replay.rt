@@ -13,7 +13,7 @@ use quic_recovery::event::Event;
 use recovery_base::below::{ConnectionId, NoMemory};
 use recovery_base::time::{Duration, Instant};
 use recovery_lines::answers::render;
-use recovery_lines::words::number_in;
+use recovery_lines::number_in;
 use std::alloc::Global;
 use std::io;
 use std::io::{Read, Write};
