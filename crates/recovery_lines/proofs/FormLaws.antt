@@ -16,7 +16,7 @@ use Rattle.quic_recovery.specs.declared.event.PathName.TheVariants.{Current, Pre
 use Rattle.recovery_lines.specs.declared.lines.Line.{Line}
 use Rattle.recovery_lines.specs.declared.lines.Line.TheVariants.{Said, Ids}
 use Rattle.recovery_lines.specs.Fields.{Field, a_space, a_timer, a_path, a_flag, a_largest, a_u64, a_u16, a_var_int, a_byte, a_count, Value, word_for, Fits, Values, words_for, AllFit}
-use Rattle.recovery_lines.specs.Lines.{Means, Form, issue_ids, forms, saying, words_said, spelling, IsWithinTypes}
+use Rattle.recovery_lines.specs.Lines.{Means, Form, form_of, issue_ids, forms, saying, words_said, spelling, IsWithinTypes}
 use Rattle.recovery_lines.specs.Reading.{◌>>=◌, field, value_of, fields_read, all_read, reading, form_named, line_at, line_behind}
 use Rattle.recovery_lines.specs.Words.{flag_word, space_word, timer_word, path_word, largest_word}
 use Rattle.recovery_lines.proofs.FieldLaws.{bind_some, some_is, IsField, number_field, flag_field, space_field, timer_field, path_field, largest_field, field_takes, field_again}
@@ -135,8 +135,7 @@ record IsForm (form : Form) : Type 0 where
   plain : is_plain form.name ≡ true
 
 -- a form of an event that holds no list
-says : {name : List ℕ} {fields : List Field} {event : Values fields → Event} → ((x : Values fields) → saying 0 (event x) ≡ (record { name = name; fields = fields; line = λ y. Said (event y) }, x)) → is_plain name ≡ true
-    → IsForm (record { name = name; fields = fields; line = λ y. Said (event y) })
+says : {name : List ℕ} {fields : List Field} {event : Values fields → Event} → ((x : Values fields) → saying 0 (event x) ≡ (form_of name fields event, x)) → is_plain name ≡ true → IsForm (form_of name fields event)
 says {name} {fields} {event} same plain = record {
   own = λ x e means. (0, ap (saying 0) means ∙ same x);
   ids = λ x now first count h e. not_ids (event x) now first count e;

@@ -1,11 +1,12 @@
 -- How a line spells an event: this is the grammar of scripts.
-use Rattle.std.specs.Prelude.{◌≡◌, ℕ, ◌+◌, ◌<◌, ◌≤◌, ◌^◌, ◌⊎◌, List, [], ◌∷◌, length, map, get_or, replicate}
+use Rattle.std.specs.Prelude.{◌≡◌, ℕ, ◌+◌, ◌<◌, ◌≤◌, ◌^◌, ◌⊎◌, List, [], ◌∷◌, length, map, get_or, replicate, decimal, refl}
 use Rattle.std.specs.List.{range_with_len}
 use Rattle.std.specs.Global.{Vec}
 use lib.Chars.{codes}
 use Rattle.recovery_base.specs.declared.below.ids.IssuedCid.{IssuedCid}
 use Rattle.quic_recovery.specs.declared.event.Event.{Event}
 use Rattle.quic_recovery.specs.declared.event.Event.TheVariants.{Received, Send, Acked, Lost, NewId, NextId, InitialId, IssueIds, IdTimeout, PeerRetired, AckFrequencyIn, AcksSent, AckDelayTimeout, SetTimer, StopTimer, NextTimeout, DiscardSpace, InFlight}
+use Rattle.recovery_base.specs.declared.timer.Timer.TheVariants.{Idle}
 use Rattle.recovery_lines.specs.declared.lines.Line.{Line}
 use Rattle.recovery_lines.specs.declared.lines.Line.TheVariants.{Said, Ids}
 use Rattle.recovery_lines.specs.Fields.{Field, a_space, a_timer, a_path, a_flag, a_largest, a_u64, a_u16, a_var_int, a_byte, a_count, Values, words_for, AllFit}
@@ -41,7 +42,8 @@ first_number unkept (id ∷ ids) = id.sequence
 -- What a line means: the event that it says, or one that holds ids, of which the last has a number.
 abbrev pub Means : Line → Event → Type 0
 Means (Said said) event = event ≡ said
-Means (Ids now first count) event = (ids : Vec IssuedCid) × (event ≡ IssueIds now ids) × (ids.items ≡ zero_ids first count) × (first + count ≤ 2 ^ 64)
+Means (Ids now first count) event =
+    (ids : Vec IssuedCid) × (event ≡ IssueIds now ids) × (ids.items ≡ zero_ids first count) × (first + count ≤ 2 ^ 64)
 
 -- a line's name, the fields behind it, and what it says with their values
 pub record Form : Type 0 where
@@ -49,67 +51,77 @@ pub record Form : Type 0 where
   pub fields : List Field
   pub line : Values fields → Line
 
+-- fields that make an event that holds no list, behind a name
+abbrev pub form_of : List ℕ → (fields : List Field) → (Values fields → Event) → Form
+form_of name fields event = record { name = name; fields = fields; line = λ x. Said (event x) }
+
 abbrev pub received : Form
-received = record { name = codes "received"; fields = a_space ∷ a_u64 ∷ a_u64 ∷ a_flag ∷ []; line = λ x. Said (Received x.0 x.1.0 x.1.1.0 x.1.1.1.0) }
+received = form_of (codes "received") (a_space ∷ a_u64 ∷ a_u64 ∷ a_flag ∷ [])
+    (λ x. Received x.0 x.1.0 x.1.1.0 x.1.1.1.0)
 
 abbrev pub send : Form
-send = record { name = codes "send"; fields = a_space ∷ a_u64 ∷ a_u16 ∷ a_flag ∷ a_largest ∷ []; line = λ x. Said (Send x.0 x.1.0 x.1.1.0 x.1.1.1.0 x.1.1.1.1.0) }
+send = form_of (codes "send") (a_space ∷ a_u64 ∷ a_u16 ∷ a_flag ∷ a_largest ∷ [])
+    (λ x. Send x.0 x.1.0 x.1.1.0 x.1.1.1.0 x.1.1.1.1.0)
 
 abbrev pub acked : Form
-acked = record { name = codes "acked"; fields = a_space ∷ a_u64 ∷ a_u64 ∷ a_flag ∷ []; line = λ x. Said (Acked x.0 x.1.0 x.1.1.0 x.1.1.1.0) }
+acked = form_of (codes "acked") (a_space ∷ a_u64 ∷ a_u64 ∷ a_flag ∷ []) (λ x. Acked x.0 x.1.0 x.1.1.0 x.1.1.1.0)
 
 abbrev pub lost : Form
-lost = record { name = codes "lost"; fields = a_space ∷ a_u64 ∷ []; line = λ x. Said (Lost x.0 x.1.0) }
+lost = form_of (codes "lost") (a_space ∷ a_u64 ∷ []) (λ x. Lost x.0 x.1.0)
 
 abbrev pub new_id : Form
-new_id = record {
-  name = codes "new-id";
-  fields = a_u64 ∷ a_u64 ∷ a_byte ∷ [];
-  line = λ x. Said (NewId (record { sequence = x.0; retire_prior_to = x.1.0; id = id_of x.1.1.0; reset_token = token_of x.1.1.0 }));
-}
+new_id = form_of (codes "new-id") (a_u64 ∷ a_u64 ∷ a_byte ∷ [])
+    (λ x. NewId (record {
+      sequence = x.0;
+      retire_prior_to = x.1.0;
+      id = id_of x.1.1.0;
+      reset_token = token_of x.1.1.0;
+    }))
 
 abbrev pub next_id : Form
-next_id = record { name = codes "next-id"; fields = []; line = λ x. Said NextId }
+next_id = form_of (codes "next-id") [] (λ x. NextId)
 
 abbrev pub initial_id : Form
-initial_id = record { name = codes "initial-id"; fields = a_byte ∷ []; line = λ x. Said (InitialId (id_of x.0)) }
+initial_id = form_of (codes "initial-id") (a_byte ∷ []) (λ x. InitialId (id_of x.0))
 
 abbrev pub issue_ids : Form
 issue_ids = record { name = codes "issue-ids"; fields = a_u64 ∷ a_u64 ∷ a_count ∷ []; line = λ x. Ids x.0 x.1.0 x.1.1.0 }
 
 abbrev pub id_timeout : Form
-id_timeout = record { name = codes "id-timeout"; fields = []; line = λ x. Said IdTimeout }
+id_timeout = form_of (codes "id-timeout") [] (λ x. IdTimeout)
 
 abbrev pub peer_retired : Form
-peer_retired = record { name = codes "peer-retired"; fields = a_u64 ∷ a_u64 ∷ []; line = λ x. Said (PeerRetired x.0 x.1.0) }
+peer_retired = form_of (codes "peer-retired") (a_u64 ∷ a_u64 ∷ []) (λ x. PeerRetired x.0 x.1.0)
 
 abbrev pub ack_frequency : Form
-ack_frequency = record {
-  name = codes "ack-frequency";
-  fields = a_var_int ∷ a_var_int ∷ a_var_int ∷ a_var_int ∷ [];
-  line = λ x. Said (AckFrequencyIn (record { sequence = x.0; ack_eliciting_threshold = x.1.0; request_max_ack_delay = x.1.1.0; reordering_threshold = x.1.1.1.0 }));
-}
+ack_frequency = form_of (codes "ack-frequency") (a_var_int ∷ a_var_int ∷ a_var_int ∷ a_var_int ∷ [])
+    (λ x. AckFrequencyIn (record {
+      sequence = x.0;
+      ack_eliciting_threshold = x.1.0;
+      request_max_ack_delay = x.1.1.0;
+      reordering_threshold = x.1.1.1.0;
+    }))
 
 abbrev pub acks_sent : Form
-acks_sent = record { name = codes "acks-sent"; fields = a_space ∷ []; line = λ x. Said (AcksSent x.0) }
+acks_sent = form_of (codes "acks-sent") (a_space ∷ []) (λ x. AcksSent x.0)
 
 abbrev pub ack_delay_timeout : Form
-ack_delay_timeout = record { name = codes "ack-delay-timeout"; fields = a_space ∷ []; line = λ x. Said (AckDelayTimeout x.0) }
+ack_delay_timeout = form_of (codes "ack-delay-timeout") (a_space ∷ []) (λ x. AckDelayTimeout x.0)
 
 abbrev pub set_timer : Form
-set_timer = record { name = codes "set-timer"; fields = a_timer ∷ a_u64 ∷ []; line = λ x. Said (SetTimer x.0 x.1.0) }
+set_timer = form_of (codes "set-timer") (a_timer ∷ a_u64 ∷ []) (λ x. SetTimer x.0 x.1.0)
 
 abbrev pub stop_timer : Form
-stop_timer = record { name = codes "stop-timer"; fields = a_timer ∷ []; line = λ x. Said (StopTimer x.0) }
+stop_timer = form_of (codes "stop-timer") (a_timer ∷ []) (λ x. StopTimer x.0)
 
 abbrev pub next_timeout : Form
-next_timeout = record { name = codes "next-timeout"; fields = []; line = λ x. Said NextTimeout }
+next_timeout = form_of (codes "next-timeout") [] (λ x. NextTimeout)
 
 abbrev pub discard : Form
-discard = record { name = codes "discard"; fields = a_space ∷ []; line = λ x. Said (DiscardSpace x.0) }
+discard = form_of (codes "discard") (a_space ∷ []) (λ x. DiscardSpace x.0)
 
 abbrev pub in_flight : Form
-in_flight = record { name = codes "in-flight"; fields = a_path ∷ []; line = λ x. Said (InFlight x.0) }
+in_flight = form_of (codes "in-flight") (a_path ∷ []) (λ x. InFlight x.0)
 
 abbrev pub forms : List Form
 forms = received ∷ send ∷ acked ∷ lost
@@ -129,10 +141,12 @@ saying unkept (Lost space number) = (lost, (space, (number, tt)))
 saying unkept (NewId frame) = (new_id, (frame.sequence, (frame.retire_prior_to, (byte_of frame.id, tt))))
 saying unkept NextId = (next_id, tt)
 saying unkept (InitialId id) = (initial_id, (byte_of id, tt))
-saying unkept (IssueIds now ids) = (issue_ids, (now, (first_number unkept ids.items, (length ids.items, tt))))
+saying unkept (IssueIds now ids) =
+    (issue_ids, (now, (first_number unkept ids.items, (length ids.items, tt))))
 saying unkept IdTimeout = (id_timeout, tt)
 saying unkept (PeerRetired sequence limit) = (peer_retired, (sequence, (limit, tt)))
-saying unkept (AckFrequencyIn frame) = (ack_frequency, (frame.sequence, (frame.ack_eliciting_threshold, (frame.request_max_ack_delay, (frame.reordering_threshold, tt)))))
+saying unkept (AckFrequencyIn frame) =
+    (ack_frequency, (frame.sequence, (frame.ack_eliciting_threshold, (frame.request_max_ack_delay, (frame.reordering_threshold, tt)))))
 saying unkept (AcksSent space) = (acks_sent, (space, tt))
 saying unkept (AckDelayTimeout space) = (ack_delay_timeout, (space, tt))
 saying unkept (SetTimer timer time) = (set_timer, (timer, (time, tt)))
@@ -149,10 +163,16 @@ words_said said = said.0.name ∷ words_for said.0.fields said.1
 abbrev pub spelling : ℕ → Event → List (List ℕ)
 spelling unkept event = words_said (saying unkept event)
 
+-- as in 'set-timer idle 50'
+set_timer-spelling : spelling 0 (SetTimer Idle 50) ≡ codes "set-timer" ∷ codes "idle" ∷ decimal 50 ∷ []
+set_timer-spelling = refl
+
 -- The values of an event's line are within the types of their fields, and the line with these values means the event: one
 -- byte fills an id and its token, and ids that are issued are of zero bytes, with numbers that go on.
 abbrev pub IsWithinTypes : ℕ → Event → Type 0
-IsWithinTypes unkept event = let said = saying unkept event in AllFit said.0.fields said.1 × Means (said.0.line said.1) event
+IsWithinTypes unkept event =
+    let said = saying unkept event in
+    AllFit said.0.fields said.1 × Means (said.0.line said.1) event
 
 -- a line spells an event
 pub record Spells (line : List ℕ) (event : Event) : Type 0 where
