@@ -4,7 +4,7 @@ use Rattle.quic_recovery.specs.declared.event.Event.{Event}
 use Rattle.recovery_replay.specs.declared.script.Ending.{Ending}
 use Rattle.recovery_replay.specs.declared.script.Ending.TheVariants.{BadLine}
 use Rattle.recovery_replay.specs.declared.script.Script.{Script}
-use Rattle.recovery_replay.specs.Lines.{Spells}
+use Rattle.recovery_lines.specs.Lines.{Spells}
 use Rattle.recovery_replay.specs.Script.{Says, SaysThenCut}
 
 -- the bytes taken so far say the script's events, and its line is the one that they cut

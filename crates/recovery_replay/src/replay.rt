@@ -4,9 +4,7 @@ ghost use Rattle.std.specs.Io.KnownBytes.{Appends};
 ghost use Rattle.recovery_replay.specs.Script.{Hears};
 ghost use Rattle.recovery_replay.specs.Replay.{status_of, error_text, beginning, AreArguments, Session, PlaysBytes, Plays, Tells};
 
-use crate::answers::render;
 use crate::script::{Ending, read_bytes, read_script};
-use crate::words::number_in;
 use crate::writing::deliver;
 use arrayvec::ArrayString;
 use itoa::Buffer;
@@ -14,6 +12,8 @@ use quic_recovery::driver::{Recovery, RecoveryConfig};
 use quic_recovery::event::Event;
 use recovery_base::below::{ConnectionId, NoMemory};
 use recovery_base::time::{Duration, Instant};
+use recovery_lines::answers::render;
+use recovery_lines::number_in;
 use std::alloc::Global;
 use std::io;
 use std::io::{Read, Write};

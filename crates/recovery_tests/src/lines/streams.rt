@@ -1,4 +1,5 @@
 //! Readers and writers that stop, fail or give and take little at a time.
+use super::{Run, assert_end, assert_read};
 use recovery_replay::replay::{Outcome, replay};
 use recovery_replay::script::Ending;
 use std::alloc::Global;
@@ -118,78 +119,55 @@ fn line_feeds(text: &[u8]) -> usize {
     seen
 }
 
-/// Asserts what a run on a source writes and how it ends; `row` names it where it does not.
-fn assert_read(
-    rt: &impl Abort,
-    alloc: Global,
-    row: usize,
-    mut input: Source<'_>,
-    answers: &[u8],
-    (status, text): (u8, &str),
-) {
-    let words: Vec<String> = Vec::new(alloc);
-    let mut output = Vec::new(alloc);
-    let mut errors = Vec::new(alloc);
-    let (outcome, _) = replay(alloc, &words, &mut input, &mut output, &mut errors);
-    assert!(rt; output.as_slice() == answers, "row {row}: other answers");
-    assert!(rt;
-        errors.as_slice() == text.as_bytes(),
-        "row {row}: another text"
-    );
-    assert!(rt; outcome.status() == status, "row {row}: another status");
-}
-
 /// Asserts how a run ends that reads a front of the script, which then ends or fails.
 fn assert_front(rt: &impl Abort, alloc: Global, front: &[u8], fails: bool) {
-    let answers = first_lines(ANSWERS.as_bytes(), line_feeds(front));
-    let end = if fails {
-        (1, "replay: read failed\n")
-    } else {
-        (0, "")
+    let want = Run {
+        answers: first_lines(ANSWERS.as_bytes(), line_feeds(front)),
+        status: if fails { 1 } else { 0 },
+        errors: if fails { b"replay: read failed\n" } else { b"" },
     };
     for step in [1, 4096] {
         let input = Source::new(front, step, fails);
-        assert_read(rt, alloc, front.len(), input, answers, end);
+        assert_read(rt, alloc, front.len(), &[], input, &want);
     }
 }
 
 /// Asserts how a run ends whose output takes some bytes of the answers, and maybe no flush.
 fn assert_room(rt: &impl Abort, alloc: Global, front: &[u8], fails: bool, flush_fails: bool) {
-    let room = front.len();
-    let words: Vec<String> = Vec::new(alloc);
     let mut input = SCRIPT.as_bytes();
-    let mut output = Sink::new(alloc, room, fails, flush_fails);
+    let mut output = Sink::new(alloc, front.len(), fails, flush_fails);
     let mut errors = Vec::new(alloc);
-    let (outcome, _) = replay(alloc, &words, &mut input, &mut output, &mut errors);
-    let is_whole = room == ANSWERS.len() && !flush_fails;
-    let (status, text) = if is_whole {
-        (0, "")
-    } else {
-        (1, "replay: write failed\n")
+    let (outcome, _) = replay(alloc, &[], &mut input, &mut output, &mut errors);
+    let is_whole = front.len() == ANSWERS.len() && !flush_fails;
+    let want = Run {
+        answers: front,
+        status: if is_whole { 0 } else { 1 },
+        errors: if is_whole {
+            b""
+        } else {
+            b"replay: write failed\n"
+        },
     };
-    assert!(rt;
-        output.taken.as_slice() == front,
-        "room {room}: other answers"
-    );
-    assert!(rt;
-        errors.as_slice() == text.as_bytes(),
-        "room {room}: another text"
-    );
-    assert!(rt; outcome.status() == status, "room {room}: another status");
+    assert_end(rt, front.len(), outcome, &output.taken, &errors, &want);
 }
 
 #[test]
 fn long_lines(rt: HostRuntime) -> Result<(), Fail> {
-    let rows = [
-        (4096, false, 2, "line 1: cannot be read\n"),
-        (4097, false, 2, "line 1: cannot be read\n"),
-        (4096, true, 1, "replay: read failed\n"),
-        (4097, true, 2, "line 1: cannot be read\n"),
+    let rows: [(usize, bool, u8, &[u8]); 4] = [
+        (4096, false, 2, b"line 1: cannot be read\n"),
+        (4097, false, 2, b"line 1: cannot be read\n"),
+        (4096, true, 1, b"replay: read failed\n"),
+        (4097, true, 2, b"line 1: cannot be read\n"),
     ];
-    for (row, (length, fails, status, text)) in rows.into_iter().enumerate() {
+    for (row, (length, fails, status, errors)) in rows.into_iter().enumerate() {
         let line = vec![in rt.alloc(); b'a'; length]?;
+        let want = Run {
+            answers: b"",
+            status,
+            errors,
+        };
         let input = Source::new(&line, 1000, fails);
-        assert_read(&rt, rt.alloc(), row, input, b"", (status, text));
+        assert_read(&rt, rt.alloc(), row, &[], input, &want);
     }
     Ok(())
 }
@@ -216,19 +194,19 @@ fn failed_writes(rt: HostRuntime) {
 
 #[test]
 fn failed_texts(rt: HostRuntime) {
-    let words: Vec<String> = Vec::new(rt.alloc());
     let text = b"line 1: cannot be read\n";
     for room in 0..=text.len() {
         let mut input = b"received data".as_slice();
         let mut output = Vec::new(rt.alloc());
         let mut errors = Sink::new(rt.alloc(), room, true, false);
-        let (outcome, told) = replay(rt.alloc(), &words, &mut input, &mut output, &mut errors);
+        let (outcome, told) = replay(rt.alloc(), &[], &mut input, &mut output, &mut errors);
+        let want = Run {
+            answers: b"",
+            status: 2,
+            errors: &text[..room],
+        };
+        assert_end(&rt, room, outcome, &output, &errors.taken, &want);
+        assert!(rt; told.is_ok() == (room == text.len()), "room {room}");
         assert!(rt; matches!(outcome, Outcome::Ended(Ending::BadLine(1))));
-        assert!(rt; told.is_ok() == (room == text.len()));
-        assert!(rt;
-            errors.taken.as_slice() == &text[..room],
-            "room {room}: another text"
-        );
-        assert!(rt; outcome.status() == 2);
     }
 }

@@ -1,6 +1,6 @@
 use Rattle.std.proofs.Common.{IsSomeAnd, ℕ, List, Option, refl, sym, subst}
 use Rattle.quic_recovery.specs.declared.event.Event.{Event}
-use Rattle.recovery_replay.specs.Lines.{Spells, IsSame}
+use Rattle.recovery_lines.specs.Lines.{Spells, IsSame}
 use Rattle.recovery_replay.proofs.script.Script.end_line.Goals as goal
 
 pub returns-in_default : goal.returns-in_default

@@ -1,0 +1,126 @@
+-- A field that is read is the field that is spelled, and what is spelled is read.
+use Rattle.std.proofs.Common.{◌≡◌, ℕ, ◌<◌, ◌≤◌, ◌^◌, Bool, true, false, cond, List, [], ◌∷◌, Option, Some, None, IfSome, decimal, bytes_eq, refl, subst, ap, ◌∙◌, lit≤}
+use Rattle.std.specs.List.{AllByRecursion}
+use Rattle.std.proofs.lemmas.Slice.Eq.{bytes_eq-Decides}
+use Rattle.recovery_base.specs.declared.below.SpaceId.{SpaceId}
+use Rattle.recovery_base.specs.declared.below.SpaceId.TheVariants.{Initial, Handshake, Data}
+use Rattle.recovery_base.specs.declared.timer.Timer.{Timer}
+use Rattle.recovery_base.specs.declared.timer.Timer.TheVariants.{LossDetection, Idle, Close, KeyDiscard, PathValidation, KeepAlive, Pacing, PushNewCid, MaxAckDelay}
+use lib.Chars.{codes}
+use Rattle.quic_recovery.specs.declared.event.PathName.{PathName}
+use Rattle.quic_recovery.specs.declared.event.PathName.TheVariants.{Current, Previous}
+use Rattle.recovery_lines.specs.Words.{flag_word, space_word, timer_word, path_word, largest_word}
+use Rattle.recovery_lines.specs.Reading.{◌>>=◌, named, field, flag_names, space_names, timer_names, path_names, flag_of, space_of, timer_of, path_of, largest_of, number_of}
+use Rattle.recovery_lines.proofs.NumberLaws.{number_takes, number_again, decimal_is_no_dash}
+
+-- the value of a step that did not fail
+pub bind_some : {A B : Type 0} (o : Option A) (f : A → Option B) (y : B) → (o >>= f) ≡ Some y → (x : A) × (o ≡ Some x) × (f x ≡ Some y)
+bind_some (Some x) f y e = (x, refl, e)
+bind_some None f y e = absurd cc
+
+abbrev pub some_of : {A : Type 0} → A → Option A
+some_of x = Some x
+
+pub some_is : {A : Type 0} (x y : A) → some_of x ≡ some_of y → x ≡ y
+some_is x y e = cc
+
+-- a word for each value that fits, and its reading
+pub record IsField {A : Type 0} (word : A → List ℕ) (Fits : A → Type 0) (read : List ℕ → Option A) : Type 0 where
+  pub takes : (text : List ℕ) (x : A) → read text ≡ Some x → (text ≡ word x) × Fits x
+  pub again : (x : A) → Fits x → read (word x) ≡ Some x
+
+-- each name is the word of its value
+pub named_takes : {A : Type 0} (word : A → List ℕ) (names : List (List ℕ × A)) → AllByRecursion (λ p. p.0 ≡ word p.1) names → (text : List ℕ) (x : A) → named names text ≡ Some x → text ≡ word x
+named_takes word [] h text x e = absurd cc
+named_takes word ((name, value) ∷ names) h text x e = go (bytes_eq text name) refl e (named_takes word names h.1 text x) where
+  go : (b : Bool) → bytes_eq text name ≡ b → cond b (Some value) (named names text) ≡ Some x → (named names text ≡ Some x → text ≡ word x) → text ≡ word x
+  go true same f later = (bytes_eq-Decides text name).0 same ∙ h.0 ∙ ap word (some_is value x f)
+  go false other f later = later f
+
+pub number_field : (limit : ℕ) → limit ≤ 10 ^ 64 → IsField decimal (λ n. n < limit) (number_of limit)
+number_field limit most = record { takes = number_takes limit; again = λ n lt. number_again limit n most lt }
+
+flag_again : (b : Bool) → flag_of (flag_word b) ≡ Some b
+unfolding flag_of
+flag_again true = refl
+flag_again false = refl
+
+pub flag_field : IsField flag_word (λ b. Unit {0}) flag_of
+unfolding flag_of
+flag_field = record { takes = λ text b e. (named_takes flag_word flag_names (refl, (refl, tt)) text b e, tt); again = λ b h. flag_again b }
+
+space_again : (s : SpaceId) → space_of (space_word s) ≡ Some s
+unfolding space_of
+space_again Initial = refl
+space_again Handshake = refl
+space_again Data = refl
+
+pub space_field : IsField space_word (λ s. Unit {0}) space_of
+unfolding space_of
+space_field = record { takes = λ text s e. (named_takes space_word space_names (refl, (refl, (refl, tt))) text s e, tt); again = λ s h. space_again s }
+
+timer_again : (t : Timer) → timer_of (timer_word t) ≡ Some t
+unfolding timer_of
+timer_again LossDetection = refl
+timer_again Idle = refl
+timer_again Close = refl
+timer_again KeyDiscard = refl
+timer_again PathValidation = refl
+timer_again KeepAlive = refl
+timer_again Pacing = refl
+timer_again PushNewCid = refl
+timer_again MaxAckDelay = refl
+
+pub timer_field : IsField timer_word (λ t. Unit {0}) timer_of
+unfolding timer_of
+timer_field = record { takes = λ text t e. (named_takes timer_word timer_names (refl, (refl, (refl, (refl, (refl, (refl, (refl, (refl, (refl, tt))))))))) text t e, tt); again = λ t h. timer_again t }
+
+path_again : (p : PathName) → path_of (path_word p) ≡ Some p
+unfolding path_of
+path_again Current = refl
+path_again Previous = refl
+
+pub path_field : IsField path_word (λ p. Unit {0}) path_of
+unfolding path_of
+path_field = record { takes = λ text p e. (named_takes path_word path_names (refl, (refl, tt)) text p e, tt); again = λ p h. path_again p }
+
+-- a number or none
+largest_takes : (text : List ℕ) (l : Option ℕ) → largest_of text ≡ Some l → (text ≡ largest_word l) × IfSome l (λ n. n < 2 ^ 64)
+unfolding largest_of
+largest_takes text l e = go (bytes_eq text (codes "-")) refl e
+  where
+    go : (b : Bool) → bytes_eq text (codes "-") ≡ b → cond b (Some None) (number_of (2 ^ 64) text >>= λ n. Some (Some n)) ≡ Some l → (text ≡ largest_word l) × IfSome l (λ n. n < 2 ^ 64)
+    go true same f =
+        let P : Option ℕ → Type 0 = λ m. (text ≡ largest_word m) × IfSome m (λ n. n < 2 ^ 64) in
+        subst P (some_is None l f) ((bytes_eq-Decides text (codes "-")).0 same, tt)
+    go false other f =
+        let b = bind_some (number_of (2 ^ 64) text) (λ n. Some (Some n)) l f in
+        let t = number_takes (2 ^ 64) text b.0 b.1 in
+        let P : Option ℕ → Type 0 = λ m. (text ≡ largest_word m) × IfSome m (λ n. n < 2 ^ 64) in
+        subst P (some_is (Some b.0) l b.2) t
+
+largest_again : (l : Option ℕ) → IfSome l (λ n. n < 2 ^ 64) → largest_of (largest_word l) ≡ Some l
+unfolding largest_of
+largest_again None h = refl
+largest_again (Some n) h =
+    ap (λ b. cond b (Some None) (number_of (2 ^ 64) (decimal n) >>= λ m. Some (Some m))) (decimal_is_no_dash n h)
+    ∙ ap (λ (o : Option ℕ). o >>= λ m. Some (Some m)) (number_again (2 ^ 64) n (lit≤ tt) h)
+
+pub largest_field : IsField largest_word (λ l. IfSome l (λ n. n < 2 ^ 64)) largest_of
+largest_field = record { takes = largest_takes; again = largest_again }
+
+-- a field at the front of the words
+pub field_takes : {A : Type 0} {word : A → List ℕ} {Fits : A → Type 0} {read : List ℕ → Option A} (f : IsField word Fits read) (words : List (List ℕ)) (x : A) (rest : List (List ℕ))
+    → field read words ≡ Some (x, rest) → (words ≡ word x ∷ rest) × Fits x
+unfolding field
+field_takes f [] x rest e = absurd cc
+field_takes {A} {word} {Fits} {read} f (text ∷ words) x rest e =
+    let b = bind_some (read text) (λ v. Some (v, words)) (x, rest) e in
+    let v-is : b.0 ≡ x = ap (λ (p : A × List (List ℕ)). p.0) (some_is (b.0, words) (x, rest) b.2) in
+    let rest-is : words ≡ rest = ap (λ (p : A × List (List ℕ)). p.1) (some_is (b.0, words) (x, rest) b.2) in
+    let t = f.takes text x (b.1 ∙ ap (λ (v : A). Some v) v-is) in
+    (rw (t.0, rest-is) refl, t.1)
+
+pub field_again : {A : Type 0} {word : A → List ℕ} {Fits : A → Type 0} {read : List ℕ → Option A} (f : IsField word Fits read) (x : A) (rest : List (List ℕ)) → Fits x → field read (word x ∷ rest) ≡ Some (x, rest)
+unfolding field
+field_again {A} {word} {Fits} {read} f x rest h = ap (λ (o : Option A). o >>= λ v. Some (v, rest)) (f.again x h)

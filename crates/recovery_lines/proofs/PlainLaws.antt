@@ -1,0 +1,88 @@
+-- A line of plain words is text, and its words are these.
+use Rattle.std.proofs.Common.{◌≡◌, ◌≢◌, ◌++◌, append-nil, ℕ, zero, suc, ◌<◌, ◌^◌, ◌==◌, Bool, true, false, ◌&&◌, List, [], ◌∷◌, decimal, IsUtf8, IsAscii, refl, ap, subst, ◌∙◌, arith, lit<, ltb-true, ne_eqb}
+use Rattle.std.specs.Prelude.{nat_lt}
+use Rattle.std.specs.List.{AllByRecursion, All, join_with_byte}
+use Rattle.std.specs.Str.Parse.{AllDigits}
+use Rattle.std.proofs.lemmas.List.Splits.{join_with_byte-slice_split, slice_split_at, slice_split_none}
+use Rattle.std.proofs.lemmas.List.Elements.{All-from_recursion}
+use Rattle.std.proofs.lemmas.Fmt.{decimal_is_IsNumeral}
+use Rattle.std.proofs.lemmas.Str.{IsAscii-append, IsUtf8-from_ascii}
+use Rattle.std.proofs.lemmas.Str.Parse.{digit_from_value}
+use Rattle.recovery_lines.specs.Words.{words_of}
+
+-- a word of bytes between the space and the end of ASCII
+
+abbrev pub IsPlainByte : ℕ → Type 0
+IsPlainByte byte = (32 < byte) × (byte < 128)
+
+abbrev pub IsPlain : List ℕ → Type 0
+IsPlain word = AllByRecursion IsPlainByte word
+
+unfoldable pub is_plain : List ℕ → Bool
+is_plain [] = true
+is_plain (b ∷ bytes) = nat_lt 32 b && (nat_lt b 128 && is_plain bytes)
+
+both_true : (b c : Bool) → (b && c) ≡ true → (b ≡ true) × (c ≡ true)
+both_true true c e = (refl, e)
+both_true false c e = absurd cc
+
+-- a word of numerals is plain if this test says so
+pub tested_plain : (word : List ℕ) → is_plain word ≡ true → IsPlain word
+unfolding is_plain
+tested_plain [] e = tt
+tested_plain (b ∷ bytes) e =
+    let f = both_true (nat_lt 32 b) (nat_lt b 128 && is_plain bytes) e in
+    let g = both_true (nat_lt b 128) (is_plain bytes) f.1 in
+    ((ltb-true _ _ f.0, ltb-true _ _ g.0), tested_plain bytes g.1)
+
+digits_plain : (digits : List ℕ) → AllDigits 10 digits → IsPlain digits
+digits_plain [] h = tt
+digits_plain (d ∷ digits) h = let r = digit_from_value d h.0 in ((omega (arith, r.0), omega (arith, r.1)), digits_plain digits h.1)
+
+pub decimal_plain : (n : ℕ) → n < 2 ^ 64 → IsPlain (decimal n)
+decimal_plain n lt = digits_plain (decimal n) (decimal_is_IsNumeral n lt).0.1
+
+plain_ascii : (word : List ℕ) → IsPlain word → IsAscii word
+plain_ascii [] h i = lit< tt
+plain_ascii (b ∷ word) h zero = h.0.1
+plain_ascii (b ∷ word) h (suc i) = plain_ascii word h.1 i
+
+space_then : (bytes : List ℕ) → IsAscii bytes → IsAscii (32 ∷ bytes)
+space_then bytes a zero = lit< tt
+space_then bytes a (suc i) = a i
+
+joined_ascii : (words : List (List ℕ)) → AllByRecursion IsPlain words → IsAscii (join_with_byte 32 words)
+joined_ascii [] h = λ i. lit< tt
+joined_ascii (word ∷ []) h = plain_ascii word h.0
+joined_ascii (word ∷ next ∷ words) h = IsAscii-append word (32 ∷ join_with_byte 32 (next ∷ words)) (plain_ascii word h.0) (space_then (join_with_byte 32 (next ∷ words)) (joined_ascii (next ∷ words) h.1))
+
+pub plain_utf8 : (line : List ℕ) → AllByRecursion IsPlain (words_of line) → IsUtf8 line
+plain_utf8 line h = IsUtf8-from_ascii line (subst IsAscii (join_with_byte-slice_split 32 line) (joined_ascii (words_of line) h))
+
+feedless : (b : ℕ) → 32 < b → b ≢ 10
+feedless b low = λ e. omega (arith, low, e)
+
+feedless_then : (word rest : List ℕ) → IsPlain word → AllByRecursion (λ b. b ≢ 10) rest → AllByRecursion (λ b. b ≢ 10) (word ++ rest)
+feedless_then [] rest h r = r
+feedless_then (b ∷ word) rest h r = (feedless b h.0.0, feedless_then word rest h.1 r)
+
+joined_feedless : (words : List (List ℕ)) → AllByRecursion IsPlain words → AllByRecursion (λ b. b ≢ 10) (join_with_byte 32 words)
+joined_feedless [] h = tt
+joined_feedless (word ∷ []) h = subst (AllByRecursion (λ b. b ≢ 10)) (append-nil word) (feedless_then word [] h.0 tt)
+joined_feedless (word ∷ next ∷ words) h = feedless_then word (32 ∷ join_with_byte 32 (next ∷ words)) h.0 ((λ e. omega (arith, e)), joined_feedless (next ∷ words) h.1)
+
+-- a line of plain words has no line feed
+pub plain_no_feed : (line : List ℕ) → AllByRecursion IsPlain (words_of line) → All (λ b. b ≢ 10) line
+plain_no_feed line h =
+    All-from_recursion (λ b. b ≢ 10) line (subst (AllByRecursion (λ b. b ≢ 10)) (join_with_byte-slice_split 32 line) (joined_feedless (words_of line) h))
+
+no_space : (word : List ℕ) → IsPlain word → AllByRecursion (λ b. (b == 32) ≡ false) word
+no_space [] h = tt
+no_space (b ∷ word) h = (ne_eqb b 32 (let low : 32 < b = h.0.0 in λ e. omega arith), no_space word h.1)
+
+-- plain words, with one space between two, are the words of that line
+pub words_joined : (word : List ℕ) (words : List (List ℕ)) → AllByRecursion IsPlain (word ∷ words) → words_of (join_with_byte 32 (word ∷ words)) ≡ word ∷ words
+words_joined word [] h = slice_split_none (λ b. b == 32) word (All-from_recursion (λ b. (b == 32) ≡ false) word (no_space word h.0))
+words_joined word (next ∷ words) h =
+    slice_split_at (λ b. b == 32) word 32 (join_with_byte 32 (next ∷ words)) (All-from_recursion (λ b. (b == 32) ≡ false) word (no_space word h.0)) refl
+    ∙ ap (λ (ws : List (List ℕ)). word ∷ ws) (words_joined next words h.1)

@@ -1,0 +1,73 @@
+-- What stands behind the name of a line: fields, each of one word.
+use Rattle.std.specs.Prelude.{ℕ, ◌<◌, ◌^◌, Bool, List, [], ◌∷◌, Option, IfSome, decimal}
+use Rattle.recovery_base.specs.declared.below.SpaceId.{SpaceId}
+use Rattle.recovery_base.specs.declared.timer.Timer.{Timer}
+use Rattle.quic_recovery.specs.declared.event.PathName.{PathName}
+use Rattle.recovery_lines.specs.Words.{flag_word, space_word, timer_word, path_word, largest_word}
+
+pub data Field : Type 0 where
+  a_space : Field
+  a_timer : Field
+  a_path : Field
+  a_flag : Field
+  -- a packet number, or none
+  a_largest : Field
+  a_u64 : Field
+  a_u16 : Field
+  -- a number of a QUIC frame (RFC 9000, 16)
+  a_var_int : Field
+  a_byte : Field
+  -- how many ids a line issues
+  a_count : Field
+
+abbrev pub Value : Field → Type 0
+Value a_space = SpaceId
+Value a_timer = Timer
+Value a_path = PathName
+Value a_flag = Bool
+Value a_largest = Option ℕ
+Value a_u64 = ℕ
+Value a_u16 = ℕ
+Value a_var_int = ℕ
+Value a_byte = ℕ
+Value a_count = ℕ
+
+-- the word of a value
+abbrev pub word_for : (field : Field) → Value field → List ℕ
+word_for a_space = space_word
+word_for a_timer = timer_word
+word_for a_path = path_word
+word_for a_flag = flag_word
+word_for a_largest = largest_word
+word_for a_u64 = decimal
+word_for a_u16 = decimal
+word_for a_var_int = decimal
+word_for a_byte = decimal
+word_for a_count = decimal
+
+-- the value is within the type of its field
+abbrev pub Fits : (field : Field) → Value field → Type 0
+Fits a_space = λ space. Unit {0}
+Fits a_timer = λ timer. Unit {0}
+Fits a_path = λ path. Unit {0}
+Fits a_flag = λ flag. Unit {0}
+Fits a_largest = λ largest. IfSome largest (λ n. n < 2 ^ 64)
+Fits a_u64 = λ n. n < 2 ^ 64
+Fits a_u16 = λ n. n < 2 ^ 16
+Fits a_var_int = λ n. n < 2 ^ 62
+Fits a_byte = λ n. n < 2 ^ 8
+Fits a_count = λ n. n < 65
+
+-- ---- several fields
+
+abbrev pub Values : List Field → Type 0
+Values [] = Unit {0}
+Values (field ∷ fields) = Value field × Values fields
+
+abbrev pub words_for : (fields : List Field) → Values fields → List (List ℕ)
+words_for [] values = []
+words_for (field ∷ fields) values = word_for field values.0 ∷ words_for fields values.1
+
+abbrev pub AllFit : (fields : List Field) → Values fields → Type 0
+AllFit [] values = Unit {0}
+AllFit (field ∷ fields) values = Fits field values.0 × AllFit fields values.1

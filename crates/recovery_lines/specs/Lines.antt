@@ -1,0 +1,203 @@
+-- How a line spells an event: this is the grammar of scripts.
+use Rattle.std.specs.Prelude.{◌≡◌, ℕ, ◌+◌, ◌<◌, ◌≤◌, ◌^◌, ◌⊎◌, List, [], ◌∷◌, length, map, get_or, replicate, decimal, refl}
+use Rattle.std.specs.List.{range_with_len}
+use Rattle.std.specs.Global.{Vec}
+use lib.Chars.{codes}
+use Rattle.recovery_base.specs.declared.below.ids.IssuedCid.{IssuedCid}
+use Rattle.quic_recovery.specs.declared.event.Event.{Event}
+use Rattle.quic_recovery.specs.declared.event.Event.TheVariants.{Received, Send, Acked, Lost, NewId, NextId, InitialId, IssueIds, IdTimeout, PeerRetired, AckFrequencyIn, AcksSent, AckDelayTimeout, SetTimer, StopTimer, NextTimeout, DiscardSpace, InFlight}
+use Rattle.recovery_base.specs.declared.timer.Timer.TheVariants.{Idle}
+use Rattle.recovery_lines.specs.declared.lines.Line.{Line}
+use Rattle.recovery_lines.specs.declared.lines.Line.TheVariants.{Said, Ids}
+use Rattle.recovery_lines.specs.Fields.{Field, a_space, a_timer, a_path, a_flag, a_largest, a_u64, a_u16, a_var_int, a_byte, a_count, Values, words_for, AllFit}
+use Rattle.recovery_lines.specs.Words.{words_of}
+
+-- ---- ids
+
+-- the id and the token that a byte fills
+abbrev pub id_of : ℕ → List ℕ
+id_of byte = replicate 8 byte
+
+abbrev pub token_of : ℕ → List ℕ
+token_of byte = replicate 16 byte
+
+-- the first byte of an id
+abbrev pub byte_of : List ℕ → ℕ
+byte_of id = get_or id 0 0
+
+-- ids of zero bytes that this end issues, this many from a number on
+abbrev pub zero_id : ℕ → IssuedCid
+zero_id number = record { sequence = number; id = id_of 0; reset_token = token_of 0 }
+
+abbrev pub zero_ids : ℕ → ℕ → List IssuedCid
+zero_ids first count = map zero_id (range_with_len first count)
+
+-- the number of the first id; where there is none, a line says one that the event does not keep
+abbrev pub first_number : ℕ → List IssuedCid → ℕ
+first_number unkept [] = unkept
+first_number unkept (id ∷ ids) = id.sequence
+
+-- ---- lines
+
+-- What a line means: the event that it says, or one that holds ids, of which the last has a number.
+abbrev pub Means : Line → Event → Type 0
+Means (Said said) event = event ≡ said
+Means (Ids now first count) event =
+    (ids : Vec IssuedCid) × (event ≡ IssueIds now ids) × (ids.items ≡ zero_ids first count) × (first + count ≤ 2 ^ 64)
+
+-- a line's name, the fields behind it, and what it says with their values
+pub record Form : Type 0 where
+  pub name : List ℕ
+  pub fields : List Field
+  pub line : Values fields → Line
+
+-- fields that make an event that holds no list, behind a name
+abbrev pub form_of : List ℕ → (fields : List Field) → (Values fields → Event) → Form
+form_of name fields event = record { name = name; fields = fields; line = λ x. Said (event x) }
+
+abbrev pub received : Form
+received = form_of (codes "received") (a_space ∷ a_u64 ∷ a_u64 ∷ a_flag ∷ [])
+    (λ x. Received x.0 x.1.0 x.1.1.0 x.1.1.1.0)
+
+abbrev pub send : Form
+send = form_of (codes "send") (a_space ∷ a_u64 ∷ a_u16 ∷ a_flag ∷ a_largest ∷ [])
+    (λ x. Send x.0 x.1.0 x.1.1.0 x.1.1.1.0 x.1.1.1.1.0)
+
+abbrev pub acked : Form
+acked = form_of (codes "acked") (a_space ∷ a_u64 ∷ a_u64 ∷ a_flag ∷ []) (λ x. Acked x.0 x.1.0 x.1.1.0 x.1.1.1.0)
+
+abbrev pub lost : Form
+lost = form_of (codes "lost") (a_space ∷ a_u64 ∷ []) (λ x. Lost x.0 x.1.0)
+
+abbrev pub new_id : Form
+new_id = form_of (codes "new-id") (a_u64 ∷ a_u64 ∷ a_byte ∷ [])
+    (λ x. NewId (record {
+      sequence = x.0;
+      retire_prior_to = x.1.0;
+      id = id_of x.1.1.0;
+      reset_token = token_of x.1.1.0;
+    }))
+
+abbrev pub next_id : Form
+next_id = form_of (codes "next-id") [] (λ x. NextId)
+
+abbrev pub initial_id : Form
+initial_id = form_of (codes "initial-id") (a_byte ∷ []) (λ x. InitialId (id_of x.0))
+
+abbrev pub issue_ids : Form
+issue_ids = record { name = codes "issue-ids"; fields = a_u64 ∷ a_u64 ∷ a_count ∷ []; line = λ x. Ids x.0 x.1.0 x.1.1.0 }
+
+abbrev pub id_timeout : Form
+id_timeout = form_of (codes "id-timeout") [] (λ x. IdTimeout)
+
+abbrev pub peer_retired : Form
+peer_retired = form_of (codes "peer-retired") (a_u64 ∷ a_u64 ∷ []) (λ x. PeerRetired x.0 x.1.0)
+
+abbrev pub ack_frequency : Form
+ack_frequency = form_of (codes "ack-frequency") (a_var_int ∷ a_var_int ∷ a_var_int ∷ a_var_int ∷ [])
+    (λ x. AckFrequencyIn (record {
+      sequence = x.0;
+      ack_eliciting_threshold = x.1.0;
+      request_max_ack_delay = x.1.1.0;
+      reordering_threshold = x.1.1.1.0;
+    }))
+
+abbrev pub acks_sent : Form
+acks_sent = form_of (codes "acks-sent") (a_space ∷ []) (λ x. AcksSent x.0)
+
+abbrev pub ack_delay_timeout : Form
+ack_delay_timeout = form_of (codes "ack-delay-timeout") (a_space ∷ []) (λ x. AckDelayTimeout x.0)
+
+abbrev pub set_timer : Form
+set_timer = form_of (codes "set-timer") (a_timer ∷ a_u64 ∷ []) (λ x. SetTimer x.0 x.1.0)
+
+abbrev pub stop_timer : Form
+stop_timer = form_of (codes "stop-timer") (a_timer ∷ []) (λ x. StopTimer x.0)
+
+abbrev pub next_timeout : Form
+next_timeout = form_of (codes "next-timeout") [] (λ x. NextTimeout)
+
+abbrev pub discard : Form
+discard = form_of (codes "discard") (a_space ∷ []) (λ x. DiscardSpace x.0)
+
+abbrev pub in_flight : Form
+in_flight = form_of (codes "in-flight") (a_path ∷ []) (λ x. InFlight x.0)
+
+abbrev pub forms : List Form
+forms = received ∷ send ∷ acked ∷ lost
+    ∷ new_id ∷ next_id ∷ initial_id ∷ issue_ids ∷ id_timeout ∷ peer_retired
+    ∷ ack_frequency ∷ acks_sent ∷ ack_delay_timeout
+    ∷ set_timer ∷ stop_timer ∷ next_timeout
+    ∷ discard ∷ in_flight ∷ []
+
+-- ---- how an event is said
+
+-- the form of an event's line and the values of its fields, with a number for what an event does not keep
+abbrev pub saying : ℕ → Event → (form : Form) × Values form.fields
+saying unkept (Received space now number ack_eliciting) = (received, (space, (now, (number, (ack_eliciting, tt)))))
+saying unkept (Send space now size ack_eliciting largest_acked) = (send, (space, (now, (size, (ack_eliciting, (largest_acked, tt))))))
+saying unkept (Acked space now number app_limited) = (acked, (space, (now, (number, (app_limited, tt)))))
+saying unkept (Lost space number) = (lost, (space, (number, tt)))
+saying unkept (NewId frame) = (new_id, (frame.sequence, (frame.retire_prior_to, (byte_of frame.id, tt))))
+saying unkept NextId = (next_id, tt)
+saying unkept (InitialId id) = (initial_id, (byte_of id, tt))
+saying unkept (IssueIds now ids) =
+    (issue_ids, (now, (first_number unkept ids.items, (length ids.items, tt))))
+saying unkept IdTimeout = (id_timeout, tt)
+saying unkept (PeerRetired sequence limit) = (peer_retired, (sequence, (limit, tt)))
+saying unkept (AckFrequencyIn frame) =
+    (ack_frequency, (frame.sequence, (frame.ack_eliciting_threshold, (frame.request_max_ack_delay, (frame.reordering_threshold, tt)))))
+saying unkept (AcksSent space) = (acks_sent, (space, tt))
+saying unkept (AckDelayTimeout space) = (ack_delay_timeout, (space, tt))
+saying unkept (SetTimer timer time) = (set_timer, (timer, (time, tt)))
+saying unkept (StopTimer timer) = (stop_timer, (timer, tt))
+saying unkept NextTimeout = (next_timeout, tt)
+saying unkept (DiscardSpace space) = (discard, (space, tt))
+saying unkept (InFlight path) = (in_flight, (path, tt))
+
+-- the words that a form says with values
+abbrev pub words_said : (form : Form) × Values form.fields → List (List ℕ)
+words_said said = said.0.name ∷ words_for said.0.fields said.1
+
+-- the words that spell an event
+abbrev pub spelling : ℕ → Event → List (List ℕ)
+spelling unkept event = words_said (saying unkept event)
+
+-- as in 'set-timer idle 50'
+set_timer-spelling : spelling 0 (SetTimer Idle 50) ≡ codes "set-timer" ∷ codes "idle" ∷ decimal 50 ∷ []
+set_timer-spelling = refl
+
+-- The values of an event's line are within the types of their fields, and the line with these values means the event: one
+-- byte fills an id and its token, and ids that are issued are of zero bytes, with numbers that go on.
+abbrev pub IsWithinTypes : ℕ → Event → Type 0
+IsWithinTypes unkept event =
+    let said = saying unkept event in
+    AllFit said.0.fields said.1 × Means (said.0.line said.1) event
+
+-- a line spells an event
+pub record Spells (line : List ℕ) (event : Event) : Type 0 where
+  pub unkept : ℕ
+  pub words : words_of line ≡ spelling unkept event
+  pub within : IsWithinTypes unkept event
+  pub short : length line ≤ 4096
+
+-- the line issues ids, one at least, of which each has a number
+pub record IssuesIds (line : List ℕ) : Type 0 where
+  pub now : ℕ
+  pub first : ℕ
+  pub count : ℕ
+  pub words : words_of line ≡ words_said (issue_ids, (now, (first, (count, tt))))
+  pub time : now < 2 ^ 64
+  pub some : 0 < count
+  pub few : count ≤ 64
+  pub bound : first + count ≤ 2 ^ 64
+  pub short : length line ≤ 4096
+
+-- the same ids are issued at the same moment, wherever their list lies in memory
+abbrev pub IssueAlike : Event → Event → Type 0
+IssueAlike (IssueIds now ids) (IssueIds then others) = (now ≡ then) × (ids.items ≡ others.items)
+IssueAlike first second = ⊥
+
+-- two values of the same event
+abbrev pub IsSame : Event → Event → Type 0
+IsSame first second = (first ≡ second) ⊎ IssueAlike first second

@@ -1,0 +1,146 @@
+-- How the parser goes over the words of a line. What a line means is said by the grammar in Lines.antt alone.
+use Rattle.std.specs.Prelude.{◌≡◌, ℕ, ◌+◌, ◌<◌, ◌≤◌, ◌^◌, ◌==◌, nat_lt, ◌&&◌, Bool, true, false, List, [], ◌∷◌, length, Option, Some, None, option_and_then, if◌then◌else◌, bytes_eq, decimal}
+use Rattle.std.specs.Str.Parse.{digits_value}
+use lib.Chars.{codes}
+use Rattle.recovery_base.specs.declared.below.SpaceId.{SpaceId}
+use Rattle.recovery_base.specs.declared.below.SpaceId.TheVariants.{Initial, Handshake, Data}
+use Rattle.recovery_base.specs.declared.timer.Timer.{Timer}
+use Rattle.recovery_base.specs.declared.timer.Timer.TheVariants.{LossDetection, Idle, Close, KeyDiscard, PathValidation, KeepAlive, Pacing, PushNewCid, MaxAckDelay}
+use Rattle.quic_recovery.specs.declared.event.PathName.{PathName}
+use Rattle.quic_recovery.specs.declared.event.PathName.TheVariants.{Current, Previous}
+use Rattle.recovery_lines.specs.declared.lines.Line.{Line}
+use Rattle.recovery_lines.specs.declared.lines.Line.TheVariants.{Said, Ids}
+use Rattle.recovery_lines.specs.declared.words.Words.{Words}
+use Rattle.recovery_lines.specs.Fields.{Field, a_space, a_timer, a_path, a_flag, a_largest, a_u64, a_u16, a_var_int, a_byte, a_count, Value, Values}
+use Rattle.recovery_lines.specs.Lines.{Form, forms}
+use Rattle.recovery_lines.specs.Words.{words_of}
+
+-- ---- a field
+
+infixl 10 ◌>>=◌
+abbrev pub ◌>>=◌ : {A B : Type 0} → Option A → (A → Option B) → Option B
+o >>= f = option_and_then f o
+
+-- the first of the names that a word is
+abbrev pub named : {A : Type 0} → List (List ℕ × A) → List ℕ → Option A
+named [] word = None
+named ((name, value) ∷ names) word = if bytes_eq word name then Some value else named names word
+
+abbrev pub flag_names : List (List ℕ × Bool)
+flag_names = (codes "0", false) ∷ (codes "1", true) ∷ []
+
+unfoldable pub flag_of : List ℕ → Option Bool
+flag_of = named flag_names
+
+abbrev pub space_names : List (List ℕ × SpaceId)
+space_names = (codes "initial", Initial) ∷ (codes "handshake", Handshake) ∷ (codes "data", Data) ∷ []
+
+unfoldable pub space_of : List ℕ → Option SpaceId
+space_of = named space_names
+
+abbrev pub timer_names : List (List ℕ × Timer)
+timer_names = (codes "loss-detection", LossDetection) ∷ (codes "idle", Idle) ∷ (codes "close", Close) ∷ (codes "key-discard", KeyDiscard) ∷ (codes "path-validation", PathValidation)
+    ∷ (codes "keep-alive", KeepAlive) ∷ (codes "pacing", Pacing) ∷ (codes "push-new-cid", PushNewCid) ∷ (codes "max-ack-delay", MaxAckDelay) ∷ []
+
+unfoldable pub timer_of : List ℕ → Option Timer
+timer_of = named timer_names
+
+abbrev pub path_names : List (List ℕ × PathName)
+path_names = (codes "current", Current) ∷ (codes "previous", Previous) ∷ []
+
+unfoldable pub path_of : List ℕ → Option PathName
+path_of = named path_names
+
+-- the number below a limit whose decimal digits the word is
+unfoldable pub number_of : ℕ → List ℕ → Option ℕ
+number_of limit word = let n = digits_value 10 word in if nat_lt n limit && bytes_eq (decimal n) word then Some n else None
+
+-- a number, or none
+unfoldable pub largest_of : List ℕ → Option (Option ℕ)
+largest_of word = if bytes_eq word (codes "-") then Some None else (number_of (2 ^ 64) word >>= λ n. Some (Some n))
+
+-- ---- reading words from the left
+
+abbrev pub first_word : List (List ℕ) → Option (List ℕ × List (List ℕ))
+first_word [] = None
+first_word (word ∷ words) = Some (word, words)
+
+-- a field that a function on words reads from the next word
+unfoldable pub field : {A : Type 0} → (List ℕ → Option A) → List (List ℕ) → Option (A × List (List ℕ))
+field read words = do
+  first ← first_word words
+  value ← read first.0
+  Some (value, first.1)
+
+-- What a function returned, seen by view, with the words that it left, is what reading gives.
+abbrev pub Reads : {X Y : Type 0} → (X → Y) → Option X → List (List ℕ) → Option (Y × List (List ℕ)) → Type 0
+Reads view (Some x) left read = read ≡ Some (view x, left)
+Reads view None left read = read ≡ None
+
+abbrev pub left_of : {S : Type 0} → (S → List ℕ) → Option S → List (List ℕ)
+left_of text None = []
+left_of text (Some rest) = words_of (text rest)
+
+-- the words that are left to read
+abbrev pub words_left : Words → List (List ℕ)
+words_left words = left_of (λ s. s.now) words.rest
+
+-- what a function returned, with the words that it left, is what reading gives
+abbrev pub ReadsBy : {A : Type 0} → (List (List ℕ) → Option (A × List (List ℕ))) → Words → Words → Option A → Type 0
+ReadsBy read old new result = Reads (λ x. x) result (words_left new) (read (words_left old))
+
+-- how a field is read from its word
+abbrev pub value_of : (field : Field) → List ℕ → Option (Value field)
+value_of a_space = space_of
+value_of a_timer = timer_of
+value_of a_path = path_of
+value_of a_flag = flag_of
+value_of a_largest = largest_of
+value_of a_u64 = number_of (2 ^ 64)
+value_of a_u16 = number_of (2 ^ 16)
+value_of a_var_int = number_of (2 ^ 62)
+value_of a_byte = number_of (2 ^ 8)
+value_of a_count = number_of 65
+
+-- ---- a line
+
+-- fields that are read one after the other, and what is made of their values
+unfoldable pub fields_read : {A : Type 0} (fields : List Field) → (Values fields → A) → List (List ℕ) → Option (A × List (List ℕ))
+fields_read [] make words = Some (make tt, words)
+fields_read (f ∷ fields) make words = field (value_of f) words >>= λ x. fields_read fields (λ y. make (x.0, y)) x.1
+
+-- the same; where there is no field, it is seen at once
+abbrev pub all_read : {A : Type 0} (fields : List Field) → (Values fields → A) → List (List ℕ) → Option (A × List (List ℕ))
+all_read [] make words = Some (make tt, words)
+all_read (f ∷ fields) make words = fields_read (f ∷ fields) make words
+
+-- what is read behind a form's name
+abbrev pub reading : Form → List (List ℕ) → Option (Line × List (List ℕ))
+reading form = all_read form.fields form.line
+
+-- the form of this name
+abbrev pub form_named : List Form → List ℕ → Option Form
+form_named [] word = None
+form_named (form ∷ forms) word = if bytes_eq word form.name then Some form else form_named forms word
+
+-- what stands behind a name
+unfoldable pub line_behind : List ℕ → List (List ℕ) → Option (Line × List (List ℕ))
+line_behind name words = do
+  form ← form_named forms name
+  reading form words
+
+unfoldable pub line_at : List (List ℕ) → Option (Line × List (List ℕ))
+line_at words = do
+  name ← first_word words
+  line_behind name.0 name.1
+
+-- all of the words
+unfoldable pub line_of : List ℕ → Option Line
+line_of line = do
+  said ← line_at (words_of line)
+  if length said.1 == 0 then Some said.0 else None
+
+-- ids are made of what was read, so memory is taken
+abbrev pub TakesMemory : Line → Type 0
+TakesMemory (Said said) = ⊥
+TakesMemory (Ids now first count) = (0 < count) × (first + count ≤ 2 ^ 64)

@@ -1,0 +1,117 @@
+//! What is written for each reply: one line.
+ghost use Rattle.std.specs.Prelude.{◌≡◌, IfOk, OnOk, string_bytes};
+ghost use Rattle.recovery_lines.specs.Answers.{Writes, new_text, sent_text, done_with_text, retire_text, flag_text, timeout_text, in_flight_text, refusal_text, answer_text, answer_lines};
+
+use quic_recovery::event::{Answer, Refusal};
+use recovery_base::below::{NoMemory, ResetToken};
+use recovery_base::time::Instant;
+use std::alloc::{AllocError, Global};
+use std::ops::Range;
+
+fn write_new(text: &mut String, arm: bool) -> Result<(), AllocError>
+    ensures { OnOk result (Writes text.old (new_text arm) text.new) }
+{
+    if arm {
+        writeln!(text, "new arm")
+    } else {
+        writeln!(text, "new")
+    }
+}
+
+fn write_sent(text: &mut String, number: u64, forgotten: Option<u64>) -> Result<(), AllocError>
+    ensures { OnOk result (Writes text.old (sent_text number forgotten) text.new) }
+{
+    match forgotten {
+        None => writeln!(text, "sent {number}"),
+        Some(forgotten) => writeln!(text, "sent {number} forgot {forgotten}"),
+    }
+}
+
+/// Of a packet that is tracked no longer: what became of it, and whether it was a probe.
+fn write_done_with(text: &mut String, fate: &str, probe: bool) -> Result<(), AllocError>
+    ensures { OnOk result (Writes text.old (done_with_text fate.now probe) text.new) }
+{
+    if probe {
+        writeln!(text, "{fate} probe")
+    } else {
+        writeln!(text, "{fate}")
+    }
+}
+
+fn write_retire(
+    text: &mut String,
+    retired: &Option<(Range<u64>, ResetToken)>,
+) -> Result<(), AllocError>
+    ensures { OnOk result (Writes text.old (retire_text retired.now) text.new) }
+{
+    match retired {
+        Some((numbers, _)) => writeln!(text, "retire {} {}", numbers.start, numbers.end),
+        None => writeln!(text, "retire none"),
+    }
+}
+
+fn write_flag(text: &mut String, flag: bool) -> Result<(), AllocError>
+    ensures { OnOk result (Writes text.old (flag_text flag) text.new) }
+{
+    if flag {
+        writeln!(text, "yes")
+    } else {
+        writeln!(text, "no")
+    }
+}
+
+fn write_timeout(text: &mut String, time: Option<Instant>) -> Result<(), AllocError>
+    ensures { OnOk result (Writes text.old (timeout_text time) text.new) }
+{
+    match time {
+        Some(time) => writeln!(text, "timeout {}", time.as_nanos()),
+        None => writeln!(text, "timeout none"),
+    }
+}
+
+fn write_in_flight(text: &mut String, bytes: u64, ack_eliciting: u64) -> Result<(), AllocError>
+    ensures { OnOk result (Writes text.old (in_flight_text bytes ack_eliciting) text.new) }
+{
+    writeln!(text, "in-flight {bytes} {ack_eliciting}")
+}
+
+fn write_refusal(text: &mut String, refusal: Refusal) -> Result<(), AllocError>
+    ensures { OnOk result (Writes text.old (refusal_text refusal) text.new) }
+{
+    writeln!(text, "refused {} {}", refusal.number(), refusal.name())
+}
+
+/// Appends the line of what an event came to. The one refusal is want of memory; nothing is then promised of the text.
+pub fn write_reply(text: &mut String, reply: &Result<Answer, Refusal>) -> Result<(), AllocError>
+    ensures { OnOk result (Writes text.old (answer_text reply.now) text.new) }
+{
+    match reply {
+        Ok(Answer::New { arm }) => write_new(text, *arm),
+        Ok(Answer::Duplicate) => writeln!(text, "duplicate"),
+        Ok(Answer::Sent { number, forgotten }) => write_sent(text, *number, *forgotten),
+        Ok(Answer::Acked { probe }) => write_done_with(text, "acked", *probe),
+        Ok(Answer::Lost { probe }) => write_done_with(text, "lost", *probe),
+        Ok(Answer::Retire(retired)) => write_retire(text, retired),
+        Ok(Answer::Flag(flag)) => write_flag(text, *flag),
+        Ok(Answer::Timeout(time)) => write_timeout(text, *time),
+        Ok(
+            Answer::InFlight {
+                bytes,
+                ack_eliciting,
+            },
+        ) => write_in_flight(text, *bytes, *ack_eliciting),
+        Ok(Answer::Done) => writeln!(text, "done"),
+        Err(refusal) => write_refusal(text, *refusal),
+    }
+}
+
+/// The lines of all replies, in order. The one refusal is `NoMemory`.
+pub fn render(alloc: Global, replies: &[Result<Answer, Refusal>]) -> Result<String, NoMemory>
+    ensures { IfOk result (λ text. string_bytes text ≡ answer_lines replies.now) }
+{
+    let mut text = String::new(alloc);
+    for reply in replies {
+        write_reply(&mut text, reply)?;
+    }
+    Ok(text)
+}

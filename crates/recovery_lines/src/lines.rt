@@ -1,0 +1,306 @@
+//! The event that a line of a script spells.
+ghost use Rattle.std.specs.Prelude.{◌≡◌, ◌+◌, ◌<◌, ◌≤◌, ◌^◌, IfSome, IfOk, OnErr, IsSome, IsSomeAnd};
+ghost use Rattle.quic_recovery.specs.declared.event.Event.{Event};
+ghost use Rattle.recovery_lines.specs.Lines.{id_of, token_of, zero_ids, received, send, acked, lost, new_id, initial_id, issue_ids, peer_retired, ack_frequency, acks_sent, ack_delay_timeout, set_timer, stop_timer, discard, in_flight, Means, Spells, IsSame, IssuesIds};
+ghost use Rattle.recovery_lines.specs.Reading.{ReadsBy, reading, line_behind, line_at, line_of, TakesMemory};
+
+use crate::words::Words;
+use quic_recovery::event::Event;
+use recovery_base::below::{
+    AckFrequency, ConnectionId, IssuedCid, NewConnectionId, NoMemory, ResetToken,
+};
+use recovery_base::time::Instant;
+use std::alloc::Global;
+
+/// The most bytes of a line, without its line feed.
+pub const LINE_LIMIT: usize = 4096;
+
+/// What a line says, before any memory is taken for it.
+#[derive(Drop)]
+enum Line {
+    /// An event that holds no list.
+    Said(Event),
+    /// This end issues so many ids from a number on, at a moment.
+    Ids {
+        now: Instant,
+        first: u64,
+        count: u64,
+    },
+}
+
+/// The id of eight bytes that a line names by one of them.
+fn id_of(byte: u8) -> ConnectionId
+    ensures { result ≡ id_of byte }
+{
+    ConnectionId::new(&[byte; 8])
+}
+
+/// The token that goes with such an id.
+fn token_of(byte: u8) -> ResetToken
+    ensures { result ≡ token_of byte }
+{
+    ResetToken::from([byte; 16])
+}
+
+#[tactic(auto, unfolding(crate::specs::Reading::fields_read))]
+fn received(words: &mut Words<'_>) -> Option<Line>
+    ensures { ReadsBy (reading received) words.old words.new result }
+{
+    Some(Line::Said(Event::Received {
+        space: words.space()?,
+        now: words.moment()?,
+        number: words.number()?,
+        ack_eliciting: words.flag()?,
+    }))
+}
+
+#[tactic(auto, unfolding(crate::specs::Reading::fields_read))]
+fn send(words: &mut Words<'_>) -> Option<Line>
+    ensures { ReadsBy (reading send) words.old words.new result }
+{
+    Some(Line::Said(Event::Send {
+        space: words.space()?,
+        now: words.moment()?,
+        size: words.size()?,
+        ack_eliciting: words.flag()?,
+        largest_acked: words.largest()?,
+    }))
+}
+
+#[tactic(auto, unfolding(crate::specs::Reading::fields_read))]
+fn acked(words: &mut Words<'_>) -> Option<Line>
+    ensures { ReadsBy (reading acked) words.old words.new result }
+{
+    Some(Line::Said(Event::Acked {
+        space: words.space()?,
+        now: words.moment()?,
+        number: words.number()?,
+        app_limited: words.flag()?,
+    }))
+}
+
+#[tactic(auto, unfolding(crate::specs::Reading::fields_read))]
+fn lost(words: &mut Words<'_>) -> Option<Line>
+    ensures { ReadsBy (reading lost) words.old words.new result }
+{
+    Some(Line::Said(Event::Lost {
+        space: words.space()?,
+        number: words.number()?,
+    }))
+}
+
+#[tactic(auto, unfolding(crate::specs::Reading::fields_read))]
+fn new_id(words: &mut Words<'_>) -> Option<Line>
+    ensures { ReadsBy (reading new_id) words.old words.new result }
+{
+    let sequence = words.number()?;
+    let retire_prior_to = words.number()?;
+    let byte = words.byte()?;
+    Some(Line::Said(Event::NewId(NewConnectionId {
+        sequence,
+        retire_prior_to,
+        id: id_of(byte),
+        reset_token: token_of(byte),
+    })))
+}
+
+#[tactic(auto, unfolding(crate::specs::Reading::fields_read))]
+fn initial_id(words: &mut Words<'_>) -> Option<Line>
+    ensures { ReadsBy (reading initial_id) words.old words.new result }
+{
+    Some(Line::Said(Event::InitialId(id_of(words.byte()?))))
+}
+
+#[tactic(auto, unfolding(crate::specs::Reading::fields_read))]
+fn peer_retired(words: &mut Words<'_>) -> Option<Line>
+    ensures { ReadsBy (reading peer_retired) words.old words.new result }
+{
+    Some(Line::Said(Event::PeerRetired {
+        sequence: words.number()?,
+        limit: words.number()?,
+    }))
+}
+
+#[tactic(auto, unfolding(crate::specs::Reading::fields_read))]
+fn ack_frequency(words: &mut Words<'_>) -> Option<Line>
+    ensures { ReadsBy (reading ack_frequency) words.old words.new result }
+{
+    Some(Line::Said(Event::AckFrequencyIn(AckFrequency {
+        sequence: words.var_int()?,
+        ack_eliciting_threshold: words.var_int()?,
+        request_max_ack_delay: words.var_int()?,
+        reordering_threshold: words.var_int()?,
+    })))
+}
+
+#[tactic(auto, unfolding(crate::specs::Reading::fields_read))]
+fn acks_sent(words: &mut Words<'_>) -> Option<Line>
+    ensures { ReadsBy (reading acks_sent) words.old words.new result }
+{
+    Some(Line::Said(Event::AcksSent {
+        space: words.space()?,
+    }))
+}
+
+#[tactic(auto, unfolding(crate::specs::Reading::fields_read))]
+fn ack_delay_timeout(words: &mut Words<'_>) -> Option<Line>
+    ensures { ReadsBy (reading ack_delay_timeout) words.old words.new result }
+{
+    Some(Line::Said(Event::AckDelayTimeout {
+        space: words.space()?,
+    }))
+}
+
+#[tactic(auto, unfolding(crate::specs::Reading::fields_read))]
+fn set_timer(words: &mut Words<'_>) -> Option<Line>
+    ensures { ReadsBy (reading set_timer) words.old words.new result }
+{
+    Some(Line::Said(Event::SetTimer {
+        timer: words.timer()?,
+        time: words.moment()?,
+    }))
+}
+
+#[tactic(auto, unfolding(crate::specs::Reading::fields_read))]
+fn stop_timer(words: &mut Words<'_>) -> Option<Line>
+    ensures { ReadsBy (reading stop_timer) words.old words.new result }
+{
+    Some(Line::Said(Event::StopTimer {
+        timer: words.timer()?,
+    }))
+}
+
+#[tactic(auto, unfolding(crate::specs::Reading::fields_read))]
+fn discard(words: &mut Words<'_>) -> Option<Line>
+    ensures { ReadsBy (reading discard) words.old words.new result }
+{
+    Some(Line::Said(Event::DiscardSpace {
+        space: words.space()?,
+    }))
+}
+
+#[tactic(auto, unfolding(crate::specs::Reading::fields_read))]
+fn in_flight(words: &mut Words<'_>) -> Option<Line>
+    ensures { ReadsBy (reading in_flight) words.old words.new result }
+{
+    Some(Line::Said(Event::InFlight {
+        path: words.path()?,
+    }))
+}
+
+#[tactic(auto, unfolding(crate::specs::Reading::fields_read))]
+fn issue_ids(words: &mut Words<'_>) -> Option<Line>
+    ensures { ReadsBy (reading issue_ids) words.old words.new result }
+{
+    Some(Line::Ids {
+        now: words.moment()?,
+        first: words.number()?,
+        count: words.count()?,
+    })
+}
+
+/// What a line says behind its name.
+#[tactic(auto, unfolding(crate::specs::Reading::line_behind))]
+fn line_behind(name: &str, words: &mut Words<'_>) -> Option<Line>
+    ensures { ReadsBy (line_behind name.now) words.old words.new result }
+{
+    match name {
+        "received" => received(words),
+        "send" => send(words),
+        "acked" => acked(words),
+        "lost" => lost(words),
+        "new-id" => new_id(words),
+        "next-id" => Some(Line::Said(Event::NextId)),
+        "initial-id" => initial_id(words),
+        "issue-ids" => issue_ids(words),
+        "id-timeout" => Some(Line::Said(Event::IdTimeout)),
+        "peer-retired" => peer_retired(words),
+        "ack-frequency" => ack_frequency(words),
+        "acks-sent" => acks_sent(words),
+        "ack-delay-timeout" => ack_delay_timeout(words),
+        "set-timer" => set_timer(words),
+        "stop-timer" => stop_timer(words),
+        "next-timeout" => Some(Line::Said(Event::NextTimeout)),
+        "discard" => discard(words),
+        "in-flight" => in_flight(words),
+        _ => None,
+    }
+}
+
+#[tactic(auto, unfolding(crate::specs::Reading::line_at))]
+fn line_in(words: &mut Words<'_>) -> Option<Line>
+    ensures { ReadsBy line_at words.old words.new result }
+{
+    line_behind(words.next()?, words)
+}
+
+/// What the words of a line say, all of them.
+#[tactic(auto, unfolding(crate::specs::Reading::line_of))]
+fn said(line: &str) -> Option<Line>
+    ensures { result ≡ line_of line.now }
+{
+    let mut words = Words::new(line);
+    let said = line_in(&mut words)?;
+    if words.next().is_some() {
+        return None;
+    }
+    Some(said)
+}
+
+/// The ids of a line that issues them, each of zero bytes.
+fn zero_ids(alloc: Global, first: u64, count: u64) -> Result<Vec<IssuedCid>, NoMemory>
+    requires { first + count ≤ 2 ^ 64 }
+    ensures made { IfOk result (λ ids. ids.items ≡ zero_ids first count) }
+    ensures memory { OnErr result (0 < count) }
+{
+    let mut ids = Vec::with_capacity(alloc, count as usize)?;
+    for index in 0..count {
+        ids.push(IssuedCid {
+            sequence: first + index,
+            id: id_of(0),
+            reset_token: token_of(0),
+        })?;
+    }
+    Ok(ids)
+}
+
+/// The event of what a line says; `None` where a number of an id would pass `u64::MAX`.
+fn meant(alloc: Global, line: Line) -> Result<Option<Event>, NoMemory>
+    ensures found { IfOk result (λ read. IfSome read (λ event. Means line event)) }
+    ensures only { (event : Event) → Means line event → IfOk result IsSome }
+    ensures memory { OnErr result (TakesMemory line) }
+{
+    match line {
+        Line::Said(event) => Ok(Some(event)),
+        Line::Ids { now, first, count } => {
+            if count.saturating_sub(1) > u64::MAX - first {
+                return Ok(None);
+            }
+            let ids = zero_ids(alloc, first, count)?;
+            Ok(Some(Event::IssueIds { now, ids }))
+        }
+    }
+}
+
+/// The event that a line, given without its line feed, spells; `None` where it spells none. The one refusal is
+/// `NoMemory`.
+pub fn read_event(alloc: Global, line: &[u8]) -> Result<Option<Event>, NoMemory>
+    // What is read is spelled so.
+    ensures found { IfOk result (λ read. IfSome read (λ event. Spells line.now event)) }
+    // What is spelled so is read: a line spells at most one event.
+    ensures only { (event : Event) → Spells line.now event
+        → IfOk result (λ read. IsSomeAnd read (IsSame event)) }
+    // Memory is refused to a line that issues ids, and to no other.
+    ensures memory { OnErr result (IssuesIds line.now) }
+{
+    if line.len() > LINE_LIMIT {
+        return Ok(None);
+    }
+    let Ok(text) = str::from_utf8(line) else {
+        return Ok(None);
+    };
+    match said(text) {
+        Some(line) => meant(alloc, line),
+        None => Ok(None),
+    }
+}

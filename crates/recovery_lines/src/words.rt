@@ -1,0 +1,247 @@
+//! The words of a line, read one after the other.
+ghost use Rattle.std.specs.Prelude.{◌≡◌, ◌^◌};
+ghost use Rattle.recovery_lines.specs.Words.{words_of};
+ghost use Rattle.recovery_lines.specs.Reading.{Reads, ReadsBy, words_left, first_word, field, flag_of, space_of, timer_of, path_of, largest_of, number_of};
+
+use quic_recovery::event::PathName;
+use recovery_base::below::{SpaceId, VarInt};
+use recovery_base::time::Instant;
+use recovery_base::timer::Timer;
+
+/// The most ids that a line issues.
+const MOST_IDS: u64 = 64;
+
+/// The number that a word spells, 0 to `u64::MAX`: digits without a sign and without leading zeros.
+pub fn number_in(word: &str) -> Option<u64>
+    ensures { result ≡ number_of (2 ^ 64) word.now }
+{
+    if word.starts_with('+') || (word.len() > 1 && word.starts_with('0')) {
+        return None;
+    }
+    word.parse().ok()
+}
+
+/// The size that a word spells, 0 to `u16::MAX`, as a number is spelled.
+fn size_in(word: &str) -> Option<u16>
+    ensures { result ≡ number_of (2 ^ 16) word.now }
+{
+    match number_in(word) {
+        Some(number) => u16::try_from(number).ok(),
+        None => None,
+    }
+}
+
+/// The byte that a word spells, 0 to 255, as a number is spelled.
+fn byte_in(word: &str) -> Option<u8>
+    ensures { result ≡ number_of (2 ^ 8) word.now }
+{
+    match number_in(word) {
+        Some(number) => u8::try_from(number).ok(),
+        None => None,
+    }
+}
+
+/// The count of ids that a word spells, 0 to 64, as a number is spelled.
+fn count_in(word: &str) -> Option<u64>
+    ensures { result ≡ number_of 65 word.now }
+{
+    let number = number_in(word)?;
+    if number > MOST_IDS {
+        return None;
+    }
+    Some(number)
+}
+
+/// The number below 2^62 that a word spells, as a number is spelled.
+fn var_int_in(word: &str) -> Option<VarInt>
+    ensures { result ≡ number_of (2 ^ 62) word.now }
+{
+    match number_in(word) {
+        Some(number) => VarInt::from_u64(number).ok(),
+        None => None,
+    }
+}
+
+/// The number that a word spells, or `Some(None)` for the word that spells none.
+#[tactic(auto, unfolding(crate::specs::Reading::largest_of))]
+fn largest_in(word: &str) -> Option<Option<u64>>
+    ensures { result ≡ largest_of word.now }
+{
+    match word {
+        "-" => Some(None),
+        _ => Some(Some(number_in(word)?)),
+    }
+}
+
+#[tactic(auto, unfolding(crate::specs::Reading::flag_of))]
+fn flag_in(word: &str) -> Option<bool>
+    ensures { result ≡ flag_of word.now }
+{
+    match word {
+        "0" => Some(false),
+        "1" => Some(true),
+        _ => None,
+    }
+}
+
+#[tactic(auto, unfolding(crate::specs::Reading::space_of))]
+fn space_in(word: &str) -> Option<SpaceId>
+    ensures { result ≡ space_of word.now }
+{
+    match word {
+        "initial" => Some(SpaceId::Initial),
+        "handshake" => Some(SpaceId::Handshake),
+        "data" => Some(SpaceId::Data),
+        _ => None,
+    }
+}
+
+#[tactic(auto, unfolding(crate::specs::Reading::timer_of))]
+fn timer_in(word: &str) -> Option<Timer>
+    ensures { result ≡ timer_of word.now }
+{
+    match word {
+        "loss-detection" => Some(Timer::LossDetection),
+        "idle" => Some(Timer::Idle),
+        "close" => Some(Timer::Close),
+        "key-discard" => Some(Timer::KeyDiscard),
+        "path-validation" => Some(Timer::PathValidation),
+        "keep-alive" => Some(Timer::KeepAlive),
+        "pacing" => Some(Timer::Pacing),
+        "push-new-cid" => Some(Timer::PushNewCid),
+        "max-ack-delay" => Some(Timer::MaxAckDelay),
+        _ => None,
+    }
+}
+
+#[tactic(auto, unfolding(crate::specs::Reading::path_of))]
+fn path_in(word: &str) -> Option<PathName>
+    ensures { result ≡ path_of word.now }
+{
+    match word {
+        "current" => Some(PathName::Current),
+        "previous" => Some(PathName::Previous),
+        _ => None,
+    }
+}
+
+/// The words of a line that are left to read.
+#[derive(Drop)]
+pub struct Words<'a> {
+    rest: Option<&'a str>,
+}
+
+impl<'a> Words<'a> {
+    /// The words of a line: what stands between its spaces. A line with no byte has one word, the empty one.
+    pub fn new(line: &'a str) -> Self
+        ensures { words_left result ≡ words_of line.now }
+    {
+        Words { rest: Some(line) }
+    }
+
+    /// The next word; `None` behind the last one.
+    pub fn next(&mut self) -> Option<&'a str>
+        ensures { Reads (λ s. s.now) result
+            (words_left self.new) (first_word (words_left self.old)) }
+    {
+        let rest = self.rest?;
+        match rest.split_once(' ') {
+            None => {
+                self.rest = None;
+                Some(rest)
+            }
+            Some((word, rest)) => {
+                self.rest = Some(rest);
+                Some(word)
+            }
+        }
+    }
+
+    /// The next word as a number, 0 to `u64::MAX`.
+    #[tactic(auto, unfolding(crate::specs::Reading::field))]
+    pub fn number(&mut self) -> Option<u64>
+        ensures { ReadsBy (field (number_of (2 ^ 64))) self.old self.new result }
+    {
+        number_in(self.next()?)
+    }
+
+    /// The next word as a moment: nanoseconds, 0 to `u64::MAX`.
+    #[tactic(auto, unfolding(crate::specs::Reading::field))]
+    pub fn moment(&mut self) -> Option<Instant>
+        ensures { ReadsBy (field (number_of (2 ^ 64))) self.old self.new result }
+    {
+        Some(Instant::from_nanos(self.number()?))
+    }
+
+    /// The next word as a size in bytes, 0 to `u16::MAX`.
+    #[tactic(auto, unfolding(crate::specs::Reading::field))]
+    pub fn size(&mut self) -> Option<u16>
+        ensures { ReadsBy (field (number_of (2 ^ 16))) self.old self.new result }
+    {
+        size_in(self.next()?)
+    }
+
+    /// The next word as a byte, 0 to 255.
+    #[tactic(auto, unfolding(crate::specs::Reading::field))]
+    pub fn byte(&mut self) -> Option<u8>
+        ensures { ReadsBy (field (number_of (2 ^ 8))) self.old self.new result }
+    {
+        byte_in(self.next()?)
+    }
+
+    /// The next word as a count of ids, 0 to 64.
+    #[tactic(auto, unfolding(crate::specs::Reading::field))]
+    pub fn count(&mut self) -> Option<u64>
+        ensures { ReadsBy (field (number_of 65)) self.old self.new result }
+    {
+        count_in(self.next()?)
+    }
+
+    /// The next word as a number below 2^62.
+    #[tactic(auto, unfolding(crate::specs::Reading::field))]
+    pub fn var_int(&mut self) -> Option<VarInt>
+        ensures { ReadsBy (field (number_of (2 ^ 62))) self.old self.new result }
+    {
+        var_int_in(self.next()?)
+    }
+
+    /// The next word as a packet number, 0 to `u64::MAX`, or as none, which is spelled `-`.
+    #[tactic(auto, unfolding(crate::specs::Reading::field))]
+    pub fn largest(&mut self) -> Option<Option<u64>>
+        ensures { ReadsBy (field largest_of) self.old self.new result }
+    {
+        largest_in(self.next()?)
+    }
+
+    /// The next word as a path: `current` or `previous`.
+    #[tactic(auto, unfolding(crate::specs::Reading::field))]
+    pub fn path(&mut self) -> Option<PathName>
+        ensures { ReadsBy (field path_of) self.old self.new result }
+    {
+        path_in(self.next()?)
+    }
+
+    /// The next word as a flag: 0 or 1.
+    #[tactic(auto, unfolding(crate::specs::Reading::field))]
+    pub fn flag(&mut self) -> Option<bool>
+        ensures { ReadsBy (field flag_of) self.old self.new result }
+    {
+        flag_in(self.next()?)
+    }
+
+    /// The next word as a packet number space: `initial`, `handshake` or `data`.
+    #[tactic(auto, unfolding(crate::specs::Reading::field))]
+    pub fn space(&mut self) -> Option<SpaceId>
+        ensures { ReadsBy (field space_of) self.old self.new result }
+    {
+        space_in(self.next()?)
+    }
+
+    /// The next word as a timer, by its name in small letters with hyphens.
+    #[tactic(auto, unfolding(crate::specs::Reading::field))]
+    pub fn timer(&mut self) -> Option<Timer>
+        ensures { ReadsBy (field timer_of) self.old self.new result }
+    {
+        timer_in(self.next()?)
+    }
+}
