@@ -2,7 +2,7 @@
 ghost use Rattle.std.specs.Prelude.{◌≡◌, IfOk, OnOk, OnErr, Decides, string_bytes};
 ghost use Rattle.std.specs.Io.KnownBytes.{Appends};
 ghost use Rattle.recovery_replay.specs.Script.{Hears};
-ghost use Rattle.recovery_replay.specs.Replay.{status_of, error_text, beginning, AreArguments, Session, PlaysBytes, Plays, Tells};
+ghost use Rattle.recovery_replay.specs.Replay.{status_of, error_text, beginning, AreArguments, Session, PlaysBytes, Plays, Tells, EndsSo};
 
 use crate::script::{Ending, read_bytes, read_script};
 use crate::writing::deliver;
@@ -165,7 +165,7 @@ fn play<R: Read, W: Write>(
 ///
 /// It does what `play_bytes` does with the bytes that are read, unless a read or a write fails. The answers are written
 /// once the input was read; they are held in memory. A failed write to `errors` changes no outcome.
-pub fn replay<R: Read, W: Write, E: Write>(
+pub fn replay_and_tell<R: Read, W: Write, E: Write>(
     alloc: Global,
     words: &[String],
     input: &mut R,
@@ -180,4 +180,23 @@ pub fn replay<R: Read, W: Write, E: Write>(
 {
     let outcome = play(alloc, words, input, output);
     (outcome, outcome.report(errors))
+}
+
+/// Reads events, writes their answers and then what is wrong; gives the exit status.
+///
+/// As `replay_and_tell`; a failed write to `errors` changes no status.
+pub fn replay<R: Read, W: Write, E: Write>(
+    alloc: Global,
+    words: &[String],
+    input: &mut R,
+    output: &mut W,
+    errors: &mut E,
+) -> u8
+    ensures { EndsSo result (λ outcome.
+        Plays words.now (R.remaining input.old) (R.remaining input.new)
+        (W.contents output.old) (W.contents output.new) outcome
+        × Tells outcome (E.contents errors.old) (E.contents errors.new)) }
+{
+    let (outcome, _) = replay_and_tell(alloc, words, input, output, errors);
+    outcome.status()
 }

@@ -1,6 +1,6 @@
 //! Readers and writers that stop, fail or give and take little at a time.
 use super::{Run, assert_end, assert_read};
-use recovery_replay::replay::{Outcome, replay};
+use recovery_replay::replay::{Outcome, replay_and_tell};
 use recovery_replay::script::Ending;
 use std::alloc::Global;
 use std::io;
@@ -137,7 +137,7 @@ fn assert_room(rt: &impl Abort, alloc: Global, front: &[u8], fails: bool, flush_
     let mut input = SCRIPT.as_bytes();
     let mut output = Sink::new(alloc, front.len(), fails, flush_fails);
     let mut errors = Vec::new(alloc);
-    let (outcome, _) = replay(alloc, &[], &mut input, &mut output, &mut errors);
+    let (outcome, _) = replay_and_tell(alloc, &[], &mut input, &mut output, &mut errors);
     let is_whole = front.len() == ANSWERS.len() && !flush_fails;
     let want = Run {
         answers: front,
@@ -199,7 +199,13 @@ fn failed_texts(rt: HostRuntime) {
         let mut input = b"received data".as_slice();
         let mut output = Vec::new(rt.alloc());
         let mut errors = Sink::new(rt.alloc(), room, true, false);
-        let (outcome, told) = replay(rt.alloc(), &[], &mut input, &mut output, &mut errors);
+        let (outcome, told) = replay_and_tell(
+            rt.alloc(),
+            &[],
+            &mut input,
+            &mut output,
+            &mut errors,
+        );
         let want = Run {
             answers: b"",
             status: 2,
