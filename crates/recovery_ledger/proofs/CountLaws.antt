@@ -2,7 +2,7 @@
 use Rattle.std.proofs.Common.{◌≡◌, ℕ, ◌+◌, ◌-◌, ◌<◌, ◌≤◌, ◌==◌, ◌↔◌, IsTrue, subst, sym, ne_eqb, Bool, true, false, not, cond, ◌&&◌, nat_lt, [], ◌∷◌, ◌++◌, length, ◌^◌, Option, None, Some, refl, ap, ◌∙◌, arith, lt-ltb, le-ltb, ltb-true, ltb-false, filter}
 use Rattle.std.proofs.lemmas.List.Sums.{sum_by_push}
 use Rattle.recovery_ledger.specs.declared.spaces.SentPacket.{SentPacket}
-use Rattle.recovery_ledger.specs.Packets.{Packets, Tracking, IsAboveLast, packet_at, without, HasSize, is_above, silent_above, first_number, forgotten_silent, forgotten_number, without_some, after_sending}
+use Rattle.recovery_ledger.specs.Packets.{Packets, Tracking, IsAboveLast, packet_at, without, HasSize, is_above, silent_above, least_number, forgotten_silent, forgotten_number, without_some, after_sending}
 use Rattle.recovery_ledger.specs.Counts.{silent_count, eliciting_count, size_count, AreCounted}
 use Rattle.recovery_ledger.proofs.PacketLaws.{AllBelow, sum-without, none_counted, silent_found, sized_from_count, count_from_sized, silent_count-length, sizes-le-length, all_silent, first_above_found}
 
@@ -153,7 +153,7 @@ sized_fits packets last silent sized counted packet few =
 none_is_not_some : {A : Type 0} (number : ℕ) → None ≡ Some number → A
 none_is_not_some number e = cc
 
-first_of_some : (packets : Packets) → 0 < length packets → first_number packets ≡ None → ⊥
+first_of_some : (packets : Packets) → 0 < length packets → least_number packets ≡ None → ⊥
 first_of_some [] some none = absurd (omega arith)
 first_of_some (entry ∷ packets) some none = none_is_not_some entry.0 (sym none)
 
@@ -161,21 +161,21 @@ first_of_some (entry ∷ packets) some none = none_is_not_some entry.0 (sym none
 pub nothing_forgotten : (last : Option ℕ) (packets : Packets) → forgotten_silent last packets ≡ None → length (silent_above last packets) ≤ 1000
 nothing_forgotten last packets none = go (nat_lt 1000 (length (silent_above last packets))) refl none
   where
-    go : (b : Bool) → nat_lt 1000 (length (silent_above last packets)) ≡ b → cond b (first_number (silent_above last packets)) None ≡ None → length (silent_above last packets) ≤ 1000
+    go : (b : Bool) → nat_lt 1000 (length (silent_above last packets)) ≡ b → cond b (least_number (silent_above last packets)) None ≡ None → length (silent_above last packets) ≤ 1000
     go true many e = let more : 1000 < length (silent_above last packets) = ltb-true _ _ many in absurd (first_of_some (silent_above last packets) (omega arith) e)
     go false few e = ltb-false _ _ few
 
 -- what is forgotten is the first silent packet, where there are 1001
-pub is_forgotten : (last : Option ℕ) (packets : Packets) (number : ℕ) → forgotten_silent last packets ≡ Some number → first_number (silent_above last packets) ≡ Some number
+pub is_forgotten : (last : Option ℕ) (packets : Packets) (number : ℕ) → forgotten_silent last packets ≡ Some number → least_number (silent_above last packets) ≡ Some number
 is_forgotten last packets number some = go (nat_lt 1000 (length (silent_above last packets))) some
   where
-    go : (b : Bool) → cond b (first_number (silent_above last packets)) None ≡ Some number → first_number (silent_above last packets) ≡ Some number
+    go : (b : Bool) → cond b (least_number (silent_above last packets)) None ≡ Some number → least_number (silent_above last packets) ≡ Some number
     go true e = e
     go false e = none_is_not_some number e
 
 module _ (packets : Packets) (last : Option ℕ) (silent sized : ℕ) (counted : AreCounted packets last silent sized) where
   pub forgotten_found : (number : ℕ) → forgotten_silent last packets ≡ Some number → (packet : SentPacket) × (packet_at packets number ≡ Some packet) × (is_above last number ≡ true)
-  forgotten_found number some = first_above_found last packets number (ap first_number (all_silent last packets counted.others) ∙ is_forgotten last packets number some)
+  forgotten_found number some = first_above_found last packets number (ap least_number (all_silent last packets counted.others) ∙ is_forgotten last packets number some)
 
   pub silent_few : forgotten_silent last packets ≡ None → silent ≤ 1000
   silent_few none =
@@ -185,19 +185,19 @@ module _ (packets : Packets) (last : Option ℕ) (silent sized : ℕ) (counted :
       omega (arith, few, is, sum)
 
   -- the least number above the last eliciting one is what is forgotten, once there are 1001 silent packets
-  pub forgotten_is : 1001 ≤ silent → first_number (filter (λ entry. is_above last entry.0) packets) ≡ forgotten_silent last packets
+  pub forgotten_is : 1001 ≤ silent → least_number (filter (λ entry. is_above last entry.0) packets) ≡ forgotten_silent last packets
   forgotten_is full =
       let is = silent_count-length last packets in
       let sum = counted.silent_is in
       let many : nat_lt 1000 (length (silent_above last packets)) ≡ true = lt-ltb 1000 (length (silent_above last packets)) (omega (arith, is, sum)) in
-      ap first_number (all_silent last packets counted.others) ∙ sym (ap (λ b. cond b (first_number (silent_above last packets)) None) many)
+      ap least_number (all_silent last packets counted.others) ∙ sym (ap (λ b. cond b (least_number (silent_above last packets)) None) many)
 
   pub none_forgotten : silent < 1001 → None ≡ forgotten_silent last packets
   none_forgotten room =
       let is = silent_count-length last packets in
       let sum = counted.silent_is in
       let few : nat_lt 1000 (length (silent_above last packets)) ≡ false = le-ltb 1000 (length (silent_above last packets)) (omega (arith, is, sum)) in
-      sym (ap (λ b. cond b (first_number (silent_above last packets)) None) few)
+      sym (ap (λ b. cond b (least_number (silent_above last packets)) None) few)
 
 -- ---- what a packet that is sent leaves
 

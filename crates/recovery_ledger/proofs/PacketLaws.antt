@@ -8,7 +8,7 @@ use Rattle.std.specs.BTreeMap.{is_at, insert_entry}
 use Rattle.std.proofs.lemmas.List.Sums.{sum_by-cons}
 use Rattle.std.proofs.lemmas.Map.Lookups.{exact_unsigned}
 use Rattle.recovery_ledger.specs.declared.spaces.SentPacket.{SentPacket}
-use Rattle.recovery_ledger.specs.Packets.{Packets, packet_at, without, AreBelow, HasSize, is_above, is_silent_above, silent_above, first_number, forgotten_silent, forgotten_number, entry_at, entry_number, numbered}
+use Rattle.recovery_ledger.specs.Packets.{Packets, packet_at, without, AreBelow, HasSize, is_above, is_silent_above, silent_above, least_number, forgotten_silent, forgotten_number, entry_at, entry_number, numbered}
 use Rattle.recovery_ledger.specs.Counts.{silent_count, eliciting_count, size_count}
 
 -- ---- look-ups
@@ -196,7 +196,7 @@ all_silent last (entry ∷ packets) none =
         absurd (omega (arith, cons, one, none))
 
 -- the first number above another is that of a packet
-pub first_above_found : (last : Option ℕ) (packets : Packets) (number : ℕ) → first_number (filter (λ entry. is_above last entry.0) packets) ≡ Some number
+pub first_above_found : (last : Option ℕ) (packets : Packets) (number : ℕ) → least_number (filter (λ entry. is_above last entry.0) packets) ≡ Some number
     → (packet : SentPacket) × (packet_at packets number ≡ Some packet) × (is_above last number ≡ true)
 first_above_found last [] number e = absurd (none_is_some number e)
   where
@@ -212,8 +212,8 @@ first_above_found last (entry ∷ packets) number e = go (is_above last entry.0)
     either true found = (entry.1, refl, found.2)
     either false found = found
 
-    go : (b : Bool) → is_above last entry.0 ≡ b → first_number (cond b (entry ∷ filter (λ p. is_above last p.0) packets) (filter (λ p. is_above last p.0) packets)) ≡ Some number
-        → (first_number (filter (λ p. is_above last p.0) packets) ≡ Some number → (packet : SentPacket) × (packet_at packets number ≡ Some packet) × (is_above last number ≡ true))
+    go : (b : Bool) → is_above last entry.0 ≡ b → least_number (cond b (entry ∷ filter (λ p. is_above last p.0) packets) (filter (λ p. is_above last p.0) packets)) ≡ Some number
+        → (least_number (filter (λ p. is_above last p.0) packets) ≡ Some number → (packet : SentPacket) × (packet_at packets number ≡ Some packet) × (is_above last number ≡ true))
         → (packet : SentPacket) × (packet_at (entry ∷ packets) number ≡ Some packet) × (is_above last number ≡ true)
     go true above f later =
         let same : entry.0 ≡ number = some_number entry.0 number f in
@@ -246,7 +246,7 @@ without-absent (entry ∷ packets) number absent = go (is_at (nat_cmp number) en
 
 -- ---- the number that is forgotten is that of a packet
 
-pub first_found : (test : ℕ × SentPacket → Bool) (packets : Packets) (number : ℕ) → first_number (filter test packets) ≡ Some number → (packet : SentPacket) × (packet_at packets number ≡ Some packet)
+pub first_found : (test : ℕ × SentPacket → Bool) (packets : Packets) (number : ℕ) → least_number (filter test packets) ≡ Some number → (packet : SentPacket) × (packet_at packets number ≡ Some packet)
 first_found test [] number e = no_number number e
 first_found test (entry ∷ packets) number e = go (test entry) e (first_found test packets number)
   where
@@ -257,7 +257,7 @@ first_found test (entry ∷ packets) number e = go (test entry) e (first_found t
     either true found = (entry.1, refl)
     either false found = found
 
-    go : (b : Bool) → first_number (cond b (entry ∷ filter test packets) (filter test packets)) ≡ Some number → (first_number (filter test packets) ≡ Some number → (packet : SentPacket) × (packet_at packets number ≡ Some packet))
+    go : (b : Bool) → least_number (cond b (entry ∷ filter test packets) (filter test packets)) ≡ Some number → (least_number (filter test packets) ≡ Some number → (packet : SentPacket) × (packet_at packets number ≡ Some packet))
         → (packet : SentPacket) × (packet_at (entry ∷ packets) number ≡ Some packet)
     go true f later =
         let same : entry.0 ≡ number = some_number entry.0 number f in
@@ -268,7 +268,7 @@ first_found test (entry ∷ packets) number e = go (test entry) e (first_found t
 forgotten_silent_found : (last : Option ℕ) (packets : Packets) (number : ℕ) → forgotten_silent last packets ≡ Some number → (packet : SentPacket) × (packet_at packets number ≡ Some packet)
 forgotten_silent_found last packets number e = go (nat_lt 1000 (length (silent_above last packets))) e
   where
-    go : (b : Bool) → cond b (first_number (silent_above last packets)) None ≡ Some number → (packet : SentPacket) × (packet_at packets number ≡ Some packet)
+    go : (b : Bool) → cond b (least_number (silent_above last packets)) None ≡ Some number → (packet : SentPacket) × (packet_at packets number ≡ Some packet)
     go true f = first_found (is_silent_above last) packets number f
     go false f = no_number number f
 

@@ -44,15 +44,15 @@ is_silent_above last entry = is_above last entry.0 && not entry.1.ack_eliciting
 abbrev pub silent_above : Option ℕ → Packets → Packets
 silent_above last packets = filter (is_silent_above last) packets
 
-abbrev pub first_number : Packets → Option ℕ
-first_number [] = None
-first_number (entry ∷ packets) = Some entry.0
+abbrev pub least_number : Packets → Option ℕ
+least_number [] = None
+least_number (entry ∷ packets) = Some entry.0
 
 -- the number that is forgotten when one more silent packet is sent: the least of 1001 silent ones
 abbrev pub forgotten_silent : Option ℕ → Packets → Option ℕ
 forgotten_silent last packets =
     let silent = silent_above last packets in
-    if nat_lt 1000 (length silent) then first_number silent else None
+    if nat_lt 1000 (length silent) then least_number silent else None
 
 -- the number that is forgotten when a packet is sent
 abbrev pub forgotten_number : Option ℕ → SentPacket → Packets → Option ℕ

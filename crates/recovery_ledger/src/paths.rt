@@ -1,5 +1,5 @@
 //! What is kept for each network path: its generation, and the bytes in flight on it (RFC 9002, B.2).
-ghost use Rattle.std.specs.Prelude.{◌≡◌, ◌↔◌, ℕ, ◌<◌, IsTrue, IfOk, OnOk, OnErr, IfSome, IsErrOf};
+ghost use Rattle.std.specs.Prelude.{◌≡◌, Decides, ◌↔◌, ℕ, ◌<◌, IsTrue, IfOk, OnOk, OnErr, IfSome, IsErrOf};
 ghost use Rattle.std.specs.Option.{SomeIff, ForSome};
 ghost use Rattle.recovery_ledger.specs.Packets.{AreBelow, IsAboveLast, forgotten_entry, after_sending};
 ghost use Rattle.recovery_ledger.specs.InFlight.{with_packet, without_packet, IsCounted, IsCountedIn, SumsLeave, Overflows};
@@ -128,7 +128,7 @@ impl PathData {
     pub fn remove_in_flight(&mut self, packet: &SentPacket) -> bool
         requires { packet.now.path_generation ≡ generation_of self.old
             → IsCounted (counters_of self.old) packet.now }
-        ensures own { IsTrue result ↔ (packet.now.path_generation ≡ generation_of self.old) }
+        ensures own { Decides result (packet.now.path_generation ≡ generation_of self.old) }
         ensures after { self.new ≡ after_leaving self.old packet.now }
     {
         if packet.path_generation != self.generation {

@@ -1,6 +1,6 @@
 //! The packets that a packet number space tracks (RFC 9002, A.1), by number.
-ghost use Rattle.std.specs.Prelude.{◌≡◌, ℕ, ◌<◌, ◌≤◌, ◌↔◌, [], ◌∷◌, IfOk, OnOk, OnErr, IsTrue, IfSome, IfNone, MatchOption, length, filter};
-ghost use Rattle.recovery_ledger.specs.Packets.{Packets, Tracking, no_packets, packet_at, AreBelow, IsAboveLast, HasSize, is_above, first_number, silent_above, forgotten_number, forgotten_entry, after_sending, after_taking};
+ghost use Rattle.std.specs.Prelude.{◌≡◌, Decides, ℕ, ◌<◌, ◌≤◌, ◌↔◌, [], ◌∷◌, IfOk, OnOk, OnErr, IsTrue, IfSome, IfNone, MatchOption, length, filter};
+ghost use Rattle.recovery_ledger.specs.Packets.{Packets, Tracking, no_packets, packet_at, AreBelow, IsAboveLast, HasSize, is_above, least_number, silent_above, forgotten_number, forgotten_entry, after_sending, after_taking};
 ghost use Rattle.recovery_ledger.specs.Counts.{silent_count, size_count};
 
 use crate::spaces::SentPacket;
@@ -10,7 +10,9 @@ use std::collections::BTreeMap;
 use std::marker::Model;
 use std::ops::Bound;
 
-/// How many silent packets (RFC 9002, 2: not ack-eliciting) are tracked above the last packet that elicits an ACK.
+/// How many silent packets (RFC 9002, 2: not ack-eliciting) are tracked above the last ack-eliciting one: a peer need not
+/// acknowledge them (RFC 9000, 13.2.1), so that without a limit they would be kept for good. quinn-proto keeps 1000
+/// beside the newest.
 pub const MAX_SILENT: u64 = 1001;
 
 /// Tracked packets in the order of their numbers, with what is known of them all.
@@ -125,7 +127,7 @@ impl SentPackets {
 
     /// Whether some packet has a size. Constant cost.
     pub fn has_size(&self) -> bool
-        ensures { IsTrue result ↔ HasSize self.now.packets }
+        ensures { Decides result (HasSize self.now.packets) }
     {
         self.sized != 0
     }
@@ -155,7 +157,7 @@ fn silent_count(last: Option<u64>, number: u64, packet: &SentPacket) -> u64
 
 /// The least number above another, or of all where there is no other.
 fn first_above(packets: &BTreeMap<u64, SentPacket>, last: Option<u64>) -> Option<u64>
-    ensures { result ≡ first_number (filter (λ entry. is_above last entry.0) packets.now.entries) }
+    ensures { result ≡ least_number (filter (λ entry. is_above last entry.0) packets.now.entries) }
 {
     let least = match last {
         Some(last) => Bound::Excluded(last),

@@ -1,5 +1,5 @@
 //! What is kept for each packet number space (RFC 9000, 12.3): received numbers, sent numbers and tracked packets.
-ghost use Rattle.std.specs.Prelude.{◌≡◌, ◌≢◌, ◌<◌, ◌≤◌, ◌^◌, ◌∷◌, [], ℕ, ◌↔◌, IsTrue, IfOk, OnOk, OnErr, IfSome, IfNone, None, Some, MatchOption, length};
+ghost use Rattle.std.specs.Prelude.{◌≡◌, Decides, ◌≢◌, ◌<◌, ◌≤◌, ◌^◌, ◌∷◌, [], ℕ, ◌↔◌, IsTrue, IfOk, OnOk, OnErr, IfSome, IfNone, None, Some, MatchOption, length};
 ghost use Rattle.recovery_base.specs.declared.below.SpaceId.{SpaceId};
 ghost use Rattle.recovery_base.specs.Numbers.{IsNew};
 ghost use Rattle.recovery_base.specs.Received.{Has};
@@ -200,7 +200,7 @@ impl PacketSpace {
 
     /// Whether some tracked packet has a size other than 0. Constant cost.
     pub fn has_in_flight(&self) -> bool
-        ensures { IsTrue result ↔ HasSize (packets_of self.now) }
+        ensures { Decides result (HasSize (packets_of self.now)) }
     {
         self.sent_packets.has_size()
     }

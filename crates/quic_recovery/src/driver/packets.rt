@@ -1,5 +1,5 @@
 //! The events of packets and spaces (RFC 9000, 12.3 and 13; RFC 9002, A).
-ghost use Rattle.std.specs.Prelude.{◌≡◌, ◌↔◌, IsTrue};
+ghost use Rattle.std.specs.Prelude.{◌≡◌, Decides};
 ghost use Rattle.recovery_ledger.specs.Packets.{entry_number, IsTooLarge};
 ghost use Rattle.quic_recovery.specs.Replies.{reply_to};
 
@@ -152,7 +152,7 @@ fn reply_to(receipt: Result<Receipt, NoMemory>) -> Result<Answer, Refusal>
 
 /// Whether a number is given that is none of a packet (RFC 9000, 12.3).
 fn is_too_large(number: Option<u64>) -> bool
-    ensures { IsTrue result ↔ IsTooLarge number }
+    ensures { Decides result (IsTooLarge number) }
 {
     match number {
         Some(number) => number >= NUMBER_LIMIT,
