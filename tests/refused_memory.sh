@@ -1,7 +1,8 @@
 #!/usr/bin/env bash
 # Runs the tests of recovery_tests with one allocation of each refused: the first, then the second, and so on, until the
 # tests of refused memory meet no refusal any more. Those have to pass, or to say that memory was refused and left no
-# trace; every other test has to pass, or to fail with the want of memory in what it says. It takes some minutes.
+# trace; the other tests of the driver, its ledger and the lowest crate have to pass, or to fail with the want of memory in
+# what they say. It takes some minutes.
 set -u
 cd -- "$(dirname -- "${BASH_SOURCE[0]}")/../crates/recovery_tests" || exit 1
 for ((n = 1; n <= 100; n++)); do
@@ -12,8 +13,8 @@ for ((n = 1; n <= 100; n++)); do
             name = ""
         }
         /^test result: / { settle(); is_whole = 1; next }
-        /^test / {
-            settle()
+        /^test / { settle() }
+        /^test (base|driver|ledger)::/ {
             name = $2
             is_fine = $NF == "ok"
             is_strict = name ~ /::refused_memory::/
