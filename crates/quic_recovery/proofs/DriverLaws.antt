@@ -1,14 +1,13 @@
 -- What an event does to one space is a step of all three.
-use Rattle.std.proofs.Common.{◌≡◌, ℕ, ◌<◌, ◌≤◌, ◌^◌, ap₂, arith, Bool, false, Option, Result, IfOk, OnErr, Ok, Err, refl, sym, ap, subst}
+use Rattle.std.proofs.Common.{◌≡◌, ℕ, ◌<◌, ◌^◌, ap₂, arith, Bool, false, Option, Result, IfOk, OnErr, Ok, Err, refl, sym, ap, subst}
 use Rattle.recovery_base.specs.declared.below.SpaceId.{SpaceId}
 use Rattle.recovery_base.specs.declared.below.SpaceId.TheVariants.{Initial, Handshake, Data}
-use Rattle.recovery_base.specs.Numbers.{IsNew}
-use Rattle.recovery_base.specs.Received.{Has}
 use Rattle.recovery_ids.specs.CidQueue.{remote_ids}
 use Rattle.recovery_ledger.specs.declared.paths.PathData.{PathData}
 use Rattle.quic_recovery.specs.declared.event.Event.TheVariants.{Received, Send}
 use Rattle.quic_recovery.specs.declared.event.Answer.TheVariants.{Sent}
-use Rattle.recovery_base.specs.declared.below.NoMemory.{NoMemory as Refused}
+use Rattle.recovery_ledger.specs.declared.spaces.ReceiveError.{ReceiveError}
+use Rattle.recovery_ledger.specs.declared.spaces.ReceiveError.TheVariants.{NumberTooLarge, NoMemory}
 use Rattle.recovery_ledger.specs.declared.spaces.Receipt.{Receipt}
 use Rattle.recovery_ledger.specs.declared.spaces.Receipt.TheVariants.{New, Duplicate}
 use Rattle.recovery_ledger.specs.declared.spaces.PacketSpace.{PacketSpace}
@@ -21,7 +20,7 @@ use Rattle.recovery_ledger.specs.Packets.{forgotten_number, IsTooLarge}
 use Rattle.recovery_ledger.specs.Tracked.{packet_sent}
 use Rattle.recovery_ledger.specs.Paths.{generation_of, paths_known}
 use Rattle.quic_recovery.specs.Replies.{reply_to}
-use Rattle.recovery_ledger.specs.Spaces.{space_of, with_space, tracking_of, acks_of, counts_of, next_number_of, HasGreatestCome, IsReceipt, heard_of, SpaceStep, came, space_sends}
+use Rattle.recovery_ledger.specs.Spaces.{space_of, with_space, tracking_of, acks_of, counts_of, next_number_of, HasGreatestCome, ReceiveReply, heard_of, SpaceStep, came, space_sends}
 use Rattle.quic_recovery.specs.State.{Changes, Steps}
 use Rattle.recovery_ledger.proofs.AckLaws.{heard_greatest}
 use Rattle.recovery_ledger.proofs.ReceivedLaws.{fails}
@@ -79,32 +78,40 @@ space_changes old space entry there paths step same = record {
 
 -- ---- a received packet
 
-module _ (old : Parts) (space : SpaceId) (now number : ℕ) (ack_eliciting : Bool) (there : PacketSpace) (live : is_discarded space old.discarded ≡ false) (small : ¬ (2 ^ 62 ≤ number)) where
-  pub received_changes : (receipt : Result Receipt Refused)
-      → IfOk receipt (IsReceipt (heard_of (space_of space old.spaces)) (counts_of (acks_of (space_of space old.spaces))) number ack_eliciting)
-      → OnErr receipt (IsNew (Has (space_of space old.spaces).dedup) number)
+module _ (old : Parts) (space : SpaceId) (now number : ℕ) (ack_eliciting : Bool) (there : PacketSpace) (live : is_discarded space old.discarded ≡ false) where
+  -- the space is put back as it was
+  kept_changes : (error : ReceiveError) → ReceiveReply (heard_of (space_of space old.spaces)) (counts_of (acks_of (space_of space old.spaces))) number ack_eliciting (Err error)
+      → record old { spaces = with_space old.spaces space there } ≡ old → Changes old (Received space now number ack_eliciting) (reply_to (Err error)) (record old { spaces = with_space old.spaces space there })
+  kept_changes NumberTooLarge large same = record {
+    told = (fails _ live, large);
+    steps = nothing_changes old (record old { spaces = with_space old.spaces space there }) same;
+    refused = same;
+  }
+  kept_changes NoMemory grows same = record {
+    told = (fails _ live, ((λ most. absurd (omega (arith, grows.0))), grows.1));
+    steps = nothing_changes old (record old { spaces = with_space old.spaces space there }) same;
+    refused = same;
+  }
+
+  pub received_changes : (receipt : Result Receipt ReceiveError)
+      → ReceiveReply (heard_of (space_of space old.spaces)) (counts_of (acks_of (space_of space old.spaces))) number ack_eliciting receipt
       → IfOk receipt (λ r. SpaceStep (came now number ack_eliciting r) (space_of space old.spaces) there) → OnErr receipt (there ≡ space_of space old.spaces)
       → Changes old (Received space now number ack_eliciting) (reply_to receipt) (record old { spaces = with_space old.spaces space there })
-  received_changes (Ok (New arm)) is grows step kept = record {
-    told = (fails _ live, (small, is));
+  received_changes (Ok (New arm)) is step kept = record {
+    told = (fails _ live, ((λ most. absurd (omega (arith, is.0))), is.1));
     steps = space_changes old space (heard now number ack_eliciting) there old.paths step refl;
     refused = tt;
   }
-  received_changes (Ok Duplicate) is grows step kept = record {
-    told = (fails _ live, (small, is));
+  received_changes (Ok Duplicate) is step kept = record {
+    told = (fails _ live, ((λ most. absurd (omega (arith, is.0))), is.1));
     steps = space_changes old space (heard_again number) there old.paths step refl;
     refused = tt;
   }
-  received_changes (Err refused) is grows step kept =
-      let same : record old { spaces = with_space old.spaces space there } ≡ old = ap (λ (spaces : PacketSpaces). record old { spaces = spaces }) (with_same_space old.spaces space there kept) in
-      record {
-        told = (fails _ live, (small, grows));
-        steps = nothing_changes old (record old { spaces = with_space old.spaces space there }) same;
-        refused = same;
-      }
+  received_changes (Err error) is step kept =
+      kept_changes error is (ap (λ (spaces : PacketSpaces). record old { spaces = spaces }) (with_same_space old.spaces space there kept))
 
 -- what a received packet changes leaves the tracked packets, and the greatest ack-eliciting number was received
-pub received_keeps : (now number : ℕ) (ack_eliciting : Bool) (receipt : Result Receipt Refused) (old new : PacketSpace) → HasGreatestCome old → IfOk receipt (λ r. SpaceStep (came now number ack_eliciting r) old new) → OnErr receipt (new ≡ old)
+pub received_keeps : (now number : ℕ) (ack_eliciting : Bool) (receipt : Result Receipt ReceiveError) (old new : PacketSpace) → HasGreatestCome old → IfOk receipt (λ r. SpaceStep (came now number ack_eliciting r) old new) → OnErr receipt (new ≡ old)
     → (tracking_of new ≡ tracking_of old) × (next_number_of new ≡ next_number_of old) × HasGreatestCome new
 received_keeps now number ack_eliciting (Ok (New arm)) old new come step kept = (ap tracking_of step.others, ap next_number_of step.others, heard_greatest old new now number ack_eliciting come step)
 received_keeps now number ack_eliciting (Ok Duplicate) old new come step kept = (ap tracking_of step.1, ap next_number_of step.1, let P : PacketSpace → Type 0 = HasGreatestCome in subst P (sym step.1) come)

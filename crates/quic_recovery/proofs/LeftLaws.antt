@@ -55,7 +55,7 @@ pub known_same : (beginning : Beginning) (logs : Logs) (state : Parts) → LeftB
 known_same beginning logs state left =
     ap (λ (s : SpaceId → SpaceKnown). record old { spaces = s }) (fun_ext spaces)
     ∙ ap (λ (a : Option ℕ). record k₁ { last_asked = a }) (ap (λ (f : Frequency). f.last) left.frequency)
-    ∙ ap (λ (r : RemoteIds). record k₂ { remote_ids = r }) left.remote_ids
+    ∙ ap (λ (r : RemoteIds). record k₂ { remote_ids = r }) left.remote_ids.same
     ∙ ap (λ (l : LocalIds). record k₃ { local_ids = l }) left.local_ids.same
     ∙ ap (λ (m : Timer → Option ℕ). record k₄ { moment_of = m }) (fun_ext left.timers)
     ∙ ap (λ (p : OfPaths PathKnown). record k₅ { paths = p }) left.paths

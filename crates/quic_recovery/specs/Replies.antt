@@ -2,9 +2,10 @@
 use Rattle.std.specs.Prelude.{◌==◌, Bool, MatchBool, Result, Ok, Err}
 use Rattle.quic_recovery.specs.declared.event.Answer.{Answer}
 use Rattle.quic_recovery.specs.declared.event.Refusal.{Refusal}
-use Rattle.quic_recovery.specs.declared.event.Answer.TheVariants as answer
-use Rattle.quic_recovery.specs.declared.event.Refusal.TheVariants.{NoMemory}
-use Rattle.recovery_base.specs.declared.below.NoMemory.{NoMemory as Refused}
+use Rattle.quic_recovery.specs.declared.event.Answer.TheVariants as answers
+use Rattle.quic_recovery.specs.declared.event.Refusal.TheVariants.{NumberTooLarge, NoMemory}
+use Rattle.recovery_ledger.specs.declared.spaces.ReceiveError.{ReceiveError}
+use Rattle.recovery_ledger.specs.declared.spaces.ReceiveError.TheVariants as error
 use Rattle.recovery_ledger.specs.declared.spaces.Receipt.{Receipt}
 use Rattle.recovery_ledger.specs.declared.spaces.Receipt.TheVariants.{New, Duplicate}
 use Rattle.quic_recovery.specs.History.{Reply}
@@ -31,9 +32,10 @@ AlwaysAnswers = Answers ⊥
 -- ---- what a packet that came in is answered
 
 abbrev pub answer_to : Receipt → Answer
-answer_to (New arm) = answer.New arm
-answer_to Duplicate = answer.Duplicate
+answer_to (New arm) = answers.New arm
+answer_to Duplicate = answers.Duplicate
 
-abbrev pub reply_to : Result Receipt Refused → Reply
+abbrev pub reply_to : Result Receipt ReceiveError → Reply
 reply_to (Ok receipt) = Ok (answer_to receipt)
-reply_to (Err refused) = Err NoMemory
+reply_to (Err error.NumberTooLarge) = Err NumberTooLarge
+reply_to (Err error.NoMemory) = Err NoMemory

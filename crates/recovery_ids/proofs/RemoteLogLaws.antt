@@ -10,7 +10,8 @@ use Rattle.recovery_ids.specs.RemoteLog.{RemoteEntry, given, used, replaced, fir
 
 pub remote_law : (initial : List ℕ) (entry : RemoteEntry) (log : List RemoteEntry) (old new : RemoteIds) →
     RemoteIdsLeft initial log old → RemoteStep entry old new → RemoteIdsLeft initial (entry ∷ log) new
-remote_law initial entry log old new left step = step ∙ ap (remote_ids_with entry) left
+remote_law initial entry log old new left step =
+    record { same = step.same ∙ ap (remote_ids_with entry) left.same; window = step.window }
 
 -- ---- the least number held
 
@@ -59,7 +60,7 @@ frame_held : (frame : NewConnectionId) (held : Table) → with_frame frame held 
 frame_held frame held = grind (arith, nat_tests)
 
 pub gives : (old new : RemoteIds) (frame : NewConnectionId) (answer : Option (Range ℕ × List ℕ)) → frame.retire_prior_to ≤ frame.sequence →
-    AcceptsFrame old frame answer new → AreInWindow old → RemoteStep (given frame) old new
+    AcceptsFrame old frame answer new → AreInWindow old → new ≡ remote_ids_with (given frame) old
 unfolding remote_ids_with
 gives old new frame answer ordered accepts window =
     let low = max old.active frame.retire_prior_to in
@@ -76,20 +77,20 @@ gives old new frame answer ordered accepts window =
     let found = first_held_is held new.active low active_connection_id_limit least (omega (arith, accepts.in_window.1)) in
     rw found (same_ids new.active held new refl accepts.held)
 
-pub uses : (old new : RemoteIds) (token : List ℕ) (range : Range ℕ) → TakesNext old token range new → AreInWindow old → RemoteStep used old new
+pub uses : (old new : RemoteIds) (token : List ℕ) (range : Range ℕ) → TakesNext old token range new → AreInWindow old → new ≡ remote_ids_with used old
 unfolding remote_ids_with
 uses old new token range takes window =
     let within = window.within new.active takes.active.is_held in
     let found = first_held_is old.held new.active (old.active + 1) active_connection_id_limit takes.active (omega (arith, within)) in
     rw found (same_ids new.active (without_id old.active old.held) new refl takes.held)
 
-pub uses_none : (old new : RemoteIds) → ((n : ℕ) → old.active < n → old.held n ≡ None) → new ≡ old → RemoteStep used old new
+pub uses_none : (old new : RemoteIds) → ((n : ℕ) → old.active < n → old.held n ≡ None) → new ≡ old → new ≡ remote_ids_with used old
 unfolding remote_ids_with
 uses_none old new none same =
     let found = none_held old.held (old.active + 1) active_connection_id_limit (λ n above. none n (omega arith)) in
     rw found same
 
 pub replaces : (old new : RemoteIds) (id : List ℕ) → old.active ≡ 0 → new.active ≡ 0 → ((n : ℕ) → new.held n ≡ with_id 0 (id, None) old.held n) →
-    RemoteStep (replaced id) old new
+    new ≡ remote_ids_with (replaced id) old
 unfolding remote_ids_with
 replaces old new id was is adds = same_ids old.active (with_id 0 (id, None) old.held) new (is ∙ sym was) adds

@@ -1,7 +1,7 @@
 -- The ids of the peer by what happened to them (RFC 9000, 5.1.1 and 5.1.2): a log, the newest entry first.
 use Rattle.std.specs.Prelude.{◌≡◌, ℕ, zero, suc, ◌+◌, max, List, [], ◌∷◌, Option, None, Some, is_some, unwrap_or, if◌then◌else◌}
 use Rattle.recovery_base.specs.declared.below.ids.NewConnectionId.{NewConnectionId}
-use Rattle.recovery_ids.specs.RemoteIds.{Table, RemoteIds, active_connection_id_limit, with_id, with_frame, without_id}
+use Rattle.recovery_ids.specs.RemoteIds.{Table, RemoteIds, AreInWindow, active_connection_id_limit, with_id, with_frame, without_id}
 
 pub data RemoteEntry : Type 0 where
   -- a NEW_CONNECTION_ID frame is accepted (19.15)
@@ -52,10 +52,14 @@ remote_ids_by initial (entry ∷ earlier) = remote_ids_with entry (remote_ids_by
 
 -- ---- what an entry changes
 
-abbrev pub RemoteStep : RemoteEntry → RemoteIds → RemoteIds → Type 0
-RemoteStep entry old new = new ≡ remote_ids_with entry old
+-- the ids are as the entry makes them: the active one is held, and it is the least number held
+pub record RemoteStep (entry : RemoteEntry) (old new : RemoteIds) : Type 0 where
+  pub same : new ≡ remote_ids_with entry old
+  pub window : AreInWindow new
 
 -- ---- what a log leaves
 
-abbrev pub RemoteIdsLeft : List ℕ → List RemoteEntry → RemoteIds → Type 0
-RemoteIdsLeft initial log ids = ids ≡ remote_ids_by initial log
+-- the ids are as the log says: the active one is held, and it is the least number held
+pub record RemoteIdsLeft (initial : List ℕ) (log : List RemoteEntry) (ids : RemoteIds) : Type 0 where
+  pub same : ids ≡ remote_ids_by initial log
+  pub window : AreInWindow ids

@@ -85,8 +85,8 @@ impl CidState {
     /// Counts the numbers 0 to `issued - 1` as issued, none of them retired, each with a deadline one lifetime from
     /// `now`. Without a lifetime, or where the deadline would pass the clock's end, none is stored.
     ///
-    /// `NoMemory` is answered before anything is written where there is no room for so many numbers. The time is that of
-    /// an insertion of each number.
+    /// `NoMemory` where there is no room for them: about 22 bytes a number; of a count past all memory it is answered at
+    /// once. The time is that of an insertion of each number.
     pub fn new(
         alloc: Global,
         cid_len: usize,

@@ -1,5 +1,5 @@
 -- The three packet number spaces, and what an event does to one.
-use Rattle.std.specs.Prelude.{◌≡◌, ℕ, ◌+◌, ◌-◌, ◌^◌, ◌⊎◌, ◌↔◌, min, max, nat_lt, List, [], Bool, IsTrue, Option, None, Some, if◌then◌else◌}
+use Rattle.std.specs.Prelude.{◌≡◌, ℕ, ◌+◌, ◌-◌, ◌^◌, ◌⊎◌, ◌↔◌, min, max, nat_lt, List, [], Bool, IsTrue, Option, None, Some, if◌then◌else◌, ◌<◌, ◌≤◌, Result, Ok, Err}
 use Rattle.recovery_base.specs.declared.below.SpaceId.{SpaceId}
 use Rattle.recovery_base.specs.declared.below.SpaceId.TheVariants.{Initial, Handshake, Data}
 use Rattle.recovery_base.specs.declared.below.frames.AckFrequency.{AckFrequency}
@@ -8,6 +8,8 @@ use Rattle.recovery_base.specs.Received.{Has}
 use Rattle.recovery_acks.specs.Acks.{Acks, IsPending, counted, largest_with, SubtractsBelow, acks_sent, with_required, with_thresholds}
 use Rattle.recovery_ledger.specs.declared.spaces.PacketSpace.{PacketSpace}
 use Rattle.recovery_ledger.specs.declared.spaces.PacketSpaces.{PacketSpaces}
+use Rattle.recovery_ledger.specs.declared.spaces.ReceiveError.{ReceiveError}
+use Rattle.recovery_ledger.specs.declared.spaces.ReceiveError.TheVariants.{NumberTooLarge, NoMemory}
 use Rattle.recovery_ledger.specs.declared.spaces.Receipt.{Receipt}
 use Rattle.recovery_ledger.specs.declared.spaces.Receipt.TheVariants.{New, Duplicate}
 use Rattle.recovery_ledger.specs.declared.spaces.SentPacket.{SentPacket}
@@ -193,6 +195,13 @@ abbrev pub IsReceipt : Heard → AckCounts → ℕ → Bool → Receipt → Type
 IsReceipt known counts number eliciting (New arm) =
     IsNew known.came number × (IsTrue arm ↔ Arms known counts number eliciting)
 IsReceipt known counts number eliciting Duplicate = ¬ IsNew known.came number
+
+-- what comes of a received packet: its number may be too large, and only a new one takes memory
+abbrev pub ReceiveReply : Heard → AckCounts → ℕ → Bool → Result Receipt ReceiveError → Type 0
+ReceiveReply known counts number eliciting (Ok receipt) =
+    (number < 2 ^ 62) × IsReceipt known counts number eliciting receipt
+ReceiveReply known counts number eliciting (Err NumberTooLarge) = 2 ^ 62 ≤ number
+ReceiveReply known counts number eliciting (Err NoMemory) = (number < 2 ^ 62) × IsNew known.came number
 
 abbrev pub SpaceStep : SpaceEntry → PacketSpace → PacketSpace → Type 0
 SpaceStep (heard now number ack_eliciting) old new = ReceivesNew old now number ack_eliciting new

@@ -81,6 +81,7 @@ impl SentPackets {
         let least = self.forgotten(&packet);
         let is_eliciting = packet.ack_eliciting;
         let count = size_count(&packet);
+        // For the prover: that a length was read bounds the counts, which are at most that.
         let _len = self.packets.len();
         self.packets.insert(number, packet)?;
         self.sized += count;

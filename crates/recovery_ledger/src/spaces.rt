@@ -6,7 +6,7 @@ ghost use Rattle.recovery_base.specs.Received.{Has};
 ghost use Rattle.recovery_acks.specs.Acks.{new_acks};
 ghost use Rattle.recovery_ledger.specs.Kept.{kept_by};
 ghost use Rattle.recovery_ledger.specs.Packets.{AreBelow, IsAboveLast, HasSize, IsTooLarge, no_packets, packet_at, silent_above, forgotten_entry, after_sending};
-ghost use Rattle.recovery_ledger.specs.Spaces.{space_of, tracking_of, with_tracking, packets_of, kept_of, acks_of, with_acks, counts_of, next_number_of, after_number, after_eliciting, after_acknowledging, space_takes, HasGreatestCome, SpaceStep, IsReceipt, heard_of, came, SubtractsLargest};
+ghost use Rattle.recovery_ledger.specs.Spaces.{space_of, tracking_of, with_tracking, packets_of, kept_of, acks_of, with_acks, counts_of, next_number_of, after_number, after_eliciting, after_acknowledging, space_takes, HasGreatestCome, SpaceStep, ReceiveReply, heard_of, came, SubtractsLargest};
 
 use crate::sent_packets::SentPackets;
 use recovery_acks::PendingAcks;
@@ -15,6 +15,7 @@ use recovery_base::dedup::Dedup;
 use recovery_base::time::Instant;
 use std::alloc::Global;
 use std::ops::{Index, IndexMut};
+use thiserror::Error;
 
 /// One more than the greatest packet number (RFC 9000, 12.3).
 pub const NUMBER_LIMIT: u64 = 1 << 62;
@@ -44,6 +45,17 @@ pub enum Receipt {
     },
     /// Its number may have come before (RFC 9000, 12.3).
     Duplicate,
+}
+
+/// Why a packet that came in is refused. Its space is then as it was before.
+#[derive(Clone, Copy, Debug, Error)]
+pub enum ReceiveError {
+    /// The number is 2^62 or more (RFC 9000, 12.3).
+    #[error("a number is 2^62 or more")]
+    NumberTooLarge,
+    /// A growth was refused by the allocator.
+    #[error("out of memory")]
+    NoMemory,
 }
 
 /// What is kept for one packet number space.
@@ -123,23 +135,23 @@ impl PacketSpace {
         Some(number)
     }
 
-    /// A packet came in under a number below 2^62: whether it is new, and whether to start the timer for a late ACK (RFC
-    /// 9000, 13.2). `NoMemory` is never the answer to a duplicate, and leaves the space as it was.
+    /// A packet came in: whether it is new, and whether to start the timer for a late ACK (RFC 9000, 13.2). Refused by
+    /// `NumberTooLarge`, then by `NoMemory`, which is never the answer to a duplicate; a refusal leaves the space as it was.
     pub fn receive(
         &mut self,
         now: Instant,
         number: u64,
         ack_eliciting: bool,
-    ) -> Result<Receipt, NoMemory>
-        requires number { number < 2 ^ 62 }
+    ) -> Result<Receipt, ReceiveError>
         requires received { HasGreatestCome self.old }
-        ensures receipt { IfOk result
-            (IsReceipt (heard_of self.old) (counts_of (acks_of self.old)) number ack_eliciting) }
-        ensures grows { OnErr result (IsNew (Has self.old.dedup) number) }
+        ensures reply { ReceiveReply (heard_of self.old) (counts_of (acks_of self.old)) number ack_eliciting result }
         ensures step { IfOk result
             (λ receipt. SpaceStep (came now number ack_eliciting receipt) self.old self.new) }
         ensures refused { OnErr result (self.new ≡ self.old) }
     {
+        if number >= NUMBER_LIMIT {
+            return Err(ReceiveError::NumberTooLarge);
+        }
         let before = self.dedup;
         if self.dedup.insert(number) {
             return Ok(Receipt::Duplicate);
@@ -148,7 +160,7 @@ impl PacketSpace {
             Ok(()) => {}
             Err(NoMemory) => {
                 self.dedup = before;
-                return Err(NoMemory);
+                return Err(ReceiveError::NoMemory);
             }
         }
         self.rx_packet = self.rx_packet.max(number);

@@ -5,10 +5,10 @@ ghost use Rattle.quic_recovery.specs.Replies.{reply_to};
 
 use crate::driver::Recovery;
 use crate::event::{Answer, PathName, Refusal};
-use recovery_base::below::{NoMemory, SpaceId};
+use recovery_base::below::SpaceId;
 use recovery_base::time::Instant;
 use recovery_ledger::paths::LedgerError;
-use recovery_ledger::spaces::{NUMBER_LIMIT, Receipt, SentPacket};
+use recovery_ledger::spaces::{NUMBER_LIMIT, Receipt, ReceiveError, SentPacket};
 
 impl Recovery {
     ghost use Rattle.quic_recovery.specs.declared.event.Event.TheVariants.{Received, Send, Acked, Lost, DiscardSpace, InFlight};
@@ -26,9 +26,6 @@ impl Recovery {
     {
         if self.discarded.contains(space) {
             return Err(Refusal::SpaceDiscarded);
-        }
-        if number >= NUMBER_LIMIT {
-            return Err(Refusal::NumberTooLarge);
         }
         reply_to(self.spaces[space].receive(now, number, ack_eliciting))
     }
@@ -140,13 +137,14 @@ impl Recovery {
 }
 
 /// What a packet that came in is answered.
-fn reply_to(receipt: Result<Receipt, NoMemory>) -> Result<Answer, Refusal>
+fn reply_to(receipt: Result<Receipt, ReceiveError>) -> Result<Answer, Refusal>
     ensures { result ≡ reply_to receipt }
 {
     match receipt {
         Ok(Receipt::New { arm }) => Ok(Answer::New { arm }),
         Ok(Receipt::Duplicate) => Ok(Answer::Duplicate),
-        Err(NoMemory) => Err(Refusal::NoMemory),
+        Err(ReceiveError::NumberTooLarge) => Err(Refusal::NumberTooLarge),
+        Err(ReceiveError::NoMemory) => Err(Refusal::NoMemory),
     }
 }
 

@@ -22,7 +22,7 @@ returns c =
         in_flight = search rules;
         frequency = c.new-ack_frequency.ensures;
         timers = search rules;
-        remote_ids = search rules;
+        remote_ids = record { same = search rules; window = search rules };
         local_ids = ids;
       };
     }

@@ -1,4 +1,4 @@
-use Rattle.std.proofs.Common.{refl}
+use Rattle.std.proofs.Common.{refl, arith}
 use Rattle.recovery_base.proofs.MissingLaws.{has_greatest}
 use Rattle.recovery_base.specs.Received.{Has}
 use Rattle.recovery_ledger.proofs.AckLaws.{arms, hears, still_reached}
@@ -15,5 +15,5 @@ returns-clause-step c = record {
   others = rw c.max-self.ensures refl;
 }
 
-pub returns-clause-receipt : goal.returns-clause-receipt
-returns-clause-receipt c = (c.if-insert.ensures.inserts.answer, arms (Has c.args.self.now.dedup) (Has c.insert.new.self) c.args.number (has_greatest c.args.self.now.dedup) c.insert.ensures.inserts.numbers _ _ _ c.args.now c.packet_received-arm.result c.in-Ok.ensures.inserts c.args.ack_eliciting c.packet_received-arm.ensures.receives)
+pub returns-clause-reply : goal.returns-clause-reply
+returns-clause-reply c = (omega arith, (c.if-insert.ensures.inserts.answer, arms (Has c.args.self.now.dedup) (Has c.insert.new.self) c.args.number (has_greatest c.args.self.now.dedup) c.insert.ensures.inserts.numbers _ _ _ c.args.now c.packet_received-arm.result c.in-Ok.ensures.inserts c.args.ack_eliciting c.packet_received-arm.ensures.receives))
