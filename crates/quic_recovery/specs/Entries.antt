@@ -50,7 +50,8 @@ in_space space entry = record nothing { spaces = λ other. here space other entr
 
 -- what an event is by its answer, and by what was known before it
 abbrev pub answered : Known → Event → Answer → Entries
-answered known (Received space now number eliciting) (New arm) = in_space space (heard now number eliciting)
+answered known (Received space now number eliciting) (New arm) =
+    in_space space (heard now number eliciting)
 answered known (Received space now number eliciting) answer = in_space space (heard_again number)
 answered known (Send space now size eliciting largest) answer =
     in_space space (sends (packet_now known now size eliciting largest))
@@ -59,16 +60,19 @@ answered known (Lost space number) answer = in_space space (loses number)
 answered known (NewId frame) answer = record nothing { remote_ids = Some (given frame) }
 answered known NextId answer = record nothing { remote_ids = Some used }
 answered known (InitialId id) answer = record nothing { remote_ids = Some (replaced id) }
-answered known (IssueIds now ids) answer = record nothing { local_ids = Some (issues now (length ids.items)) }
+answered known (IssueIds now ids) answer =
+    record nothing { local_ids = Some (issues now (length ids.items)) }
 answered known IdTimeout answer = record nothing { local_ids = Some passes }
-answered known (PeerRetired sequence limit) answer = record nothing { local_ids = Some (retires sequence) }
+answered known (PeerRetired sequence limit) answer =
+    record nothing { local_ids = Some (retires sequence) }
 answered known (AckFrequencyIn frame) (Flag true) =
     record (in_space Data (asked frame)) { requests = Some (taken frame) }
 answered known (AcksSent space) answer = in_space space ack_goes
 answered known (AckDelayTimeout space) answer = in_space space ack_is_late
 answered known (SetTimer timer time) answer = record nothing { timers = Some (timer, Some time) }
 answered known (StopTimer timer) answer = record nothing { timers = Some (timer, None) }
-answered known (DiscardSpace space) answer = record (in_space space emptied) { discarded = Some space }
+answered known (DiscardSpace space) answer =
+    record (in_space space emptied) { discarded = Some space }
 answered known event answer = nothing
 
 -- a refused event is nothing, but for a request of ACKs whose number is kept

@@ -24,7 +24,8 @@ IsFrameAnswer ids frame (Retire None) = frame.retire_prior_to ≤ ids.active
 IsFrameAnswer ids frame (Retire (Some told)) =
     let held = with_frame frame ids.held in
     (ids.active < frame.retire_prior_to) × (told.0.start ≡ ids.active)
-    × (next : ℕ) × IsLeastHeld held 0 next × (told.0.end ≡ min next (ids.active + active_connection_id_limit)) × HasToken held next told.1
+    × (next : ℕ) × IsLeastHeld held 0 next
+    × (told.0.end ≡ min next (ids.active + active_connection_id_limit)) × HasToken held next told.1
 IsFrameAnswer ids frame answer = ⊥
 
 -- why a frame is refused, and what it is answered (19.15)
@@ -33,14 +34,17 @@ FrameReply ids frame =
     Refuses NumberTooLarge (2 ^ 62 ≤ frame.sequence)
     (Refuses BadRetirePriorTo (frame.sequence < frame.retire_prior_to)
     (Refuses Retired (frame.sequence < ids.active)
-    (Refuses ExceedsLimit (max ids.active frame.retire_prior_to + active_connection_id_limit ≤ frame.sequence)
+    (Refuses ExceedsLimit
+    (max ids.active frame.retire_prior_to + active_connection_id_limit ≤ frame.sequence)
     (AlwaysAnswers (IsFrameAnswer ids frame)))))
 
 -- the next id is the least one held above the active one: the numbers from the active one up to it are retired, and its
 -- token is told; where none is held the active one stays
 abbrev pub IsNextAnswer : RemoteIds → Answer → Type 0
 IsNextAnswer ids (Retire None) = (n : ℕ) → ids.active < n → ids.held n ≡ None
-IsNextAnswer ids (Retire (Some told)) = (told.0.start ≡ ids.active) × IsLeastHeld ids.held (ids.active + 1) told.0.end × HasToken ids.held told.0.end told.1
+IsNextAnswer ids (Retire (Some told)) =
+    (told.0.start ≡ ids.active) × IsLeastHeld ids.held (ids.active + 1) told.0.end
+    × HasToken ids.held told.0.end told.1
 IsNextAnswer ids answer = ⊥
 
 -- the initial id is replaced while it is the active one
@@ -59,7 +63,9 @@ IssueReply ids more =
 
 -- a timeout is told whether it asks for the retirement of a number that is not retired yet
 abbrev pub timeout_answer : LocalIds → Answer
-timeout_answer ids = Flag (holds_unretired ids.retire_prior_to (timed_out ids).retire_prior_to (timed_out ids))
+timeout_answer ids =
+    let later = timed_out ids in
+    Flag (holds_unretired ids.retire_prior_to later.retire_prior_to later)
 
 -- a retirement is told whether the limit leaves room for one more id
 abbrev pub IsRoom : LocalIds → ℕ → Answer → Type 0

@@ -17,7 +17,8 @@ same_refusal refusal other = refusal_number refusal == refusal_number other
 -- where the cause holds the event is refused so, and else its reply is one of the others
 abbrev pub Refuses : Refusal → Type 0 → (Reply → Type 0) → Reply → Type 0
 Refuses refusal Cause Otherwise (Ok answer) = (¬ Cause) × Otherwise (Ok answer)
-Refuses refusal Cause Otherwise (Err given) = MatchBool (same_refusal given refusal) Cause ((¬ Cause) × Otherwise (Err given))
+Refuses refusal Cause Otherwise (Err given) =
+    MatchBool (same_refusal given refusal) Cause ((¬ Cause) × Otherwise (Err given))
 
 -- the answer is one of these, or memory is refused to an event that grows something
 abbrev pub Answers : Type 0 → (Answer → Type 0) → Reply → Type 0
