@@ -40,22 +40,24 @@ fn exchange(rt: &impl Print, connection: &mut Connection) -> Result<(), Failure>
     if let Err(refusal) = connection.acknowledged(at(21), 2) {
         println!(rt; "2 is acknowledged again: {refusal}")?;
     }
-    Ok(())
+    Ok(tell(rt, connection)?)
+}
+
+/// What is in flight then, and when the next timer expires.
+fn tell(rt: &impl Print, connection: &Connection) -> io::Result<()> {
+    println!(rt; "in flight: {} bytes", connection.in_flight())?;
+    match connection.next_timeout() {
+        Some(moment) => println!(rt; "the next timer expires after {} ns", moment.as_nanos()),
+        None => Ok(()),
+    }
 }
 
 fn run(rt: &HostRuntime) -> Result<(), Failure> {
-    let config = connection::config();
-    let Ok(recovery) = Recovery::new(rt.alloc(), config, at(0)) else {
+    let Ok(recovery) = Recovery::new(rt.alloc(), connection::config(), at(0)) else {
         return Err(Failure::NoMemory);
     };
     let mut connection = Connection::new(recovery);
-    exchange(rt, &mut connection)?;
-    let in_flight = connection.in_flight();
-    println!(rt; "in flight: {in_flight} bytes")?;
-    if let Some(moment) = connection.next_timeout() {
-        println!(rt; "the next timer expires after {} ns", moment.as_nanos())?;
-    }
-    Ok(())
+    exchange(rt, &mut connection)
 }
 
 fn main(rt: HostRuntime) -> Result<(), Failure> {
