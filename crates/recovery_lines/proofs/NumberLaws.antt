@@ -1,6 +1,9 @@
 -- What it says that a number was read from a word, or not.
-use Rattle.std.proofs.Common.{◌⊎◌, inl, inr, ◌+◌, ◌-◌, ◌*◌, ◌%◌, take, le-ltb, zero, suc, lit≤, ◌≡◌, ℕ, ◌^◌, ◌<◌, ◌≤◌, ◌≢◌, Bool, true, false, cond, ◌&&◌, List, length, get_or, Option, Some, None, Result, Ok, Err, decimal, bytes_eq, refl, sym, ap, subst, ◌∙◌, arith, ltb-true, lt-ltb}
-use Rattle.std.proofs.lemmas.Bool.{cases_lt}
+use Rattle.std.proofs.Common.{◌⊎◌, inl, inr, ◌+◌, ◌-◌, ◌*◌, ◌%◌, ◌==◌, take, le-ltb, ne_eqb, length-take, length-take-le, zero, suc, lit≤, ◌≡◌, ℕ, ◌^◌, ◌<◌, ◌≤◌, ◌≢◌, Bool, true, false, cond, ◌&&◌, List, length, get_or, Option, Some, None, Result, Ok, Err, decimal, bytes_eq, refl, sym, ap, subst, ◌∙◌, arith, ltb-true, lt-ltb}
+use Rattle.std.proofs.lemmas.Bool.{cases_lt, eq-eqb}
+use Rattle.std.proofs.lemmas.List.{get_or-take}
+use Rattle.std.proofs.lemmas.List.Sums.{position_or_len_is}
+use Rattle.std.specs.List.{before_first, position_or_len}
 use Rattle.std.specs.Prelude.{nat_lt}
 use lib.Chars.{codes}
 use Rattle.std.specs.Result.{OkIff}
@@ -11,9 +14,9 @@ use Rattle.std.specs.Int.{IsInRange}
 use Rattle.std.proofs.lemmas.Int.Digits.{digits_value_more}
 use borrow.Author.Count.{below_more}
 use Rattle.std.proofs.lemmas.Fmt.{decimal_is_IsNumeral_wide, decimal_is_IsNumeral, first_decimal, decimal-digits_value, decimal_digit}
-use Rattle.std.proofs.lemmas.Str.Parse.{IsNumeralModel, numerals_by_value, tells_by_index, digits_value-take-le, digit_at}
+use Rattle.std.proofs.lemmas.Str.Parse.{IsNumeralModel, numerals_by_value, tells_by_index, digits_value_short, digits_value-take-le, digit_at}
 use Rattle.std.proofs.lemmas.Slice.Eq.{bytes_eq-Decides}
-use Rattle.recovery_lines.specs.Reading.{number_of}
+use Rattle.recovery_lines.specs.Reading.{AreDigits, number_of}
 
 guarded : {A : Type 0} (b c : Bool) (x : A) (y : A) → cond (b && c) (Some x) None ≡ Some y → (b ≡ true) × (c ≡ true) × (x ≡ y)
 guarded true true x y e = (refl, refl, cc)
@@ -92,9 +95,6 @@ one_digit word i value lt byte near is =
     let same : (c + 208) % 256 ≡ c - 48 = omega arith in
     more ∙ rw (d, same, ← is) refl
 
-abbrev pub AreDigits : List ℕ → ℕ → Type 0
-AreDigits word n = (i : ℕ) → i < n → IsInRange 48 57 (get_or word i 0)
-
 pub digits_more : (word : List ℕ) (i : ℕ) → get_or word i 0 < 256 → (get_or word i 0 + 208) % 256 ≤ 9 → AreDigits word i → AreDigits word (i + 1)
 digits_more word i byte near digits = below_more (λ k. IsInRange 48 57 (get_or word k 0)) i digits (omega arith, omega arith)
 
@@ -107,6 +107,26 @@ digits_read word value digits is small some lead =
     let spelled : decimal (digits_value 10 word) ≡ word = decimal-digits_value by_index word digits some (λ e. let one = lead e in omega (arith, some, one)) (omega arith) in
     let again = number_again (2 ^ 64) (digits_value 10 word) (lit≤ tt) (omega arith) in
     ap (λ (m : ℕ). Some m) is ∙ sym again ∙ ap (λ (w : List ℕ). number_of (2 ^ 64) w) spelled
+
+taken_digits : (bytes : List ℕ) (n : ℕ) → AreDigits bytes n → n ≤ length bytes → AreDigits (take n bytes) (length (take n bytes))
+taken_digits bytes n digits le = λ i lt.
+    let inside : i < n = omega (arith, length-take n bytes) in
+    rw (get_or-take n bytes i 0 inside) (digits i inside)
+
+-- what is left to room for one digit more
+pub few_small : (bytes : List ℕ) (n : ℕ) → AreDigits bytes n → n ≤ length bytes → n < 19 → digits_value 10 (take n bytes) < 10 ^ 18
+few_small bytes n digits le few = digits_value_short by_index (take n bytes) 18 (taken_digits bytes n digits le) (omega (arith, length-take n bytes))
+
+-- digits up to a space or to the end
+pub first_read : (bytes : List ℕ) (value end : ℕ) → AreDigits bytes end → end ≤ length bytes → 0 < end → (get_or bytes 0 0 ≡ 48 → end ≤ 1) → (end < length bytes → get_or bytes end 0 ≡ 32) → value ≡ digits_value 10 (take end bytes) → value < 2 ^ 64
+    → (number_of (2 ^ 64) (before_first (λ b. b == 32) bytes) ≡ Some value) × (end ≡ position_or_len (λ b. b == 32) bytes)
+first_read bytes value end digits le some lead stops is small =
+    let place : position_or_len (λ b. b == 32) bytes ≡ end =
+    position_or_len_is (λ b. b == 32) bytes end 0 le (λ k lt. ne_eqb (get_or bytes k 0) 32 (λ e. let d = digits k lt in omega (arith, d.0))) (λ lt. eq-eqb (get_or bytes end 0) 32 (stops lt)) in
+    let len : length (take end bytes) ≡ end = length-take-le end bytes le in
+    let number : Some value ≡ number_of (2 ^ 64) (take end bytes) =
+    digits_read (take end bytes) value (taken_digits bytes end digits le) is small (omega arith) (λ first. let few : end ≤ 1 = lead (sym (get_or-take end bytes 0 0 some) ∙ first) in omega arith) in
+    (rw place (sym number), sym place)
 
 pub empty_none : (word : List ℕ) → length word ≡ 0 → number_of (2 ^ 64) word ≡ None
 empty_none word none = no_number (2 ^ 64) word (λ n less same.

@@ -1,8 +1,9 @@
 //! The words of a line, read one after the other.
-ghost use Rattle.std.specs.Prelude.{◌≡◌, ◌<◌, ◌^◌, ◌==◌};
+ghost use Rattle.std.specs.Prelude.{◌≡◌, ◌<◌, ◌≤◌, ◌^◌, ◌==◌, Some, length, take};
 ghost use Rattle.std.specs.List.{position_or_len};
+ghost use Rattle.std.specs.Str.Parse.{digits_value};
 ghost use Rattle.recovery_lines.specs.Words.{words_of};
-ghost use Rattle.recovery_lines.specs.Reading.{Reads, ReadsBy, words_left, first_word, field, flag_of, space_of, timer_of, path_of, largest_of, number_of};
+ghost use Rattle.recovery_lines.specs.Reading.{AreDigits, IsFirstNumber, Reads, ReadsBy, words_left, first_word, field, flag_of, space_of, timer_of, path_of, largest_of, number_of};
 
 use quic_recovery::event::PathName;
 use recovery_base::below::{SpaceId, VarInt};
@@ -146,6 +147,49 @@ fn word_len(bytes: &[u8]) -> usize
     end
 }
 
+/// What the digits spell that bytes begin with, at most 19 of them, and how many they are. So many overflow nothing.
+fn leading_digits(bytes: &[u8]) -> (u64, usize)
+    ensures value { result.0 ≡ digits_value 10 (take result.1 bytes.now) }
+    ensures digits { AreDigits bytes.now result.1 }
+    ensures within { result.1 ≤ length bytes.now }
+    ensures fits { result.0 < 2 ^ 64 }
+{
+    let mut value = 0u64;
+    let mut count = 0;
+    while count < bytes.len() && count < 19 {
+        let digit = bytes[count].wrapping_sub(b'0');
+        if digit > 9 {
+            break;
+        }
+        value = value * 10 + u64::from(digit);
+        count += 1;
+    }
+    (value, count)
+}
+
+/// The number that the first word of bytes spells, 0 to `u64::MAX`, and the length of that word.
+fn first_number_of_any_length(bytes: &[u8]) -> Option<(u64, usize)>
+    ensures { IsFirstNumber bytes.now result }
+{
+    let end = word_len(bytes);
+    Some((number_in(&bytes[..end])?, end))
+}
+
+/// The number that the first word of bytes spells, 0 to `u64::MAX`, and the length of that word: in one pass, where it
+/// has no more than 19 digits.
+fn first_number(bytes: &[u8]) -> Option<(u64, usize)>
+    ensures { IsFirstNumber bytes.now result }
+{
+    let (value, end) = leading_digits(bytes);
+    if end == 0 || (end > 1 && bytes[0] == b'0') {
+        return first_number_of_any_length(bytes);
+    }
+    if end < bytes.len() && bytes[end] != b' ' {
+        return first_number_of_any_length(bytes);
+    }
+    Some((value, end))
+}
+
 /// The words of a line that are left to read.
 #[derive(Drop)]
 pub struct Words<'a> {
@@ -160,6 +204,17 @@ impl<'a> Words<'a> {
         Words { rest: Some(line) }
     }
 
+    /// Passes over a first word of this length, and over the space behind it.
+    fn pass(&mut self, rest: &'a [u8], end: usize)
+        requires { end ≡ position_or_len (λ b. b == 32) rest.now }
+        ensures { first_word (words_of rest.now) ≡ Some (take end rest.now, words_left self.new) }
+    {
+        self.rest = None;
+        if end < rest.len() {
+            self.rest = Some(&rest[end + 1..]);
+        }
+    }
+
     /// The next word; `None` behind the last one.
     pub fn next(&mut self) -> Option<&'a [u8]>
         ensures { Reads (λ s. s.now) result
@@ -167,11 +222,7 @@ impl<'a> Words<'a> {
     {
         let rest = self.rest?;
         let end = word_len(rest);
-        if end == rest.len() {
-            self.rest = None;
-            return Some(rest);
-        }
-        self.rest = Some(&rest[end + 1..]);
+        self.pass(rest, end);
         Some(&rest[..end])
     }
 
@@ -180,7 +231,10 @@ impl<'a> Words<'a> {
     pub fn number(&mut self) -> Option<u64>
         ensures { ReadsBy (field (number_of (2 ^ 64))) self.old self.new result }
     {
-        number_in(self.next()?)
+        let rest = self.rest?;
+        let (number, end) = first_number(rest)?;
+        self.pass(rest, end);
+        Some(number)
     }
 
     /// The next word as a moment: nanoseconds, 0 to `u64::MAX`.

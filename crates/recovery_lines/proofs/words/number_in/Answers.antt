@@ -1,7 +1,8 @@
 use Rattle.std.proofs.Common.{◌≡◌, ◌≢◌, ◌+◌, ◌*◌, ◌%◌, sym, ◌∙◌, get_or, length, take, take_all, ap, arith, le-ltb}
 use borrow.Author.Tests.{eqb-true, eqb-false}
 use Rattle.std.specs.Str.Parse.{digits_value}
-use Rattle.recovery_lines.proofs.NumberLaws.{AreDigits, no_zeros, not_a_digit, too_large, one_digit, digits_more, digits_read, empty_none, not_both}
+use Rattle.recovery_lines.specs.Reading.{AreDigits}
+use Rattle.recovery_lines.proofs.NumberLaws.{no_zeros, not_a_digit, too_large, one_digit, digits_more, digits_read, empty_none, not_both}
 use Rattle.recovery_lines.proofs.words.number_in.Goals as goal
 use Rattle.recovery_lines.proofs.words.number_in.Goals.{then-is_empty-via-then-is_empty, then-is_empty-via-else-is_empty+then-word-eq48, then-word-gt1, else-word-gt1}
 

@@ -1,6 +1,6 @@
 use Rattle.std.proofs.Common.{◌≡◌, ◌<◌, ◌^◌, take}
 use Rattle.std.specs.Str.Parse.{digits_value}
-use Rattle.recovery_lines.proofs.NumberLaws.{AreDigits}
+use Rattle.recovery_lines.specs.Reading.{AreDigits}
 use Rattle.recovery_lines.proofs.words.number_in.Given as goal
 
 abbrev pub invariant-loop-byte : goal.invariant-loop-byte
