@@ -1,7 +1,7 @@
 -- A field that is read is the field that is spelled, and what is spelled is read.
-use Rattle.std.proofs.Common.{◌≡◌, ℕ, ◌<◌, ◌≤◌, ◌^◌, Bool, true, false, cond, List, [], ◌∷◌, Option, Some, None, IfSome, decimal, bytes_eq, refl, subst, ap, ◌∙◌, lit≤}
+use Rattle.std.proofs.Common.{◌≡◌, ℕ, ◌<◌, ◌≤◌, ◌^◌, Bool, true, false, cond, List, [], ◌∷◌, Option, Some, None, IfSome, decimal, bytes_eq, length, refl, sym, subst, ap, ◌∙◌, lit≤}
 use Rattle.std.specs.List.{AllByRecursion}
-use Rattle.std.proofs.lemmas.Slice.Eq.{bytes_eq-Decides}
+use Rattle.std.proofs.lemmas.Slice.Eq.{bytes_eq-Decides, HasBytesAt, text_from_reads}
 use Rattle.recovery_base.specs.declared.below.SpaceId.{SpaceId}
 use Rattle.recovery_base.specs.declared.below.SpaceId.TheVariants.{Initial, Handshake, Data}
 use Rattle.recovery_base.specs.declared.timer.Timer.{Timer}
@@ -23,6 +23,10 @@ some_of x = Some x
 
 pub some_is : {A : Type 0} (x y : A) → some_of x ≡ some_of y → x ≡ y
 some_is x y e = cc
+
+-- a word of a name's length and bytes is read as the name
+pub name_read : {A : Type 0} (read : List ℕ → Option A) (word name : List ℕ) (x : A) → read name ≡ Some x → length word ≡ length name → HasBytesAt word 0 name → Some x ≡ read word
+name_read read word name x is len bytes = sym (ap read (text_from_reads word name len bytes) ∙ is)
 
 -- a word for each value that fits, and its reading
 pub record IsField {A : Type 0} (word : A → List ℕ) (Fits : A → Type 0) (read : List ℕ → Option A) : Type 0 where
@@ -49,7 +53,7 @@ pub flag_field : IsField flag_word (λ b. Unit {0}) flag_of
 unfolding flag_of
 flag_field = record { takes = λ text b e. (named_takes flag_word flag_names (refl, (refl, tt)) text b e, tt); again = λ b h. flag_again b }
 
-space_again : (s : SpaceId) → space_of (space_word s) ≡ Some s
+pub space_again : (s : SpaceId) → space_of (space_word s) ≡ Some s
 unfolding space_of
 space_again Initial = refl
 space_again Handshake = refl
@@ -59,7 +63,7 @@ pub space_field : IsField space_word (λ s. Unit {0}) space_of
 unfolding space_of
 space_field = record { takes = λ text s e. (named_takes space_word space_names (refl, (refl, (refl, tt))) text s e, tt); again = λ s h. space_again s }
 
-timer_again : (t : Timer) → timer_of (timer_word t) ≡ Some t
+pub timer_again : (t : Timer) → timer_of (timer_word t) ≡ Some t
 unfolding timer_of
 timer_again LossDetection = refl
 timer_again Idle = refl
@@ -75,7 +79,7 @@ pub timer_field : IsField timer_word (λ t. Unit {0}) timer_of
 unfolding timer_of
 timer_field = record { takes = λ text t e. (named_takes timer_word timer_names (refl, (refl, (refl, (refl, (refl, (refl, (refl, (refl, (refl, tt))))))))) text t e, tt); again = λ t h. timer_again t }
 
-path_again : (p : PathName) → path_of (path_word p) ≡ Some p
+pub path_again : (p : PathName) → path_of (path_word p) ≡ Some p
 unfolding path_of
 path_again Current = refl
 path_again Previous = refl

@@ -1,19 +1,22 @@
 -- What it says that a number was read from a word, or not.
-use Rattle.std.proofs.Common.{◌⊎◌, inl, inr, zero, suc, lit≤, ◌≡◌, ℕ, ◌^◌, ◌<◌, ◌≤◌, ◌≢◌, Bool, true, false, cond, ◌&&◌, List, length, get_or, Option, Some, None, Result, Ok, Err, decimal, bytes_eq, refl, sym, ap, subst, ◌∙◌, arith, ltb-true, lt-ltb}
-use Rattle.std.proofs.lemmas.Bool.{cases_lt}
-use Rattle.std.specs.Prelude.{nat_lt, nat_eq}
+use Rattle.std.proofs.Common.{◌⊎◌, inl, inr, ◌+◌, ◌-◌, ◌*◌, ◌%◌, ◌==◌, take, le-ltb, ne_eqb, length-take, length-take-le, zero, suc, lit≤, ◌≡◌, ℕ, ◌^◌, ◌<◌, ◌≤◌, ◌≢◌, Bool, true, false, cond, ◌&&◌, List, length, get_or, Option, Some, None, Result, Ok, Err, decimal, bytes_eq, refl, sym, ap, subst, ◌∙◌, arith, ltb-true, lt-ltb}
+use Rattle.std.proofs.lemmas.Bool.{cases_lt, eq-eqb}
+use Rattle.std.proofs.lemmas.List.{get_or-take}
+use Rattle.std.proofs.lemmas.List.Sums.{position_or_len_is}
+use Rattle.std.specs.List.{before_first, position_or_len}
+use Rattle.std.specs.Prelude.{nat_lt}
 use lib.Chars.{codes}
-use borrow.Author.Tests.{eqb-true, eqb-false}
 use Rattle.std.specs.Result.{OkIff}
 use Rattle.std.specs.Result.{result_ok}
-use Rattle.std.specs.Str.Parse.{digits_value, AllDigits, ParsesUnsigned}
+use Rattle.std.specs.Str.Parse.{digits_value}
+use Rattle.std.specs.Char.{digit_value}
+use Rattle.std.specs.Int.{IsInRange}
+use Rattle.std.proofs.lemmas.Int.Digits.{digits_value_more}
+use borrow.Author.Count.{below_more}
 use Rattle.std.proofs.lemmas.Fmt.{decimal_is_IsNumeral_wide, decimal_is_IsNumeral, first_decimal, decimal-digits_value, decimal_digit}
-use Rattle.std.proofs.lemmas.Str.Parse.{IsNumeralModel, numerals_by_value, tells_digits, parse_plain, digit_at}
+use Rattle.std.proofs.lemmas.Str.Parse.{IsNumeralModel, numerals_by_value, tells_by_index, digits_value_short, digits_value-take-le, digit_at}
 use Rattle.std.proofs.lemmas.Slice.Eq.{bytes_eq-Decides}
-use Rattle.recovery_lines.specs.Reading.{number_of}
-
-own : IsNumeralModel (AllDigits 10) (digits_value 10)
-own = numerals_by_value (AllDigits 10) tells_digits
+use Rattle.recovery_lines.specs.Reading.{AreDigits, number_of}
 
 guarded : {A : Type 0} (b c : Bool) (x : A) (y : A) → cond (b && c) (Some x) None ≡ Some y → (b ≡ true) × (c ≡ true) × (x ≡ y)
 guarded true true x y e = (refl, refl, cc)
@@ -51,9 +54,6 @@ no_number limit word h = number_none limit word h (number_of limit word) refl
 first_is_digit : (n : ℕ) → n < 2 ^ 64 → (48 ≤ get_or (decimal n) 0 0) × (get_or (decimal n) 0 0 ≤ 57)
 first_is_digit n lt = let d = decimal_is_IsNumeral n lt in digit_at (decimal n) 0 d.0.1 d.0.0
 
-pub no_plus : (word : List ℕ) → get_or word 0 0 ≡ 43 → number_of (2 ^ 64) word ≡ None
-no_plus word e = no_number (2 ^ 64) word (λ n lt same. let d = first_is_digit n lt in let f : get_or word 0 0 ≡ get_or (decimal n) 0 0 = ap (λ (w : List ℕ). get_or w 0 0) same in omega arith)
-
 zero_first : (n : ℕ) → n < 2 ^ 64 → get_or (decimal n) 0 0 ≡ 48 → length (decimal n) ≡ 1
 zero_first zero lt e = ap length (decimal_digit 0 (omega arith))
 zero_first (suc n) lt e = let f = first_decimal (suc n) (omega arith) lt in absurd (omega arith)
@@ -65,24 +65,74 @@ no_zeros word e long = no_number (2 ^ 64) word (λ n lt same.
     let len : length word ≡ length (decimal n) = ap length same in
     omega arith)
 
--- what `parse` answers to a word without a sign and without leading zeros
-parsed : {E : Type 0} (word : List ℕ) (r : Result ℕ E) → (get_or word 0 0 ≡ 48 → length word ≤ 1) → OkIff r (AllDigits 10 word × (0 < length word) × (digits_value 10 word < 2 ^ 64)) (digits_value 10 word) → result_ok r ≡ number_of (2 ^ 64) word
-parsed word (Ok n) lead h =
-    let spelled : decimal (digits_value 10 word) ≡ word = decimal-digits_value own word h.0.0 h.0.1 (λ e. let one = lead e in let some : 0 < length word = h.0.1 in omega arith) h.0.2 in
-    let again = number_again (2 ^ 64) (digits_value 10 word) (lit≤ tt) h.0.2 in
-    ap (λ (m : ℕ). Some m) h.1 ∙ sym again ∙ ap (λ (w : List ℕ). number_of (2 ^ 64) w) spelled
-parsed word (Err e) lead h = sym (no_number (2 ^ 64) word (λ n lt same.
-    let d = decimal_is_IsNumeral n lt in
-    absurd (h (subst (λ (w : List ℕ). AllDigits 10 w × (0 < length w) × (digits_value 10 w < 2 ^ 64)) (sym same) (d.0.1, d.0.0, subst (λ (m : ℕ). m < 2 ^ 64) (sym d.1) lt)))))
+-- a word with a byte that is no digit
+pub not_a_digit : (word : List ℕ) (i : ℕ) → i < length word → get_or word i 0 < 256 → 9 < (get_or word i 0 + 208) % 256 → number_of (2 ^ 64) word ≡ None
+not_a_digit word i lt byte far = no_number (2 ^ 64) word (λ n less same.
+    let d = decimal_is_IsNumeral n less in
+    let len : length word ≡ length (decimal n) = ap length same in
+    let digit = digit_at (decimal n) i d.0.1 (omega arith) in
+    let f : get_or word i 0 ≡ get_or (decimal n) i 0 = ap (λ (w : List ℕ). get_or w i 0) same in
+    omega arith)
 
-pub number_parsed : {E : Type 0} (word : List ℕ) (r : Result ℕ E) → get_or word 0 0 ≢ 43 → (get_or word 0 0 ≡ 48 → length word ≤ 1) → ParsesUnsigned 64 10 word r → result_ok r ≡ number_of (2 ^ 64) word
-number_parsed word r plus lead h = parsed word r lead (parse_plain own 64 word r h plus)
+-- a word whose first digits are worth too much
+pub too_large : (word : List ℕ) (i : ℕ) → 2 ^ 64 ≤ digits_value 10 (take i word) → number_of (2 ^ 64) word ≡ None
+too_large word i large = no_number (2 ^ 64) word (λ n less same.
+    let d = decimal_is_IsNumeral n less in
+    let most : digits_value 10 (take i word) ≤ digits_value 10 word = digits_value-take-le 10 word i (lit≤ tt) in
+    let worth : digits_value 10 word ≡ n = ap (digits_value 10) same ∙ d.1 in
+    omega arith)
 
-pub tested : (word : List ℕ) (c : ℕ) (r : Bool) → r ≡ nat_eq (get_or word 0 0) c → r ≡ true → get_or word 0 0 ≡ c
-tested word c r e t = eqb-true _ _ (sym e ∙ t)
+digit_is : (c : ℕ) → 48 ≤ c → c < 58 → digit_value c ≡ c - 48
+digit_is c low high = let t : nat_lt c 48 ≡ false = le-ltb c 48 low in let u : nat_lt c 58 ≡ true = lt-ltb c 58 high in rw (t, u) refl
 
-pub tested_not : (word : List ℕ) (c : ℕ) (r : Bool) → r ≡ nat_eq (get_or word 0 0) c → r ≡ false → get_or word 0 0 ≢ c
-tested_not word c r e t = eqb-false _ _ (sym e ∙ t)
+-- one digit more
+pub one_digit : (word : List ℕ) (i value : ℕ) → i < length word → get_or word i 0 < 256 → (get_or word i 0 + 208) % 256 ≤ 9 → value ≡ digits_value 10 (take i word)
+    → digits_value 10 (take (i + 1) word) ≡ value * 10 + (get_or word i 0 + 208) % 256
+one_digit word i value lt byte near is =
+    let c = get_or word i 0 in
+    let d : digit_value c ≡ c - 48 = digit_is c (omega arith) (omega arith) in
+    let more = digits_value_more 10 word i lt in
+    let same : (c + 208) % 256 ≡ c - 48 = omega arith in
+    more ∙ rw (d, same, ← is) refl
+
+pub digits_more : (word : List ℕ) (i : ℕ) → get_or word i 0 < 256 → (get_or word i 0 + 208) % 256 ≤ 9 → AreDigits word i → AreDigits word (i + 1)
+digits_more word i byte near digits = below_more (λ k. IsInRange 48 57 (get_or word k 0)) i digits (omega arith, omega arith)
+
+by_index : IsNumeralModel (λ ds. AreDigits ds (length ds)) (digits_value 10)
+by_index = numerals_by_value (λ ds. AreDigits ds (length ds)) tells_by_index
+
+-- a word of digits
+pub digits_read : (word : List ℕ) (value : ℕ) → AreDigits word (length word) → value ≡ digits_value 10 word → value < 2 ^ 64 → 0 < length word → (get_or word 0 0 ≡ 48 → length word ≤ 1) → Some value ≡ number_of (2 ^ 64) word
+digits_read word value digits is small some lead =
+    let spelled : decimal (digits_value 10 word) ≡ word = decimal-digits_value by_index word digits some (λ e. let one = lead e in omega (arith, some, one)) (omega arith) in
+    let again = number_again (2 ^ 64) (digits_value 10 word) (lit≤ tt) (omega arith) in
+    ap (λ (m : ℕ). Some m) is ∙ sym again ∙ ap (λ (w : List ℕ). number_of (2 ^ 64) w) spelled
+
+taken_digits : (bytes : List ℕ) (n : ℕ) → AreDigits bytes n → n ≤ length bytes → AreDigits (take n bytes) (length (take n bytes))
+taken_digits bytes n digits le = λ i lt.
+    let inside : i < n = omega (arith, length-take n bytes) in
+    rw (get_or-take n bytes i 0 inside) (digits i inside)
+
+-- what is left to room for one digit more
+pub few_small : (bytes : List ℕ) (n : ℕ) → AreDigits bytes n → n ≤ length bytes → n < 19 → digits_value 10 (take n bytes) < 10 ^ 18
+few_small bytes n digits le few = digits_value_short by_index (take n bytes) 18 (taken_digits bytes n digits le) (omega (arith, length-take n bytes))
+
+-- digits up to a space or to the end
+pub first_read : (bytes : List ℕ) (value end : ℕ) → AreDigits bytes end → end ≤ length bytes → 0 < end → (get_or bytes 0 0 ≡ 48 → end ≤ 1) → (end < length bytes → get_or bytes end 0 ≡ 32) → value ≡ digits_value 10 (take end bytes) → value < 2 ^ 64
+    → (number_of (2 ^ 64) (before_first (λ b. b == 32) bytes) ≡ Some value) × (end ≡ position_or_len (λ b. b == 32) bytes)
+first_read bytes value end digits le some lead stops is small =
+    let place : position_or_len (λ b. b == 32) bytes ≡ end =
+    position_or_len_is (λ b. b == 32) bytes end 0 le (λ k lt. ne_eqb (get_or bytes k 0) 32 (λ e. let d = digits k lt in omega (arith, d.0))) (λ lt. eq-eqb (get_or bytes end 0) 32 (stops lt)) in
+    let len : length (take end bytes) ≡ end = length-take-le end bytes le in
+    let number : Some value ≡ number_of (2 ^ 64) (take end bytes) =
+    digits_read (take end bytes) value (taken_digits bytes end digits le) is small (omega arith) (λ first. let few : end ≤ 1 = lead (sym (get_or-take end bytes 0 0 some) ∙ first) in omega arith) in
+    (rw place (sym number), sym place)
+
+pub empty_none : (word : List ℕ) → length word ≡ 0 → number_of (2 ^ 64) word ≡ None
+empty_none word none = no_number (2 ^ 64) word (λ n less same.
+    let d = decimal_is_IsNumeral n less in
+    let len : length word ≡ length (decimal n) = ap length same in
+    omega (arith, d.0.0))
 
 pub not_both : (b : Bool) → b ≡ false → b ≡ true → ⊥
 not_both b p q = absurd cc

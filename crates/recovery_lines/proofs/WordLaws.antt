@@ -1,22 +1,39 @@
 -- The first word of a line.
-use Rattle.std.proofs.Common.{◌≡◌, ℕ, ◌<◌, ◌==◌, Bool, false, List, [], length, Some, refl, ap, ◌∙◌, arith, Bor}
-use Rattle.std.specs.List.{position_or_len, before_first, after_first, All}
+use Rattle.std.proofs.Common.{inl, inr, None, Option, refl, ◌^◌, ◌⊎◌, ◌≡◌, ℕ, ◌<◌, ◌==◌, Bool, false, List, [], length, take, drop, take_all, ◌+◌, Some, ◌≤◌, not, sym, subst, ap, arith}
+use Rattle.std.specs.List.{position_or_len, before_first, All}
 use Rattle.std.proofs.lemmas.List.Splits.{slice_split_none, slice_split_first}
-use Rattle.std.proofs.lemmas.List.Sums.{fails_before_first}
-use Rattle.recovery_lines.specs.declared.words.Words.{Words}
+use Rattle.std.proofs.lemmas.List.Sums.{fails_before_first, prefix_len-le-length}
+use Rattle.std.proofs.lemmas.Bool.{cases_lt}
 use Rattle.recovery_lines.specs.Words.{words_of}
-use Rattle.recovery_lines.specs.Reading.{words_left, left_of, first_word}
+use Rattle.recovery_lines.specs.Reading.{IsFirstNumber, field, first_word, number_of}
 
 none_passes : (p : ℕ → Bool) (xs : List ℕ) → position_or_len p xs ≡ length xs → All (λ x. p x ≡ false) xs
 none_passes p xs e k d lt = fails_before_first p xs k d (omega arith)
 
--- a line with no space is one word
-pub last_word : (words : Words) (rest : Bor (List ℕ)) → words.rest ≡ Some rest → position_or_len (λ b. b == 32) rest.now ≡ length rest.now → first_word (words_left words) ≡ Some (rest.now, [])
-last_word words rest is none = ap first_word (ap (left_of (λ s. s.now)) is ∙ slice_split_none (λ b. b == 32) rest.now (none_passes (λ b. b == 32) rest.now none))
+-- bytes with no space are one word
+pub last_word : (bytes : List ℕ) (end : ℕ) → end ≡ position_or_len (λ b. b == 32) bytes → length bytes ≤ end → first_word (words_of bytes) ≡ Some (take end bytes, [])
+last_word bytes end is all =
+    let none : position_or_len (λ b. b == 32) bytes ≡ length bytes = omega (arith, prefix_len-le-length (λ b. not (b == 32)) bytes) in
+    rw (take_all end bytes all) (ap first_word (slice_split_none (λ b. b == 32) bytes (none_passes (λ b. b == 32) bytes none)))
 
 -- the first word ends at the first space
-pub next_word : (words : Words) (rest word after : Bor (List ℕ)) → words.rest ≡ Some rest → word.now ≡ before_first (λ b. b == 32) rest.now → after.now ≡ after_first (λ b. b == 32) rest.now
-    → position_or_len (λ b. b == 32) rest.now < length rest.now → first_word (words_left words) ≡ Some (word.now, words_of after.now)
-next_word words rest word after is w a lt =
-    ap first_word (ap (left_of (λ s. s.now)) is ∙ slice_split_first (λ b. b == 32) rest.now 0 lt)
-    ∙ rw (w, a) refl
+pub next_word : (bytes : List ℕ) (end : ℕ) → end ≡ position_or_len (λ b. b == 32) bytes → end < length bytes → first_word (words_of bytes) ≡ Some (take end bytes, words_of (drop (end + 1) bytes))
+next_word bytes end is lt = rw is (ap first_word (slice_split_first (λ b. b == 32) bytes 0 (subst (λ (n : ℕ). n < length bytes) is lt)))
+
+some_first : (bytes : List ℕ) → (after : List (List ℕ)) × (first_word (words_of bytes) ≡ Some (before_first (λ b. b == 32) bytes, after))
+some_first bytes = go (cases_lt (position_or_len (λ b. b == 32) bytes) (length bytes)) where
+  go : (position_or_len (λ b. b == 32) bytes < length bytes) ⊎ (length bytes ≤ position_or_len (λ b. b == 32) bytes) → (after : List (List ℕ)) × (first_word (words_of bytes) ≡ Some (before_first (λ b. b == 32) bytes, after))
+  go (inl lt) = (_, next_word bytes (position_or_len (λ b. b == 32) bytes) refl lt)
+  go (inr le) = (_, last_word bytes (position_or_len (λ b. b == 32) bytes) refl le)
+
+-- where the first word is no number, no number is read
+pub no_first_number : (bytes : List ℕ) (words : List (List ℕ)) (read : Option (ℕ × ℕ)) → words ≡ words_of bytes → read ≡ None → IsFirstNumber bytes read → field (number_of (2 ^ 64)) words ≡ None
+unfolding field
+no_first_number bytes words read is none first =
+    let f = some_first bytes in
+    let n : number_of (2 ^ 64) (before_first (λ b. b == 32) bytes) ≡ None = subst (IsFirstNumber bytes) none first in
+    rw (is, f.1, n) refl
+
+-- a word ends within its bytes
+pub end_fits : (bytes : List ℕ) (end : ℕ) → end ≡ position_or_len (λ b. b == 32) bytes → end ≤ length bytes
+end_fits bytes end is = subst (λ (n : ℕ). n ≤ length bytes) (sym is) (prefix_len-le-length (λ b. not (b == 32)) bytes)

@@ -1,5 +1,7 @@
 -- How the parser goes over the words of a line. What a line means is said by the grammar in Lines.antt alone.
-use Rattle.std.specs.Prelude.{◌≡◌, ℕ, ◌+◌, ◌<◌, ◌≤◌, ◌^◌, ◌==◌, nat_lt, ◌&&◌, Bool, true, false, List, [], ◌∷◌, length, Option, Some, None, option_and_then, if◌then◌else◌, bytes_eq, decimal}
+use Rattle.std.specs.Prelude.{◌≡◌, ℕ, ◌+◌, ◌<◌, ◌≤◌, ◌^◌, ◌==◌, nat_lt, ◌&&◌, Bool, true, false, List, [], ◌∷◌, length, Option, Some, None, option_and_then, if◌then◌else◌, bytes_eq, decimal, slice_index}
+use Rattle.std.specs.Int.{IsInRange}
+use Rattle.std.specs.List.{before_first, position_or_len}
 use Rattle.std.specs.Str.Parse.{digits_value}
 use lib.Chars.{codes}
 use Rattle.recovery_base.specs.declared.below.SpaceId.{SpaceId}
@@ -54,6 +56,15 @@ path_of = named path_names
 -- the number below a limit whose decimal digits the word is
 unfoldable pub number_of : ℕ → List ℕ → Option ℕ
 number_of limit word = let n = digits_value 10 word in if nat_lt n limit && bytes_eq (decimal n) word then Some n else None
+
+-- bytes begin with so many digits
+abbrev pub AreDigits : List ℕ → ℕ → Type 0
+AreDigits bytes n = (i : ℕ) → i < n → IsInRange 48 57 (slice_index bytes i)
+
+-- the number that the first word of bytes is, with the length of that word
+abbrev pub IsFirstNumber : List ℕ → Option (ℕ × ℕ) → Type 0
+IsFirstNumber bytes None = number_of (2 ^ 64) (before_first (λ b. b == 32) bytes) ≡ None
+IsFirstNumber bytes (Some (number, end)) = (number_of (2 ^ 64) (before_first (λ b. b == 32) bytes) ≡ Some number) × (end ≡ position_or_len (λ b. b == 32) bytes)
 
 -- a number, or none
 unfoldable pub largest_of : List ℕ → Option (Option ℕ)

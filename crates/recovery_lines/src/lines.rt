@@ -1,5 +1,5 @@
 //! The event that a line of a script spells.
-ghost use Rattle.std.specs.Prelude.{◌≡◌, ◌+◌, ◌<◌, ◌≤◌, ◌^◌, IfSome, IfOk, OnErr, IsSome, IsSomeAnd};
+ghost use Rattle.std.specs.Prelude.{◌≡◌, ◌+◌, ◌<◌, ◌≤◌, ◌^◌, IfSome, IfOk, OnErr, IsSome, IsSomeAnd, bytes_eq};
 ghost use Rattle.quic_recovery.specs.declared.event.Event.{Event};
 ghost use Rattle.recovery_lines.specs.Lines.{id_of, token_of, zero_ids, received, send, acked, lost, new_id, initial_id, issue_ids, peer_retired, ack_frequency, acks_sent, ack_delay_timeout, set_timer, stop_timer, discard, in_flight, Means, Spells, IsSame, IssuesIds};
 ghost use Rattle.recovery_lines.specs.Reading.{ReadsBy, reading, line_behind, line_at, line_of, TakesMemory};
@@ -199,30 +199,37 @@ fn issue_ids(words: &mut Words<'_>) -> Option<Line>
     })
 }
 
-/// What a line says behind its name.
+/// Is a word this name?
+fn is_name(word: &[u8], name: &str) -> bool
+    ensures { result ≡ bytes_eq word.now name.now }
+{
+    word == name.as_bytes()
+}
+
+/// What a line says behind its name. Names of other lengths are not compared with it.
 #[tactic(auto, unfolding(crate::specs::Reading::line_behind))]
-fn line_behind(name: &str, words: &mut Words<'_>) -> Option<Line>
+fn line_behind(name: &[u8], words: &mut Words<'_>) -> Option<Line>
     ensures { ReadsBy (line_behind name.now) words.old words.new result }
 {
-    match name {
-        "received" => received(words),
-        "send" => send(words),
-        "acked" => acked(words),
-        "lost" => lost(words),
-        "new-id" => new_id(words),
-        "next-id" => Some(Line::Said(Event::NextId)),
-        "initial-id" => initial_id(words),
-        "issue-ids" => issue_ids(words),
-        "id-timeout" => Some(Line::Said(Event::IdTimeout)),
-        "peer-retired" => peer_retired(words),
-        "ack-frequency" => ack_frequency(words),
-        "acks-sent" => acks_sent(words),
-        "ack-delay-timeout" => ack_delay_timeout(words),
-        "set-timer" => set_timer(words),
-        "stop-timer" => stop_timer(words),
-        "next-timeout" => Some(Line::Said(Event::NextTimeout)),
-        "discard" => discard(words),
-        "in-flight" => in_flight(words),
+    match name.len() {
+        4 if is_name(name, "send") => send(words),
+        4 if is_name(name, "lost") => lost(words),
+        5 if is_name(name, "acked") => acked(words),
+        6 if is_name(name, "new-id") => new_id(words),
+        7 if is_name(name, "next-id") => Some(Line::Said(Event::NextId)),
+        7 if is_name(name, "discard") => discard(words),
+        8 if is_name(name, "received") => received(words),
+        9 if is_name(name, "issue-ids") => issue_ids(words),
+        9 if is_name(name, "acks-sent") => acks_sent(words),
+        9 if is_name(name, "set-timer") => set_timer(words),
+        9 if is_name(name, "in-flight") => in_flight(words),
+        10 if is_name(name, "initial-id") => initial_id(words),
+        10 if is_name(name, "id-timeout") => Some(Line::Said(Event::IdTimeout)),
+        10 if is_name(name, "stop-timer") => stop_timer(words),
+        12 if is_name(name, "peer-retired") => peer_retired(words),
+        12 if is_name(name, "next-timeout") => Some(Line::Said(Event::NextTimeout)),
+        13 if is_name(name, "ack-frequency") => ack_frequency(words),
+        17 if is_name(name, "ack-delay-timeout") => ack_delay_timeout(words),
         _ => None,
     }
 }
@@ -236,7 +243,7 @@ fn line_in(words: &mut Words<'_>) -> Option<Line>
 
 /// What the words of a line say, all of them.
 #[tactic(auto, unfolding(crate::specs::Reading::line_of))]
-fn said(line: &str) -> Option<Line>
+fn said(line: &[u8]) -> Option<Line>
     ensures { result ≡ line_of line.now }
 {
     let mut words = Words::new(line);
@@ -296,10 +303,7 @@ pub fn read_event(alloc: Global, line: &[u8]) -> Result<Option<Event>, NoMemory>
     if line.len() > LINE_LIMIT {
         return Ok(None);
     }
-    let Ok(text) = str::from_utf8(line) else {
-        return Ok(None);
-    };
-    match said(text) {
+    match said(line) {
         Some(line) => meant(alloc, line),
         None => Ok(None),
     }

@@ -1,7 +1,9 @@
 //! The words of a line, read one after the other.
-ghost use Rattle.std.specs.Prelude.{◌≡◌, ◌^◌};
+ghost use Rattle.std.specs.Prelude.{◌≡◌, ◌<◌, ◌≤◌, ◌^◌, ◌==◌, Some, length, take};
+ghost use Rattle.std.specs.List.{position_or_len};
+ghost use Rattle.std.specs.Str.Parse.{digits_value};
 ghost use Rattle.recovery_lines.specs.Words.{words_of};
-ghost use Rattle.recovery_lines.specs.Reading.{Reads, ReadsBy, words_left, first_word, field, flag_of, space_of, timer_of, path_of, largest_of, number_of};
+ghost use Rattle.recovery_lines.specs.Reading.{AreDigits, IsFirstNumber, Reads, ReadsBy, words_left, first_word, field, flag_of, space_of, timer_of, path_of, largest_of, number_of};
 
 use quic_recovery::event::PathName;
 use recovery_base::below::{SpaceId, VarInt};
@@ -12,17 +14,25 @@ use recovery_base::timer::Timer;
 const MOST_IDS: u64 = 64;
 
 /// The number that a word spells, 0 to `u64::MAX`: digits without a sign and without leading zeros.
-pub fn number_in(word: &str) -> Option<u64>
+pub fn number_in(word: &[u8]) -> Option<u64>
     ensures { result ≡ number_of (2 ^ 64) word.now }
 {
-    if word.starts_with('+') || (word.len() > 1 && word.starts_with('0')) {
+    if word.is_empty() || (word.len() > 1 && word[0] == b'0') {
         return None;
     }
-    word.parse().ok()
+    let mut value = 0u64;
+    for byte in word {
+        let digit = byte.wrapping_sub(b'0');
+        if digit > 9 {
+            return None;
+        }
+        value = value.checked_mul(10)?.checked_add(u64::from(digit))?;
+    }
+    Some(value)
 }
 
 /// The size that a word spells, 0 to `u16::MAX`, as a number is spelled.
-fn size_in(word: &str) -> Option<u16>
+fn size_in(word: &[u8]) -> Option<u16>
     ensures { result ≡ number_of (2 ^ 16) word.now }
 {
     match number_in(word) {
@@ -32,7 +42,7 @@ fn size_in(word: &str) -> Option<u16>
 }
 
 /// The byte that a word spells, 0 to 255, as a number is spelled.
-fn byte_in(word: &str) -> Option<u8>
+fn byte_in(word: &[u8]) -> Option<u8>
     ensures { result ≡ number_of (2 ^ 8) word.now }
 {
     match number_in(word) {
@@ -42,7 +52,7 @@ fn byte_in(word: &str) -> Option<u8>
 }
 
 /// The count of ids that a word spells, 0 to 64, as a number is spelled.
-fn count_in(word: &str) -> Option<u64>
+fn count_in(word: &[u8]) -> Option<u64>
     ensures { result ≡ number_of 65 word.now }
 {
     let number = number_in(word)?;
@@ -53,7 +63,7 @@ fn count_in(word: &str) -> Option<u64>
 }
 
 /// The number below 2^62 that a word spells, as a number is spelled.
-fn var_int_in(word: &str) -> Option<VarInt>
+fn var_int_in(word: &[u8]) -> Option<VarInt>
     ensures { result ≡ number_of (2 ^ 62) word.now }
 {
     match number_in(word) {
@@ -64,97 +74,156 @@ fn var_int_in(word: &str) -> Option<VarInt>
 
 /// The number that a word spells, or `Some(None)` for the word that spells none.
 #[tactic(auto, unfolding(crate::specs::Reading::largest_of))]
-fn largest_in(word: &str) -> Option<Option<u64>>
+fn largest_in(word: &[u8]) -> Option<Option<u64>>
     ensures { result ≡ largest_of word.now }
 {
     match word {
-        "-" => Some(None),
+        b"-" => Some(None),
         _ => Some(Some(number_in(word)?)),
     }
 }
 
 #[tactic(auto, unfolding(crate::specs::Reading::flag_of))]
-fn flag_in(word: &str) -> Option<bool>
+fn flag_in(word: &[u8]) -> Option<bool>
     ensures { result ≡ flag_of word.now }
 {
     match word {
-        "0" => Some(false),
-        "1" => Some(true),
+        b"0" => Some(false),
+        b"1" => Some(true),
         _ => None,
     }
 }
 
 #[tactic(auto, unfolding(crate::specs::Reading::space_of))]
-fn space_in(word: &str) -> Option<SpaceId>
+fn space_in(word: &[u8]) -> Option<SpaceId>
     ensures { result ≡ space_of word.now }
 {
     match word {
-        "initial" => Some(SpaceId::Initial),
-        "handshake" => Some(SpaceId::Handshake),
-        "data" => Some(SpaceId::Data),
+        b"initial" => Some(SpaceId::Initial),
+        b"handshake" => Some(SpaceId::Handshake),
+        b"data" => Some(SpaceId::Data),
         _ => None,
     }
 }
 
 #[tactic(auto, unfolding(crate::specs::Reading::timer_of))]
-fn timer_in(word: &str) -> Option<Timer>
+fn timer_in(word: &[u8]) -> Option<Timer>
     ensures { result ≡ timer_of word.now }
 {
     match word {
-        "loss-detection" => Some(Timer::LossDetection),
-        "idle" => Some(Timer::Idle),
-        "close" => Some(Timer::Close),
-        "key-discard" => Some(Timer::KeyDiscard),
-        "path-validation" => Some(Timer::PathValidation),
-        "keep-alive" => Some(Timer::KeepAlive),
-        "pacing" => Some(Timer::Pacing),
-        "push-new-cid" => Some(Timer::PushNewCid),
-        "max-ack-delay" => Some(Timer::MaxAckDelay),
+        b"loss-detection" => Some(Timer::LossDetection),
+        b"idle" => Some(Timer::Idle),
+        b"close" => Some(Timer::Close),
+        b"key-discard" => Some(Timer::KeyDiscard),
+        b"path-validation" => Some(Timer::PathValidation),
+        b"keep-alive" => Some(Timer::KeepAlive),
+        b"pacing" => Some(Timer::Pacing),
+        b"push-new-cid" => Some(Timer::PushNewCid),
+        b"max-ack-delay" => Some(Timer::MaxAckDelay),
         _ => None,
     }
 }
 
 #[tactic(auto, unfolding(crate::specs::Reading::path_of))]
-fn path_in(word: &str) -> Option<PathName>
+fn path_in(word: &[u8]) -> Option<PathName>
     ensures { result ≡ path_of word.now }
 {
     match word {
-        "current" => Some(PathName::Current),
-        "previous" => Some(PathName::Previous),
+        b"current" => Some(PathName::Current),
+        b"previous" => Some(PathName::Previous),
         _ => None,
     }
+}
+
+/// The length of the word that bytes begin with.
+fn word_len(bytes: &[u8]) -> usize
+    ensures place { result ≡ position_or_len (λ b. b == 32) bytes.now }
+    ensures fits { result < 2 ^ 63 }
+{
+    let mut end = 0;
+    while end < bytes.len() && bytes[end] != b' ' {
+        end += 1;
+    }
+    end
+}
+
+/// What the digits spell that bytes begin with, at most 19 of them, and how many they are. So many overflow nothing.
+fn leading_digits(bytes: &[u8]) -> (u64, usize)
+    ensures value { result.0 ≡ digits_value 10 (take result.1 bytes.now) }
+    ensures digits { AreDigits bytes.now result.1 }
+    ensures within { result.1 ≤ length bytes.now }
+    ensures fits { result.0 < 2 ^ 64 }
+{
+    let mut value = 0u64;
+    let mut count = 0;
+    while count < bytes.len() && count < 19 {
+        let digit = bytes[count].wrapping_sub(b'0');
+        if digit > 9 {
+            break;
+        }
+        value = value * 10 + u64::from(digit);
+        count += 1;
+    }
+    (value, count)
+}
+
+/// The number that the first word of bytes spells, 0 to `u64::MAX`, and the length of that word.
+fn first_number_of_any_length(bytes: &[u8]) -> Option<(u64, usize)>
+    ensures { IsFirstNumber bytes.now result }
+{
+    let end = word_len(bytes);
+    Some((number_in(&bytes[..end])?, end))
+}
+
+/// The number that the first word of bytes spells, 0 to `u64::MAX`, and the length of that word: in one pass, where it
+/// has no more than 19 digits.
+fn first_number(bytes: &[u8]) -> Option<(u64, usize)>
+    ensures { IsFirstNumber bytes.now result }
+{
+    let (value, end) = leading_digits(bytes);
+    if end == 0 || (end > 1 && bytes[0] == b'0') {
+        return first_number_of_any_length(bytes);
+    }
+    if end < bytes.len() && bytes[end] != b' ' {
+        return first_number_of_any_length(bytes);
+    }
+    Some((value, end))
 }
 
 /// The words of a line that are left to read.
 #[derive(Drop)]
 pub struct Words<'a> {
-    rest: Option<&'a str>,
+    rest: Option<&'a [u8]>,
 }
 
 impl<'a> Words<'a> {
     /// The words of a line: what stands between its spaces. A line with no byte has one word, the empty one.
-    pub fn new(line: &'a str) -> Self
+    pub fn new(line: &'a [u8]) -> Self
         ensures { words_left result ≡ words_of line.now }
     {
         Words { rest: Some(line) }
     }
 
+    /// Passes over a first word of this length, and over the space behind it.
+    fn pass(&mut self, rest: &'a [u8], end: usize)
+        requires { end ≡ position_or_len (λ b. b == 32) rest.now }
+        ensures { first_word (words_of rest.now) ≡ Some (take end rest.now, words_left self.new) }
+    {
+        self.rest = None;
+        if end < rest.len() {
+            self.rest = Some(&rest[end + 1..]);
+        }
+    }
+
     /// The next word; `None` behind the last one.
-    pub fn next(&mut self) -> Option<&'a str>
+    pub fn next(&mut self) -> Option<&'a [u8]>
         ensures { Reads (λ s. s.now) result
             (words_left self.new) (first_word (words_left self.old)) }
     {
         let rest = self.rest?;
-        match rest.split_once(' ') {
-            None => {
-                self.rest = None;
-                Some(rest)
-            }
-            Some((word, rest)) => {
-                self.rest = Some(rest);
-                Some(word)
-            }
-        }
+        let end = word_len(rest);
+        self.pass(rest, end);
+        Some(&rest[..end])
     }
 
     /// The next word as a number, 0 to `u64::MAX`.
@@ -162,7 +231,10 @@ impl<'a> Words<'a> {
     pub fn number(&mut self) -> Option<u64>
         ensures { ReadsBy (field (number_of (2 ^ 64))) self.old self.new result }
     {
-        number_in(self.next()?)
+        let rest = self.rest?;
+        let (number, end) = first_number(rest)?;
+        self.pass(rest, end);
+        Some(number)
     }
 
     /// The next word as a moment: nanoseconds, 0 to `u64::MAX`.

@@ -11,10 +11,10 @@ use Rattle.recovery_replay.specs.Script.{Says, SaysThenCut}
 abbrev pub Holds : List ℕ → Script → Type 0
 Holds taken script = SaysThenCut taken script.events.items script.line.items
 
--- the line is over: it spelled an event, or none
-abbrev pub EndsLine : Script → Bool → Script → Type 0
-EndsLine old true new = (event : Event) × Spells old.line.items event × (new.events.items ≡ old.events.items ++ event ∷ []) × (new.line.items ≡ [])
-EndsLine old false new = ((event : Event) → ¬ Spells old.line.items event) × (new.events.items ≡ old.events.items)
+-- a line is over: it spelled an event, or none
+abbrev pub EndsLine : List ℕ → Script → Bool → Script → Type 0
+EndsLine line old true new = (event : Event) × Spells line event × (new.events.items ≡ old.events.items ++ event ∷ []) × (new.line.items ≡ [])
+EndsLine line old false new = ((event : Event) → ¬ Spells line event) × (new.events.items ≡ old.events.items)
 
 -- all bytes are held, or the next line spells no event, whatever follows
 abbrev pub Took : List ℕ → Bool → Script → Type 0

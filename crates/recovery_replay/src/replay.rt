@@ -103,7 +103,7 @@ fn are_arguments(words: &[String]) -> bool
 {
     match words {
         [] => true,
-        [seed] => number_in(seed.as_str()).is_some(),
+        [seed] => number_in(seed.as_bytes()).is_some(),
         _ => false,
     }
 }

@@ -1,22 +1,18 @@
-use Rattle.std.proofs.Common.{ap, sym, ◌∙◌}
-use Rattle.recovery_lines.specs.Reading.{line_of}
-use Rattle.recovery_lines.proofs.LineLaws.{read_found, read_only, read_refused, none_spelled, spelled_utf8}
+use Rattle.std.proofs.Common.{sym, ◌∙◌}
+use Rattle.recovery_lines.proofs.LineLaws.{read_found, read_only, read_refused, none_spelled}
 use Rattle.recovery_lines.proofs.lines.read_event.Goals as goal
-
-pub returns-in_default-clause-only : goal.returns-in_default-clause-only
-returns-in_default-clause-only c = λ event spells. c.in_default.ensures.cases.0 (spelled_utf8 c.args.line.now event spells)
 
 pub returns-in-Some-clause-found : goal.returns-in-Some-clause-found
 returns-in-Some-clause-found c =
-    read_found c.args.line.now c.in-Some.line c.meant.result (sym (c.said.ensures ∙ ap line_of c.in-Ok.ensures.cases.0) ∙ c.in-Some.is) c.if-line-gt-LINE_LIMIT.false c.meant.ensures.found
+    read_found c.args.line.now c.in-Some.line c.meant.result (sym c.said.ensures ∙ c.in-Some.is) c.if-line-gt-LINE_LIMIT.false c.meant.ensures.found
 
 pub returns-in-Some-clause-only : goal.returns-in-Some-clause-only
 returns-in-Some-clause-only c =
-    read_only c.args.line.now c.in-Some.line c.meant.result (sym (c.said.ensures ∙ ap line_of c.in-Ok.ensures.cases.0) ∙ c.in-Some.is) c.meant.ensures.found c.meant.ensures.only
+    read_only c.args.line.now c.in-Some.line c.meant.result (sym c.said.ensures ∙ c.in-Some.is) c.meant.ensures.found c.meant.ensures.only
 
 pub returns-in-None-clause-only : goal.returns-in-None-clause-only
-returns-in-None-clause-only c = λ event spells. absurd (none_spelled c.args.line.now event (sym (c.said.ensures ∙ ap line_of c.in-Ok.ensures.cases.0) ∙ c.in-None.is) spells)
+returns-in-None-clause-only c = λ event spells. absurd (none_spelled c.args.line.now event (sym c.said.ensures ∙ c.in-None.is) spells)
 
 pub returns-in-Some-clause-memory : goal.returns-in-Some-clause-memory
 returns-in-Some-clause-memory c =
-    read_refused c.args.line.now c.in-Some.line c.meant.result (sym (c.said.ensures ∙ ap line_of c.in-Ok.ensures.cases.0) ∙ c.in-Some.is) c.if-line-gt-LINE_LIMIT.false c.meant.ensures.memory
+    read_refused c.args.line.now c.in-Some.line c.meant.result (sym c.said.ensures ∙ c.in-Some.is) c.if-line-gt-LINE_LIMIT.false c.meant.ensures.memory

@@ -1,29 +1,55 @@
-use Rattle.std.proofs.Common.{◌≡◌, ◌≤◌, sym, ◌∙◌, get_or, length, arith, lit<, le-ltb}
-use Rattle.recovery_lines.proofs.NumberLaws.{no_plus, no_zeros, number_parsed, tested, tested_not, not_both}
+use Rattle.std.proofs.Common.{◌≡◌, ◌≢◌, ◌+◌, ◌*◌, ◌%◌, sym, ◌∙◌, get_or, length, take, take_all, ap, arith, le-ltb}
+use borrow.Author.Tests.{eqb-true, eqb-false}
+use Rattle.std.specs.Str.Parse.{digits_value}
+use Rattle.recovery_lines.specs.Reading.{AreDigits}
+use Rattle.recovery_lines.proofs.NumberLaws.{no_zeros, not_a_digit, too_large, one_digit, digits_more, digits_read, empty_none, not_both}
 use Rattle.recovery_lines.proofs.words.number_in.Goals as goal
-use Rattle.recovery_lines.proofs.words.number_in.Goals.{then-starts_with-via-then-starts_with, then-starts_with-via-else-starts_with+then-starts_with-2, then-word-gt1, else-word-gt1}
+use Rattle.recovery_lines.proofs.words.number_in.Goals.{then-is_empty-via-then-is_empty, then-is_empty-via-else-is_empty+then-word-eq48, then-word-gt1, else-word-gt1}
 
-pub returns-then-starts_with : goal.returns-then-starts_with
-returns-then-starts_with c =
-    elim c.then-starts_with.branch [
-      | then-starts_with-via-then-starts_with w ↦
-          sym (no_plus c.args.word.now (tested c.args.word.now 43 c.starts_with.result (c.starts_with.ensures.byte (lit< tt) (lit< tt) (λ w o h. h)) w.if-starts_with.true))
-      | then-starts_with-via-else-starts_with+then-starts_with-2 w ↦
+pub returns-then-is_empty : goal.returns-then-is_empty
+returns-then-is_empty c =
+    elim c.then-is_empty.branch [
+      | then-is_empty-via-then-is_empty w ↦ sym (empty_none c.args.word.now (eqb-true _ _ (sym c.is_empty.ensures ∙ w.if-is_empty.true)))
+      | then-is_empty-via-else-is_empty+then-word-eq48 w ↦
           elim w.if-word-gt1.branch [
-            | then-word-gt1 v ↦
-                sym (no_zeros c.args.word.now
-                (tested c.args.word.now 48 v.starts_with-then-word-gt1.result (v.starts_with-then-word-gt1.ensures.byte (lit< tt) (lit< tt) (λ w o h. h)) (sym v.value-is ∙ w.if-starts_with-2.true))
-                v.if-word-gt1.true)
-            | else-word-gt1 v ↦ absurd (not_both w.if-word-gt1.value (v.value-is ∙ le-ltb _ _ v.if-word-gt1.false) w.if-starts_with-2.true)
+            | then-word-gt1 v ↦ sym (no_zeros c.args.word.now (eqb-true _ _ (sym v.value-is ∙ w.if-word-eq48.true)) v.if-word-gt1.true)
+            | else-word-gt1 v ↦ absurd (not_both w.if-word-gt1.value (v.value-is ∙ le-ltb _ _ v.if-word-gt1.false) w.if-word-eq48.true)
           ]
     ]
 
+pub returns-then-digit-gt9 : goal.returns-then-digit-gt9
+returns-then-digit-gt9 c = sym (not_a_digit c.args.word.now c.loop-byte.byte-index c.loop-byte-test.true (omega (arith, c.type_inv.word c.loop-byte.byte-index)) c.if-digit-gt9.true)
+
+pub returns-in_err-value : goal.returns-in_err-value
+returns-in_err-value c =
+    let i = c.loop-byte.byte-index in
+    let more : digits_value 10 (take (i + 1) c.args.word.now) ≡ c.loop-byte.value * 10 + (get_or c.args.word.now i 0 + 208) % 256 =
+    one_digit c.args.word.now i c.loop-byte.value c.loop-byte-test.true (omega (arith, c.type_inv.word i)) c.if-digit-gt9.false c.loop-byte.invariant.1 in
+    c.from_residual-in_err-value.ensures ∙ sym (too_large c.args.word.now (i + 1) (omega (arith, c.in_err-value.ensures)))
+
+pub returns-in_err-checked_mul : goal.returns-in_err-checked_mul
+returns-in_err-checked_mul c =
+    let i = c.loop-byte.byte-index in
+    let more : digits_value 10 (take (i + 1) c.args.word.now) ≡ c.loop-byte.value * 10 + (get_or c.args.word.now i 0 + 208) % 256 =
+    one_digit c.args.word.now i c.loop-byte.value c.loop-byte-test.true (omega (arith, c.type_inv.word i)) c.if-digit-gt9.false c.loop-byte.invariant.1 in
+    c.from_residual.ensures ∙ sym (too_large c.args.word.now (i + 1) (omega (arith, c.in_err-checked_mul.ensures)))
+
 pub returns : goal.returns
 returns c =
-    let zero : get_or c.args.word.now 0 0 ≡ 48 → length c.args.word.now ≤ 1 = λ first.
+    let word = c.args.word.now in
+    let i : c.loop-byte.byte-index ≡ length word = omega arith in
+    let digits : AreDigits word (length word) = rw i at c.loop-byte.invariant.0 in
+    let value : c.loop-byte.value ≡ digits_value 10 word = c.loop-byte.invariant.1 ∙ ap (digits_value 10) (take_all c.loop-byte.byte-index word c.loop-byte-test.false) in
+    let some : length word ≢ 0 = eqb-false _ _ (sym c.is_empty.ensures ∙ c.if-is_empty.false) in
+    digits_read word c.loop-byte.value digits value c.loop-byte.invariant.2 (omega (arith, some)) (λ first.
     elim c.if-word-gt1.branch [
-      | then-word-gt1 v ↦ absurd (tested_not c.args.word.now 48 v.starts_with-then-word-gt1.result (v.starts_with-then-word-gt1.ensures.byte (lit< tt) (lit< tt) (λ w o h. h)) (sym v.value-is ∙ c.if-starts_with-2.false) first)
-      | else-word-gt1 v ↦ omega (arith, v.if-word-gt1.false)
-    ]
-    in
-    c.ok.ensures.value ∙ number_parsed c.args.word.now c.parse.result (tested_not c.args.word.now 43 c.starts_with.result (c.starts_with.ensures.byte (lit< tt) (lit< tt) (λ w o h. h)) c.if-starts_with.false) zero c.parse.ensures.value.0
+      | then-word-gt1 v ↦ absurd (eqb-false _ _ (sym v.value-is ∙ c.if-word-eq48.false) first)
+      | else-word-gt1 v ↦ v.if-word-gt1.false
+    ])
+
+pub loop-byte-preserved : goal.loop-byte-preserved
+loop-byte-preserved c =
+    let i = c.loop-byte.byte-index in
+    let more : digits_value 10 (take (i + 1) c.args.word.now) ≡ c.loop-byte.value * 10 + (get_or c.args.word.now i 0 + 208) % 256 =
+    one_digit c.args.word.now i c.loop-byte.value c.loop-byte-test.true (omega (arith, c.type_inv.word i)) c.if-digit-gt9.false c.loop-byte.invariant.1 in
+    (digits_more c.args.word.now i (omega (arith, c.type_inv.word i)) c.if-digit-gt9.false c.loop-byte.invariant.0, omega arith, omega arith)

@@ -1,0 +1,45 @@
+-- A line's name is sought among the names of its length.
+use Rattle.std.proofs.Common.{◌≡◌, ◌≢◌, ℕ, ◌==◌, Bool, true, false, cond, List, [], ◌∷◌, length, Option, Some, None, bytes_eq, refl, ap, ◌∙◌, ne_eqb}
+use Rattle.std.proofs.lemmas.Bool.{eqb-false}
+use Rattle.std.specs.List.{AllByRecursion}
+use Rattle.std.proofs.lemmas.Slice.Eq.{bytes_eq-Decides}
+use Rattle.recovery_lines.specs.Lines.{Form, forms}
+use Rattle.recovery_lines.specs.Reading.{form_named, line_behind}
+
+-- the forms whose names have this length
+abbrev pub of_length : ℕ → List Form → List Form
+of_length n [] = []
+of_length n (form ∷ others) = cond (n == length form.name) (form ∷ of_length n others) (of_length n others)
+
+other_length : (name other : List ℕ) → length name ≢ length other → bytes_eq name other ≡ false
+other_length name other ne = go (bytes_eq name other) refl where
+  go : (b : Bool) → bytes_eq name other ≡ b → b ≡ false
+  go true same = absurd (ne (ap length ((bytes_eq-Decides name other).0 same)))
+  go false differ = refl
+
+by_length : (fs : List Form) (name : List ℕ) → form_named fs name ≡ form_named (of_length (length name) fs) name
+by_length [] name = refl
+by_length (form ∷ others) name = go (length name == length form.name) refl (by_length others name) where
+  go : (b : Bool) → (length name == length form.name) ≡ b → form_named others name ≡ form_named (of_length (length name) others) name
+      → form_named (form ∷ others) name ≡ form_named (cond b (form ∷ of_length (length name) others) (of_length (length name) others)) name
+  go true same later = ap (λ (found : Option Form). cond (bytes_eq name form.name) (Some form) found) later
+  go false differ later = let t : bytes_eq name form.name ≡ false = other_length name form.name (eqb-false _ _ differ) in rw t later
+
+pub skip : {A : Type 0} (x : A) (found : Option A) (b : Bool) → false ≡ b → found ≡ None → cond b (Some x) found ≡ None
+skip x found false e none = none
+skip x found true e none = absurd cc
+
+none_of : (n : ℕ) (fs : List Form) → AllByRecursion (λ form. n ≢ length form.name) fs → of_length n fs ≡ []
+none_of n [] h = refl
+none_of n (form ∷ others) h = let t : (n == length form.name) ≡ false = ne_eqb n (length form.name) h.0 in rw t (none_of n others h.1)
+
+-- no form has a name of another length
+pub none_of_length : (n : ℕ) → n ≢ 4 → n ≢ 5 → n ≢ 6 → n ≢ 7 → n ≢ 8 → n ≢ 9 → n ≢ 10 → n ≢ 12 → n ≢ 13 → n ≢ 17 → of_length n forms ≡ []
+none_of_length n h4 h5 h6 h7 h8 h9 h10 h12 h13 h17 = none_of n forms (h8, (h4, (h5, (h4, (h6, (h7, (h10, (h9, (h10, (h12, (h13, (h9, (h17, (h9, (h10, (h12, (h7, (h9, tt))))))))))))))))))
+
+-- a name that none of its length is
+pub unnamed : (name : List ℕ) (words : List (List ℕ)) (n : ℕ) → length name ≡ n → form_named (of_length n forms) name ≡ None → line_behind name words ≡ None
+unfolding line_behind
+unnamed name words n is none =
+    let found : form_named forms name ≡ None = by_length forms name ∙ ap (λ (m : ℕ). form_named (of_length m forms) name) is ∙ none in
+    rw found refl
