@@ -1,5 +1,5 @@
 -- What is read from a line is what it spells, and what a line spells is read from it.
-use Rattle.std.proofs.Common.{IfSome, IfOk, OnErr, IsSome, IsSomeAnd, ◌≡◌, ◌≢◌, ℕ, ◌<◌, ◌≤◌, ◌==◌, Bool, true, false, cond, List, [], ◌∷◌, length, Option, Some, None, Result, Ok, Err, IsUtf8, inl, inr, refl, sym, ap, ap₂, subst, ◌∙◌, arith, eqb-true}
+use Rattle.std.proofs.Common.{IfSome, IfOk, OnErr, IsSome, IsSomeAnd, ◌≡◌, ◌≢◌, ℕ, ◌<◌, ◌≤◌, ◌==◌, Bool, true, false, cond, List, [], ◌∷◌, length, Option, Some, None, Result, Ok, Err, inl, inr, refl, sym, ap, ap₂, subst, ◌∙◌, arith, eqb-true}
 use Rattle.std.specs.List.{AllByRecursion, All, join_with_byte}
 use Rattle.std.proofs.lemmas.List.{append-nil}
 use Rattle.quic_recovery.specs.declared.event.Event.{Event}
@@ -10,7 +10,7 @@ use Rattle.recovery_lines.specs.Words.{words_of}
 use Rattle.recovery_lines.specs.Lines.{Means, spelling, IsWithinTypes, Spells, IsSame, IssuesIds}
 use Rattle.recovery_lines.specs.Reading.{line_at, line_of, TakesMemory}
 use Rattle.recovery_lines.proofs.FieldLaws.{bind_some, some_is}
-use Rattle.recovery_lines.proofs.PlainLaws.{IsPlain, plain_utf8, plain_no_feed, words_joined}
+use Rattle.recovery_lines.proofs.PlainLaws.{IsPlain, plain_no_feed, words_joined}
 use Rattle.recovery_lines.proofs.FormLaws.{line_takes, line_words, line_again}
 
 -- ---- whole lines
@@ -99,9 +99,6 @@ spelling_plain unkept event within =
 
 spelled_plain : (line : List ℕ) (event : Event) → Spells line event → AllByRecursion IsPlain (words_of line)
 spelled_plain line event spells = subst (AllByRecursion IsPlain) (sym spells.words) (spelling_plain spells.unkept event spells.within)
-
-pub spelled_utf8 : (line : List ℕ) (event : Event) → Spells line event → IsUtf8 line
-spelled_utf8 line event spells = plain_utf8 line (spelled_plain line event spells)
 
 pub spelled_no_feed : (line : List ℕ) (event : Event) → Spells line event → All (λ byte. byte ≢ 10) line
 spelled_no_feed line event spells = plain_no_feed line (spelled_plain line event spells)

@@ -1,12 +1,11 @@
--- A line of plain words is text, and its words are these.
-use Rattle.std.proofs.Common.{◌≡◌, ◌≢◌, ◌++◌, append-nil, ℕ, zero, suc, ◌<◌, ◌^◌, ◌==◌, Bool, true, false, ◌&&◌, List, [], ◌∷◌, decimal, IsUtf8, IsAscii, refl, ap, subst, ◌∙◌, arith, lit<, ltb-true, ne_eqb}
+-- A line of plain words has no line feed, and its words are these.
+use Rattle.std.proofs.Common.{◌≡◌, ◌≢◌, ◌++◌, append-nil, ℕ, ◌<◌, ◌^◌, ◌==◌, Bool, true, false, ◌&&◌, List, [], ◌∷◌, decimal, refl, ap, subst, ◌∙◌, arith, ltb-true, ne_eqb}
 use Rattle.std.specs.Prelude.{nat_lt}
 use Rattle.std.specs.List.{AllByRecursion, All, join_with_byte}
 use Rattle.std.specs.Str.Parse.{AllDigits}
 use Rattle.std.proofs.lemmas.List.Splits.{join_with_byte-slice_split, slice_split_at, slice_split_none}
 use Rattle.std.proofs.lemmas.List.Elements.{All-from_recursion}
 use Rattle.std.proofs.lemmas.Fmt.{decimal_is_IsNumeral}
-use Rattle.std.proofs.lemmas.Str.{IsAscii-append, IsUtf8-from_ascii}
 use Rattle.std.proofs.lemmas.Str.Parse.{digit_from_value}
 use Rattle.recovery_lines.specs.Words.{words_of}
 
@@ -41,23 +40,6 @@ digits_plain (d ∷ digits) h = let r = digit_from_value d h.0 in ((omega (arith
 
 pub decimal_plain : (n : ℕ) → n < 2 ^ 64 → IsPlain (decimal n)
 decimal_plain n lt = digits_plain (decimal n) (decimal_is_IsNumeral n lt).0.1
-
-plain_ascii : (word : List ℕ) → IsPlain word → IsAscii word
-plain_ascii [] h i = lit< tt
-plain_ascii (b ∷ word) h zero = h.0.1
-plain_ascii (b ∷ word) h (suc i) = plain_ascii word h.1 i
-
-space_then : (bytes : List ℕ) → IsAscii bytes → IsAscii (32 ∷ bytes)
-space_then bytes a zero = lit< tt
-space_then bytes a (suc i) = a i
-
-joined_ascii : (words : List (List ℕ)) → AllByRecursion IsPlain words → IsAscii (join_with_byte 32 words)
-joined_ascii [] h = λ i. lit< tt
-joined_ascii (word ∷ []) h = plain_ascii word h.0
-joined_ascii (word ∷ next ∷ words) h = IsAscii-append word (32 ∷ join_with_byte 32 (next ∷ words)) (plain_ascii word h.0) (space_then (join_with_byte 32 (next ∷ words)) (joined_ascii (next ∷ words) h.1))
-
-pub plain_utf8 : (line : List ℕ) → AllByRecursion IsPlain (words_of line) → IsUtf8 line
-plain_utf8 line h = IsUtf8-from_ascii line (subst IsAscii (join_with_byte-slice_split 32 line) (joined_ascii (words_of line) h))
 
 feedless : (b : ℕ) → 32 < b → b ≢ 10
 feedless b low = λ e. omega (arith, low, e)

@@ -209,9 +209,10 @@ impl<'a> Words<'a> {
         requires { end ≡ position_or_len (λ b. b == 32) rest.now }
         ensures { first_word (words_of rest.now) ≡ Some (take end rest.now, words_left self.new) }
     {
-        self.rest = None;
         if end < rest.len() {
             self.rest = Some(&rest[end + 1..]);
+        } else {
+            self.rest = None;
         }
     }
 
