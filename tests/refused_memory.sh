@@ -1,10 +1,10 @@
 #!/usr/bin/env bash
-# Runs the tests of recovery_tests with one allocation of each refused: the first, then the second, and so on, until the
+# Runs the tests of quic_recovery_tests with one allocation of each refused: the first, then the second, and so on, until the
 # tests of refused memory meet no refusal any more. Those have to pass, or to say that memory was refused and left no
 # trace; the other tests of the driver, its ledger and the lowest crate have to pass, or to fail with the want of memory in
 # what they say. It takes some minutes.
 set -u
-cd -- "$(dirname -- "${BASH_SOURCE[0]}")/../crates/recovery_tests" || exit 1
+cd -- "$(dirname -- "${BASH_SOURCE[0]}")/../crates/quic_recovery_tests" || exit 1
 for ((n = 1; n <= 100; n++)); do
     report=$(rt try --test --fail-alloc "$n" 2>&1)
     if ! verdict=$(awk '

@@ -110,6 +110,10 @@ pub record Tracking : Type 0 where
 abbrev pub no_packets : Tracking
 no_packets = record { packets = []; last_eliciting = None }
 
+-- the silent packets above the last ack-eliciting one
+abbrev pub silent_in : Tracking → Packets
+silent_in tracking = silent_above tracking.last_eliciting tracking.packets
+
 -- the packet that is forgotten when one is sent, with its number
 abbrev pub forgotten_entry : SentPacket → Tracking → Option (ℕ × SentPacket)
 forgotten_entry packet old =

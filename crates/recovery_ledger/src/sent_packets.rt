@@ -1,6 +1,6 @@
 //! The packets that a packet number space tracks (RFC 9002, A.1), by number.
 ghost use Rattle.std.specs.Prelude.{◌≡◌, Decides, ℕ, ◌<◌, ◌≤◌, ◌↔◌, [], ◌∷◌, IfOk, OnOk, OnErr, IsTrue, IfSome, IfNone, MatchOption, length, filter};
-ghost use Rattle.recovery_ledger.specs.Packets.{Packets, Tracking, no_packets, packet_at, AreBelow, IsAboveLast, HasSize, is_above, least_number, silent_above, forgotten_number, forgotten_entry, after_sending, after_taking};
+ghost use Rattle.recovery_ledger.specs.Packets.{Packets, Tracking, no_packets, packet_at, AreBelow, IsAboveLast, HasSize, is_above, least_number, silent_in, forgotten_number, forgotten_entry, after_sending, after_taking};
 ghost use Rattle.recovery_ledger.specs.Counts.{silent_count, size_count};
 
 use crate::spaces::SentPacket;
@@ -75,7 +75,7 @@ impl SentPackets {
         requires above_last { IsAboveLast self.old.last_eliciting number }
         ensures ok { OnOk result (self.new ≡ after_sending number packet self.old) }
         ensures forgotten { IfOk result (λ gone. gone ≡ forgotten_entry packet self.old) }
-        ensures bound { length (silent_above self.new.last_eliciting self.new.packets) ≤ 1001 }
+        ensures bound { length (silent_in self.new) ≤ 1001 }
         ensures err { OnErr result (self.new ≡ self.old) }
     {
         let least = self.forgotten(&packet);

@@ -5,7 +5,7 @@ ghost use Rattle.recovery_base.specs.Numbers.{IsNew};
 ghost use Rattle.recovery_base.specs.Received.{Has};
 ghost use Rattle.recovery_acks.specs.Acks.{new_acks};
 ghost use Rattle.recovery_ledger.specs.Kept.{kept_by};
-ghost use Rattle.recovery_ledger.specs.Packets.{AreBelow, IsAboveLast, HasSize, IsTooLarge, no_packets, packet_at, silent_above, forgotten_entry, after_sending};
+ghost use Rattle.recovery_ledger.specs.Packets.{AreBelow, IsAboveLast, HasSize, IsTooLarge, silent_in, no_packets, packet_at, forgotten_entry, after_sending};
 ghost use Rattle.recovery_ledger.specs.Spaces.{space_of, tracking_of, with_tracking, packets_of, kept_of, acks_of, with_acks, counts_of, next_number_of, after_number, after_eliciting, after_acknowledging, space_takes, HasGreatestCome, SpaceStep, ReceiveReply, heard_of, came, SubtractsLargest};
 
 use crate::sent_packets::SentPackets;
@@ -144,7 +144,8 @@ impl PacketSpace {
         ack_eliciting: bool,
     ) -> Result<Receipt, ReceiveError>
         requires received { HasGreatestCome self.old }
-        ensures reply { ReceiveReply (heard_of self.old) (counts_of (acks_of self.old)) number ack_eliciting result }
+        ensures reply { ReceiveReply
+            (heard_of self.old) (counts_of (acks_of self.old)) number ack_eliciting result }
         ensures step { IfOk result
             (λ receipt. SpaceStep (came now number ack_eliciting receipt) self.old self.new) }
         ensures refused { OnErr result (self.new ≡ self.old) }
@@ -184,7 +185,7 @@ impl PacketSpace {
         ensures ok { OnOk result
             (self.new ≡ with_tracking (after_sending number packet (tracking_of self.old)) self.old) }
         ensures forgotten { IfOk result (λ gone. gone ≡ forgotten_entry packet (tracking_of self.old)) }
-        ensures bound { length (silent_above (tracking_of self.new).last_eliciting (packets_of self.new)) ≤ 1001 }
+        ensures bound { length (silent_in (tracking_of self.new)) ≤ 1001 }
         ensures err { OnErr result (self.new ≡ self.old) }
     {
         self.sent_packets.insert(number, packet)

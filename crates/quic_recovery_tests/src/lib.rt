@@ -1,0 +1,7 @@
+//! Tests of the driver, and of the spaces and paths below it, over their public calls.
+#![tactic(auto)]
+
+#[cfg(test)]
+mod driver;
+#[cfg(test)]
+mod ledger;

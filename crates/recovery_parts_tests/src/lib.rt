@@ -1,0 +1,10 @@
+//! Tests of the parts, over their public calls: here and not in the parts, so that none of them is proved a second time for
+//! its tests.
+#![tactic(auto)]
+
+#[cfg(test)]
+mod acks;
+#[cfg(test)]
+mod base;
+#[cfg(test)]
+mod ids;
