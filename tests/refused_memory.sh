@@ -14,7 +14,7 @@ for ((n = 1; n <= 100; n++)); do
         }
         /^test result: / { settle(); is_whole = 1; next }
         /^test / { settle() }
-        /^test (base|driver|ledger)::/ {
+        /^test (driver|ledger)::/ {
             name = $2
             is_fine = $NF == "ok"
             is_strict = name ~ /::refused_memory::/

@@ -15,7 +15,7 @@ use Rattle.quic_recovery.specs.Logs.{onto}
 use Rattle.recovery_ledger.specs.PathLog.{PathEntry, PathsEntry}
 use Rattle.recovery_ids.specs.RemoteLog.{RemoteEntry, given, used, replaced}
 use Rattle.recovery_acks.specs.RequestLog.{RequestEntry, taken, too_small}
-use Rattle.recovery_ledger.specs.SpaceIds.{same_space}
+use Rattle.recovery_base.specs.Spaces.{same_space}
 use Rattle.recovery_ledger.specs.SpaceLog.{SpaceEntry, heard, heard_again, sends, acknowledged, loses, emptied, ack_goes, ack_is_late, asked}
 use Rattle.recovery_base.specs.TimerLog.{TimerEntry}
 

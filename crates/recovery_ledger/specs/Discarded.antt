@@ -3,7 +3,7 @@ use Rattle.std.specs.Prelude.{◌≡◌, Bool, false, ◌||◌, List, [], ◌∷
 use Rattle.recovery_base.specs.declared.below.SpaceId.{SpaceId}
 use Rattle.recovery_base.specs.declared.below.SpaceId.TheVariants.{Initial, Handshake, Data}
 use Rattle.recovery_ledger.specs.declared.discarded.DiscardedSpaces.{DiscardedSpaces}
-use Rattle.recovery_ledger.specs.SpaceIds.{same_space}
+use Rattle.recovery_base.specs.Spaces.{same_space}
 
 abbrev pub is_discarded : SpaceId → DiscardedSpaces → Bool
 is_discarded Initial discarded = discarded.initial

@@ -9,7 +9,6 @@ pub mod Packets
 pub mod PathLog
 pub mod Paths
 pub mod Received
-pub mod SpaceIds
 pub mod SpaceLog
 pub mod Spaces
 pub mod Tracked
