@@ -8,7 +8,7 @@ use Rattle.recovery_base.specs.Numbers.{Exceeds}
 use Rattle.recovery_base.specs.Received.{Has}
 use Rattle.recovery_acks.specs.Acks.{Acks, new_acks}
 use Rattle.recovery_ledger.specs.declared.paths.InFlight.{InFlight}
-use Rattle.recovery_ledger.specs.declared.paths.PathData.{PathData}
+use Rattle.recovery_ledger.specs.declared.paths.PathLedger.{PathLedger}
 use Rattle.recovery_ledger.specs.declared.spaces.PacketSpace.{PacketSpace}
 use Rattle.recovery_ledger.specs.declared.spaces.PacketSpaces.{PacketSpaces}
 use Rattle.recovery_ledger.specs.declared.spaces.SentPacket.{SentPacket}
@@ -22,7 +22,7 @@ use Rattle.recovery_ledger.proofs.PacketLaws.{sum-without, found-le-sum, AllBelo
 
 -- ---- one packet
 
-module _ (path : PathData) (number : ℕ) (packet : SentPacket) (enough : size_in (generation_of path) (number, packet) ≤ (counters_of path).bytes) (eliciting : eliciting_in (generation_of path) (number, packet) ≤ (counters_of path).ack_eliciting) where
+module _ (path : PathLedger) (number : ℕ) (packet : SentPacket) (enough : size_in (generation_of path) (number, packet) ≤ (counters_of path).bytes) (eliciting : eliciting_in (generation_of path) (number, packet) ≤ (counters_of path).ack_eliciting) where
   -- a packet that leaves takes its part from the counters
   pub leaves : ((counters_left path packet).bytes + size_in (generation_of path) (number, packet) ≡ (counters_of path).bytes) × ((counters_left path packet).ack_eliciting + eliciting_in (generation_of path) (number, packet) ≡ (counters_of path).ack_eliciting)
   leaves = go (packet.path_generation == generation_of path) enough eliciting
@@ -67,7 +67,7 @@ parts_replaced spaces Data here all one Data = one
 same_counters : (a b : InFlight) → a.bytes ≡ b.bytes → a.ack_eliciting ≡ b.ack_eliciting → a ≡ b
 same_counters a b bytes count = ap₂ (λ (m n : ℕ). let c : InFlight = record { bytes = m; ack_eliciting = n } in c) bytes count
 
-module _ (spaces : PacketSpaces) (path : PathData) (balanced : IsBalanced spaces path) where
+module _ (spaces : PacketSpaces) (path : PathLedger) (balanced : IsBalanced spaces path) where
   pub counters_bytes : (counters_of path).bytes ≡ over_spaces (λ s. sum_by (size_in (generation_of path)) (tracked_by spaces s))
   counters_bytes = ap (λ (c : InFlight). c.bytes) balanced.counters
 
@@ -98,7 +98,7 @@ module _ (spaces : PacketSpaces) (path : PathData) (balanced : IsBalanced spaces
   packet_counted space number packet found = let e = packet_enough space number packet found in own_counted path number packet e.0 e.1
 
   -- one space changes, and the counters by as much
-  pub balanced_by : (space : SpaceId) (here : PacketSpace) (new : PathData) (a b c d : ℕ) → generation_of new ≡ generation_of path
+  pub balanced_by : (space : SpaceId) (here : PacketSpace) (new : PathLedger) (a b c d : ℕ) → generation_of new ≡ generation_of path
       → sum_by (size_in (generation_of path)) (packets_of here) + a ≡ sum_by (size_in (generation_of path)) (tracked_by spaces space) + b
       → sum_by (eliciting_in (generation_of path)) (packets_of here) + c ≡ sum_by (eliciting_in (generation_of path)) (tracked_by spaces space) + d
       → (counters_of new).bytes + a ≡ (counters_of path).bytes + b → (counters_of new).ack_eliciting + c ≡ (counters_of path).ack_eliciting + d
@@ -152,7 +152,7 @@ module _ (spaces : PacketSpaces) (path : PathData) (balanced : IsBalanced spaces
       }
 
   -- a space is emptied
-  pub balanced_emptied : (space : SpaceId) (here : PacketSpace) (new : PathData) → generation_of new ≡ generation_of path → packets_of here ≡ [] → IsCoherent here
+  pub balanced_emptied : (space : SpaceId) (here : PacketSpace) (new : PathLedger) → generation_of new ≡ generation_of path → packets_of here ≡ [] → IsCoherent here
       → (counters_of new).bytes + sum_by (size_in (generation_of path)) (tracked_by spaces space) ≡ (counters_of path).bytes
       → (counters_of new).ack_eliciting + sum_by (eliciting_in (generation_of path)) (tracked_by spaces space) ≡ (counters_of path).ack_eliciting
       → IsBalanced (with_space spaces space here) new
@@ -216,7 +216,7 @@ emptied_coherent old here coherent is =
     none_found : (number : ℕ) (packet : SentPacket) → None ≡ Some packet → number < next_number_of old
     none_found number packet e = cc
 
-module _ (spaces : PacketSpaces) (path : PathData) (balanced : IsBalanced spaces path) (space : SpaceId) (packet : SentPacket) (own : packet.path_generation ≡ generation_of path) where
+module _ (spaces : PacketSpaces) (path : PathLedger) (balanced : IsBalanced spaces path) (space : SpaceId) (packet : SentPacket) (own : packet.path_generation ≡ generation_of path) where
   -- what the counters are when a packet was sent, and one perhaps forgotten
   path_sent : (number : ℕ) (forgotten : Option (ℕ × SentPacket)) → ((entry : ℕ × SentPacket) → forgotten ≡ Some entry → (size_in (generation_of path) entry ≤ (counters_of path).bytes) × (eliciting_in (generation_of path) entry ≤ (counters_of path).ack_eliciting))
       → ((counters_of (path_after_sending path packet forgotten)).bytes + gone (size_in (generation_of path)) forgotten ≡ (counters_of path).bytes + size_in (generation_of path) (number, packet))
@@ -282,13 +282,13 @@ module _ (spaces : PacketSpaces) (path : PathData) (balanced : IsBalanced spaces
       sent.2 (omega (arith, sizes, here_sizes, gone_sizes)) (omega (arith, elicitings, here_elicitings, gone_elicitings)) sent.0 sent.1
       (sent_coherent (space_of space spaces) here packet (balanced.coherent space) small received tracking next)
 
-pub generation_after_sending : (path : PathData) (packet : SentPacket) (forgotten : Option (ℕ × SentPacket)) → generation_of (path_after_sending path packet forgotten) ≡ generation_of path
+pub generation_after_sending : (path : PathLedger) (packet : SentPacket) (forgotten : Option (ℕ × SentPacket)) → generation_of (path_after_sending path packet forgotten) ≡ generation_of path
 generation_after_sending path packet None = refl
 generation_after_sending path packet (Some entry) = refl
 
 -- ---- a fresh start
 
-pub fresh_balanced : (spaces : PacketSpaces) (path : PathData) → ((space : SpaceId) → tracking_of (space_of space spaces) ≡ no_packets) → ((space : SpaceId) → acks_of (space_of space spaces) ≡ new_acks []) → counters_of path ≡ record { bytes = 0; ack_eliciting = 0 } → IsBalanced spaces path
+pub fresh_balanced : (spaces : PacketSpaces) (path : PathLedger) → ((space : SpaceId) → tracking_of (space_of space spaces) ≡ no_packets) → ((space : SpaceId) → acks_of (space_of space spaces) ≡ new_acks []) → counters_of path ≡ record { bytes = 0; ack_eliciting = 0 } → IsBalanced spaces path
 fresh_balanced spaces path none no_acks zero = record {
   counters = zero ∙ sym (same_counters (in_flight (generation_of path) (tracked_by spaces)) (record { bytes = 0; ack_eliciting = 0 }) (no_sum (size_in (generation_of path))) (no_sum (eliciting_in (generation_of path))));
   coherent = λ space. record { packets = λ number packet found. no_packet_found space number packet found; last = λ m is. no_last space m is; acknowledging = let R : Packets → Type 0 = AreAcknowledging in subst R (sym (empty space)) (λ packet among. absurd among); received = λ number is. no_greatest space number is };

@@ -1,42 +1,42 @@
 -- What a path holds.
 use Rattle.std.specs.Prelude.{ℕ, ◌==◌, Option, None, Some, if◌then◌else◌}
 use Rattle.recovery_ledger.specs.declared.paths.InFlight.{InFlight}
-use Rattle.recovery_ledger.specs.declared.paths.PathData.{PathData}
+use Rattle.recovery_ledger.specs.declared.paths.PathLedger.{PathLedger}
 use Rattle.recovery_ledger.specs.declared.spaces.SentPacket.{SentPacket}
 use Rattle.recovery_ledger.specs.InFlight.{with_packet, without_packet}
 use Rattle.recovery_ledger.specs.PathLog.{OfPaths, PathKnown}
 
-abbrev pub generation_of : PathData → ℕ
+abbrev pub generation_of : PathLedger → ℕ
 generation_of path = path.generation
 
-abbrev pub counters_of : PathData → InFlight
+abbrev pub counters_of : PathLedger → InFlight
 counters_of path = path.in_flight
 
 -- what is kept for a path, but for its counters
-abbrev pub path_known : PathData → PathKnown
+abbrev pub path_known : PathLedger → PathKnown
 path_known path = record { generation = generation_of path }
 
-abbrev pub paths_known : OfPaths PathData → OfPaths PathKnown
+abbrev pub paths_known : OfPaths PathLedger → OfPaths PathKnown
 paths_known paths = record { current = path_known paths.current }
 
-abbrev pub with_counters : InFlight → PathData → PathData
+abbrev pub with_counters : InFlight → PathLedger → PathLedger
 with_counters counters path = record path { in_flight = counters }
 
 -- the counters without a packet that left, if it is one of the path's
-abbrev pub counters_left : PathData → SentPacket → InFlight
+abbrev pub counters_left : PathLedger → SentPacket → InFlight
 counters_left path packet =
     if packet.path_generation == generation_of path
     then without_packet (counters_of path) packet
     else counters_of path
 
-abbrev pub after_leaving : PathData → SentPacket → PathData
+abbrev pub after_leaving : PathLedger → SentPacket → PathLedger
 after_leaving path packet = with_counters (counters_left path packet) path
 
-abbrev pub after_forgetting : PathData → Option (ℕ × SentPacket) → PathData
+abbrev pub after_forgetting : PathLedger → Option (ℕ × SentPacket) → PathLedger
 after_forgetting path None = path
 after_forgetting path (Some entry) = after_leaving path entry.1
 
 -- the path when a packet was sent on it, and perhaps another forgotten
-abbrev pub path_after_sending : PathData → SentPacket → Option (ℕ × SentPacket) → PathData
+abbrev pub path_after_sending : PathLedger → SentPacket → Option (ℕ × SentPacket) → PathLedger
 path_after_sending path packet forgotten =
     after_forgetting (with_counters (with_packet (counters_of path) packet) path) forgotten

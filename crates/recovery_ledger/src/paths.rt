@@ -57,18 +57,18 @@ pub enum LedgerError {
 
 /// What is kept for one path.
 #[derive(Drop)]
-pub struct PathData {
+pub struct PathLedger {
     generation: u64,
     in_flight: InFlight,
 }
 
-impl PathData {
+impl PathLedger {
     /// A path on which nothing was sent yet.
     pub fn new(generation: u64) -> Self
         ensures generation { generation_of result ≡ generation }
         ensures counters { counters_of result ≡ record { bytes = 0; ack_eliciting = 0 } }
     {
-        PathData {
+        PathLedger {
             generation,
             in_flight: InFlight::default(),
         }

@@ -3,7 +3,7 @@ use Rattle.std.specs.Prelude.{sum_by}
 use Rattle.recovery_ledger.specs.InFlight.{size_in, eliciting_in, IsCountedIn}
 use Rattle.recovery_ledger.specs.Paths.{generation_of, counters_of}
 use Rattle.recovery_ledger.specs.Spaces.{tracking_of, with_tracking, packets_of}
-use Rattle.recovery_ledger.proofs.paths.PathData.forget_all.Given as goal
+use Rattle.recovery_ledger.proofs.paths.PathLedger.forget_all.Given as goal
 
 abbrev pub invariant-loop-packet : goal.invariant-loop-packet
 invariant-loop-packet l = record {

@@ -1,6 +1,6 @@
 use Rattle.std.proofs.Common.{arith, sym, ap, ◌∙◌}
 use Rattle.recovery_ledger.specs.declared.paths.InFlight.{InFlight}
-use Rattle.recovery_ledger.proofs.paths.PathData.sent.Goals as goal
+use Rattle.recovery_ledger.proofs.paths.PathLedger.sent.Goals as goal
 
 pub remove_in_flight-requires : goal.remove_in_flight-requires
 remove_in_flight-requires c = λ own.
