@@ -1,0 +1,4 @@
+//! Settings of a connection's paths.
+#![tactic(auto)]
+
+pub mod config;

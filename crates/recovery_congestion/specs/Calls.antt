@@ -1,0 +1,37 @@
+-- What a controller was told, and the content that this leaves (RFC 9002, 7 and appendix B).
+use Rattle.std.specs.Prelude.{ℕ, ◌<◌, ⊤, Bool, List, [], ◌∷◌, Option}
+use Rattle.recovery_rtt.specs.Rtt.{Rtt}
+use Rattle.recovery_congestion.specs.Controllers.{ControllerWords}
+
+pub data ControllerCall : Type 0 where
+  sends : (now bytes number : ℕ) → ControllerCall
+  acks : (now sent bytes : ℕ) (limited : Bool) (rtt : Rtt) → ControllerCall
+  ends_acks : (now in_flight : ℕ) (limited : Bool) (largest : Option ℕ) → ControllerCall
+  congests : (now sent : ℕ) (persistent : Bool) (lost : ℕ) → ControllerCall
+  takes_mtu : (mtu : ℕ) → ControllerCall
+
+-- the content after a call
+abbrev pub told : {K : Type 0} → ControllerWords K → ControllerCall → K → K
+told words (sends now bytes number) k = words.sent now bytes number k
+told words (acks now sent bytes limited rtt) k = words.acked now sent bytes limited rtt k
+told words (ends_acks now in_flight limited largest) k = words.end_acks now in_flight limited largest k
+told words (congests now sent persistent lost) k = words.congestion now sent persistent lost k
+told words (takes_mtu mtu) k = words.mtu mtu k
+
+-- the content after calls, the newest first, from the content that was built
+abbrev pub content_by : {K : Type 0} → ControllerWords K → K → List ControllerCall → K
+content_by words built [] = built
+content_by words built (call ∷ earlier) = told words call (content_by words built earlier)
+
+-- an MTU that is told is above zero
+abbrev pub IsPositiveCall : ControllerCall → Type 0
+IsPositiveCall (sends now bytes number) = ⊤
+IsPositiveCall (acks now sent bytes limited rtt) = ⊤
+IsPositiveCall (ends_acks now in_flight limited largest) = ⊤
+IsPositiveCall (congests now sent persistent lost) = ⊤
+IsPositiveCall (takes_mtu mtu) = 0 < mtu
+
+-- all MTUs that are told are above zero
+abbrev pub ArePositiveCalls : List ControllerCall → Type 0
+ArePositiveCalls [] = ⊤
+ArePositiveCalls (call ∷ earlier) = IsPositiveCall call × ArePositiveCalls earlier

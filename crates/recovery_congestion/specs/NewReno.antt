@@ -1,0 +1,108 @@
+-- NewReno (RFC 9002, 7 and appendix B), with whole numbers: a fraction in place of the reduction factor, sums that stop at
+-- the end of 64 bits, and growth in congestion avoidance by counted bytes (RFC 3465, 2.1).
+use Rattle.std.specs.Prelude.{ℕ, ◌≡◌, ◌+◌, ◌-◌, ◌*◌, ◌/◌, ◌<◌, ◌≤◌, ◌^◌, min, max, Bool, true, false, Some, None, ◌||◌, nat_le, nat_lt, if◌then◌else◌}
+use Rattle.recovery_rtt.specs.Rtt.{Rtt}
+use Rattle.recovery_congestion.specs.declared.congestion.ControllerMetrics.{ControllerMetrics}
+use Rattle.recovery_congestion.specs.declared.congestion.new_reno.NewReno.{NewReno}
+use Rattle.recovery_congestion.specs.RenoSettings.{RenoSettings}
+use Rattle.recovery_congestion.specs.Controllers.{ControllerWords}
+
+-- the greatest number of 64 bits
+abbrev pub most : ℕ
+most = 2 ^ 64 - 1
+
+-- a sum that stops there
+abbrev pub sum_to_most : ℕ → ℕ → ℕ
+sum_to_most a b = min (a + b) most
+
+-- at first in slow start (RFC 9002, 7.3.1)
+abbrev pub reno_made : RenoSettings → ℕ → ℕ → NewReno
+reno_made config now mtu = record {
+  config = config;
+  current_mtu = mtu;
+  window = config.initial_window;
+  ssthresh = most;
+  recovery_start_time = now;
+  bytes_acked = 0;
+}
+
+-- the least window (RFC 9002, 7.2)
+abbrev pub minimum_window : NewReno → ℕ
+minimum_window reno = 2 * reno.current_mtu
+
+-- an acknowledgement counts where the application did not limit and the packet was sent after the start of recovery
+abbrev pub is_ignored : ℕ → Bool → NewReno → Bool
+is_ignored sent limited reno = limited || nat_le sent reno.recovery_start_time
+
+-- in slow start the window grows by the bytes acknowledged; what goes past the threshold is counted (RFC 9002, 7.3.1)
+abbrev pub slow_started : ℕ → NewReno → NewReno
+slow_started bytes reno =
+    let window = sum_to_most reno.window bytes in
+    record reno { window = window; bytes_acked = if nat_le reno.ssthresh window then window - reno.ssthresh else reno.bytes_acked }
+
+-- in congestion avoidance each window of bytes acknowledged makes it greater by one MTU (RFC 9002, 7.3.3)
+abbrev pub avoided : ℕ → NewReno → NewReno
+avoided counted reno =
+    if nat_le reno.window counted
+    then record reno { window = sum_to_most reno.window reno.current_mtu; bytes_acked = counted - reno.window }
+    else record reno { bytes_acked = counted }
+
+abbrev pub reno_grown : ℕ → NewReno → NewReno
+reno_grown bytes reno =
+    if nat_lt reno.window reno.ssthresh then slow_started bytes reno else avoided (sum_to_most reno.bytes_acked bytes) reno
+
+-- a packet was acknowledged
+abbrev pub reno_acked : ℕ → ℕ → Bool → NewReno → NewReno
+reno_acked sent bytes limited reno = if is_ignored sent limited reno then reno else reno_grown bytes reno
+
+-- the window after a loss (RFC 9002, 7.3.2)
+abbrev pub reduced_window : NewReno → ℕ
+reduced_window reno = min (max (reno.window * reno.config.numerator / reno.config.denominator) (minimum_window reno)) most
+
+-- a recovery begins; persistent congestion leaves the least window (RFC 9002, 7.3.2 and 7.6.2)
+abbrev pub reno_recovering : ℕ → Bool → NewReno → NewReno
+reno_recovering now persistent reno = record reno {
+  recovery_start_time = now;
+  ssthresh = reduced_window reno;
+  window = if persistent then minimum_window reno else reduced_window reno;
+}
+
+-- packets were lost, or marked: one reduction in a recovery
+abbrev pub reno_congested : ℕ → ℕ → Bool → NewReno → NewReno
+reno_congested now sent persistent reno = if nat_le sent reno.recovery_start_time then reno else reno_recovering now persistent reno
+
+abbrev pub reno_with_mtu : ℕ → NewReno → NewReno
+reno_with_mtu mtu reno = record reno { current_mtu = mtu; window = max reno.window (2 * mtu) }
+
+abbrev pub reno_metrics : NewReno → ControllerMetrics
+reno_metrics reno = record { congestion_window = reno.window; ssthresh = Some reno.ssthresh; pacing_rate = None }
+
+abbrev pub IsRenoSound : NewReno → Type 0
+IsRenoSound reno = (0 < reno.window) × (0 < reno.current_mtu)
+
+abbrev pub reno_words : ControllerWords NewReno
+reno_words = record {
+  sent = λ now bytes number reno. reno;
+  acked = λ now sent bytes limited rtt reno. reno_acked sent bytes limited reno;
+  end_acks = λ now in_flight limited largest reno. reno;
+  congestion = λ now sent persistent lost reno. reno_congested now sent persistent reno;
+  mtu = reno_with_mtu;
+  window = λ reno. reno.window;
+  metrics = reno_metrics;
+  initial = λ reno. reno.config.initial_window;
+}
+
+-- a packet's acknowledgement counts in congestion avoidance, and no sum stops at its end
+pub record AvoidsBelowMost (sent bytes : ℕ) (limited : Bool) (reno : NewReno) : Type 0 where
+  pub counts : is_ignored sent limited reno ≡ false
+  pub above : reno.ssthresh ≤ reno.window
+  pub counted : reno.bytes_acked + bytes ≤ most
+  pub grown : reno.window + reno.current_mtu ≤ most
+
+-- the area under the window's growth, w·(w - m) + 2·m·c for window w, MTU m and count c, rises by exactly 2·m·b for
+-- b bytes: one MTU for each window of bytes, neither more nor less; m·w stands on both sides so that nothing goes below zero
+abbrev pub RaisesArea : ℕ → NewReno → NewReno → Type 0
+RaisesArea bytes old new =
+    let mtu = old.current_mtu in
+    new.window * new.window + 2 * mtu * new.bytes_acked + mtu * old.window
+    ≡ old.window * old.window + 2 * mtu * old.bytes_acked + mtu * new.window + 2 * mtu * bytes

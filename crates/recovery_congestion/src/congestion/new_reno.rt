@@ -1,0 +1,262 @@
+//! NewReno (RFC 9002, 7 and appendix B).
+ghost use Rattle.std.specs.Prelude.{◌≡◌, ◌<◌, ◌≤◌, Ok, refl};
+ghost use Rattle.recovery_congestion.specs.RenoSettings.{default_reno};
+ghost use Rattle.recovery_congestion.specs.NewReno.{reno_made, reno_words, reno_acked, reno_congested, reno_with_mtu, reno_metrics, reduced_window, IsRenoSound, AvoidsBelowMost, RaisesArea};
+ghost use Rattle.recovery_congestion.specs.RenoLaws.{reno_laws};
+
+use super::{Controller, ControllerFactory, ControllerMetrics};
+use recovery_base::below::NoMemory;
+use recovery_base::time::Instant;
+use recovery_rtt::rtt::RttEstimator;
+use std::marker::Model;
+
+/// The size of the datagrams that the default initial window is for, in bytes.
+const BASE_DATAGRAM_SIZE: u64 = 1200;
+
+/// How a [`NewReno`] begins, and how a loss reduces its window.
+#[derive(Clone, Copy)]
+pub struct NewRenoConfig {
+    initial_window: u64,
+    numerator: u64,
+    denominator: u64,
+}
+
+impl Model for NewRenoConfig {
+    ghost use Rattle.recovery_congestion.specs.RenoSettings.{RenoSettings, ArePositive};
+
+    ghost Value = { RenoSettings };
+
+    ghost use Rattle.recovery_congestion.specs.RenoConfigs.{settings_in, settings_back};
+
+    ghost view = { settings_in };
+
+    ghost invariant = { λ config. ArePositive (settings_in config) };
+
+    ghost inverse = { settings_back };
+}
+
+impl NewRenoConfig {
+    /// The window at first, in bytes, above zero. Default 12000 (RFC 9002, 7.2).
+    pub fn initial_window(&mut self, value: u64) -> &mut Self
+        requires { 0 < value }
+        ensures same { result.ghost_name ≡ self.entry.ghost_name }
+        ensures value { result.now ≡ record self.old { initial_window = value } }
+    {
+        self.initial_window = value;
+        self
+    }
+
+    /// What the window is multiplied by at a loss: a fraction whose denominator is above zero. Default 1/2 (RFC 9002,
+    /// 7.3.2).
+    pub fn loss_reduction_factor(&mut self, numerator: u64, denominator: u64) -> &mut Self
+        requires { 0 < denominator }
+        ensures same { result.ghost_name ≡ self.entry.ghost_name }
+        ensures value { result.now
+            ≡ record self.old { numerator = numerator; denominator = denominator } }
+    {
+        self.numerator = numerator;
+        self.denominator = denominator;
+        self
+    }
+}
+
+impl Default for NewRenoConfig {
+    ghost is_default = { λ config. config ≡ default_reno };
+
+    fn default() -> Self {
+        NewRenoConfig {
+            initial_window: 14720u64.clamp(2 * BASE_DATAGRAM_SIZE, 10 * BASE_DATAGRAM_SIZE),
+            numerator: 1,
+            denominator: 2,
+        }
+    }
+}
+
+impl ControllerFactory for NewRenoConfig {
+    type Controller = NewReno;
+
+    ghost built = { reno_made };
+
+    fn build(&self, now: Instant, current_mtu: u16) -> NewReno {
+        NewReno::new(*self, now, current_mtu)
+    }
+
+    ghost starts_at_initial = { λ factory now mtu. refl };
+}
+
+/// A window that grows by the bytes acknowledged up to a threshold, above it by one MTU for each window of them, and falls
+/// by a fixed factor at a loss, once in a recovery (RFC 9002, 7.3).
+#[derive(Drop)]
+pub struct NewReno {
+    config: NewRenoConfig,
+    current_mtu: u16,
+    window: u64,
+    ssthresh: u64,
+    recovery_start_time: Instant,
+    bytes_acked: u64,
+}
+
+impl NewReno {
+    /// In slow start, with the window of the configuration, for a path of this MTU in bytes. Packets sent at this moment
+    /// or before count as sent before it.
+    pub fn new(config: NewRenoConfig, now: Instant, current_mtu: u16) -> Self
+        ensures value { result ≡ reno_made config now current_mtu }
+        ensures sound { 0 < current_mtu → IsRenoSound result }
+    {
+        NewReno {
+            window: config.initial_window,
+            ssthresh: u64::MAX,
+            recovery_start_time: now,
+            current_mtu,
+            config,
+            bytes_acked: 0,
+        }
+    }
+
+    /// The least window (RFC 9002, 7.2).
+    fn minimum_window(&self) -> u64
+        ensures { result ≡ 2 * self.now.current_mtu }
+    {
+        2 * u64::from(self.current_mtu)
+    }
+
+    /// The window after a loss.
+    fn reduced_window(&self) -> u64
+        ensures { result ≡ reduced_window self.now }
+    {
+        let product = u128::from(self.window) * u128::from(self.config.numerator);
+        let reduced = product / u128::from(self.config.denominator);
+        let reduced = u64::try_from(reduced).unwrap_or(u64::MAX);
+        reduced.max(self.minimum_window())
+    }
+}
+
+impl Controller for NewReno {
+    type Content = NewReno;
+
+    ghost content = { λ reno. reno };
+
+    ghost words = { reno_words };
+
+    ghost is_sound = { IsRenoSound };
+
+    /// Changes nothing.
+    fn on_sent(&mut self, _now: Instant, _bytes: u64, _last_packet_number: u64)
+        ensures { self.new ≡ self.old }
+    {
+    }
+
+    /// The window never falls. In congestion avoidance it grows by one MTU for each window of bytes.
+    fn on_ack(
+        &mut self,
+        _now: Instant,
+        sent: Instant,
+        bytes: u64,
+        app_limited: bool,
+        _rtt: &RttEstimator,
+    )
+        ensures value { self.new ≡ reno_acked sent bytes app_limited self.old }
+        ensures kept { self.old.window ≤ self.new.window }
+        ensures raises { AvoidsBelowMost sent bytes app_limited self.old → RaisesArea bytes self.old self.new }
+    {
+        if app_limited || sent <= self.recovery_start_time {
+            return;
+        }
+        if self.window < self.ssthresh {
+            self.window = self.window.saturating_add(bytes);
+            if self.window >= self.ssthresh {
+                // Bytes past the threshold count for congestion avoidance already.
+                self.bytes_acked = self.window - self.ssthresh;
+            }
+            return;
+        }
+        self.bytes_acked = self.bytes_acked.saturating_add(bytes);
+        if self.bytes_acked >= self.window {
+            self.bytes_acked -= self.window;
+            self.window = self.window.saturating_add(u64::from(self.current_mtu));
+        }
+    }
+
+    /// Changes nothing.
+    fn on_end_acks(
+        &mut self,
+        _now: Instant,
+        _in_flight: u64,
+        _app_limited: bool,
+        _largest_packet_num_acked: Option<u64>,
+    )
+        ensures { self.new ≡ self.old }
+    {
+    }
+
+    /// Does nothing for packets sent before the recovery began. Nothing else lets the window fall.
+    fn on_congestion_event(
+        &mut self,
+        now: Instant,
+        sent: Instant,
+        is_persistent_congestion: bool,
+        _lost_bytes: u64,
+    )
+        ensures value { self.new ≡ reno_congested now sent is_persistent_congestion self.old }
+        ensures falls { self.new.window < self.old.window → self.old.recovery_start_time < sent }
+    {
+        if sent <= self.recovery_start_time {
+            return;
+        }
+        self.recovery_start_time = now;
+        self.ssthresh = self.reduced_window();
+        self.window = if is_persistent_congestion {
+            self.minimum_window()
+        } else {
+            self.ssthresh
+        };
+    }
+
+    /// The window never falls, and is two MTUs at least.
+    fn on_mtu_update(&mut self, new_mtu: u16)
+        ensures value { self.new ≡ reno_with_mtu new_mtu self.old }
+        ensures kept { self.old.window ≤ self.new.window }
+    {
+        self.current_mtu = new_mtu;
+        self.window = self.window.max(self.minimum_window());
+    }
+
+    fn window(&self) -> u64
+        ensures { result ≡ self.now.window }
+    {
+        self.window
+    }
+
+    /// The window and the threshold; there is no pacing rate.
+    fn metrics(&self) -> ControllerMetrics
+        ensures { result ≡ reno_metrics self.now }
+    {
+        ControllerMetrics {
+            congestion_window: self.window,
+            ssthresh: Some(self.ssthresh),
+            pacing_rate: None,
+        }
+    }
+
+    fn initial_window(&self) -> u64
+        ensures { result ≡ self.now.config.initial_window }
+    {
+        self.config.initial_window
+    }
+
+    /// Takes no memory, and never answers `NoMemory`.
+    fn try_clone(&self) -> Result<Self, NoMemory>
+        ensures { result ≡ Ok self.now }
+    {
+        Ok(NewReno {
+            config: self.config,
+            current_mtu: self.current_mtu,
+            window: self.window,
+            ssthresh: self.ssthresh,
+            recovery_start_time: self.recovery_start_time,
+            bytes_acked: self.bytes_acked,
+        })
+    }
+
+    ghost laws = { reno_laws };
+}

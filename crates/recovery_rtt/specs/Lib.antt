@@ -1,0 +1,2 @@
+pub mod Estimators
+pub mod Rtt

@@ -1,0 +1,77 @@
+-- The estimate of the round-trip time, in nanoseconds (RFC 9002, 5).
+use Rattle.std.specs.Prelude.{ℕ, ◌≡◌, ◌+◌, ◌-◌, ◌*◌, ◌/◌, ◌≤◌, ◌^◌, min, max, List, [], ◌∷◌, Option, None, Some, nat_le, if◌then◌else◌}
+use Rattle.std.specs.Option.{unwrap_or}
+
+pub record Rtt : Type 0 where
+  -- the last sample; before the first one, the initial RTT
+  pub latest : ℕ
+  -- none before the first sample
+  pub smoothed : Option ℕ
+  pub variance : ℕ
+  -- the least sample; before the first one, the initial RTT
+  pub least : ℕ
+
+-- before the first sample (RFC 9002, 5.3 and 6.2.2)
+abbrev pub rtt_made : ℕ → Rtt
+rtt_made initial = record { latest = initial; smoothed = None; variance = initial / 2; least = initial }
+
+-- a sample without the delay of its ACK, unless that would fall below the least RTT
+abbrev pub adjusted_rtt : ℕ → ℕ → ℕ → ℕ
+adjusted_rtt least delay sample = if nat_le (least + delay) sample then sample - delay else sample
+
+-- how far two are apart
+abbrev pub distance : ℕ → ℕ → ℕ
+distance a b = (a - b) + (b - a)
+
+-- an adjusted sample moves the smoothed value by an eighth, and the variance by a quarter
+abbrev pub rtt_moved : ℕ → ℕ → ℕ → Rtt → Rtt
+rtt_moved adjusted sample smoothed old = record {
+  latest = sample;
+  smoothed = Some ((7 * smoothed + adjusted) / 8);
+  variance = (3 * old.variance + distance smoothed adjusted) / 4;
+  least = min old.least sample;
+}
+
+-- the first sample is taken as it is; a later one without the delay of its ACK
+abbrev pub rtt_sampled : ℕ → ℕ → Option ℕ → Rtt → Rtt
+rtt_sampled delay sample None old = record { latest = sample; smoothed = Some sample; variance = sample / 2; least = sample }
+rtt_sampled delay sample (Some smoothed) old = rtt_moved (adjusted_rtt (min old.least sample) delay sample) sample smoothed old
+
+-- after a sample, whose ACK was delayed (RFC 9002, 5.3)
+abbrev pub rtt_updated : ℕ → ℕ → Rtt → Rtt
+rtt_updated delay sample old = rtt_sampled delay sample old.smoothed old
+
+-- after samples, each the delay of its ACK and the time measured, the newest first
+abbrev pub rtt_by : ℕ → List (ℕ × ℕ) → Rtt
+rtt_by initial [] = rtt_made initial
+rtt_by initial (sample ∷ earlier) = rtt_updated sample.0 sample.1 (rtt_by initial earlier)
+
+-- the best estimate: the smoothed value, or the initial RTT before the first sample
+abbrev pub rtt_get : Rtt → ℕ
+rtt_get rtt = unwrap_or rtt.smoothed rtt.latest
+
+-- the estimate that losses are judged by (RFC 9002, 6.1.2)
+abbrev pub rtt_conservative : Rtt → ℕ
+rtt_conservative rtt = max (rtt_get rtt) rtt.latest
+
+-- the longest `Duration`
+abbrev pub longest : ℕ
+longest = 2 ^ 64 * 10 ^ 9 - 1
+
+-- the least span that timers can keep (RFC 9002, 6.1.2)
+abbrev pub granularity : ℕ
+granularity = 10 ^ 6
+
+-- the probe timeout without the delay of ACKs (RFC 9002, 6.2.1)
+abbrev pub pto_base_of : Rtt → ℕ
+pto_base_of rtt = min (rtt_get rtt + max (4 * rtt.variance) granularity) longest
+
+-- what holds of every estimate: the smoothed value, where there is one, is no less than the least
+abbrev pub IsAboveLeast : Option ℕ → ℕ → Type 0
+IsAboveLeast None least = Unit {0}
+IsAboveLeast (Some smoothed) least = least ≤ smoothed
+
+-- the greater of a sample and the smoothed value, where there is one
+abbrev pub greatest_of : Option ℕ → ℕ → ℕ
+greatest_of None sample = sample
+greatest_of (Some smoothed) sample = max smoothed sample
