@@ -1,0 +1,2 @@
+pub mod PathStates
+pub mod PathLog

@@ -1,0 +1,93 @@
+-- What is kept for a network path (RFC 9000, 8 and 9; RFC 9002, 5 to 7).
+use Rattle.std.specs.Prelude.{◌≡◌, ℕ, ◌+◌, ◌*◌, ◌<◌, ◌&&◌, not, nat_lt, Bool, false, true, Option}
+use Rattle.std.specs.declared.net.socket_addr.SocketAddr.{SocketAddr}
+use Rattle.recovery_congestion.specs.Calls.{ControllerCall, told}
+use Rattle.recovery_congestion.specs.Controllers.{ControllerWords}
+use Rattle.recovery_ledger.specs.declared.paths.PathLedger.{PathLedger}
+use Rattle.recovery_pacing.specs.Pacing.{Bucket, PacerCall, bucket_made, paced, delay_of, less_tokens}
+use Rattle.recovery_rtt.specs.Rtt.{Rtt, rtt_made, rtt_updated, rtt_get}
+
+-- what is kept beside a path's generation and what it has in flight; K is what contracts see of its controller
+pub record PathState (K : Type 0) : Type 0 where
+  pub remote : SocketAddr
+  -- the peer was seen to receive at this address
+  pub validated : Bool
+  -- the bytes of the datagrams that came in, and of those transmitted
+  pub received : ℕ
+  pub sent : ℕ
+  -- the bytes of a datagram
+  pub mtu : ℕ
+  pub rtt : Rtt
+  pub controller : K
+  pub pacer : Bucket
+
+pub record Path (K : Type 0) : Type 0 where
+  -- its generation, and what it has in flight
+  pub ledger : PathLedger
+  pub state : PathState K
+
+-- how a path is made
+pub record PathMaking (K : Type 0) : Type 0 where
+  pub remote : SocketAddr
+  pub validated : Bool
+  pub mtu : ℕ
+  pub rtt : ℕ
+  pub controller : K
+  pub now : ℕ
+
+module _ {K : Type 0} (words : ControllerWords K) where
+  -- a path to which nothing has happened: its pacer is full, for the initial window
+  abbrev pub state_made : PathMaking K → PathState K
+  state_made making = record {
+    remote = making.remote;
+    validated = making.validated;
+    received = 0;
+    sent = 0;
+    mtu = making.mtu;
+    rtt = rtt_made making.rtt;
+    controller = making.controller;
+    pacer = bucket_made making.rtt (words.initial making.controller) making.mtu making.now;
+  }
+
+  -- ---- the amplification limit (RFC 9000, 8.1)
+
+  -- with so many bytes more, an address that is not validated would get more than three times what came from it
+  abbrev pub is_blocked : PathState K → ℕ → Bool
+  is_blocked path bytes = not path.validated && nat_lt (3 * path.received) (path.sent + bytes)
+
+  -- ---- pacing (RFC 9002, 7.7)
+
+  -- the pacer is asked for so many bytes with the RTT, MTU and window of the path
+  abbrev pub pacer_call : PathState K → ℕ → ℕ → PacerCall
+  pacer_call path now bytes = record {
+    bytes = bytes;
+    rtt = rtt_get path.rtt;
+    mtu = path.mtu;
+    window = words.window path.controller;
+    now = now;
+  }
+
+  abbrev pub after_asking : ℕ → ℕ → PathState K → PathState K
+  after_asking now bytes path = record path { pacer = paced (pacer_call path now bytes) path.pacer }
+
+  -- when to ask again, where the bytes may not be sent yet
+  abbrev pub path_delay : PathState K → ℕ → ℕ → Option ℕ
+  path_delay path now bytes =
+      let call = pacer_call path now bytes in delay_of call (paced call path.pacer)
+
+  -- ---- what changes a path
+
+  abbrev pub after_transmitting : ℕ → PathState K → PathState K
+  after_transmitting bytes path = record path { sent = path.sent + bytes; pacer = less_tokens bytes path.pacer }
+
+  abbrev pub after_receiving : ℕ → PathState K → PathState K
+  after_receiving bytes path = record path { received = path.received + bytes }
+
+  abbrev pub after_sample : ℕ → ℕ → PathState K → PathState K
+  after_sample delay rtt path = record path { rtt = rtt_updated delay rtt path.rtt }
+
+  abbrev pub after_telling : ControllerCall → PathState K → PathState K
+  after_telling call path = record path { controller = told words call path.controller }
+
+  abbrev pub after_validation : PathState K → PathState K
+  after_validation path = record path { validated = true }

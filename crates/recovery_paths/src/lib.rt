@@ -1,0 +1,4 @@
+//! What is kept for each network path.
+#![tactic(auto)]
+
+pub mod paths;
