@@ -49,7 +49,7 @@ paced-sound call old some_window some_mtu sound = go (passes call bucket)
 
 pub less_tokens-sound : (bytes : ℕ) (old : Bucket) → IsBucketSound old → IsBucketSound (less_tokens bytes old)
 less_tokens-sound bytes old sound = record {
-  tokens = omega (arith, sound.tokens);
+  tokens = omega arith;
   least = sound.least;
   most = sound.most;
   window = sound.window;
