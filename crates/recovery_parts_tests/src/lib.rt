@@ -8,3 +8,5 @@ mod acks;
 mod base;
 #[cfg(test)]
 mod ids;
+#[cfg(test)]
+mod pacing;

@@ -1,0 +1,2 @@
+pub mod PacingLaws
+mod PacingRows

@@ -1,0 +1,96 @@
+-- A token bucket that paces packets (RFC 9002, 7.7): its bytes fill up at five fourths of a window in each RTT, and what is
+-- sent is taken off. Moments and spans are in nanoseconds.
+use Rattle.std.specs.Prelude.{ℕ, ◌+◌, ◌-◌, ◌*◌, ◌/◌, ◌^◌, ◌<◌, ◌≤◌, min, max, Bool, ◌&&◌, ◌||◌, ◌==◌, nat_le, if◌then◌else◌, Option, None, Some}
+
+pub record Bucket : Type 0 where
+  -- the most bytes that it takes, and the window and MTU that they were computed for
+  pub capacity : ℕ
+  pub window : ℕ
+  pub mtu : ℕ
+  -- the bytes that may be sent at once
+  pub tokens : ℕ
+  -- the latest moment at which it was refilled, or made
+  pub last : ℕ
+
+-- May so many bytes be sent now? Asked with the RTT, MTU and window of that moment.
+pub record PacerCall : Type 0 where
+  pub bytes : ℕ
+  pub rtt : ℕ
+  pub mtu : ℕ
+  pub window : ℕ
+  pub now : ℕ
+
+-- ---- amounts
+
+-- what a window gives in two milliseconds, at least ten packets and at most 256 (bursts are limited, as 7.7 asks)
+abbrev pub capacity_of : ℕ → ℕ → ℕ → ℕ
+capacity_of rtt window mtu = max (10 * mtu) (min (256 * mtu) (window * (2 * 10 ^ 6) / max rtt 1))
+
+-- the bytes that come in a span of time: the window for each RTT, times N = 5/4 (7.7), rounded down
+abbrev pub credit_of : ℕ → ℕ → ℕ → ℕ
+credit_of rtt window elapsed = 5 * window * elapsed / (4 * rtt)
+
+abbrev pub longest_span : ℕ
+longest_span = 2 ^ 64 * 10 ^ 9 - 1
+
+-- how long it takes until so many bytes have come; the product stops at the longest span
+abbrev pub wait_of : ℕ → ℕ → ℕ → ℕ
+wait_of rtt window short = 4 * (min (rtt * short) longest_span / window / 5)
+
+-- ---- what happens to a bucket
+
+-- a full one
+abbrev pub bucket_made : ℕ → ℕ → ℕ → ℕ → Bucket
+bucket_made rtt window mtu now =
+    let capacity = capacity_of rtt window mtu in
+    record { capacity = capacity; window = window; mtu = mtu; tokens = capacity; last = now }
+
+-- where window or MTU is another than at the call before, the capacity is computed anew; no more tokens stay than it takes
+abbrev pub resized : ℕ → ℕ → ℕ → Bucket → Bucket
+resized rtt window mtu old =
+    let capacity = capacity_of rtt window mtu in
+    if (window == old.window) && (mtu == old.mtu) then old
+    else record old { capacity = capacity; window = window; mtu = mtu; tokens = min capacity old.tokens }
+
+-- the bytes that came since the last moment are added, up to the capacity, and the later moment is kept: no time counts twice
+abbrev pub refilled : ℕ → ℕ → ℕ → Bucket → Bucket
+refilled rtt window now old =
+    let credit = credit_of rtt window (now - old.last) in
+    record old { tokens = min (old.tokens + credit) old.capacity; last = max old.last now }
+
+-- nothing is delayed at a window past 32 bits, or before an RTT is known
+abbrev pub is_unpaced : PacerCall → Bool
+is_unpaced call = nat_le (2 ^ 32) call.window || (call.rtt == 0)
+
+-- the bytes may be sent at once
+abbrev pub passes : PacerCall → Bucket → Bool
+passes call bucket = nat_le call.bytes bucket.tokens || is_unpaced call
+
+-- what a call leaves: only where the bytes may not be sent yet is it refilled
+abbrev pub paced : PacerCall → Bucket → Bucket
+paced call old =
+    let bucket = resized call.rtt call.window call.mtu old in
+    if passes call bucket then bucket else refilled call.rtt call.window call.now bucket
+
+-- when the bytes that are short have come, or a full bucket where that is more; it stops at the last moment
+abbrev pub next_moment : PacerCall → Bucket → ℕ
+next_moment call bucket =
+    let short = max call.bytes bucket.capacity - bucket.tokens in
+    min (bucket.last + wait_of call.rtt call.window short) (2 ^ 64 - 1)
+
+-- what a call is told, by the bucket that it leaves: nothing where the bytes may be sent, and else when to ask again
+abbrev pub delay_of : PacerCall → Bucket → Option ℕ
+delay_of call bucket = if passes call bucket then None else Some (next_moment call bucket)
+
+-- a packet of so many bytes was sent; a debt is not kept
+abbrev pub less_tokens : ℕ → Bucket → Bucket
+less_tokens bytes old = record old { tokens = old.tokens - bytes }
+
+-- ---- what holds of every bucket
+
+pub record IsBucketSound (bucket : Bucket) : Type 0 where
+  pub tokens : bucket.tokens ≤ bucket.capacity
+  pub least : 10 * bucket.mtu ≤ bucket.capacity
+  pub most : bucket.capacity ≤ 256 * bucket.mtu
+  pub window : 0 < bucket.window
+  pub mtu : 0 < bucket.mtu

@@ -1,0 +1,162 @@
+//! Spreads packets over time, so that a window is not sent in one burst (RFC 9002, 7.7).
+ghost use Rattle.std.specs.Prelude.{◌≡◌, ℕ, ◌+◌, ◌-◌, ◌*◌, ◌/◌, ◌^◌, ◌<◌, ◌≤◌, min, max};
+ghost use Rattle.recovery_pacing.specs.Pacing.{PacerCall, capacity_of, credit_of, wait_of, bucket_made, resized, refilled, paced, delay_of, less_tokens};
+
+use recovery_base::time::{Duration, Instant};
+use std::marker::Model;
+
+/// A full bucket lasts this long: timers of user space are good to a millisecond, and longer bursts would undo the pacing.
+const BURST_INTERVAL_NANOS: u128 = 2_000_000;
+
+/// Packets that may go out at once whatever the rate: so the first flight is not held up, and packets are handed to the
+/// kernel several at a time.
+const MIN_BURST_SIZE: u128 = 10;
+
+/// Packets that go out at once at most: more would block the connection while they are made.
+const MAX_BURST_SIZE: u128 = 256;
+
+/// A bucket of tokens, one a byte: sending takes tokens, and time brings them at 5/4 of a window in each RTT
+/// (RFC 9002, 7.7).
+///
+/// Contracts see a `Bucket`. It holds at most its capacity, which is 10 to 256 times the MTU of the last call.
+#[derive(Drop)]
+pub struct Pacer {
+    capacity: u64,
+    last_window: u64,
+    last_mtu: u16,
+    tokens: u64,
+    last: Instant,
+}
+
+impl Model for Pacer {
+    ghost use Rattle.recovery_pacing.specs.Pacing.{Bucket, IsBucketSound};
+    ghost use Rattle.recovery_pacing.specs.Pacers.{bucket_in};
+
+    ghost Value = { Bucket };
+
+    ghost view = { bucket_in };
+
+    ghost invariant = { λ pacer. IsBucketSound (bucket_in pacer) };
+}
+
+impl Pacer {
+    /// A full bucket at the moment `now`. The congestion window and the MTU are in bytes, and neither is 0.
+    pub fn new(rtt: Duration, window: u64, mtu: u16, now: Instant) -> Self
+        requires window { 0 < window }
+        requires mtu { 0 < mtu }
+        ensures { result ≡ bucket_made rtt window mtu now }
+    {
+        let capacity = optimal_capacity(rtt, window, mtu);
+        Pacer {
+            capacity,
+            last_window: window,
+            last_mtu: mtu,
+            tokens: capacity,
+            last: now,
+        }
+    }
+
+    /// A packet of so many bytes was sent. Where fewer tokens are left, none are.
+    pub fn on_transmit(&mut self, packet_length: u16)
+        ensures { self.new ≡ less_tokens packet_length self.old }
+    {
+        self.tokens = self.tokens.saturating_sub(u64::from(packet_length));
+    }
+
+    /// When to ask again whether so many bytes may be sent, or `None` where they may be sent now.
+    ///
+    /// The RTT, the MTU and the congestion window (bytes, neither is 0) are those of the moment `now`, which may be earlier
+    /// than that of a call before: then no time has passed. Nothing is delayed at an RTT of 0 or a window above
+    /// `u32::MAX`. The answer stops at `u64::MAX` nanoseconds.
+    pub fn delay(
+        &mut self,
+        rtt: Duration,
+        bytes_to_send: u64,
+        mtu: u16,
+        window: u64,
+        now: Instant,
+    ) -> Option<Instant>
+        requires window { 0 < window }
+        requires mtu { 0 < mtu }
+        ensures leaves { let call : PacerCall = record { bytes = bytes_to_send; rtt = rtt; mtu = mtu; window = window; now = now } in
+            self.new ≡ paced call self.old }
+        ensures delays { let call : PacerCall = record { bytes = bytes_to_send; rtt = rtt; mtu = mtu; window = window; now = now } in
+            result ≡ delay_of call self.new }
+    {
+        self.resize(rtt, window, mtu);
+        if self.tokens >= bytes_to_send || window > u64::from(u32::MAX) || rtt.as_nanos() == 0 {
+            return None;
+        }
+        self.refill(rtt, window, now);
+        if self.tokens >= bytes_to_send {
+            return None;
+        }
+        let short = bytes_to_send.max(self.capacity) - self.tokens;
+        Some(later_by(self.last, wait(rtt, window, short)))
+    }
+
+    fn resize(&mut self, rtt: Duration, window: u64, mtu: u16)
+        requires window { 0 < window }
+        requires mtu { 0 < mtu }
+        ensures { self.new ≡ resized rtt window mtu self.old }
+    {
+        if window != self.last_window || mtu != self.last_mtu {
+            self.capacity = optimal_capacity(rtt, window, mtu);
+            self.tokens = self.tokens.min(self.capacity);
+            self.last_window = window;
+            self.last_mtu = mtu;
+        }
+    }
+
+    fn refill(&mut self, rtt: Duration, window: u64, now: Instant)
+        requires window { window < 2 ^ 32 }
+        requires rtt { 0 < rtt }
+        ensures { self.new ≡ refilled rtt window now self.old }
+    {
+        let elapsed = now.as_nanos().saturating_sub(self.last.as_nanos());
+        let tokens = u128::from(self.tokens) + credit(rtt, window, elapsed);
+        self.tokens = tokens.min(u128::from(self.capacity)) as u64;
+        if self.last < now {
+            self.last = now;
+        }
+    }
+}
+
+fn optimal_capacity(rtt: Duration, window: u64, mtu: u16) -> u64
+    ensures value { result ≡ capacity_of rtt window mtu }
+    ensures least { 10 * mtu ≤ result }
+    ensures most { result ≤ 256 * mtu }
+{
+    let capacity = u128::from(window) * BURST_INTERVAL_NANOS / rtt.as_nanos().max(1);
+    let mtu = u128::from(mtu);
+    capacity.clamp(MIN_BURST_SIZE * mtu, MAX_BURST_SIZE * mtu) as u64
+}
+
+/// The bytes that time brings. They may be more than 64 bits hold.
+fn credit(rtt: Duration, window: u64, elapsed: u64) -> u128
+    requires window { window < 2 ^ 32 }
+    requires rtt { 0 < rtt }
+    ensures value { result ≡ credit_of rtt window elapsed }
+    ensures bound { result < 2 ^ 99 }
+{
+    5 * u128::from(window) * u128::from(elapsed) / (4 * rtt.as_nanos())
+}
+
+/// Nanoseconds until so many bytes have come. The division by 5 goes before the product with 4, so that no product wraps.
+fn wait(rtt: Duration, window: u64, short: u64) -> u128
+    requires { 0 < window }
+    ensures value { result ≡ wait_of rtt window short }
+    ensures bound { result < 2 ^ 64 * 10 ^ 9 }
+{
+    let product = rtt.as_nanos().saturating_mul(u128::from(short));
+    let product = product.min(Duration::MAX.as_nanos());
+    4 * (product / u128::from(window) / 5)
+}
+
+fn later_by(moment: Instant, nanos: u128) -> Instant
+    requires { nanos < 2 ^ 64 * 10 ^ 9 }
+    ensures { result ≡ min (moment + nanos) (2 ^ 64 - 1) }
+{
+    let sum = u128::from(moment.as_nanos()) + nanos;
+    Instant::from_nanos(sum.min(u128::from(u64::MAX)) as u64)
+}
