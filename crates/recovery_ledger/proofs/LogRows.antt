@@ -8,7 +8,6 @@ use Rattle.recovery_ledger.specs.Discarded.{was_discarded}
 use Rattle.recovery_ledger.specs.InFlight.{in_flight}
 use Rattle.recovery_ledger.specs.Kept.{kept_by, largest_acknowledged}
 use Rattle.recovery_ledger.specs.Packets.{Packets}
-use Rattle.recovery_ledger.specs.PathLog.{paths_known_by}
 use Rattle.recovery_ledger.specs.Received.{greatest_new}
 use Rattle.recovery_ledger.specs.SpaceLog.{SpaceEntry, heard, heard_again, sends, acknowledged, loses, ack_goes}
 use Rattle.recovery_ledger.specs.Tracked.{packet_sent, sent_by}
@@ -83,7 +82,3 @@ was_discarded-initial = refl
 
 was_discarded-data : was_discarded Data (Initial ∷ []) ≡ false
 was_discarded-data = refl
-
--- the first path
-paths_known_by-first : paths_known_by [] ≡ record { current = record { generation = 0 } }
-paths_known_by-first = refl

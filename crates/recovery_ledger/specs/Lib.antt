@@ -6,7 +6,6 @@ pub mod Kept
 pub mod Ledger
 pub mod Lends
 pub mod Packets
-pub mod PathLog
 pub mod Paths
 pub mod Received
 pub mod SpaceLog

@@ -1,10 +1,9 @@
--- What a path holds.
+-- The ledger of a path: its generation, and what it has in flight.
 use Rattle.std.specs.Prelude.{ℕ, ◌==◌, Option, None, Some, if◌then◌else◌}
 use Rattle.recovery_ledger.specs.declared.paths.InFlight.{InFlight}
 use Rattle.recovery_ledger.specs.declared.paths.PathLedger.{PathLedger}
 use Rattle.recovery_ledger.specs.declared.spaces.SentPacket.{SentPacket}
 use Rattle.recovery_ledger.specs.InFlight.{with_packet, without_packet}
-use Rattle.recovery_ledger.specs.PathLog.{OfPaths, PathKnown}
 
 abbrev pub generation_of : PathLedger → ℕ
 generation_of path = path.generation
@@ -12,12 +11,12 @@ generation_of path = path.generation
 abbrev pub counters_of : PathLedger → InFlight
 counters_of path = path.in_flight
 
--- what is kept for a path, but for its counters
-abbrev pub path_known : PathLedger → PathKnown
-path_known path = record { generation = generation_of path }
-
-abbrev pub paths_known : OfPaths PathLedger → OfPaths PathKnown
-paths_known paths = record { current = path_known paths.current }
+-- nothing is in flight at first
+abbrev pub fresh_ledger : ℕ → PathLedger
+fresh_ledger generation = record {
+  generation = generation;
+  in_flight = record { bytes = 0; ack_eliciting = 0 };
+}
 
 abbrev pub with_counters : InFlight → PathLedger → PathLedger
 with_counters counters path = record path { in_flight = counters }

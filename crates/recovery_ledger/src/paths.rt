@@ -1,9 +1,9 @@
-//! What is kept for each network path: its generation, and the bytes in flight on it (RFC 9002, B.2).
+//! The ledger of a network path: its generation, and the bytes in flight on it (RFC 9002, B.2).
 ghost use Rattle.std.specs.Prelude.{◌≡◌, Decides, ◌↔◌, ℕ, ◌<◌, IsTrue, IfOk, OnOk, OnErr, IfSome, IsErrOf};
 ghost use Rattle.std.specs.Option.{SomeIff, ForSome};
 ghost use Rattle.recovery_ledger.specs.Packets.{AreBelow, IsAboveLast, forgotten_entry, after_sending};
 ghost use Rattle.recovery_ledger.specs.InFlight.{with_packet, without_packet, IsCounted, IsCountedIn, SumsLeave, Overflows};
-ghost use Rattle.recovery_ledger.specs.Paths.{generation_of, counters_of, after_leaving, path_after_sending};
+ghost use Rattle.recovery_ledger.specs.Paths.{generation_of, counters_of, fresh_ledger, after_leaving, path_after_sending};
 ghost use Rattle.recovery_ledger.specs.Spaces.{tracking_of, with_tracking, packets_of, space_empties};
 
 use crate::spaces::{PacketSpace, SentPacket};
@@ -55,7 +55,7 @@ pub enum LedgerError {
     Overflow,
 }
 
-/// What is kept for one path.
+/// What is in flight on one path.
 #[derive(Drop)]
 pub struct PathLedger {
     generation: u64,
@@ -65,8 +65,7 @@ pub struct PathLedger {
 impl PathLedger {
     /// A path on which nothing was sent yet.
     pub fn new(generation: u64) -> Self
-        ensures generation { generation_of result ≡ generation }
-        ensures counters { counters_of result ≡ record { bytes = 0; ack_eliciting = 0 } }
+        ensures { result ≡ fresh_ledger generation }
     {
         PathLedger {
             generation,

@@ -1,2 +1,3 @@
 pub mod PathStates
 pub mod PathLog
+pub mod Threefold

@@ -35,8 +35,33 @@ pub record PathMaking (K : Type 0) : Type 0 where
   pub controller : K
   pub now : ℕ
 
+module _ {K : Type 0} where
+  -- ---- the amplification limit (RFC 9000, 8.1)
+
+  -- with so many bytes more, an address that is not validated would get more than three times what came from it
+  abbrev pub is_blocked : PathState K → ℕ → Bool
+  is_blocked path bytes = not path.validated && nat_lt (3 * path.received) (path.sent + bytes)
+
+  -- ---- what changes a path, whatever its controller
+
+  abbrev pub after_receiving : ℕ → PathState K → PathState K
+  after_receiving bytes path = record path { received = path.received + bytes }
+
+  abbrev pub after_validation : PathState K → PathState K
+  after_validation path = record path { validated = true }
+
+  abbrev pub after_sample : ℕ → ℕ → PathState K → PathState K
+  after_sample delay rtt path = record path { rtt = rtt_updated delay rtt path.rtt }
+
+  abbrev pub after_transmitting : ℕ → PathState K → PathState K
+  after_transmitting bytes path = record path { sent = path.sent + bytes; pacer = less_tokens bytes path.pacer }
+
 module _ {K : Type 0} (words : ControllerWords K) where
-  -- a path to which nothing has happened: its pacer is full, for the initial window
+  -- the pacer is made full, for the initial RTT and the initial window
+  abbrev pub first_bucket : PathMaking K → Bucket
+  first_bucket making = bucket_made making.rtt (words.initial making.controller) making.mtu making.now
+
+  -- a path to which nothing has happened
   abbrev pub state_made : PathMaking K → PathState K
   state_made making = record {
     remote = making.remote;
@@ -46,14 +71,12 @@ module _ {K : Type 0} (words : ControllerWords K) where
     mtu = making.mtu;
     rtt = rtt_made making.rtt;
     controller = making.controller;
-    pacer = bucket_made making.rtt (words.initial making.controller) making.mtu making.now;
+    pacer = first_bucket making;
   }
 
-  -- ---- the amplification limit (RFC 9000, 8.1)
-
-  -- with so many bytes more, an address that is not validated would get more than three times what came from it
-  abbrev pub is_blocked : PathState K → ℕ → Bool
-  is_blocked path bytes = not path.validated && nat_lt (3 * path.received) (path.sent + bytes)
+  -- the controller is told of something (RFC 9002, 7)
+  abbrev pub after_telling : ControllerCall → PathState K → PathState K
+  after_telling call path = record path { controller = told words call path.controller }
 
   -- ---- pacing (RFC 9002, 7.7)
 
@@ -71,23 +94,6 @@ module _ {K : Type 0} (words : ControllerWords K) where
   after_asking now bytes path = record path { pacer = paced (pacer_call path now bytes) path.pacer }
 
   -- when to ask again, where the bytes may not be sent yet
-  abbrev pub path_delay : PathState K → ℕ → ℕ → Option ℕ
-  path_delay path now bytes =
+  abbrev pub path_delay : ℕ → ℕ → PathState K → Option ℕ
+  path_delay now bytes path =
       let call = pacer_call path now bytes in delay_of call (paced call path.pacer)
-
-  -- ---- what changes a path
-
-  abbrev pub after_transmitting : ℕ → PathState K → PathState K
-  after_transmitting bytes path = record path { sent = path.sent + bytes; pacer = less_tokens bytes path.pacer }
-
-  abbrev pub after_receiving : ℕ → PathState K → PathState K
-  after_receiving bytes path = record path { received = path.received + bytes }
-
-  abbrev pub after_sample : ℕ → ℕ → PathState K → PathState K
-  after_sample delay rtt path = record path { rtt = rtt_updated delay rtt path.rtt }
-
-  abbrev pub after_telling : ControllerCall → PathState K → PathState K
-  after_telling call path = record path { controller = told words call path.controller }
-
-  abbrev pub after_validation : PathState K → PathState K
-  after_validation path = record path { validated = true }

@@ -1,0 +1,286 @@
+//! What is kept for each network path: its round-trip time, its controller and its pacer, what came in and went out, and what
+//! is in flight on it (RFC 9000, 8 and 9; RFC 9002).
+ghost use Rattle.std.specs.Prelude.{◌≡◌, Decides, ◌↔◌, ◌<◌, ◌+◌, ◌^◌, ◌≤◌, true, OnOk, OnErr, IfOk, IsErrOf};
+ghost use Rattle.std.specs.Option.{ForSome};
+ghost use Rattle.recovery_congestion.specs.Calls.TheVariants.{sends, acks, ends_acks, congests};
+ghost use Rattle.recovery_config.specs.Settings.{initial_mtu_of};
+ghost use Rattle.recovery_ledger.specs.InFlight.{IsCounted, IsCountedIn, SumsLeave, Overflows};
+ghost use Rattle.recovery_ledger.specs.Packets.{AreBelow, IsAboveLast, forgotten_entry, after_sending};
+ghost use Rattle.recovery_ledger.specs.Paths.{generation_of, counters_of, fresh_ledger, after_leaving, path_after_sending};
+ghost use Rattle.recovery_ledger.specs.Spaces.{tracking_of, with_tracking, packets_of, space_empties};
+ghost use Rattle.recovery_paths.specs.PathStates.{Path, is_blocked, after_receiving, after_validation, after_sample, after_transmitting};
+ghost use Rattle.recovery_paths.specs.PathStates.{state_made, after_telling, after_asking, path_delay};
+
+use recovery_base::time::{Duration, Instant};
+use recovery_config::config::TransportConfig;
+use recovery_congestion::congestion::{Controller, ControllerFactory};
+use recovery_ledger::paths::PathLedger;
+use recovery_ledger::spaces::{PacketSpace, SentPacket};
+use recovery_pacing::pacing::Pacer;
+use recovery_rtt::rtt::RttEstimator;
+use std::marker::Model;
+use std::net::SocketAddr;
+use thiserror::Error;
+
+pub use recovery_ledger::paths::{InFlight, LedgerError};
+
+/// A total would pass `u64::MAX` bytes. It stays as it was.
+#[derive(Clone, Copy, Debug, PartialEq, Eq, Error)]
+#[error("the total passes 2^64 - 1 bytes")]
+pub struct TotalOverflow;
+
+/// What is kept for one path, with a congestion controller `C`.
+///
+/// Contracts see it as its ledger and its state; the MTU and the controller's window are above zero.
+#[derive(Drop)]
+pub struct PathData<C: Controller> {
+    /// The address of the peer.
+    pub remote: SocketAddr,
+    /// The estimate of the round-trip time (RFC 9002, 5).
+    pub rtt: RttEstimator,
+    /// The congestion controller (RFC 9002, 7).
+    pub congestion: C,
+    /// The pacer (RFC 9002, 7.7).
+    pub pacing: Pacer,
+    /// Whether the peer was seen to receive at this address (RFC 9000, 8).
+    pub validated: bool,
+    /// The bytes of all datagrams transmitted on the path.
+    pub total_sent: u64,
+    /// The bytes of all datagrams that came in on the path.
+    pub total_recvd: u64,
+    mtu: u16,
+    ledger: PathLedger,
+}
+
+impl<C: Controller> Model for PathData<C> {
+    ghost use Rattle.std.specs.Prelude.{◌<◌};
+    ghost use Rattle.recovery_paths.specs.PathStates.{Path};
+
+    ghost Value = { Path C.Content };
+
+    ghost view = { λ path. record {
+      ledger = path.ledger;
+      state = record {
+        remote = path.remote;
+        validated = path.validated;
+        received = path.total_recvd;
+        sent = path.total_sent;
+        mtu = path.mtu;
+        rtt = path.rtt;
+        controller = C.content path.congestion;
+        pacer = path.pacing;
+      };
+    } };
+
+    ghost invariant = { λ path. (0 < path.mtu) × C.is_sound (C.content path.congestion) };
+}
+
+impl<C: Controller + Drop> PathData<C> {
+    /// A path on which nothing was sent yet, to an address that is not validated. Its controller is built and its pacer is
+    /// full, for the initial MTU and RTT of the settings.
+    pub fn new<F: ControllerFactory<Controller = C>>(
+        remote: SocketAddr,
+        generation: u64,
+        now: Instant,
+        config: &TransportConfig<F>,
+    ) -> Self
+        ensures ledger { result.ledger ≡ fresh_ledger generation }
+        ensures state { result.state ≡ state_made C.words (record {
+          remote = remote;
+          validated = false;
+          mtu = initial_mtu_of config.now;
+          rtt = config.now.initial_rtt;
+          controller = F.built config.now.congestion_controller_factory now (initial_mtu_of config.now);
+          now = now;
+        }) }
+    {
+        let mtu = config.get_initial_mtu();
+        let congestion = config.congestion_controller_factory.build(now, mtu);
+        PathData {
+            remote,
+            rtt: RttEstimator::new(config.initial_rtt),
+            pacing: Pacer::new(config.initial_rtt, congestion.initial_window(), mtu, now),
+            congestion,
+            validated: false,
+            total_sent: 0,
+            total_recvd: 0,
+            mtu,
+            ledger: PathLedger::new(generation),
+        }
+    }
+
+    /// Which of the connection's paths this is, counted from 0.
+    pub fn generation(&self) -> u64
+        ensures { result ≡ generation_of self.now.ledger }
+    {
+        self.ledger.generation()
+    }
+
+    /// What is in flight on the path (RFC 9002, B.2).
+    pub fn in_flight(&self) -> InFlight
+        ensures { result ≡ counters_of self.now.ledger }
+    {
+        self.ledger.in_flight()
+    }
+
+    /// The bytes of a datagram that the path carries, above zero.
+    pub fn current_mtu(&self) -> u16
+        ensures value { result ≡ self.now.state.mtu }
+        ensures positive { 0 < result }
+    {
+        self.mtu
+    }
+
+    /// Whether so many bytes may not be sent, since the address is not validated and they would come to more than three
+    /// times the bytes that came from it (RFC 9000, 8.1). Exact whatever the totals are.
+    pub fn anti_amplification_blocked(&self, bytes_to_send: u64) -> bool
+        ensures { result ≡ is_blocked self.now.state bytes_to_send }
+    {
+        let sent = u128::from(self.total_sent) + u128::from(bytes_to_send);
+        !self.validated && 3 * u128::from(self.total_recvd) < sent
+    }
+
+    /// Tracks a packet of this path in a space, and counts it. A packet that the space forgets for it is handed back with
+    /// its number, and is no longer counted where it is one of this path's. `Overflow` is tested before anything is
+    /// forgotten. Cost: logarithmic in the packets tracked.
+    pub fn sent(
+        &mut self,
+        number: u64,
+        packet: SentPacket,
+        space: &mut PacketSpace,
+    ) -> Result<Option<(u64, SentPacket)>, LedgerError>
+        requires above { AreBelow (tracking_of space.old).packets number }
+        requires above_last { IsAboveLast (tracking_of space.old).last_eliciting number }
+        requires own { packet.path_generation ≡ generation_of self.old.ledger }
+        requires counted { ForSome (forgotten_entry packet (tracking_of space.old)) (λ entry.
+            entry.1.path_generation ≡ generation_of self.old.ledger → IsCounted (counters_of self.old.ledger) entry.1) }
+        ensures space { OnOk result
+            (space.new ≡ with_tracking (after_sending number packet (tracking_of space.old)) space.old) }
+        ensures path { IfOk result (λ gone.
+            self.new ≡ record self.old { ledger = path_after_sending self.old.ledger packet gone }) }
+        ensures forgotten { IfOk result (λ gone. gone ≡ forgotten_entry packet (tracking_of space.old)) }
+        ensures overflow { IsErrOf result LedgerError.Overflow ↔ Overflows (counters_of self.old.ledger) packet }
+        ensures err_path { OnErr result (self.new ≡ self.old) }
+        ensures err_space { OnErr result (space.new ≡ space.old) }
+    {
+        self.ledger.sent(number, packet, space)
+    }
+
+    /// Counts a packet no more: false, and nothing, for a packet of another path.
+    pub fn remove_in_flight(&mut self, packet: &SentPacket) -> bool
+        requires { packet.now.path_generation ≡ generation_of self.old.ledger
+            → IsCounted (counters_of self.old.ledger) packet.now }
+        ensures own { Decides result (packet.now.path_generation ≡ generation_of self.old.ledger) }
+        ensures after { self.new ≡ record self.old { ledger = after_leaving self.old.ledger packet.now } }
+    {
+        self.ledger.remove_in_flight(packet)
+    }
+
+    /// Takes every packet of a space out, and counts those of this path no more. Cost: linear in the packets that the space
+    /// tracks.
+    pub fn forget_all(&mut self, space: &mut PacketSpace)
+        requires { IsCountedIn (counters_of self.old.ledger) (generation_of self.old.ledger) (packets_of space.old) }
+        ensures space { space.new ≡ space_empties space.old }
+        ensures generation { generation_of self.new.ledger ≡ generation_of self.old.ledger }
+        ensures counters { SumsLeave (counters_of self.old.ledger) (generation_of self.old.ledger)
+            (packets_of space.old) (counters_of self.new.ledger) }
+        ensures state { self.new.state ≡ self.old.state }
+    {
+        self.ledger.forget_all(space);
+    }
+
+    /// A datagram came in on the path, of so many bytes.
+    pub fn receive_datagram(&mut self, bytes: u64) -> Result<(), TotalOverflow>
+        ensures ok { OnOk result (self.new ≡ record self.old { state = after_receiving bytes self.old.state }) }
+        ensures overflow { OnErr result (2 ^ 64 ≤ self.old.state.received + bytes) }
+        ensures fits { OnOk result (self.old.state.received + bytes < 2 ^ 64) }
+        ensures err { OnErr result (self.new ≡ self.old) }
+    {
+        let Some(total) = self.total_recvd.checked_add(bytes) else {
+            return Err(TotalOverflow);
+        };
+        self.total_recvd = total;
+        Ok(())
+    }
+
+    /// The peer was seen to receive at this address (RFC 9000, 8.2).
+    pub fn validate(&mut self)
+        ensures { self.new ≡ record self.old { state = after_validation self.old.state } }
+    {
+        self.validated = true;
+    }
+
+    /// An ACK gave a sample of the round-trip time, and how long the peer says that it delayed it (RFC 9002, 5).
+    pub fn sample(&mut self, ack_delay: Duration, rtt: Duration)
+        ensures { self.new ≡ record self.old { state = after_sample ack_delay rtt self.old.state } }
+    {
+        self.rtt.update(ack_delay, rtt);
+    }
+
+    /// The controller is told that a packet of so many bytes went out, under this number.
+    pub fn on_sent(&mut self, now: Instant, bytes: u64, number: u64)
+        ensures { self.new ≡ record self.old { state = after_telling C.words (sends now bytes number) self.old.state } }
+    {
+        self.congestion.on_sent(now, bytes, number);
+    }
+
+    /// The controller is told that a packet was acknowledged, with the path's RTT.
+    pub fn on_ack(&mut self, now: Instant, sent: Instant, bytes: u64, app_limited: bool)
+        ensures { self.new ≡ record self.old {
+            state = after_telling C.words (acks now sent bytes app_limited self.old.state.rtt) self.old.state } }
+    {
+        self.congestion
+            .on_ack(now, sent, bytes, app_limited, &self.rtt);
+    }
+
+    /// The controller is told that an ACK ends, with the bytes still in flight on the path.
+    pub fn on_end_acks(&mut self, now: Instant, app_limited: bool, largest: Option<u64>)
+        ensures { self.new ≡ record self.old { state = after_telling C.words
+            (ends_acks now (counters_of self.old.ledger).bytes app_limited largest) self.old.state } }
+    {
+        self.congestion
+            .on_end_acks(now, self.ledger.in_flight().bytes, app_limited, largest);
+    }
+
+    /// The controller is told of packets that were lost or marked, the last of them sent at `sent`.
+    pub fn on_congestion_event(
+        &mut self,
+        now: Instant,
+        sent: Instant,
+        is_persistent: bool,
+        lost_bytes: u64,
+    )
+        ensures { self.new ≡ record self.old { state = after_telling C.words
+            (congests now sent is_persistent lost_bytes) self.old.state } }
+    {
+        self.congestion
+            .on_congestion_event(now, sent, is_persistent, lost_bytes);
+    }
+
+    /// When to ask the pacer again for so many bytes, or `None` where they may be sent now: it is asked with the path's RTT,
+    /// MTU and window (RFC 9002, 7.7).
+    pub fn delay(&mut self, now: Instant, bytes_to_send: u64) -> Option<Instant>
+        ensures answer { result ≡ path_delay C.words now bytes_to_send self.old.state }
+        ensures asked { self.new ≡ record self.old { state = after_asking C.words now bytes_to_send self.old.state } }
+    {
+        let window = self.congestion.window();
+        self.pacing
+            .delay(self.rtt.get(), bytes_to_send, self.mtu, window, now)
+    }
+
+    /// Whether the total sent has room for so many bytes more.
+    pub fn has_room(&self, bytes: u16) -> bool
+        ensures { Decides result (self.now.state.sent + bytes < 2 ^ 64) }
+    {
+        self.total_sent.checked_add(u64::from(bytes)).is_some()
+    }
+
+    /// A datagram of so many bytes is transmitted: the total has them, and the pacer takes its tokens off.
+    pub fn transmit(&mut self, bytes: u16)
+        requires { self.old.state.sent + bytes < 2 ^ 64 }
+        ensures { self.new ≡ record self.old { state = after_transmitting bytes self.old.state } }
+    {
+        self.total_sent += u64::from(bytes);
+        self.pacing.on_transmit(bytes);
+    }
+}
