@@ -1,18 +1,21 @@
 -- What each event is to each part. A part that does not name an event is left as it was by it.
-use Rattle.std.specs.Prelude.{true, [], ◌∷◌, length, Option, None, Some, Ok, Err, if◌then◌else◌}
+use Rattle.std.specs.Prelude.{ℕ, Bool, true, false, ◌&&◌, ◌==◌, [], ◌∷◌, length, Option, None, Some, Ok, Err, if◌then◌else◌}
 use Rattle.recovery_base.specs.declared.below.SpaceId.{SpaceId}
 use Rattle.recovery_base.specs.declared.below.SpaceId.TheVariants.{Data}
 use Rattle.quic_recovery.specs.declared.event.Event.{Event}
-use Rattle.quic_recovery.specs.declared.event.Event.TheVariants.{Received, Send, Acked, Lost, NewId, NextId, InitialId, IssueIds, IdTimeout, PeerRetired, AckFrequencyIn, AcksSent, AckDelayTimeout, SetTimer, StopTimer, DiscardSpace}
+use Rattle.quic_recovery.specs.declared.event.Event.TheVariants.{Received, Send, Acked, Lost, NewId, NextId, InitialId, IssueIds, IdTimeout, PeerRetired, AckFrequencyIn, AcksSent, AckDelayTimeout, SetTimer, StopTimer, DiscardSpace, DatagramIn, Validated, Sample, Transmit, PacerCheck, Congestion, EndAcks}
 use Rattle.quic_recovery.specs.declared.event.Answer.{Answer}
-use Rattle.quic_recovery.specs.declared.event.Answer.TheVariants.{New, Flag}
+use Rattle.quic_recovery.specs.declared.event.Answer.TheVariants.{New, Flag, Transmitted, Delayed}
 use Rattle.quic_recovery.specs.declared.event.Refusal.{Refusal}
 use Rattle.quic_recovery.specs.declared.event.Refusal.TheVariants.{DelayTooSmall}
 use Rattle.quic_recovery.specs.History.{Beginning, History, Reply}
-use Rattle.quic_recovery.specs.Known.{Known, Logs, no_logs, known_by, packet_now}
+use Rattle.quic_recovery.specs.Known.{Known, Logs, no_logs, known_by, packet_now, tracked_known, current_in_flight}
 use Rattle.recovery_ids.specs.LocalLog.{LocalEntry, issues, passes, retires}
 use Rattle.quic_recovery.specs.Logs.{onto}
-use Rattle.recovery_ledger.specs.PathLog.{PathEntry, PathsEntry}
+use Rattle.recovery_congestion.specs.Calls.{ControllerCall, sends as sends_bytes, acks, ends_acks, congests}
+use Rattle.recovery_ledger.specs.declared.spaces.SentPacket.{SentPacket}
+use Rattle.recovery_ledger.specs.Packets.{packet_at}
+use Rattle.recovery_paths.specs.PathLog.{PathEntry, PathsEntry, on_current, receives, is_validated, samples, tells, asks, transmits, passes}
 use Rattle.recovery_ids.specs.RemoteLog.{RemoteEntry, given, used, replaced}
 use Rattle.recovery_acks.specs.RequestLog.{RequestEntry, taken, too_small}
 use Rattle.recovery_base.specs.Spaces.{same_space}
@@ -48,14 +51,47 @@ nothing = record {
 abbrev pub in_space : SpaceId → SpaceEntry → Entries
 in_space space entry = record nothing { spaces = λ other. here space other entry }
 
+-- something that happens on the path in use alone
+abbrev pub on_path : PathEntry → Entries
+on_path entry = record nothing { paths = Some (on_current entry) }
+
+-- ---- what the controller of the path in use is told (RFC 9002, 7)
+
+-- a packet that goes out, under the next number of its space
+abbrev pub sent_call : {K : Type 0} → Known K → SpaceId → ℕ → ℕ → ControllerCall
+sent_call known space now size = sends_bytes now size (known.spaces space).sent.next
+
+abbrev pub is_own : {K : Type 0} → Known K → SentPacket → Bool
+is_own known packet = packet.path_generation == known.paths.current.generation
+
+-- an acknowledged packet, where it was tracked, went out on the path and elicits an ACK
+abbrev pub acked_entry : {K : Type 0} → Known K → ℕ → Bool → Option SentPacket → Option (PathsEntry PathEntry)
+acked_entry known now app_limited None = None
+acked_entry known now app_limited (Some packet) =
+    let rtt = known.paths.current.state.rtt in
+    if is_own known packet && packet.ack_eliciting
+    then Some (on_current (tells (acks now packet.time_sent packet.size app_limited rtt)))
+    else None
+
+-- the end of an ACK, with the bytes in flight on the path
+abbrev pub end_call : {K : Type 0} → Known K → ℕ → Bool → Option ℕ → ControllerCall
+end_call known now app_limited largest = ends_acks now (current_in_flight known).bytes app_limited largest
+
+-- ---- the table: one line an event, or two where its answer says what it was
+
 -- what an event is by its answer, and by what was known before it
-abbrev pub answered : Known → Event → Answer → Entries
+abbrev pub answered : {K : Type 0} → Known K → Event → Answer → Entries
 answered known (Received space now number eliciting) (New arm) =
     in_space space (heard now number eliciting)
 answered known (Received space now number eliciting) answer = in_space space (heard_again number)
 answered known (Send space now size eliciting largest) answer =
-    in_space space (sends (packet_now known now size eliciting largest))
-answered known (Acked space now number app_limited) answer = in_space space (acknowledged number)
+    record (in_space space (sends (packet_now known now size eliciting largest))) {
+      paths = Some (on_current (tells (sent_call known space now size)));
+    }
+answered known (Acked space now number app_limited) answer =
+    record (in_space space (acknowledged number)) {
+      paths = acked_entry known now app_limited (packet_at (tracked_known known space) number);
+    }
 answered known (Lost space number) answer = in_space space (loses number)
 answered known (NewId frame) answer = record nothing { remote_ids = Some (given frame) }
 answered known NextId answer = record nothing { remote_ids = Some used }
@@ -73,6 +109,17 @@ answered known (SetTimer timer time) answer = record nothing { timers = Some (ti
 answered known (StopTimer timer) answer = record nothing { timers = Some (timer, None) }
 answered known (DiscardSpace space) answer =
     record (in_space space emptied) { discarded = Some space }
+answered known (DatagramIn path bytes) answer = on_path (receives bytes)
+answered known (Validated path) answer = on_path is_validated
+answered known (Sample delay rtt) answer = on_path (samples delay rtt)
+answered known (Transmit now bytes true) Transmitted = on_path (passes now bytes)
+answered known (Transmit now bytes true) (Delayed until) = on_path (asks now bytes)
+answered known (Transmit now bytes false) answer = on_path (transmits bytes)
+answered known (PacerCheck now bytes) answer = on_path (asks now bytes)
+answered known (Congestion now sent persistent bytes) answer =
+    on_path (tells (congests now sent persistent bytes))
+answered known (EndAcks now app_limited largest) answer =
+    on_path (tells (end_call known now app_limited largest))
 answered known event answer = nothing
 
 -- a refused event is nothing, but for a request of ACKs whose number is kept
@@ -80,7 +127,7 @@ abbrev pub refused : Event → Refusal → Entries
 refused (AckFrequencyIn frame) DelayTooSmall = record nothing { requests = Some (too_small frame) }
 refused event refusal = nothing
 
-abbrev pub entries_of : Known → Event → Reply → Entries
+abbrev pub entries_of : {K : Type 0} → Known K → Event → Reply → Entries
 entries_of known event (Ok answer) = answered known event answer
 entries_of known event (Err refusal) = refused event refusal
 
@@ -98,7 +145,7 @@ logs_with entries logs = record {
 }
 
 -- the logs of a history: what each event was, by what the logs before it know
-abbrev pub logs_of : Beginning → History → Logs
+abbrev pub logs_of : {F K : Type 0} → Beginning F K → History → Logs
 logs_of beginning [] = no_logs
 logs_of beginning (happened ∷ earlier) =
     let logs = logs_of beginning earlier in

@@ -12,7 +12,9 @@ use Rattle.recovery_ledger.specs.declared.paths.InFlight.{InFlight}
 use Rattle.recovery_ledger.specs.declared.spaces.SentPacket.{SentPacket}
 use Rattle.recovery_ledger.specs.InFlight.{in_flight}
 use Rattle.recovery_ledger.specs.Packets.{Packets}
-use Rattle.recovery_ledger.specs.PathLog.{PathEntry, PathsEntry, PathKnown, OfPaths, paths_known_by}
+use Rattle.recovery_config.specs.Settings.{initial_mtu_of}
+use Rattle.recovery_paths.specs.PathLog.{PathEntry, PathsEntry, PathKnown, OfPaths, paths_known_by}
+use Rattle.recovery_paths.specs.PathStates.{PathMaking}
 use Rattle.recovery_ids.specs.RemoteLog.{RemoteEntry, remote_ids_by}
 use Rattle.recovery_acks.specs.RequestLog.{RequestEntry, last_asked}
 use Rattle.recovery_ledger.specs.SpaceLog.{SpaceEntry}
@@ -29,7 +31,7 @@ pub record SpaceKnown : Type 0 where
   -- its packets
   pub sent : Sent
 
-pub record Known : Type 0 where
+pub record Known (K : Type 0) : Type 0 where
   pub spaces : SpaceId → SpaceKnown
   -- the number of the last ACK_FREQUENCY frame that was taken
   pub last_asked : Option ℕ
@@ -40,18 +42,18 @@ pub record Known : Type 0 where
   -- the moment that a timer is set to
   pub moment_of : Timer → Option ℕ
   -- what is kept for the paths
-  pub paths : OfPaths PathKnown
+  pub paths : OfPaths (PathKnown K)
 
 -- the packets that each space tracks
-abbrev pub tracked_known : Known → SpaceId → Packets
+abbrev pub tracked_known : {K : Type 0} → Known K → SpaceId → Packets
 tracked_known known space = (known.spaces space).sent.tracked
 
 -- a packet as it is sent on the path in use
-abbrev pub packet_now : Known → ℕ → ℕ → Bool → Option ℕ → SentPacket
+abbrev pub packet_now : {K : Type 0} → Known K → ℕ → ℕ → Bool → Option ℕ → SentPacket
 packet_now known = packet_sent known.paths.current.generation
 
 -- what is in flight on the path in use
-abbrev pub current_in_flight : Known → InFlight
+abbrev pub current_in_flight : {K : Type 0} → Known K → InFlight
 current_in_flight known = in_flight known.paths.current.generation (tracked_known known)
 
 -- ---- the logs of all parts
@@ -77,7 +79,7 @@ no_logs = record {
 }
 
 -- what the logs know, in a run that begins so
-abbrev pub first_ids : Beginning → FirstIds
+abbrev pub first_ids : {F K : Type 0} → Beginning F K → FirstIds
 first_ids beginning = record {
   cid_len = beginning.config.cid_len;
   cid_lifetime = beginning.config.cid_lifetime;
@@ -85,7 +87,21 @@ first_ids beginning = record {
   issued = beginning.config.issued;
 }
 
-abbrev pub known_by : Beginning → Logs → Known
+-- the first path, whose controller is built by the factory
+abbrev pub first_path : {F K : Type 0} → Beginning F K → PathMaking K
+first_path beginning =
+    let transport = beginning.config.transport in
+    let mtu = initial_mtu_of transport in
+    record {
+      remote = beginning.config.remote;
+      validated = beginning.config.validated;
+      mtu = mtu;
+      rtt = transport.initial_rtt;
+      controller = beginning.built transport.congestion_controller_factory beginning.start mtu;
+      now = beginning.start;
+    }
+
+abbrev pub known_by : {F K : Type 0} → Beginning F K → Logs → Known K
 known_by beginning logs = record {
   spaces = λ space. record {
     discarded = was_discarded space logs.discarded;
@@ -96,5 +112,5 @@ known_by beginning logs = record {
   remote_ids = remote_ids_by beginning.config.initial_cid logs.remote_ids;
   local_ids = local_ids_by (first_ids beginning) logs.local_ids;
   moment_of = λ kind. last_set kind logs.timers;
-  paths = paths_known_by logs.paths;
+  paths = paths_known_by beginning.words (first_path beginning) logs.paths;
 }

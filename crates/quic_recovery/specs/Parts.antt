@@ -4,14 +4,15 @@ use Rattle.recovery_acks.specs.AckFrequencies.{Frequency}
 use Rattle.recovery_ids.specs.declared.queue.CidQueue.{CidQueue}
 use Rattle.recovery_ids.specs.LocalIds.{LocalIds}
 use Rattle.recovery_ledger.specs.declared.discarded.DiscardedSpaces.{DiscardedSpaces}
-use Rattle.recovery_ledger.specs.declared.paths.PathData.{PathData}
-use Rattle.recovery_ledger.specs.PathLog.{OfPaths}
+use Rattle.recovery_paths.specs.PathLog.{OfPaths}
+use Rattle.recovery_paths.specs.PathStates.{Path}
 use Rattle.recovery_ledger.specs.declared.spaces.PacketSpaces.{PacketSpaces}
 
-pub record Parts : Type 0 where
+-- K is what contracts see of a controller
+pub record Parts (K : Type 0) : Type 0 where
   pub spaces : PacketSpaces
   pub discarded : DiscardedSpaces
-  pub paths : OfPaths PathData
+  pub paths : OfPaths (Path K)
   pub frequency : Frequency
   pub timers : TimerTable
   pub remote_cids : CidQueue

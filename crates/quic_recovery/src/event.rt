@@ -5,7 +5,7 @@ ghost use Rattle.quic_recovery.specs.Refusals.{refusal_number, refusal_name};
 use recovery_base::below::{
     AckFrequency, ConnectionId, IssuedCid, NewConnectionId, ResetToken, SpaceId,
 };
-use recovery_base::time::Instant;
+use recovery_base::time::{Duration, Instant};
 use recovery_base::timer::Timer;
 use std::ops::Range;
 use thiserror::Error;
@@ -133,6 +133,66 @@ pub enum Event {
         /// The path.
         path: PathName,
     },
+    /// An ACK gave a sample of the current path's round-trip time (RFC 9002, 5). Never refused.
+    Sample {
+        /// How long the peer says that it delayed the ACK; zero where that is to be left out.
+        delay: Duration,
+        /// The time from a packet's sending to the ACK that newly acknowledges it.
+        rtt: Duration,
+    },
+    /// A datagram came in on a path (RFC 9000, 8.1). Refused by `NoSuchPath`, then by `Overflow` where the bytes that came
+    /// in on the path would pass `u64::MAX`.
+    DatagramIn {
+        /// The path.
+        path: PathName,
+        /// Its size in bytes.
+        bytes: u64,
+    },
+    /// The peer was seen to receive at the address of a path (RFC 9000, 8). Refused by `NoSuchPath`.
+    Validated {
+        /// The path.
+        path: PathName,
+    },
+    /// A datagram is to be transmitted on the current path. Refused by `Overflow` where the bytes transmitted would pass
+    /// `u64::MAX`. A checked one is `Blocked` by the amplification limit (RFC 9000, 8.1), or else `Delayed` by the pacer
+    /// (RFC 9002, 7.7); neither is counted.
+    Transmit {
+        /// When it is transmitted.
+        now: Instant,
+        /// Its size in bytes.
+        bytes: u16,
+        /// Whether the amplification limit and the pacer are asked.
+        checked: bool,
+    },
+    /// May so many bytes be transmitted on the current path, as far as the pacer goes (RFC 9002, 7.7)? Never refused. The
+    /// question brings the pacer the tokens of the time that passed.
+    PacerCheck {
+        /// When it is asked.
+        now: Instant,
+        /// How many bytes.
+        bytes: u64,
+    },
+    /// Packets of the current path were lost, or marked by ECN (RFC 9002, 7.3). Never refused.
+    Congestion {
+        /// When that was found.
+        now: Instant,
+        /// When the last of them was sent.
+        sent: Instant,
+        /// Whether the congestion is persistent (RFC 9002, 7.6).
+        persistent: bool,
+        /// How many bytes were lost.
+        bytes: u64,
+    },
+    /// All packets that one ACK newly acknowledges were told: the controller of the current path learns what is still in
+    /// flight. Never refused.
+    EndAcks {
+        /// When the ACK came in.
+        now: Instant,
+        /// Whether the sender had too little to send to fill its window (RFC 9002, 7.8).
+        app_limited: bool,
+        /// The largest number that was acknowledged, if any.
+        largest: Option<u64>,
+    },
 }
 
 /// What an event that is not refused is answered.
@@ -176,6 +236,15 @@ pub enum Answer {
         /// How many of the packets elicit an ACK.
         ack_eliciting: u64,
     },
+    /// The datagram is transmitted.
+    Transmitted,
+    /// The datagram is not transmitted: the address of the path is not validated, and it would get more than three times
+    /// the bytes that came from it (RFC 9000, 8.1).
+    Blocked,
+    /// The bytes are not to be transmitted yet: the pacer is to be asked again at this moment (RFC 9002, 7.7).
+    Delayed(Instant),
+    /// The bytes may be transmitted now, as far as the pacer goes.
+    Ready,
     /// The event has no other answer.
     Done,
 }

@@ -3,3 +3,7 @@
 
 pub mod acks;
 pub mod cids;
+pub mod config;
+pub mod congestion;
+pub mod pacing;
+pub mod rtt;

@@ -1,9 +1,11 @@
 -- What is kept for a network path (RFC 9000, 8 and 9; RFC 9002, 5 to 7).
-use Rattle.std.specs.Prelude.{◌≡◌, ℕ, ◌+◌, ◌*◌, ◌<◌, ◌&&◌, not, nat_lt, Bool, false, true, Option}
+use Rattle.std.specs.Prelude.{ℕ, ◌+◌, ◌*◌, ◌&&◌, ◌==◌, not, nat_lt, Bool, true, Option, if◌then◌else◌}
 use Rattle.std.specs.declared.net.socket_addr.SocketAddr.{SocketAddr}
-use Rattle.recovery_congestion.specs.Calls.{ControllerCall, told}
+use Rattle.recovery_congestion.specs.Calls.{ControllerCall, acks, told}
 use Rattle.recovery_congestion.specs.Controllers.{ControllerWords}
 use Rattle.recovery_ledger.specs.declared.paths.PathLedger.{PathLedger}
+use Rattle.recovery_ledger.specs.declared.spaces.SentPacket.{SentPacket}
+use Rattle.recovery_ledger.specs.Paths.{generation_of, after_leaving}
 use Rattle.recovery_pacing.specs.Pacing.{Bucket, PacerCall, bucket_made, paced, delay_of, less_tokens}
 use Rattle.recovery_rtt.specs.Rtt.{Rtt, rtt_made, rtt_updated, rtt_get}
 
@@ -77,6 +79,19 @@ module _ {K : Type 0} (words : ControllerWords K) where
   -- the controller is told of something (RFC 9002, 7)
   abbrev pub after_telling : ControllerCall → PathState K → PathState K
   after_telling call path = record path { controller = told words call path.controller }
+
+  -- an acknowledged packet of the path that elicits an ACK is told
+  abbrev pub after_acked : ℕ → Bool → SentPacket → Path K → PathState K
+  after_acked now app_limited packet path =
+      let call = acks now packet.time_sent packet.size app_limited path.state.rtt in
+      if packet.path_generation == generation_of path.ledger && packet.ack_eliciting
+      then after_telling call path.state else path.state
+
+  abbrev pub path_acked : ℕ → Bool → SentPacket → Path K → Path K
+  path_acked now app_limited packet path = record {
+    ledger = after_leaving path.ledger packet;
+    state = after_acked now app_limited packet path;
+  }
 
   -- ---- pacing (RFC 9002, 7.7)
 

@@ -2,14 +2,14 @@
 //! is in flight on it (RFC 9000, 8 and 9; RFC 9002).
 ghost use Rattle.std.specs.Prelude.{◌≡◌, Decides, ◌↔◌, ◌<◌, ◌+◌, ◌^◌, ◌≤◌, true, OnOk, OnErr, IfOk, IsErrOf};
 ghost use Rattle.std.specs.Option.{ForSome};
-ghost use Rattle.recovery_congestion.specs.Calls.TheVariants.{sends, acks, ends_acks, congests};
+ghost use Rattle.recovery_congestion.specs.Calls.{sends, ends_acks, congests};
 ghost use Rattle.recovery_config.specs.Settings.{initial_mtu_of};
 ghost use Rattle.recovery_ledger.specs.InFlight.{IsCounted, IsCountedIn, SumsLeave, Overflows};
 ghost use Rattle.recovery_ledger.specs.Packets.{AreBelow, IsAboveLast, forgotten_entry, after_sending};
 ghost use Rattle.recovery_ledger.specs.Paths.{generation_of, counters_of, fresh_ledger, after_leaving, path_after_sending};
 ghost use Rattle.recovery_ledger.specs.Spaces.{tracking_of, with_tracking, packets_of, space_empties};
 ghost use Rattle.recovery_paths.specs.PathStates.{Path, is_blocked, after_receiving, after_validation, after_sample, after_transmitting};
-ghost use Rattle.recovery_paths.specs.PathStates.{state_made, after_telling, after_asking, path_delay};
+ghost use Rattle.recovery_paths.specs.PathStates.{state_made, after_telling, path_acked, after_asking, path_delay};
 
 use recovery_base::time::{Duration, Instant};
 use recovery_config::config::TransportConfig;
@@ -224,13 +224,18 @@ impl<C: Controller + Drop> PathData<C> {
         self.congestion.on_sent(now, bytes, number);
     }
 
-    /// The controller is told that a packet was acknowledged, with the path's RTT.
-    pub fn on_ack(&mut self, now: Instant, sent: Instant, bytes: u64, app_limited: bool)
-        ensures { self.new ≡ record self.old {
-            state = after_telling C.words (acks now sent bytes app_limited self.old.state.rtt) self.old.state } }
+    /// A packet was acknowledged: it is counted no more, where it is one of this path's, and the controller is told of it, where
+    /// it elicits an ACK too.
+    pub fn on_packet_acked(&mut self, now: Instant, packet: &SentPacket, app_limited: bool)
+        requires { packet.now.path_generation ≡ generation_of self.old.ledger
+            → IsCounted (counters_of self.old.ledger) packet.now }
+        ensures { self.new ≡ path_acked C.words now app_limited packet.now self.old }
     {
-        self.congestion
-            .on_ack(now, sent, bytes, app_limited, &self.rtt);
+        if self.remove_in_flight(packet) && packet.ack_eliciting {
+            let bytes = u64::from(packet.size);
+            self.congestion
+                .on_ack(now, packet.time_sent, bytes, app_limited, &self.rtt);
+        }
     }
 
     /// The controller is told that an ACK ends, with the bytes still in flight on the path.

@@ -3,8 +3,13 @@
 use crate::driver::Recovery;
 use crate::event::{Answer, Refusal};
 use recovery_base::below::{AckFrequency, SpaceId};
+use recovery_congestion::congestion::ControllerFactory;
 
-impl Recovery {
+impl<F> Recovery<F>
+where
+    F: ControllerFactory + Drop,
+    F::Controller: Drop,
+{
     ghost use Rattle.quic_recovery.specs.declared.event.Event.TheVariants.{AckFrequencyIn, AcksSent, AckDelayTimeout};
     ghost use Rattle.quic_recovery.specs.State.{Does};
 

@@ -4,15 +4,20 @@ ghost use Rattle.recovery_ledger.specs.Packets.{entry_number, IsTooLarge};
 ghost use Rattle.quic_recovery.specs.Replies.{reply_to};
 
 use crate::driver::Recovery;
-use crate::event::{Answer, PathName, Refusal};
+use crate::event::{Answer, Refusal};
 use recovery_base::below::SpaceId;
 use recovery_base::time::Instant;
-use recovery_ledger::paths::LedgerError;
+use recovery_congestion::congestion::ControllerFactory;
 use recovery_ledger::spaces::{NUMBER_LIMIT, Receipt, ReceiveError, SentPacket};
+use recovery_paths::paths::LedgerError;
 
-impl Recovery {
-    ghost use Rattle.quic_recovery.specs.declared.event.Event.TheVariants.{Received, Send, Acked, Lost, DiscardSpace, InFlight};
-    ghost use Rattle.quic_recovery.specs.State.{Does, Tells};
+impl<F> Recovery<F>
+where
+    F: ControllerFactory + Drop,
+    F::Controller: Drop,
+{
+    ghost use Rattle.quic_recovery.specs.declared.event.Event.TheVariants.{Received, Send, Acked, Lost, DiscardSpace};
+    ghost use Rattle.quic_recovery.specs.State.{Does};
 
     /// A packet comes in (RFC 9000, 12.3).
     pub(super) fn received(
@@ -65,6 +70,7 @@ impl Recovery {
             Err(LedgerError::Overflow) => return Err(Refusal::Overflow),
         };
         here.on_sent(ack_eliciting, now);
+        self.current.on_sent(now, u64::from(size), number);
         Ok(Answer::Sent {
             number,
             forgotten: number_of(&forgotten),
@@ -89,7 +95,7 @@ impl Recovery {
             return Err(Refusal::NotTracked);
         };
         here.on_acked(number, &packet);
-        self.current.remove_in_flight(&packet);
+        self.current.on_packet_acked(now, &packet, app_limited);
         Ok(Answer::Acked { probe: false })
     }
 
@@ -117,22 +123,6 @@ impl Recovery {
         self.current.forget_all(&mut self.spaces[space]);
         self.discarded.insert(space);
         Ok(Answer::Done)
-    }
-
-    /// What is in flight on a path? (RFC 9002, B.2)
-    pub(super) fn in_flight(&self, path: PathName) -> Result<Answer, Refusal>
-        ensures { Tells (InFlight path) self.now result }
-    {
-        match path {
-            PathName::Current => {
-                let counters = self.current.in_flight();
-                Ok(Answer::InFlight {
-                    bytes: counters.bytes,
-                    ack_eliciting: counters.ack_eliciting,
-                })
-            }
-            PathName::Previous => Err(Refusal::NoSuchPath),
-        }
     }
 }
 

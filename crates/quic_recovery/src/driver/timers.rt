@@ -4,8 +4,13 @@ use crate::driver::Recovery;
 use crate::event::{Answer, Refusal};
 use recovery_base::time::Instant;
 use recovery_base::timer::Timer;
+use recovery_congestion::congestion::ControllerFactory;
 
-impl Recovery {
+impl<F> Recovery<F>
+where
+    F: ControllerFactory + Drop,
+    F::Controller: Drop,
+{
     ghost use Rattle.quic_recovery.specs.declared.event.Event.TheVariants.{SetTimer, StopTimer, NextTimeout};
     ghost use Rattle.quic_recovery.specs.State.{Does, Tells};
 
