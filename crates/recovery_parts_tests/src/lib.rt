@@ -7,4 +7,10 @@ mod acks;
 #[cfg(test)]
 mod base;
 #[cfg(test)]
+mod config;
+#[cfg(test)]
+mod congestion;
+#[cfg(test)]
 mod ids;
+#[cfg(test)]
+mod rtt;
