@@ -50,7 +50,7 @@ impl Mtu {
 /// Settings of a connection's paths, with a factory `F` of their congestion controllers.
 ///
 /// Each setting has a setter of its name. MTUs are above zero, whatever is set.
-#[derive(Clone, Copy)]
+#[derive(Drop)]
 pub struct TransportConfig<F> {
     /// The RTT that a path counts with before its first sample. Default 333 ms (RFC 9002, 6.2.2).
     pub initial_rtt: Duration,

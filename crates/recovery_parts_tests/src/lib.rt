@@ -7,6 +7,12 @@ mod acks;
 #[cfg(test)]
 mod base;
 #[cfg(test)]
+mod config;
+#[cfg(test)]
+mod congestion;
+#[cfg(test)]
 mod ids;
 #[cfg(test)]
 mod pacing;
+#[cfg(test)]
+mod rtt;

@@ -1,7 +1,7 @@
 //! NewReno (RFC 9002, 7 and appendix B).
 ghost use Rattle.std.specs.Prelude.{◌≡◌, ◌<◌, ◌≤◌, Ok, refl};
 ghost use Rattle.recovery_congestion.specs.RenoSettings.{default_reno};
-ghost use Rattle.recovery_congestion.specs.NewReno.{reno_made, reno_words, reno_acked, reno_congested, reno_with_mtu, reno_metrics, reduced_window, IsRenoSound, AvoidsBelowMost, RaisesArea};
+ghost use Rattle.recovery_congestion.specs.NewReno.{reno_made, reno_words, reno_acked, reno_congested, reno_with_mtu, reno_metrics, minimum_window, reduced_window, IsRenoSound, AvoidsBelowMost, RaisesArea};
 ghost use Rattle.recovery_congestion.specs.RenoLaws.{reno_laws};
 
 use super::{Controller, ControllerFactory, ControllerMetrics};
@@ -103,19 +103,20 @@ impl NewReno {
         ensures value { result ≡ reno_made config now current_mtu }
         ensures sound { 0 < current_mtu → IsRenoSound result }
     {
+        let window = config.initial_window;
         NewReno {
-            window: config.initial_window,
+            config,
+            current_mtu,
+            window,
             ssthresh: u64::MAX,
             recovery_start_time: now,
-            current_mtu,
-            config,
             bytes_acked: 0,
         }
     }
 
     /// The least window (RFC 9002, 7.2).
     fn minimum_window(&self) -> u64
-        ensures { result ≡ 2 * self.now.current_mtu }
+        ensures { result ≡ minimum_window self.now }
     {
         2 * u64::from(self.current_mtu)
     }

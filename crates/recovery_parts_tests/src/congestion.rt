@@ -1,0 +1,235 @@
+//! Congestion controllers, whatever they are. Rows are calls, and the window after each.
+ghost use Rattle.std.specs.Prelude.{◌<◌};
+
+use recovery_base::time::{Duration, Instant};
+use recovery_congestion::congestion::{Controller, ControllerFactory, NewRenoConfig};
+use recovery_halving::HalvingConfig;
+use recovery_rtt::rtt::RttEstimator;
+use std::process::Abort;
+
+/// What a controller is told.
+#[derive(Clone, Copy)]
+enum Call {
+    /// 1200 bytes went out.
+    Sent,
+    /// So many bytes were acknowledged, sent at this moment.
+    Acked(u64, u64),
+    /// The same, while the application limited.
+    AckedLimited(u64, u64),
+    /// An ACK was told whole.
+    EndAcks,
+    /// Packets sent at the second moment were lost at the first.
+    Lost(u64, u64),
+    /// The same, and the congestion is persistent.
+    LostForLong(u64, u64),
+    /// The MTU changed.
+    Mtu(u16),
+}
+
+fn at(nanos: u64) -> Instant {
+    Instant::from_nanos(nanos)
+}
+
+/// Tells a controller. Its window stays above zero, as long as MTUs do.
+fn tell<C: Controller>(controller: &mut C, call: Call) {
+    let rtt = RttEstimator::new(Duration::from_millis(333));
+    match call {
+        Call::Sent => controller.on_sent(at(1), 1200, 7),
+        Call::Acked(bytes, sent) => controller.on_ack(at(9), at(sent), bytes, false, &rtt),
+        Call::AckedLimited(bytes, sent) => controller.on_ack(at(9), at(sent), bytes, true, &rtt),
+        Call::EndAcks => controller.on_end_acks(at(9), 0, false, Some(7)),
+        Call::Lost(now, sent) => controller.on_congestion_event(at(now), at(sent), false, 1200),
+        Call::LostForLong(now, sent) => {
+            controller.on_congestion_event(at(now), at(sent), true, 1200)
+        }
+        Call::Mtu(mtu) => controller.on_mtu_update(mtu),
+    }
+}
+
+/// Asserts that the window of a controller that is made at 0 with an MTU of 1200 is the initial one, and after each row as
+/// it says; that of a clone is the same in the end.
+fn play<F: ControllerFactory>(rt: &impl Abort, factory: F, initial: u64, rows: &[(Call, u64)])
+where
+    F: Drop,
+    F::Controller: Drop,
+{
+    let mut controller = factory.build(at(0), 1200);
+    assert!(rt; controller.initial_window() == initial, "initial");
+    assert!(rt; controller.window() == initial, "first");
+    let mut row = 0u64;
+    for (call, window) in rows {
+        tell(&mut controller, *call);
+        assert!(rt; controller.window() == *window, "row {row}");
+        row = row.saturating_add(1);
+    }
+    let Ok(clone) = controller.try_clone() else {
+        panic!(rt; "NoMemory")
+    };
+    assert!(rt; clone.window() == controller.window(), "clone");
+    assert!(rt;
+        clone.metrics().congestion_window == controller.window(),
+        "metrics"
+    );
+}
+
+/// A NewReno of this window at first, which a loss multiplies by a fraction.
+fn reno(initial: u64, numerator: u64, denominator: u64) -> NewRenoConfig
+    requires window { 0 < initial }
+    requires fraction { 0 < denominator }
+{
+    let mut config = NewRenoConfig::default();
+    config.initial_window(initial);
+    config.loss_reduction_factor(numerator, denominator);
+    config
+}
+
+#[test]
+fn reno_halves_once_in_a_recovery(rt: HostRuntime) {
+    play(
+        &rt,
+        NewRenoConfig::default(),
+        12000,
+        &[
+            (Call::Sent, 12000),
+            (Call::Acked(1200, 0), 12000),
+            (Call::AckedLimited(1200, 1), 12000),
+            (Call::Acked(1200, 1), 13200),
+            (Call::EndAcks, 13200),
+            (Call::Lost(2, 1), 6600),
+            (Call::Lost(3, 2), 6600),
+            (Call::Acked(1200, 3), 6600),
+            (Call::Acked(1200, 3), 6600),
+            (Call::Acked(1200, 3), 6600),
+            (Call::Acked(1200, 3), 6600),
+            (Call::Acked(1200, 3), 6600),
+            (Call::Acked(1200, 3), 7800),
+        ],
+    );
+}
+
+#[test]
+fn reno_recovery_may_begin_earlier(rt: HostRuntime) {
+    play(
+        &rt,
+        NewRenoConfig::default(),
+        12000,
+        &[
+            (Call::Lost(5, 1), 6000),
+            (Call::Lost(0, 5), 6000),
+            (Call::Lost(0, 6), 3000),
+            (Call::Lost(9, 1), 2400),
+        ],
+    );
+}
+
+#[test]
+fn reno_takes_one_window_off_the_count(rt: HostRuntime) {
+    play(
+        &rt,
+        NewRenoConfig::default(),
+        12000,
+        &[
+            (Call::Lost(2, 1), 6000),
+            (Call::Acked(20000, 3), 7200),
+            (Call::Acked(0, 2), 7200),
+            (Call::Acked(0, 3), 8400),
+            (Call::Acked(0, 3), 8400),
+            // 6800 bytes are still counted.
+            (Call::Lost(4, 3), 4200),
+            (Call::Acked(0, 5), 5400),
+        ],
+    );
+}
+
+#[test]
+fn reno_counts_what_passes_the_threshold(rt: HostRuntime) {
+    play(
+        &rt,
+        NewRenoConfig::default(),
+        12000,
+        &[
+            (Call::LostForLong(2, 1), 2400),
+            (Call::Acked(4000, 3), 6400),
+            (Call::Acked(5999, 3), 6400),
+            (Call::Acked(1, 3), 7600),
+        ],
+    );
+}
+
+#[test]
+fn reno_window_is_two_mtus_at_least(rt: HostRuntime) {
+    play(
+        &rt,
+        reno(1, 0, 1),
+        1,
+        &[
+            (Call::Mtu(1500), 3000),
+            (Call::Mtu(1200), 3000),
+            (Call::Lost(2, 1), 2400),
+            (Call::Mtu(65535), 131070),
+        ],
+    );
+}
+
+#[test]
+fn reno_reduces_exactly(rt: HostRuntime) {
+    play(
+        &rt,
+        reno(16_777_219, 1, 2),
+        16_777_219,
+        &[(Call::Lost(2, 1), 8_388_609)],
+    );
+    play(
+        &rt,
+        reno(u64::MAX, u64::MAX - 1, u64::MAX),
+        u64::MAX,
+        &[(Call::Lost(2, 1), u64::MAX - 1)],
+    );
+}
+
+#[test]
+fn reno_stops_at_the_end(rt: HostRuntime) {
+    play(
+        &rt,
+        reno(u64::MAX - 1, u64::MAX, 1),
+        u64::MAX - 1,
+        &[
+            (Call::Acked(u64::MAX, 1), u64::MAX),
+            (Call::Acked(u64::MAX, 1), u64::MAX),
+            (Call::LostForLong(2, 1), 2400),
+            (Call::Lost(3, 3), u64::MAX),
+            (Call::Acked(u64::MAX, 4), u64::MAX),
+        ],
+    );
+}
+
+#[test]
+fn reno_shows_its_threshold(rt: HostRuntime) {
+    let mut controller = NewRenoConfig::default().build(at(0), 1200);
+    let first = controller.metrics().ssthresh;
+    controller.on_congestion_event(at(2), at(1), true, 0);
+    let metrics = controller.metrics();
+    assert!(rt; first == Some(u64::MAX));
+    assert!(rt; metrics.congestion_window == 2400);
+    assert!(rt; metrics.ssthresh == Some(6000));
+    assert!(rt; metrics.pacing_rate.is_none());
+}
+
+#[test]
+fn halving_halves(rt: HostRuntime) {
+    play(
+        &rt,
+        HalvingConfig::new(12000),
+        12000,
+        &[
+            (Call::Sent, 12000),
+            (Call::Acked(1200, 1), 12000),
+            (Call::EndAcks, 12000),
+            (Call::Lost(2, 0), 6000),
+            (Call::LostForLong(0, 0), 3000),
+            (Call::Lost(0, 0), 2400),
+            (Call::Mtu(9000), 2400),
+            (Call::Lost(0, 0), 18000),
+        ],
+    );
+}

@@ -1,0 +1,117 @@
+//! The RTT. Rows are samples, and what is seen after each.
+use recovery_base::time::Duration;
+use recovery_rtt::rtt::RttEstimator;
+use std::process::Abort;
+
+/// A delay and a sample, and then the best estimate, the conservative one, the least, and the probe timeout; all in
+/// nanoseconds.
+type Row = (u128, u128, [u128; 4]);
+
+/// The longest span.
+const END: u128 = 18_446_744_073_709_551_615_999_999_999;
+
+fn span(nanos: u128) -> Duration {
+    Duration::checked_from_nanos(nanos).unwrap_or(Duration::MAX)
+}
+
+fn seen(rtt: &RttEstimator) -> [u128; 4] {
+    [rtt.get(), rtt.conservative(), rtt.min(), rtt.pto_base()].map(|span| span.as_nanos())
+}
+
+/// Asserts that all is seen as it says, before the first sample and after each row.
+fn play(rt: &impl Abort, initial: u128, first: [u128; 4], rows: &[Row]) {
+    let mut rtt = RttEstimator::new(span(initial));
+    assert!(rt; seen(&rtt) == first, "initial {initial}");
+    let mut row = 0u64;
+    for (delay, sample, wanted) in rows {
+        rtt.update(span(*delay), span(*sample));
+        assert!(rt; seen(&rtt) == *wanted, "row {row}");
+        row = row.saturating_add(1);
+    }
+}
+
+#[test]
+fn moves_by_an_eighth(rt: HostRuntime) {
+    play(
+        &rt,
+        333_000_000,
+        [333_000_000, 333_000_000, 333_000_000, 999_000_000],
+        &[
+            (
+                0,
+                100_000_000,
+                [100_000_000, 100_000_000, 100_000_000, 300_000_000],
+            ),
+            (
+                10_000_000,
+                140_000_000,
+                [103_750_000, 140_000_000, 100_000_000, 283_750_000],
+            ),
+            (
+                50_000_000,
+                120_000_000,
+                [105_781_250, 120_000_000, 100_000_000, 257_031_250],
+            ),
+        ],
+    );
+}
+
+#[test]
+fn first_sample_replaces_a_lesser_initial_rtt(rt: HostRuntime) {
+    play(
+        &rt,
+        333_000_000,
+        [333_000_000, 333_000_000, 333_000_000, 999_000_000],
+        &[
+            (
+                9_000_000,
+                400_000_000,
+                [400_000_000, 400_000_000, 400_000_000, 1_200_000_000],
+            ),
+            // 440 - 50 ms would be less than the least: the whole sample counts.
+            (
+                50_000_000,
+                440_000_000,
+                [405_000_000, 440_000_000, 400_000_000, 1_045_000_000],
+            ),
+        ],
+    );
+}
+
+#[test]
+fn deviation_is_a_millisecond_at_least(rt: HostRuntime) {
+    play(
+        &rt,
+        0,
+        [0, 0, 0, 1_000_000],
+        &[
+            (0, 0, [0, 0, 0, 1_000_000]),
+            (END, 0, [0, 0, 0, 1_000_000]),
+            (5, 5, [0, 5, 0, 1_000_000]),
+            (4, 12, [1, 12, 0, 1_000_001]),
+        ],
+    );
+}
+
+#[test]
+fn stops_at_the_longest_span(rt: HostRuntime) {
+    play(
+        &rt,
+        END,
+        [END, END, END, END],
+        &[
+            (END, END, [END, END, END, END]),
+            (END, END, [END, END, END, END]),
+            (
+                END,
+                0,
+                [
+                    16_140_901_064_495_857_663_999_999_999,
+                    16_140_901_064_495_857_663_999_999_999,
+                    0,
+                    END,
+                ],
+            ),
+        ],
+    );
+}
