@@ -1,9 +1,10 @@
 -- What an event does to one space is a step of all three.
-use Rattle.std.proofs.Common.{◌≡◌, ℕ, ◌<◌, ◌^◌, ap₂, arith, Bool, false, Option, Result, IfOk, OnErr, Ok, Err, refl, sym, ap, subst}
+use Rattle.std.proofs.Common.{◌≡◌, ℕ, ◌<◌, ◌^◌, ap₂, arith, Bool, false, Option, None, Some, Result, IfOk, OnErr, Ok, Err, refl, sym, ap, subst}
 use Rattle.recovery_base.specs.declared.below.SpaceId.{SpaceId}
 use Rattle.recovery_base.specs.declared.below.SpaceId.TheVariants.{Initial, Handshake, Data}
 use Rattle.recovery_ids.specs.CidQueue.{remote_ids}
-use Rattle.recovery_ledger.specs.declared.paths.PathData.{PathData}
+use Rattle.recovery_congestion.specs.Calls.{sends as sends_bytes}
+use Rattle.recovery_congestion.specs.Controllers.{ControllerWords}
 use Rattle.quic_recovery.specs.declared.event.Event.TheVariants.{Received, Send}
 use Rattle.quic_recovery.specs.declared.event.Answer.TheVariants.{Sent}
 use Rattle.recovery_ledger.specs.declared.spaces.ReceiveError.{ReceiveError}
@@ -15,10 +16,11 @@ use Rattle.recovery_ledger.specs.declared.spaces.PacketSpaces.{PacketSpaces}
 use Rattle.recovery_ledger.specs.InFlight.{in_flight, Overflows}
 use Rattle.recovery_ledger.specs.Ledger.{tracked_by}
 use Rattle.quic_recovery.specs.Parts.{Parts}
-use Rattle.recovery_ledger.specs.PathLog.{OfPaths}
+use Rattle.recovery_paths.specs.PathLog.{PathsEntry, PathEntry, PathKnown, OfPaths, PathsStep, paths_known, on_current, tells}
+use Rattle.recovery_paths.specs.PathStates.{Path, after_telling}
 use Rattle.recovery_ledger.specs.Packets.{forgotten_number, IsTooLarge}
 use Rattle.recovery_ledger.specs.Tracked.{packet_sent}
-use Rattle.recovery_ledger.specs.Paths.{generation_of, paths_known}
+use Rattle.recovery_ledger.specs.Paths.{generation_of}
 use Rattle.quic_recovery.specs.Replies.{reply_to}
 use Rattle.recovery_ledger.specs.Spaces.{space_of, with_space, tracking_of, acks_of, counts_of, next_number_of, HasGreatestCome, ReceiveReply, heard_of, SpaceStep, came, space_sends}
 use Rattle.quic_recovery.specs.State.{Changes, Steps}
@@ -51,22 +53,22 @@ with_same_space spaces Data here same = ap (with_space spaces Data) same
 -- ---- frames: what an event that is something to few parts does to all of them
 
 -- an event that is nothing to any part
-pub nothing_changes : (old new : Parts) → new ≡ old → Steps nothing old new
-nothing_changes old new same = record {
-  spaces = λ space. ap (λ (p : Parts). space_of space p.spaces) same;
-  discarded = ap (λ (p : Parts). p.discarded) same;
-  frequency = ap (λ (p : Parts). p.frequency) same;
-  timers = ap (λ (p : Parts). p.timers) same;
-  remote_ids = ap (λ (p : Parts). remote_ids p.remote_cids) same;
-  local_ids = ap (λ (p : Parts). p.local_ids) same;
-  paths = ap (λ (p : Parts). paths_known p.paths) same;
+pub nothing_changes : {K : Type 0} (words : ControllerWords K) (old new : Parts K) → new ≡ old → Steps words nothing old new
+nothing_changes {K} words old new same = record {
+  spaces = λ space. ap (λ (p : Parts K). space_of space p.spaces) same;
+  discarded = ap (λ (p : Parts K). p.discarded) same;
+  frequency = ap (λ (p : Parts K). p.frequency) same;
+  timers = ap (λ (p : Parts K). p.timers) same;
+  remote_ids = ap (λ (p : Parts K). remote_ids p.remote_cids) same;
+  local_ids = ap (λ (p : Parts K). p.local_ids) same;
+  paths = ap (λ (p : Parts K). paths_known p.paths) same;
 }
 
--- an event in one space, which may change what is in flight on a path
-pub space_changes : (old : Parts) (space : SpaceId) (entry : SpaceEntry) (there : PacketSpace) (paths : OfPaths PathData)
-    → SpaceStep entry (space_of space old.spaces) there → paths_known paths ≡ paths_known old.paths
-    → Steps (in_space space entry) old (record old { spaces = with_space old.spaces space there; paths = paths })
-space_changes old space entry there paths step same = record {
+-- an event in one space, which may change what is in flight on a path, and be something to the path
+pub space_changes : {K : Type 0} (words : ControllerWords K) (old : Parts K) (space : SpaceId) (entry : SpaceEntry) (there : PacketSpace) (path : Option (PathsEntry PathEntry)) (paths : OfPaths (Path K))
+    → SpaceStep entry (space_of space old.spaces) there → StepBy (PathsStep words) path (paths_known old.paths) (paths_known paths)
+    → Steps words (record (in_space space entry) { paths = path }) old (record old { spaces = with_space old.spaces space there; paths = paths })
+space_changes words old space entry there path paths step same = record {
   spaces = spaces_step entry old.spaces space there step;
   discarded = refl;
   frequency = refl;
@@ -78,33 +80,33 @@ space_changes old space entry there paths step same = record {
 
 -- ---- a received packet
 
-module _ (old : Parts) (space : SpaceId) (now number : ℕ) (ack_eliciting : Bool) (there : PacketSpace) (live : is_discarded space old.discarded ≡ false) where
+module _ {K : Type 0} (words : ControllerWords K) (old : Parts K) (space : SpaceId) (now number : ℕ) (ack_eliciting : Bool) (there : PacketSpace) (live : is_discarded space old.discarded ≡ false) where
   -- the space is put back as it was
   kept_changes : (error : ReceiveError) → ReceiveReply (heard_of (space_of space old.spaces)) (counts_of (acks_of (space_of space old.spaces))) number ack_eliciting (Err error)
-      → record old { spaces = with_space old.spaces space there } ≡ old → Changes old (Received space now number ack_eliciting) (reply_to (Err error)) (record old { spaces = with_space old.spaces space there })
+      → record old { spaces = with_space old.spaces space there } ≡ old → Changes words old (Received space now number ack_eliciting) (reply_to (Err error)) (record old { spaces = with_space old.spaces space there })
   kept_changes NumberTooLarge large same = record {
     told = (fails _ live, large);
-    steps = nothing_changes old (record old { spaces = with_space old.spaces space there }) same;
+    steps = nothing_changes words old (record old { spaces = with_space old.spaces space there }) same;
     refused = same;
   }
   kept_changes NoMemory grows same = record {
     told = (fails _ live, ((λ most. absurd (omega (arith, grows.0))), grows.1));
-    steps = nothing_changes old (record old { spaces = with_space old.spaces space there }) same;
+    steps = nothing_changes words old (record old { spaces = with_space old.spaces space there }) same;
     refused = same;
   }
 
   pub received_changes : (receipt : Result Receipt ReceiveError)
       → ReceiveReply (heard_of (space_of space old.spaces)) (counts_of (acks_of (space_of space old.spaces))) number ack_eliciting receipt
       → IfOk receipt (λ r. SpaceStep (came now number ack_eliciting r) (space_of space old.spaces) there) → OnErr receipt (there ≡ space_of space old.spaces)
-      → Changes old (Received space now number ack_eliciting) (reply_to receipt) (record old { spaces = with_space old.spaces space there })
+      → Changes words old (Received space now number ack_eliciting) (reply_to receipt) (record old { spaces = with_space old.spaces space there })
   received_changes (Ok (New arm)) is step kept = record {
     told = (fails _ live, ((λ most. absurd (omega (arith, is.0))), is.1));
-    steps = space_changes old space (heard now number ack_eliciting) there old.paths step refl;
+    steps = space_changes words old space (heard now number ack_eliciting) there None old.paths step refl;
     refused = tt;
   }
   received_changes (Ok Duplicate) is step kept = record {
     told = (fails _ live, ((λ most. absurd (omega (arith, is.0))), is.1));
-    steps = space_changes old space (heard_again number) there old.paths step refl;
+    steps = space_changes words old space (heard_again number) there None old.paths step refl;
     refused = tt;
   }
   received_changes (Err error) is step kept =
@@ -119,14 +121,14 @@ received_keeps now number ack_eliciting (Err refused) old new come step kept = (
 
 -- ---- a packet that is sent
 
-module _ (old : Parts) (space : SpaceId) (now size : ℕ) (ack_eliciting : Bool) (largest_acked : Option ℕ) (there : PacketSpace) (paths : OfPaths PathData) where
-  pub sent_changes : (number : ℕ) (forgotten : Option ℕ) → let packet = packet_sent (generation_of old.paths.current) now size ack_eliciting largest_acked in
-      is_discarded space old.discarded ≡ false → (¬ IsTooLarge largest_acked) → next_number_of (space_of space old.spaces) < 2 ^ 62 → (¬ Overflows (in_flight (generation_of old.paths.current) (tracked_by old.spaces)) packet)
+module _ {K : Type 0} (words : ControllerWords K) (old : Parts K) (space : SpaceId) (now size : ℕ) (ack_eliciting : Bool) (largest_acked : Option ℕ) (there : PacketSpace) (paths : OfPaths (Path K)) where
+  pub sent_changes : (number : ℕ) (forgotten : Option ℕ) → let packet = packet_sent (generation_of old.paths.current.ledger) now size ack_eliciting largest_acked in
+      is_discarded space old.discarded ≡ false → (¬ IsTooLarge largest_acked) → next_number_of (space_of space old.spaces) < 2 ^ 62 → (¬ Overflows (in_flight (generation_of old.paths.current.ledger) (tracked_by old.spaces)) packet)
       → number ≡ next_number_of (space_of space old.spaces) → forgotten ≡ forgotten_number (tracking_of (space_of space old.spaces)).last_eliciting packet (tracked_by old.spaces space)
-      → there ≡ space_sends packet (space_of space old.spaces) → paths_known paths ≡ paths_known old.paths
-      → Changes old (Send space now size ack_eliciting largest_acked) (Ok (Sent number forgotten)) (record old { spaces = with_space old.spaces space there; paths = paths })
+      → there ≡ space_sends packet (space_of space old.spaces) → PathsStep words (on_current (tells (sends_bytes now size (next_number_of (space_of space old.spaces))))) (paths_known old.paths) (paths_known paths)
+      → Changes words old (Send space now size ack_eliciting largest_acked) (Ok (Sent number forgotten)) (record old { spaces = with_space old.spaces space there; paths = paths })
   sent_changes number forgotten live small left fits is_next is_forgotten is same = record {
     told = (fails _ live, (small, ((λ most. absurd (omega arith)), (fits, ap₂ (λ n f. Sent n f) is_next is_forgotten))));
-    steps = space_changes old space (sends (packet_sent (generation_of old.paths.current) now size ack_eliciting largest_acked)) there paths is same;
+    steps = space_changes words old space (sends (packet_sent (generation_of old.paths.current.ledger) now size ack_eliciting largest_acked)) there (Some (on_current (tells (sends_bytes now size (next_number_of (space_of space old.spaces)))))) paths is same;
     refused = tt;
   }

@@ -7,7 +7,6 @@ use Rattle.recovery_acks.specs.AckFrequencies.{Frequency}
 use Rattle.recovery_ids.specs.LocalIds.{LocalIds}
 use Rattle.recovery_ids.specs.RemoteIds.{RemoteIds}
 use Rattle.quic_recovery.specs.declared.event.Event.{Event}
-use Rattle.recovery_ledger.specs.declared.paths.PathData.{PathData}
 use Rattle.recovery_ledger.specs.declared.spaces.PacketSpaces.{PacketSpaces}
 use Rattle.recovery_ledger.specs.Acks.{AckCounts, counts_by}
 use Rattle.recovery_ledger.specs.Discarded.{was_discarded, DiscardedStep, DiscardedLeft}
@@ -15,12 +14,14 @@ use Rattle.quic_recovery.specs.Entries.{Entries, logs_with}
 use Rattle.quic_recovery.specs.History.{Beginning, Reply}
 use Rattle.recovery_ledger.specs.InFlight.{in_flight}
 use Rattle.recovery_ledger.specs.Ledger.{tracked_by, IsBalanced}
-use Rattle.quic_recovery.specs.Known.{SpaceKnown, Known, Logs, known_by, tracked_known, first_ids}
+use Rattle.quic_recovery.specs.Known.{SpaceKnown, Known, Logs, known_by, tracked_known, first_ids, first_path}
 use Rattle.recovery_ids.specs.LocalLog.{FirstIds, LocalStep, LocalIdsLeft}
 use Rattle.recovery_ledger.specs.Packets.{Packets}
 use Rattle.quic_recovery.specs.Parts.{Parts}
-use Rattle.recovery_ledger.specs.PathLog.{OfPaths, PathKnown, PathsStep, PathsLeft}
-use Rattle.recovery_ledger.specs.Paths.{generation_of, paths_known}
+use Rattle.recovery_ledger.specs.Paths.{generation_of}
+use Rattle.recovery_paths.specs.PathLog.{OfPaths, PathKnown, PathsStep, PathsLeft, paths_known}
+use Rattle.recovery_paths.specs.PathStates.{Path, PathMaking}
+use Rattle.recovery_paths.proofs.PathLogLaws.{paths_law}
 use Rattle.recovery_ids.specs.RemoteLog.{RemoteStep, RemoteIdsLeft}
 use Rattle.recovery_acks.specs.RequestLog.{RequestStep, FrequencyLeft}
 use Rattle.recovery_ledger.specs.Spaces.{space_of, sent_of, acks_of, counts_of, SpaceStep, SpaceLeft}
@@ -29,7 +30,7 @@ use Rattle.recovery_base.specs.TimerLog.{TimerStep, TimersLeft}
 use Rattle.recovery_ledger.specs.Tracked.{Sent, sent_by}
 use Rattle.recovery_ids.proofs.LocalLogLaws.{local_law}
 use Rattle.quic_recovery.proofs.LogLaws.{left_by}
-use Rattle.quic_recovery.proofs.PartLaws.{paths_law, discarded_law}
+use Rattle.quic_recovery.proofs.PartLaws.{discarded_law}
 use Rattle.recovery_base.proofs.TimerLogLaws.{timer_law}
 use Rattle.recovery_acks.proofs.RequestLogLaws.{request_law}
 use Rattle.recovery_ids.proofs.RemoteLogLaws.{remote_law}
@@ -39,11 +40,11 @@ use Rattle.recovery_ledger.proofs.SpaceLaws.{space_law}
 tracked_same : (start : ℕ) (logs : Logs) (spaces : PacketSpaces) → ((space : SpaceId) → SpaceLeft start (logs.spaces space) (space_of space spaces)) → tracked_by spaces ≡ (λ space. (sent_by (logs.spaces space)).tracked)
 tracked_same start logs spaces left = fun_ext (λ space. ap (λ (s : Sent). s.tracked) (left space).sent)
 
-pub in_flight_law : (beginning : Beginning) (logs : Logs) (spaces : PacketSpaces) (paths : OfPaths PathData) → PathsLeft logs.paths (paths_known paths) → ((space : SpaceId) → SpaceLeft beginning.start (logs.spaces space) (space_of space spaces)) → IsBalanced spaces paths.current → InFlightLeft (known_by beginning logs) paths
-in_flight_law beginning logs spaces paths same left balanced = record {
+pub in_flight_law : {F K : Type 0} (beginning : Beginning F K) (logs : Logs) (spaces : PacketSpaces) (paths : OfPaths (Path K)) → PathsLeft beginning.words (first_path beginning) logs.paths (paths_known paths) → ((space : SpaceId) → SpaceLeft beginning.start (logs.spaces space) (space_of space spaces)) → IsBalanced spaces paths.current.ledger → InFlightLeft (known_by beginning logs) paths
+in_flight_law {F} {K} beginning logs spaces paths same left balanced = record {
   current = balanced.counters
-      ∙ ap (λ (tracked : SpaceId → Packets). in_flight (generation_of paths.current) tracked) (tracked_same beginning.start logs spaces left)
-      ∙ ap (λ (known : OfPaths PathKnown). in_flight known.current.generation (tracked_known (known_by beginning logs))) same;
+      ∙ ap (λ (tracked : SpaceId → Packets). in_flight (generation_of paths.current.ledger) tracked) (tracked_same beginning.start logs spaces left)
+      ∙ ap (λ (known : OfPaths (PathKnown K)). in_flight known.current.generation (tracked_known (known_by beginning logs))) same;
 }
 
 -- ---- what is known
@@ -51,34 +52,34 @@ in_flight_law beginning logs spaces paths same left balanced = record {
 abbrev space_known : Bool → AckCounts → Sent → SpaceKnown
 space_known discarded counts sent = record { discarded = discarded; counts = counts; sent = sent }
 
-pub known_same : (beginning : Beginning) (logs : Logs) (state : Parts) → LeftBy beginning logs state → known_to state ≡ known_by beginning logs
-known_same beginning logs state left =
+pub known_same : {F K : Type 0} (beginning : Beginning F K) (logs : Logs) (state : Parts K) → LeftBy beginning logs state → known_to state ≡ known_by beginning logs
+known_same {F} {K} beginning logs state left =
     ap (λ (s : SpaceId → SpaceKnown). record old { spaces = s }) (fun_ext spaces)
     ∙ ap (λ (a : Option ℕ). record k₁ { last_asked = a }) (ap (λ (f : Frequency). f.last) left.frequency)
     ∙ ap (λ (r : RemoteIds). record k₂ { remote_ids = r }) left.remote_ids.same
     ∙ ap (λ (l : LocalIds). record k₃ { local_ids = l }) left.local_ids.same
     ∙ ap (λ (m : Timer → Option ℕ). record k₄ { moment_of = m }) (fun_ext left.timers)
-    ∙ ap (λ (p : OfPaths PathKnown). record k₅ { paths = p }) left.paths
+    ∙ ap (λ (p : OfPaths (PathKnown K)). record k₅ { paths = p }) left.paths
   where
-    old : Known
+    old : Known K
     old = known_to state
 
-    new : Known
+    new : Known K
     new = known_by beginning logs
 
-    k₁ : Known
+    k₁ : Known K
     k₁ = record old { spaces = new.spaces }
 
-    k₂ : Known
+    k₂ : Known K
     k₂ = record k₁ { last_asked = new.last_asked }
 
-    k₃ : Known
+    k₃ : Known K
     k₃ = record k₂ { remote_ids = new.remote_ids }
 
-    k₄ : Known
+    k₄ : Known K
     k₄ = record k₃ { local_ids = new.local_ids }
 
-    k₅ : Known
+    k₅ : Known K
     k₅ = record k₄ { moment_of = new.moment_of }
 
     spaces : (space : SpaceId) → old.spaces space ≡ new.spaces space
@@ -92,13 +93,13 @@ known_same beginning logs state left =
 -- ---- one event more
 
 -- the steps, by what the logs know
-pub changes_by_logs : (beginning : Beginning) (logs : Logs) (old : Parts) (event : Event) (reply : Reply) (new : Parts) → LeftBy beginning logs old → Changes old event reply new → ChangesBy (known_by beginning logs) old event reply new
-changes_by_logs beginning logs old event reply new left changes =
-    let P : Known → Type 0 = λ known. ChangesBy known old event reply new in
+pub changes_by_logs : {F K : Type 0} (beginning : Beginning F K) (logs : Logs) (old : Parts K) (event : Event) (reply : Reply) (new : Parts K) → LeftBy beginning logs old → Changes beginning.words old event reply new → ChangesBy beginning.words (known_by beginning logs) old event reply new
+changes_by_logs {F} {K} beginning logs old event reply new left changes =
+    let P : Known K → Type 0 = λ known. ChangesBy beginning.words known old event reply new in
     subst P (known_same beginning logs old left) changes
 
-pub left_after : (beginning : Beginning) (logs : Logs) (entries : Entries) (old new : Parts) → LeftBy beginning logs old → Steps entries old new → IsBalanced new.spaces new.paths.current → LeftBy beginning (logs_with entries logs) new
-left_after beginning logs entries old new left steps balanced = record {
+pub left_after : {F K : Type 0} (beginning : Beginning F K) (logs : Logs) (entries : Entries) (old new : Parts K) → LeftBy beginning logs old → Steps beginning.words entries old new → IsBalanced new.spaces new.paths.current.ledger → LeftBy beginning (logs_with entries logs) new
+left_after {F} {K} beginning logs entries old new left steps balanced = record {
   spaces = spaces;
   discarded = left_by DiscardedStep DiscardedLeft discarded_law entries.discarded logs.discarded _ _ left.discarded steps.discarded;
   frequency = left_by RequestStep (FrequencyLeft first) (request_law first) entries.requests logs.requests _ _ left.frequency steps.frequency;
@@ -121,5 +122,8 @@ left_after beginning logs entries old new left steps balanced = record {
     spaces : (space : SpaceId) → SpaceLeft beginning.start ((logs_with entries logs).spaces space) (space_of space new.spaces)
     spaces space = left_by SpaceStep (SpaceLeft beginning.start) (space_law beginning.start) (entries.spaces space) (logs.spaces space) _ _ (left.spaces space) (steps.spaces space)
 
-    paths : PathsLeft (logs_with entries logs).paths (paths_known new.paths)
-    paths = left_by PathsStep PathsLeft paths_law entries.paths logs.paths _ _ left.paths steps.paths
+    path : PathMaking K
+    path = first_path beginning
+
+    paths : PathsLeft beginning.words path (logs_with entries logs).paths (paths_known new.paths)
+    paths = left_by (PathsStep beginning.words) (PathsLeft beginning.words path) (paths_law beginning.words path) entries.paths logs.paths _ _ left.paths steps.paths

@@ -1,13 +1,9 @@
--- Timers, discarded spaces and requests of ACKs, one entry at a time.
+-- Discarded spaces, one entry at a time.
 use Rattle.std.proofs.Common.{List, ◌∷◌, ◌||◌, ap, ◌∙◌}
 use Rattle.recovery_base.specs.declared.below.SpaceId.{SpaceId}
 use Rattle.recovery_ledger.specs.declared.discarded.DiscardedSpaces.{DiscardedSpaces}
 use Rattle.recovery_ledger.specs.Discarded.{DiscardedStep, DiscardedLeft}
-use Rattle.recovery_ledger.specs.PathLog.{PathEntry, PathKnown, PathsEntry, OfPaths, PathsStep, PathsLeft, path_with, paths_with}
 use Rattle.recovery_base.specs.Spaces.{same_space}
 
 pub discarded_law : (entry : SpaceId) (log : List SpaceId) (old new : DiscardedSpaces) → DiscardedLeft log old → DiscardedStep entry old new → DiscardedLeft (entry ∷ log) new
 discarded_law entry log old new left step = λ space. step space ∙ ap (λ b. same_space entry space || b) (left space)
-
-pub paths_law : (entry : PathsEntry PathEntry) (log : List (PathsEntry PathEntry)) (old new : OfPaths PathKnown) → PathsLeft log old → PathsStep entry old new → PathsLeft (entry ∷ log) new
-paths_law entry log old new left step = step ∙ ap (paths_with path_with entry) left

@@ -121,7 +121,7 @@ module _ {K : Type 0} (words : ControllerWords K) where
     mtu = past.making.mtu;
     rtt = rtt_by past.making.rtt past.samples_taken;
     controller = content_by words past.making.controller past.calls;
-    pacer = bucket_by (first_bucket past.making) past.pacing;
+    pacer = bucket_by (first_bucket words past.making) past.pacing;
   }
 
   -- the pacer is asked with the RTT, MTU and window that all this gives

@@ -1,6 +1,6 @@
 //! What is kept for each network path: its round-trip time, its controller and its pacer, what came in and went out, and what
 //! is in flight on it (RFC 9000, 8 and 9; RFC 9002).
-ghost use Rattle.std.specs.Prelude.{◌≡◌, Decides, ◌↔◌, ◌<◌, ◌+◌, ◌^◌, ◌≤◌, true, OnOk, OnErr, IfOk, IsErrOf};
+ghost use Rattle.std.specs.Prelude.{◌≡◌, Decides, ◌↔◌, ◌<◌, ◌+◌, ◌^◌, ◌≤◌, false, true, OnOk, OnErr, IfOk, IsErrOf};
 ghost use Rattle.std.specs.Option.{ForSome};
 ghost use Rattle.recovery_congestion.specs.Calls.{sends, ends_acks, congests};
 ghost use Rattle.recovery_config.specs.Settings.{initial_mtu_of};

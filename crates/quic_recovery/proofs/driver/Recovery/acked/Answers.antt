@@ -1,7 +1,8 @@
 use Rattle.std.proofs.Common.{sym, ap, subst, ◌∙◌}
-use Rattle.recovery_ledger.specs.declared.paths.PathData.{PathData}
+use Rattle.recovery_ledger.specs.declared.paths.PathLedger.{PathLedger}
 use Rattle.recovery_ledger.specs.declared.spaces.PacketSpace.{PacketSpace}
 use Rattle.recovery_ledger.specs.Ledger.{IsBalanced}
+use Rattle.recovery_paths.specs.PathStates.{Path}
 use Rattle.recovery_ledger.specs.Packets.{packet_at, after_taking}
 use Rattle.recovery_ledger.specs.Spaces.{with_space, tracking_of, packets_of, next_number_of, HasGreatestCome, space_takes}
 use Rattle.recovery_ledger.proofs.AckLaws.{acked_greatest}
@@ -9,18 +10,18 @@ use Rattle.recovery_ledger.proofs.AmongLaws.{acknowledging_found}
 use Rattle.recovery_ledger.proofs.LedgerLaws.{packet_counted, balanced_taken}
 use Rattle.quic_recovery.proofs.driver.Recovery.acked.Goals as goal
 
-pub remove_in_flight-requires : goal.remove_in_flight-requires
-remove_in_flight-requires c =
+pub on_packet_acked-requires : goal.on_packet_acked-requires
+on_packet_acked-requires g c =
     let found = ap (λ (s : PacketSpace). packet_at (packets_of s) c.args.number) (sym c.index_mut-here.ensures.value) ∙ sym c.take.ensures.packet ∙ c.in-Some.is in
-    packet_counted c.args.self.now.spaces c.args.self.now.current c.args.self.now.balanced c.args.space c.args.number c.in-Some.packet found
+    packet_counted c.args.self.now.spaces c.args.self.now.current.ledger c.args.self.now.balanced c.args.space c.args.number c.in-Some.packet found
 
 pub on_acked-requires : goal.on_acked-requires
-on_acked-requires c =
+on_acked-requires g c =
     let found = ap (λ (s : PacketSpace). packet_at (packets_of s) c.args.number) (sym c.index_mut-here.ensures.value) ∙ sym c.take.ensures.packet ∙ c.in-Some.is in
     acknowledging_found _ (c.args.self.now.balanced.coherent c.args.space).acknowledging c.args.number c.in-Some.packet found
 
 pub invariant_of-self-2 : goal.invariant_of-self-2
-invariant_of-self-2 c =
+invariant_of-self-2 g c =
     let found = ap (λ (s : PacketSpace). packet_at (packets_of s) c.args.number) (sym c.index_mut-here.ensures.value) ∙ sym c.take.ensures.packet ∙ c.in-Some.is in
     let tracking = ap tracking_of c.on_acked.ensures.others ∙ ap tracking_of c.take.ensures.after ∙ ap (λ (s : PacketSpace). after_taking c.args.number (tracking_of s)) c.index_mut-here.ensures.value in
     let next = ap next_number_of c.on_acked.ensures.others ∙ ap next_number_of c.take.ensures.after ∙ ap next_number_of c.index_mut-here.ensures.value in
@@ -29,8 +30,8 @@ invariant_of-self-2 c =
     subst Q (sym (c.take.ensures.after ∙ ap (space_takes c.args.number) c.index_mut-here.ensures.value)) (c.args.self.now.balanced.coherent c.args.space).received
     in
     let come = acked_greatest c.args.number c.in-Some.packet c.take.new.self c.on_acked.new.self came c.on_acked.ensures.subtracts c.on_acked.ensures.others in
-    let P : PathData → Type 0 = IsBalanced (with_space c.args.self.now.spaces c.args.space c.on_acked.new.self) in
+    let P : PathLedger → Type 0 = IsBalanced (with_space c.args.self.now.spaces c.args.space c.on_acked.new.self) in
     record {
-      balanced = subst P (sym c.remove_in_flight.ensures.after)
-          (balanced_taken c.args.self.now.spaces c.args.self.now.current c.args.self.now.balanced c.args.space c.on_acked.new.self c.args.number c.in-Some.packet found tracking next come);
+      balanced = subst P (sym (ap (λ (p : Path _). p.ledger) c.on_packet_acked.ensures))
+          (balanced_taken c.args.self.now.spaces c.args.self.now.current.ledger c.args.self.now.balanced c.args.space c.on_acked.new.self c.args.number c.in-Some.packet found tracking next come);
     }

@@ -1,19 +1,20 @@
 use Rattle.std.proofs.Common.{sym, ap, subst, ◌∙◌}
-use Rattle.recovery_ledger.specs.declared.paths.PathData.{PathData}
+use Rattle.recovery_ledger.specs.declared.paths.PathLedger.{PathLedger}
 use Rattle.recovery_ledger.specs.declared.spaces.PacketSpace.{PacketSpace}
 use Rattle.recovery_ledger.specs.Ledger.{IsBalanced}
+use Rattle.recovery_paths.specs.PathStates.{Path}
 use Rattle.recovery_ledger.specs.Packets.{packet_at, after_taking}
 use Rattle.recovery_ledger.specs.Spaces.{with_space, tracking_of, packets_of, next_number_of, HasGreatestCome, space_takes}
 use Rattle.recovery_ledger.proofs.LedgerLaws.{packet_counted, balanced_taken}
 use Rattle.quic_recovery.proofs.driver.Recovery.lost.Goals as goal
 
 pub remove_in_flight-requires : goal.remove_in_flight-requires
-remove_in_flight-requires c =
+remove_in_flight-requires g c =
     let found = ap (λ (s : PacketSpace). packet_at (packets_of s) c.args.number) (sym c.index_mut.ensures.value) ∙ sym c.take.ensures.packet ∙ c.in-Some.is in
-    packet_counted c.args.self.now.spaces c.args.self.now.current c.args.self.now.balanced c.args.space c.args.number c.in-Some.packet found
+    packet_counted c.args.self.now.spaces c.args.self.now.current.ledger c.args.self.now.balanced c.args.space c.args.number c.in-Some.packet found
 
 pub invariant_of-self-2 : goal.invariant_of-self-2
-invariant_of-self-2 c =
+invariant_of-self-2 g c =
     let found = ap (λ (s : PacketSpace). packet_at (packets_of s) c.args.number) (sym c.index_mut.ensures.value) ∙ sym c.take.ensures.packet ∙ c.in-Some.is in
     let tracking = ap tracking_of c.take.ensures.after ∙ ap (λ (s : PacketSpace). after_taking c.args.number (tracking_of s)) c.index_mut.ensures.value in
     let next = ap next_number_of c.take.ensures.after ∙ ap next_number_of c.index_mut.ensures.value in
@@ -21,8 +22,8 @@ invariant_of-self-2 c =
     let Q : PacketSpace → Type 0 = HasGreatestCome in
     subst Q (sym (c.take.ensures.after ∙ ap (space_takes c.args.number) c.index_mut.ensures.value)) (c.args.self.now.balanced.coherent c.args.space).received
     in
-    let P : PathData → Type 0 = IsBalanced (with_space c.args.self.now.spaces c.args.space c.take.new.self) in
+    let P : PathLedger → Type 0 = IsBalanced (with_space c.args.self.now.spaces c.args.space c.take.new.self) in
     record {
-      balanced = subst P (sym c.remove_in_flight.ensures.after)
-          (balanced_taken c.args.self.now.spaces c.args.self.now.current c.args.self.now.balanced c.args.space c.take.new.self c.args.number c.in-Some.packet found tracking next come);
+      balanced = subst P (sym (ap (λ (p : Path _). p.ledger) c.remove_in_flight.ensures.after))
+          (balanced_taken c.args.self.now.spaces c.args.self.now.current.ledger c.args.self.now.balanced c.args.space c.take.new.self c.args.number c.in-Some.packet found tracking next come);
     }

@@ -1,17 +1,19 @@
-use Rattle.std.proofs.Common.{rules}
-use Rattle.quic_recovery.specs.History.{Beginning}
+use Rattle.std.proofs.Common.{rules, ap}
+use Rattle.quic_recovery.specs.History.{begins}
 use Rattle.quic_recovery.specs.Known.{first_ids}
+use Rattle.recovery_ledger.specs.Paths.{counters_of}
+use Rattle.recovery_ledger.specs.declared.paths.PathLedger.{PathLedger}
 use Rattle.recovery_ledger.proofs.LedgerLaws.{fresh_balanced}
 use Rattle.recovery_ids.proofs.LocalLogLaws.{local_ids_first}
 use Rattle.recovery_ledger.proofs.SpaceLaws.{fresh_space}
 use Rattle.quic_recovery.proofs.driver.Recovery.new.Goals as goal
 
 pub invariant_of-result : goal.invariant_of-result
-invariant_of-result c = record { balanced = fresh_balanced c.new-spaces.result c.new-current.result c.new-spaces.ensures.packets c.new-spaces.ensures.acks c.new-current.ensures.counters }
+invariant_of-result g c = record { balanced = fresh_balanced c.new-spaces.result _ c.new-spaces.ensures.packets c.new-spaces.ensures.acks (ap counters_of c.new-current.ensures.ledger) }
 
 pub returns : goal.returns
-returns c =
-    let beginning : Beginning = record { config = c.args.config; start = c.args.now } in
+returns g c =
+    let beginning = begins g.F.ControllerFactory.built g.F.Controller.Controller.words c.args.config c.args.now in
     let made = c.new-spaces.ensures in
     let ids = local_ids_first (first_ids beginning) c.in_ok-local_cid_state.local_cid_state c.in_ok-local_cid_state.ensures.ids in
     record {

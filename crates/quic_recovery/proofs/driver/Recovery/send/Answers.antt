@@ -1,7 +1,7 @@
 use Rattle.std.proofs.Common.{◌≡◌, ℕ, ◌+◌, ◌<◌, ◌^◌, Option, Ok, Err, sym, ap, subst, ◌∙◌, arith}
 use Rattle.recovery_ledger.specs.declared.paths.InFlight.{InFlight}
 use Rattle.recovery_ledger.specs.declared.paths.LedgerError.{LedgerError}
-use Rattle.recovery_ledger.specs.declared.paths.PathData.{PathData}
+use Rattle.recovery_ledger.specs.declared.paths.PathLedger.{PathLedger}
 use Rattle.recovery_ledger.specs.declared.spaces.PacketSpace.{PacketSpace}
 use Rattle.recovery_ledger.specs.declared.spaces.SentPacket.{SentPacket}
 use Rattle.recovery_ledger.specs.InFlight.{in_flight, Overflows}
@@ -21,27 +21,27 @@ ok_is_no_err : (forgotten : Option (ℕ × SentPacket)) (error : LedgerError) �
 ok_is_no_err forgotten error e = cc
 
 pub sent-requires-clause-above : goal.sent-requires-clause-above
-sent-requires-clause-above c = λ number packet found.
+sent-requires-clause-above g c = λ number packet found.
     let P : PacketSpace → Type 0 = IsCoherent in
     let numbered : IsCoherent c.index_mut-here.result.now = subst P (sym c.index_mut-here.ensures.value) (c.args.self.now.balanced.coherent c.args.space) in
     let below : number < next_number_of c.index_mut-here.result.now = numbered.packets number packet found in
     omega (arith, below, c.next_packet_number-number.ensures)
 
 pub sent-requires-clause-above_last : goal.sent-requires-clause-above_last
-sent-requires-clause-above_last c = λ m is.
+sent-requires-clause-above_last g c = λ m is.
     let P : PacketSpace → Type 0 = IsCoherent in
     let numbered : IsCoherent c.index_mut-here.result.now = subst P (sym c.index_mut-here.ensures.value) (c.args.self.now.balanced.coherent c.args.space) in
     let below : m < next_number_of c.index_mut-here.result.now = numbered.last m is in
     omega (arith, below, c.next_packet_number-number.ensures)
 
 pub sent-requires-clause-counted : goal.sent-requires-clause-counted
-sent-requires-clause-counted c = λ entry is own.
+sent-requires-clause-counted g c = λ entry is own.
     let packet = packet_sent c.generation.result c.args.now c.args.size c.args.ack_eliciting c.args.largest_acked in
     let there = ap (λ (s : PacketSpace). entry_at (packets_of s) (forgotten_number (tracking_of s).last_eliciting packet (packets_of s))) (sym c.index_mut-here.ensures.value) ∙ is in
-    forgotten_counted c.args.self.now.spaces c.args.self.now.current c.args.self.now.balanced c.args.space packet c.generation.ensures _ entry there own
+    forgotten_counted c.args.self.now.spaces c.args.self.now.current.ledger c.args.self.now.balanced c.args.space packet c.generation.ensures _ entry there own
 
 pub invariant_of-self-2 : goal.invariant_of-self-2
-invariant_of-self-2 c =
+invariant_of-self-2 g c =
     let packet = packet_sent c.generation.result c.args.now c.args.size c.args.ack_eliciting c.args.largest_acked in
     let there = c.index_mut-here.ensures.value in
     let tracking =
@@ -59,21 +59,21 @@ invariant_of-self-2 c =
     in
     let Q : PacketSpace → Type 0 = HasGreatestCome in
     let come : HasGreatestCome c.on_sent.new.self = subst Q (sym is) (c.args.self.now.balanced.coherent c.args.space).received in
-    let P : PathData → Type 0 = IsBalanced (with_space c.args.self.now.spaces c.args.space c.on_sent.new.self) in
+    let P : PathLedger → Type 0 = IsBalanced (with_space c.args.self.now.spaces c.args.space c.on_sent.new.self) in
     record {
       balanced = subst P (sym c.in-Ok.ensures.path)
-          (balanced_sent c.args.self.now.spaces c.args.self.now.current c.args.self.now.balanced c.args.space packet c.generation.ensures (λ large. fails _ (c.if-is_too_large.false) (c.is_too_large.ensures.1 large)) c.on_sent.new.self c.in-Ok.forgotten tracking next come gone);
+          (balanced_sent c.args.self.now.spaces c.args.self.now.current.ledger c.args.self.now.balanced c.args.space packet c.generation.ensures (λ large. fails _ (c.if-is_too_large.false) (c.is_too_large.ensures.1 large)) c.on_sent.new.self c.in-Ok.forgotten tracking next come gone);
     }
 
 pub returns : goal.returns
-returns c =
+returns g c =
     let packet = packet_sent c.generation.result c.args.now c.args.size c.args.ack_eliciting c.args.largest_acked in
     let there = c.index_mut-here.ensures.value in
     let live = sym c.if-contains.ensures in
     let left : next_number_of (space_of c.args.space c.args.self.now.spaces) < 2 ^ 62 = let e = c.next_packet_number-number.ensures ∙ ap next_number_of there in omega (arith, e, c.if-number-ge-NUMBER_LIMIT.false) in
-    let fits = λ (over : Overflows (counters_of c.args.self.now.current) packet). ok_is_no_err _ _ (c.in-Ok.ensures.overflow.1 over) in
+    let fits = λ (over : Overflows (counters_of c.args.self.now.current.ledger) packet). ok_is_no_err _ _ (c.in-Ok.ensures.overflow.1 over) in
     let P : InFlight → Type 0 = λ f. Overflows f packet in
-    let all_fits = λ (over : Overflows (in_flight (generation_of c.args.self.now.current) (tracked_by c.args.self.now.spaces)) packet). fits (subst P (sym c.args.self.now.balanced.counters) over) in
+    let all_fits = λ (over : Overflows (in_flight (generation_of c.args.self.now.current.ledger) (tracked_by c.args.self.now.spaces)) packet). fits (subst P (sym c.args.self.now.balanced.counters) over) in
     let gone =
     c.number_of.ensures ∙ ap entry_number c.in-Ok.ensures.forgotten ∙ entry_number_of (tracking_of c.index_mut-here.result.now).last_eliciting packet (packets_of c.index_mut-here.result.now)
     ∙ ap (λ (s : PacketSpace). forgotten_number (tracking_of s).last_eliciting packet (packets_of s)) there
@@ -87,4 +87,4 @@ returns c =
     in
     sent_changes (parts_of c.args.self.now) c.args.space c.args.now c.args.size c.args.ack_eliciting c.args.largest_acked c.on_sent.new.self (record { current = c.sent.new.self }) c.next_packet_number-number.result c.number_of.result
     live (λ large. fails _ (c.if-is_too_large.false) (c.is_too_large.ensures.1 large)) left all_fits
-    (c.next_packet_number-number.ensures ∙ ap next_number_of there) gone is (ap (λ (g : ℕ). record { current = record { generation = g } }) (ap generation_of c.in-Ok.ensures.path ∙ generation_after_sending c.args.self.now.current packet c.in-Ok.forgotten))
+    (c.next_packet_number-number.ensures ∙ ap next_number_of there) gone is (ap (λ (g : ℕ). record { current = record { generation = g } }) (ap generation_of c.in-Ok.ensures.path ∙ generation_after_sending c.args.self.now.current.ledger packet c.in-Ok.forgotten))
