@@ -22,7 +22,7 @@ row =
     ∷ (Received Data 5 0 true, Ok (answer.New true))
     ∷ []
 
-module _ (beginning : Beginning) where
+module _ {F K : Type 0} (beginning : Beginning F K) where
   idle_is_set : last_set Idle (logs_of beginning row).timers ≡ Some 50
   idle_is_set = refl
 

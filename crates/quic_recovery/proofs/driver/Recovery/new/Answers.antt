@@ -9,7 +9,7 @@ use Rattle.recovery_ledger.proofs.SpaceLaws.{fresh_space}
 use Rattle.quic_recovery.proofs.driver.Recovery.new.Goals as goal
 
 pub invariant_of-result : goal.invariant_of-result
-invariant_of-result g c = record { balanced = fresh_balanced c.new-spaces.result _ c.new-spaces.ensures.packets c.new-spaces.ensures.acks (ap counters_of c.new-current.ensures.ledger) }
+invariant_of-result g c = record { balanced = fresh_balanced c.new-spaces.result _ c.new-spaces.ensures.packets c.new-spaces.ensures.acks (ap counters_of c.first_path-current.ensures.ledger) }
 
 pub returns : goal.returns
 returns g c =

@@ -10,6 +10,9 @@ use Rattle.recovery_ledger.specs.Packets.{entry_at, entry_number, forgotten_numb
 use Rattle.recovery_ledger.specs.Paths.{generation_of, counters_of}
 use Rattle.recovery_ledger.specs.Spaces.{space_of, with_space, tracking_of, with_tracking, packets_of, next_number_of, after_number, after_eliciting, space_sends, HasGreatestCome, IsCoherent}
 use Rattle.recovery_ledger.specs.Tracked.{packet_sent}
+use Rattle.recovery_congestion.specs.Calls.{sends as sends_bytes}
+use Rattle.recovery_paths.specs.PathLog.{OfPaths, PathKnown, path_known}
+use Rattle.recovery_paths.specs.PathStates.{Path, after_telling}
 use Rattle.quic_recovery.specs.State.{parts_of}
 use Rattle.quic_recovery.proofs.DriverLaws.{sent_changes}
 use Rattle.recovery_ledger.proofs.ReceivedLaws.{fails}
@@ -61,12 +64,13 @@ invariant_of-self-2 g c =
     let come : HasGreatestCome c.on_sent.new.self = subst Q (sym is) (c.args.self.now.balanced.coherent c.args.space).received in
     let P : PathLedger → Type 0 = IsBalanced (with_space c.args.self.now.spaces c.args.space c.on_sent.new.self) in
     record {
-      balanced = subst P (sym c.in-Ok.ensures.path)
+      balanced = subst P (sym (ap (λ (p : Path _). p.ledger) c.on_sent-2.ensures ∙ ap (λ (p : Path _). p.ledger) c.in-Ok.ensures.path))
           (balanced_sent c.args.self.now.spaces c.args.self.now.current.ledger c.args.self.now.balanced c.args.space packet c.generation.ensures (λ large. fails _ (c.if-is_too_large.false) (c.is_too_large.ensures.1 large)) c.on_sent.new.self c.in-Ok.forgotten tracking next come gone);
     }
 
 pub returns : goal.returns
 returns g c =
+    let words = g.F.Controller.Controller.words in
     let packet = packet_sent c.generation.result c.args.now c.args.size c.args.ack_eliciting c.args.largest_acked in
     let there = c.index_mut-here.ensures.value in
     let live = sym c.if-contains.ensures in
@@ -85,6 +89,16 @@ returns g c =
     ∙ ap (λ (s : PacketSpace). space_sends packet s) there
     ∙ ap (λ (g : ℕ). space_sends (packet_sent g c.args.now c.args.size c.args.ack_eliciting c.args.largest_acked) (space_of c.args.space c.args.self.now.spaces)) c.generation.ensures
     in
-    sent_changes (parts_of c.args.self.now) c.args.space c.args.now c.args.size c.args.ack_eliciting c.args.largest_acked c.on_sent.new.self (record { current = c.sent.new.self }) c.next_packet_number-number.result c.number_of.result
+    let old = c.args.self.now.current in
+    let path = ap (λ (p : Path _). path_known (record p { state = after_telling words (sends_bytes c.args.now c.args.size c.next_packet_number-number.result) p.state })) c.in-Ok.ensures.path in
+    let generation = generation_after_sending old.ledger packet c.in-Ok.forgotten in
+    let told =
+    ap (λ (p : Path _). let all : OfPaths (PathKnown _) = record { current = path_known p } in all) c.on_sent-2.ensures
+    ∙ ap (λ (n : ℕ). let all : OfPaths (PathKnown _) = record { current = path_known (record c.sent.new.self { state = after_telling words (sends_bytes c.args.now n c.next_packet_number-number.result) c.sent.new.self.state }) } in all) c.from.ensures
+    ∙ ap (λ (k : PathKnown _). let all : OfPaths (PathKnown _) = record { current = k } in all) path
+    ∙ ap (λ (g : ℕ). let all : OfPaths (PathKnown _) = record { current = record { generation = g; state = after_telling words (sends_bytes c.args.now c.args.size c.next_packet_number-number.result) old.state } } in all) generation
+    ∙ ap (λ (n : ℕ). let all : OfPaths (PathKnown _) = record { current = record { generation = generation_of old.ledger; state = after_telling words (sends_bytes c.args.now c.args.size n) old.state } } in all) (c.next_packet_number-number.ensures ∙ ap next_number_of there)
+    in
+    sent_changes words (parts_of c.args.self.now) c.args.space c.args.now c.args.size c.args.ack_eliciting c.args.largest_acked c.on_sent.new.self (record { current = c.on_sent-2.new.self }) c.next_packet_number-number.result c.number_of.result
     live (λ large. fails _ (c.if-is_too_large.false) (c.is_too_large.ensures.1 large)) left all_fits
-    (c.next_packet_number-number.ensures ∙ ap next_number_of there) gone is (ap (λ (g : ℕ). record { current = record { generation = g } }) (ap generation_of c.in-Ok.ensures.path ∙ generation_after_sending c.args.self.now.current.ledger packet c.in-Ok.forgotten))
+    (c.next_packet_number-number.ensures ∙ ap next_number_of there) gone is told
