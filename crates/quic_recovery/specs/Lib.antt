@@ -1,3 +1,4 @@
+pub mod Amplification
 pub mod Entries
 pub mod History
 pub mod IdReplies

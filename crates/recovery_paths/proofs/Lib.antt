@@ -1,1 +1,2 @@
 pub mod PathLogLaws
+pub mod ThreefoldLaws

@@ -1,0 +1,88 @@
+-- Each event keeps the bound on what goes to an address that is not validated.
+use Rattle.std.proofs.Common.{ℕ, ◌≡◌, ◌≤◌, ◌&&◌, Bool, true, false, cond, List, [], ◌∷◌, Option, None, Some, Result, Ok, Err, refl, arith}
+use Rattle.recovery_base.specs.declared.below.SpaceId.{SpaceId}
+use Rattle.recovery_congestion.specs.Controllers.{ControllerWords}
+use Rattle.recovery_ledger.specs.declared.spaces.SentPacket.{SentPacket}
+use Rattle.recovery_ledger.specs.Acks.{Heard}
+use Rattle.recovery_ledger.specs.Packets.{packet_at}
+use Rattle.recovery_paths.specs.PathLog.{PathsEntry, PathEntry, OfPaths, PathPast, pasts_by, known_of, state_of, on_current, tells}
+use Rattle.recovery_paths.specs.PathStates.{PathState, is_blocked, path_delay}
+use Rattle.recovery_paths.specs.Threefold.{IsWithinThreefold}
+use Rattle.recovery_paths.proofs.ThreefoldLaws.{IsAllowedOn, threefold_law}
+use Rattle.quic_recovery.specs.declared.event.Event.{Event}
+use Rattle.quic_recovery.specs.declared.event.Event.TheVariants.{Received, Acked, AckFrequencyIn, Transmit}
+use Rattle.quic_recovery.specs.declared.event.Answer.{Answer}
+use Rattle.quic_recovery.specs.declared.event.Answer.TheVariants.{New, Flag, Transmitted, Delayed, Blocked}
+use Rattle.quic_recovery.specs.declared.event.Refusal.{Refusal}
+use Rattle.quic_recovery.specs.declared.event.Refusal.TheVariants.{DelayTooSmall}
+use Rattle.quic_recovery.specs.Amplification.{pasts_of, KeepsThreefold}
+use Rattle.quic_recovery.specs.Entries.{answered, entries_of, refused, acked_entry, is_own, logs_of}
+use Rattle.quic_recovery.specs.History.{Beginning, History, Reply, ThroughoutFrom, Throughout}
+use Rattle.quic_recovery.specs.Known.{Known, known_by, first_path, tracked_known}
+use Rattle.quic_recovery.specs.Logs.{onto}
+use Rattle.quic_recovery.specs.Told.{Told, ToldBy, delayed_or}
+
+blocked_is_not_sent : {A : Type 0} → Transmitted ≡ Blocked → A
+blocked_is_not_sent e = cc
+
+-- what was transmitted was not blocked
+not_blocked : (blocked : Bool) (otherwise : Answer) → Transmitted ≡ cond blocked Blocked otherwise → blocked ≡ false
+not_blocked true otherwise is = blocked_is_not_sent is
+not_blocked false otherwise is = refl
+
+module _ {K : Type 0} (words : ControllerWords K) (heard : SpaceId → Heard) (known : Known K) where
+  told_of_ack : (now : ℕ) (app_limited own : Bool) (entry : PathsEntry PathEntry) → IsAllowedOn known.paths.current.state (Some entry) → IsAllowedOn known.paths.current.state (cond own (Some entry) None)
+  told_of_ack now app_limited true entry allowed = allowed
+  told_of_ack now app_limited false entry allowed = tt
+
+  acked_allowed : (now : ℕ) (app_limited : Bool) (packet : Option SentPacket) → IsAllowedOn known.paths.current.state (acked_entry known now app_limited packet)
+  acked_allowed now app_limited None = tt
+  acked_allowed now app_limited (Some packet) = told_of_ack now app_limited (is_own known packet && packet.ack_eliciting) _ tt
+
+  answer_allowed : (event : Event) (answer : Answer) → ToldBy words heard known event (Ok answer) → IsAllowedOn known.paths.current.state (answered known event answer).paths
+  answer_allowed (Transmit now bytes true) Transmitted told = not_blocked (is_blocked known.paths.current.state bytes) _ told.1
+  answer_allowed (Transmit now bytes true) (Delayed until) told = tt
+  answer_allowed (Transmit now bytes true) answer told = tt
+  answer_allowed (Transmit now bytes false) answer told = tt
+  answer_allowed (Acked space now number app_limited) answer told = acked_allowed now app_limited (packet_at (tracked_known known space) number)
+  answer_allowed (Received space now number eliciting) (New arm) told = tt
+  answer_allowed (Received space now number eliciting) answer told = tt
+  answer_allowed (AckFrequencyIn frame) (Flag true) told = tt
+  answer_allowed (AckFrequencyIn frame) (Flag false) told = tt
+  answer_allowed (AckFrequencyIn frame) answer told = tt
+  answer_allowed event answer told = tt
+
+  refusal_allowed : (event : Event) (refusal : Refusal) → IsAllowedOn known.paths.current.state (refused event refusal).paths
+  refusal_allowed (AckFrequencyIn frame) DelayTooSmall = tt
+  refusal_allowed (AckFrequencyIn frame) refusal = tt
+  refusal_allowed event refusal = tt
+
+  -- what an event is to the path in use, where it was told so
+  is_allowed : (event : Event) (reply : Reply) → ToldBy words heard known event reply → IsAllowedOn known.paths.current.state (entries_of known event reply).paths
+  is_allowed event (Ok answer) told = answer_allowed event answer told
+  is_allowed event (Err refusal) told = refusal_allowed event refusal
+
+module _ {F K : Type 0} (beginning : Beginning F K) where
+  first : (log : List (PathsEntry PathEntry)) (entry : Option (PathsEntry PathEntry)) → let words = beginning.words in
+      let past = (pasts_by words (first_path beginning) log).current in
+      IsAllowedOn (state_of words past) entry → IsWithinThreefold past → IsWithinThreefold (pasts_by words (first_path beginning) (onto entry log)).current
+  first log None allowed within = within
+  first log (Some (on_current entry)) allowed within = threefold_law beginning.words entry (pasts_by beginning.words (first_path beginning) log).current allowed within
+
+  after_one : (before : History) (event : Event) (reply : Reply) → Told beginning before event reply → IsWithinThreefold (pasts_of beginning before).current → KeepsThreefold beginning before event reply
+  after_one before event reply told within =
+      let logs = logs_of beginning before in
+      let known = known_by beginning logs in
+      first logs.paths (entries_of known event reply).paths (is_allowed beginning.words _ known event reply told) within
+
+  all_within : (before : History) (events : List Event) (replies : List Reply) → ThroughoutFrom (Told beginning) before events replies → IsWithinThreefold (pasts_of beginning before).current → ThroughoutFrom (KeepsThreefold beginning) before events replies
+  all_within before [] [] told within = tt
+  all_within before (event ∷ events) (reply ∷ replies) told within =
+      let here = after_one before event reply told.0 within in
+      (here, all_within ((event, reply) ∷ before) events replies told.1 here)
+  all_within before [] (reply ∷ replies) told within = absurd told
+  all_within before (event ∷ events) [] told within = absurd told
+
+  -- throughout a run
+  pub threefold : (events : List Event) (replies : List Reply) → Throughout (Told beginning) events replies → Throughout (KeepsThreefold beginning) events replies
+  threefold events replies told = all_within [] events replies told (λ unproved checked. omega arith)
