@@ -1,6 +1,8 @@
 //! What the events of a connection are replied, and what they leave.
 ghost use Rattle.std.specs.Prelude.{◌≡◌, ◌<◌};
 
+use quic_recovery::config::TransportConfig;
+use quic_recovery::congestion::{ControllerFactory, NewRenoConfig};
 use quic_recovery::driver::{Recovery, RecoveryConfig};
 use quic_recovery::event::{Answer, Event, PathName, Refusal};
 use quic_recovery::spaces::PacketSpace;
@@ -8,12 +10,17 @@ use recovery_base::below::{ConnectionId, SpaceId};
 use recovery_base::time::{Duration, Instant};
 use recovery_base::timer::Timer;
 use std::alloc::Global;
+use std::net::{IpAddr, Ipv4Addr, SocketAddr};
 use std::process::Abort;
 use std::test::Fail;
 
 mod acks;
 mod ids;
+mod paths;
 mod refused_memory;
+
+/// A recovery whose controllers are NewReno.
+type Reno = Recovery<NewRenoConfig>;
 
 type Reply = Result<Answer, Refusal>;
 
@@ -117,10 +124,20 @@ fn timeout(nanos: u64) -> Reply {
 }
 
 /// The settings of the replay program, but for the bytes of this end's ids.
-fn settings(cid_len: usize) -> RecoveryConfig
+fn settings(cid_len: usize) -> RecoveryConfig<NewRenoConfig>
+    ensures { result.issued ≡ 1 }
+{
+    settings_with(TransportConfig::default(), cid_len)
+}
+
+/// The same for any settings of paths.
+fn settings_with<F: Drop>(transport: TransportConfig<F>, cid_len: usize) -> RecoveryConfig<F>
     ensures { result.issued ≡ 1 }
 {
     RecoveryConfig {
+        transport,
+        remote: SocketAddr::new(IpAddr::V4(Ipv4Addr::new(192, 0, 2, 1)), 4433),
+        validated: false,
         max_ack_delay: Duration::from_millis(25),
         initial_cid: ConnectionId::new(&[0xFF; 8]),
         cid_len,
@@ -130,7 +147,7 @@ fn settings(cid_len: usize) -> RecoveryConfig
 }
 
 /// A recovery to which nothing has happened yet.
-fn fresh(rt: &impl Abort, alloc: Global) -> Recovery {
+fn fresh(rt: &impl Abort, alloc: Global) -> Reno {
     match Recovery::new(alloc, settings(8), at(0)) {
         Ok(recovery) => recovery,
         Err(_) => panic!(rt; "NoMemory"),
@@ -144,7 +161,7 @@ fn same(rt: &impl Abort, row: u64, reply: &Reply, want: &Reply) {
 }
 
 /// Asserts what one event is replied.
-fn told(rt: &impl Abort, recovery: &mut Recovery, row: u64, event: Event, want: Reply) {
+fn told(rt: &impl Abort, recovery: &mut Reno, row: u64, event: Event, want: Reply) {
     let reply = recovery.apply(event);
     same(rt, row, &reply, &want);
 }
@@ -157,7 +174,7 @@ fn check<const N: usize>(rt: &impl Abort, alloc: Global, rows: [(Event, Reply); 
 }
 
 /// Asserts what the events of a run are replied, one a row, and something of what they leave.
-fn check_left<const N: usize, F: FnOnce(&Recovery) -> bool>(
+fn check_left<const N: usize, F: FnOnce(&Reno) -> bool>(
     rt: &impl Abort,
     alloc: Global,
     rows: [(Event, Reply); N],
@@ -171,12 +188,15 @@ fn check_left<const N: usize, F: FnOnce(&Recovery) -> bool>(
     assert!(rt; is_wanted, "what is left");
 }
 
-fn walk<const N: usize>(
+fn walk<const N: usize, F>(
     rt: &impl Abort,
     alloc: Global,
-    config: RecoveryConfig,
+    config: RecoveryConfig<F>,
     rows: [(Event, Reply); N],
-) -> Recovery
+) -> Recovery<F>
+where
+    F: ControllerFactory + Drop,
+    F::Controller: Drop,
     requires rows { N < 1000 }
     requires issued { config.issued ≡ 1 }
 {
@@ -206,7 +226,7 @@ fn compare(rt: &impl Abort, replies: &[Reply], wanted: &[Reply]) {
 }
 
 /// What is kept for a space that is not discarded.
-fn kept<'a>(rt: &impl Abort, recovery: &'a Recovery, space: SpaceId) -> &'a PacketSpace {
+fn kept<'a>(rt: &impl Abort, recovery: &'a Reno, space: SpaceId) -> &'a PacketSpace {
     match recovery.space(space) {
         Some(here) => here,
         None => panic!(rt; "the space is discarded"),
@@ -260,7 +280,7 @@ fn run_answers_at_the_ends(rt: HostRuntime) {
     );
 }
 
-fn leaves_idle_set(left: &Recovery) -> bool {
+fn leaves_idle_set(left: &Reno) -> bool {
     let timers = left.timers();
     timers.get(Timer::Idle) == Some(at(50)) && timers.get(Timer::Pacing) == None
 }
@@ -307,7 +327,7 @@ fn packets_are_tracked_until_they_leave(rt: HostRuntime) {
     );
 }
 
-fn leaves_nothing_in_flight(left: &Recovery) -> bool {
+fn leaves_nothing_in_flight(left: &Reno) -> bool {
     let counters = left.current().in_flight();
     let Some(space) = left.space(SpaceId::Data) else {
         return false;

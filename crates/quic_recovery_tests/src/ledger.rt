@@ -2,8 +2,9 @@
 //! every state that stands there, and not run.
 ghost use Rattle.std.specs.Prelude.{◌≡◌, true};
 
+use quic_recovery::congestion::{NewReno, NewRenoConfig};
 use quic_recovery::driver::Recovery;
-use quic_recovery::event::{Event, Refusal};
+use quic_recovery::event::{Answer, Event, Refusal};
 use quic_recovery::paths::{LedgerError, PathData};
 use quic_recovery::spaces::{NUMBER_LIMIT, PacketSpace, SentPacket};
 use recovery_base::below::IssuedCid;
@@ -51,7 +52,7 @@ fn the_numbers_end_at_2_to_62(space: &mut PacketSpace) {
     prove!(space.sent_with_keys == 2);
 }
 
-fn a_sum_past_the_end_is_refused(path: &mut PathData, alloc: Global) {
+fn a_sum_past_the_end_is_refused(path: &mut PathData<NewReno>, alloc: Global) {
     let full = path.in_flight();
     if full.bytes != u64::MAX - 9 || full.ack_eliciting != 0 {
         return;
@@ -65,7 +66,7 @@ fn a_sum_past_the_end_is_refused(path: &mut PathData, alloc: Global) {
     prove!(left.ack_eliciting == 0);
 }
 
-fn a_sum_at_the_end_is_not(path: &mut PathData, alloc: Global) {
+fn a_sum_at_the_end_is_not(path: &mut PathData<NewReno>, alloc: Global) {
     let full = path.in_flight();
     if full.bytes != u64::MAX - 9 || full.ack_eliciting != 0 {
         return;
@@ -83,7 +84,7 @@ fn a_sum_at_the_end_is_not(path: &mut PathData, alloc: Global) {
     }
 }
 
-fn no_id_is_issued_past_2_to_62(recovery: &mut Recovery, more: Vec<IssuedCid>) {
+fn no_id_is_issued_past_2_to_62(recovery: &mut Recovery<NewRenoConfig>, more: Vec<IssuedCid>) {
     let issued = recovery.local_ids().issued();
     let count = more.len() as u64;
     let now = at(0);
@@ -98,4 +99,37 @@ fn no_id_is_issued_past_2_to_62(recovery: &mut Recovery, more: Vec<IssuedCid>) {
     if issued == NUMBER_LIMIT && count == 0 {
         prove!(!is_refused);
     }
+}
+
+fn a_total_past_the_end_is_refused(recovery: &mut Recovery<NewRenoConfig>, checked: bool) {
+    let total = recovery.current().total_sent;
+    if total < u64::MAX - 9 {
+        return;
+    }
+    let now = at(0);
+    let bytes = 10;
+    let event = Event::Transmit {
+        now,
+        bytes,
+        checked,
+    };
+    let reply = recovery.apply(event);
+    let is_refused = matches!(&reply, Err(Refusal::Overflow));
+    prove!(is_refused);
+    prove!(recovery.current().total_sent == total);
+}
+
+fn a_total_at_the_end_is_not(recovery: &mut Recovery<NewRenoConfig>) {
+    if recovery.current().total_sent != u64::MAX - 9 {
+        return;
+    }
+    let event = Event::Transmit {
+        now: at(0),
+        bytes: 9,
+        checked: false,
+    };
+    let reply = recovery.apply(event);
+    let is_transmitted = matches!(&reply, Ok(Answer::Transmitted));
+    prove!(is_transmitted);
+    prove!(recovery.current().total_sent == u64::MAX);
 }

@@ -75,7 +75,7 @@ fn a_request_that_is_refused_keeps_its_number(rt: HostRuntime) {
     );
 }
 
-fn leaves_acks_for_other_frames(left: &Recovery) -> bool {
+fn leaves_acks_for_other_frames(left: &Reno) -> bool {
     let Some(space) = left.space(SpaceId::Data) else {
         return false;
     };
@@ -101,7 +101,7 @@ fn a_late_timer_leaves_the_delay_running(rt: HostRuntime) {
     );
 }
 
-fn leaves_acks_in_data_alone(left: &Recovery) -> bool {
+fn leaves_acks_in_data_alone(left: &Reno) -> bool {
     match (left.space(SpaceId::Initial), left.space(SpaceId::Data)) {
         (Some(initial), Some(data)) => {
             !initial.pending_acks.can_send_with_other_frames()

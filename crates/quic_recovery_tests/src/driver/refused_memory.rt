@@ -26,7 +26,7 @@ struct Traces {
     has_in_flight: bool,
 }
 
-fn traces_in(recovery: &Recovery, space: SpaceId) -> Option<Traces> {
+fn traces_in(recovery: &Reno, space: SpaceId) -> Option<Traces> {
     let here = recovery.space(space)?;
     let counters = recovery.current().in_flight();
     Some(Traces {
@@ -41,7 +41,7 @@ fn traces_in(recovery: &Recovery, space: SpaceId) -> Option<Traces> {
 }
 
 /// Sends a packet, and once more where memory was refused: whether it was.
-fn send_anyway(rt: &impl Abort, recovery: &mut Recovery, space: SpaceId, number: u64) -> bool {
+fn send_anyway(rt: &impl Abort, recovery: &mut Reno, space: SpaceId, number: u64) -> bool {
     let before = traces_in(recovery, space);
     let reply = recovery.apply(send(space, 500, true));
     if reply != NO_MEMORY {
@@ -123,7 +123,7 @@ fn packet() -> SentPacket {
 }
 
 /// Receives a packet, and once more where memory was refused: whether it was.
-fn receive_anyway(rt: &impl Abort, recovery: &mut Recovery, number: u64, arm: bool) -> bool {
+fn receive_anyway(rt: &impl Abort, recovery: &mut Reno, number: u64, arm: bool) -> bool {
     let reply = recovery.apply(received(SpaceId::Data, number, true));
     if reply != NO_MEMORY {
         assert!(rt; reply == new(arm), "at {number}");

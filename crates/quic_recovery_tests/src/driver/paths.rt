@@ -1,0 +1,150 @@
+//! Samples, datagrams, transmissions, the pacer and the controllers.
+use super::*;
+use recovery_halving::HalvingConfig;
+
+const TRANSMITTED: Reply = Ok(Answer::Transmitted);
+
+const BLOCKED: Reply = Ok(Answer::Blocked);
+
+const READY: Reply = Ok(Answer::Ready);
+
+const OVERFLOW: Reply = Err(Refusal::Overflow);
+
+const VALIDATED: Event = Event::Validated {
+    path: PathName::Current,
+};
+
+fn delayed(nanos: u64) -> Reply {
+    Ok(Answer::Delayed(at(nanos)))
+}
+
+fn transmit(nanos: u64, bytes: u16, checked: bool) -> Event {
+    Event::Transmit {
+        now: at(nanos),
+        bytes,
+        checked,
+    }
+}
+
+fn pacer_check(nanos: u64, bytes: u64) -> Event {
+    Event::PacerCheck {
+        now: at(nanos),
+        bytes,
+    }
+}
+
+fn datagram_in(path: PathName, bytes: u64) -> Event {
+    Event::DatagramIn { path, bytes }
+}
+
+fn sample(delay: u64, rtt: u64) -> Event {
+    Event::Sample {
+        delay: Duration::from_nanos(delay),
+        rtt: Duration::from_nanos(rtt),
+    }
+}
+
+fn congestion(now: u64, sent: u64) -> Event {
+    Event::Congestion {
+        now: at(now),
+        sent: at(sent),
+        persistent: false,
+        bytes: 1200,
+    }
+}
+
+fn end_acks() -> Event {
+    Event::EndAcks {
+        now: at(9),
+        app_limited: false,
+        largest: Some(0),
+    }
+}
+
+#[test]
+fn three_times_what_came_in(rt: HostRuntime) {
+    check(
+        &rt,
+        rt.alloc(),
+        [
+            (transmit(0, 0, true), TRANSMITTED),
+            (transmit(0, 1, true), BLOCKED),
+            (datagram_in(PathName::Current, 400), DONE),
+            (transmit(0, 1200, true), TRANSMITTED),
+            (transmit(0, 1, true), BLOCKED),
+            (transmit(0, 0, true), TRANSMITTED),
+            (VALIDATED, DONE),
+            (transmit(0, 1, true), TRANSMITTED),
+        ],
+    );
+    check_left(
+        &rt,
+        rt.alloc(),
+        [
+            (datagram_in(PathName::Current, u64::MAX), DONE),
+            (datagram_in(PathName::Current, 1), OVERFLOW),
+            (transmit(0, 1200, true), TRANSMITTED),
+            (datagram_in(PathName::Previous, 1), NO_SUCH_PATH),
+        ],
+        |recovery| {
+            let path = recovery.current();
+            path.total_recvd == u64::MAX && path.total_sent == 1200 && !path.validated
+        },
+    );
+}
+
+#[test]
+fn the_pacer_of_a_path(rt: HostRuntime) {
+    check(
+        &rt,
+        rt.alloc(),
+        [
+            (pacer_check(0, 12000), READY),
+            (pacer_check(0, 12001), delayed(22_200)),
+            (pacer_check(333_000_000, 12001), delayed(333_022_200)),
+            (pacer_check(0, 12001), delayed(333_022_200)),
+        ],
+    );
+    check(
+        &rt,
+        rt.alloc(),
+        [
+            (sample(0, 400_000_000), DONE),
+            (sample(50_000_000, 440_000_000), DONE),
+            (pacer_check(0, 12001), delayed(27_000)),
+        ],
+    );
+}
+
+#[test]
+fn a_controller_is_told(rt: HostRuntime) {
+    check_left(
+        &rt,
+        rt.alloc(),
+        [
+            (pacer_check(0, 12001), delayed(22_200)),
+            (congestion(2, 1), DONE),
+            (pacer_check(0, 12001), delayed(44_400)),
+            (end_acks(), DONE),
+        ],
+        |recovery| recovery.current().current_mtu() == 1200,
+    );
+}
+
+/// What is told of a controller holds of another one: its window, 24,000 bytes at first, halves at each congestion event,
+/// and no acknowledgement raises it.
+#[test]
+fn a_controller_that_halves(rt: HostRuntime) {
+    let transport = TransportConfig::with_factory(HalvingConfig::new(24_000));
+    let rows = [
+        (pacer_check(0, 12001), delayed(11_100)),
+        (congestion(2, 1), DONE),
+        (pacer_check(0, 12001), delayed(22_200)),
+        (send(SpaceId::Data, 1200, true), sent(0, None)),
+        (acked(SpaceId::Data, 0), ACKED),
+        (pacer_check(0, 12001), delayed(22_200)),
+        (congestion(2, 1), DONE),
+        (pacer_check(0, 12001), delayed(44_400)),
+    ];
+    walk(&rt, rt.alloc(), settings_with(transport, 8), rows);
+}
