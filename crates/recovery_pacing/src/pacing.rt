@@ -127,7 +127,10 @@ fn optimal_capacity(rtt: Duration, window: u64, mtu: u16) -> u64
     ensures least { 10 * mtu ≤ result }
     ensures most { result ≤ 256 * mtu }
 {
-    let capacity = u128::from(window) * BURST_INTERVAL_NANOS / rtt.as_nanos().max(1);
+    let capacity = quotient(
+        u128::from(window) * BURST_INTERVAL_NANOS,
+        rtt.as_nanos().max(1),
+    );
     let mtu = u128::from(mtu);
     capacity.clamp(MIN_BURST_SIZE * mtu, MAX_BURST_SIZE * mtu) as u64
 }
@@ -139,7 +142,10 @@ fn credit(rtt: Duration, window: u64, elapsed: u64) -> u128
     ensures value { result ≡ credit_of rtt window elapsed }
     ensures bound { result < 2 ^ 99 }
 {
-    5 * u128::from(window) * u128::from(elapsed) / (4 * rtt.as_nanos())
+    quotient(
+        5 * u128::from(window) * u128::from(elapsed),
+        4 * rtt.as_nanos(),
+    )
 }
 
 /// Nanoseconds until so many bytes have come. The division by 5 goes before the product with 4, so that no product wraps.
@@ -150,7 +156,7 @@ fn wait(rtt: Duration, window: u64, short: u64) -> u128
 {
     let product = rtt.as_nanos().saturating_mul(u128::from(short));
     let product = product.min(Duration::MAX.as_nanos());
-    4 * (product / u128::from(window) / 5)
+    4 * (quotient(product, u128::from(window)) / 5)
 }
 
 fn later_by(moment: Instant, nanos: u128) -> Instant
@@ -159,4 +165,15 @@ fn later_by(moment: Instant, nanos: u128) -> Instant
 {
     let sum = u128::from(moment.as_nanos()) + nanos;
     Instant::from_nanos(sum.min(u128::from(u64::MAX)) as u64)
+}
+
+/// Operands of 64 bits are divided as such: a division of 128 bits is a call.
+fn quotient(dividend: u128, divisor: u128) -> u128
+    requires { 0 < divisor }
+    ensures { result ≡ dividend / divisor }
+{
+    match (u64::try_from(dividend), u64::try_from(divisor)) {
+        (Ok(dividend), Ok(divisor)) => u128::from(dividend / divisor),
+        _ => dividend / divisor,
+    }
 }
