@@ -1,6 +1,6 @@
 //! Spreads packets over time, so that a window is not sent in one burst (RFC 9002, 7.7).
 ghost use Rattle.std.specs.Prelude.{◌≡◌, ℕ, ◌+◌, ◌-◌, ◌*◌, ◌/◌, ◌^◌, ◌<◌, ◌≤◌, min, max};
-ghost use Rattle.recovery_pacing.specs.Pacing.{PacerCall, capacity_of, credit_of, wait_of, bucket_made, resized, refilled, paced, delay_of, less_tokens};
+ghost use Rattle.recovery_pacing.specs.Pacing.{capacity_of, credit_of, wait_of, bucket_made, resized, refilled, paced, delay_of, less_tokens};
 
 use recovery_base::time::{Duration, Instant};
 use std::marker::Model;
@@ -8,11 +8,11 @@ use std::marker::Model;
 /// A full bucket lasts this long: timers of user space are good to a millisecond, and longer bursts would undo the pacing.
 const BURST_INTERVAL_NANOS: u128 = 2_000_000;
 
-/// Packets that may go out at once whatever the rate: so the first flight is not held up, and packets are handed to the
-/// kernel several at a time.
+/// This many packets may go out at once at any rate: the first flight is not held up, and several packets are handed to the
+/// kernel by one call.
 const MIN_BURST_SIZE: u128 = 10;
 
-/// Packets that go out at once at most: more would block the connection while they are made.
+/// No more packets go out at once: nothing else is done while they are made.
 const MAX_BURST_SIZE: u128 = 256;
 
 /// A bucket of tokens, one a byte: sending takes tokens, and time brings them at 5/4 of a window in each RTT
@@ -71,27 +71,29 @@ impl Pacer {
     pub fn delay(
         &mut self,
         rtt: Duration,
-        bytes_to_send: u64,
+        bytes: u64,
         mtu: u16,
         window: u64,
         now: Instant,
     ) -> Option<Instant>
         requires window { 0 < window }
         requires mtu { 0 < mtu }
-        ensures leaves { let call : PacerCall = record { bytes = bytes_to_send; rtt = rtt; mtu = mtu; window = window; now = now } in
-            self.new ≡ paced call self.old }
-        ensures delays { let call : PacerCall = record { bytes = bytes_to_send; rtt = rtt; mtu = mtu; window = window; now = now } in
-            result ≡ delay_of call self.new }
+        ensures leaves { self.new
+            ≡ paced (record { bytes = bytes; rtt = rtt; mtu = mtu; window = window; now = now })
+            self.old }
+        ensures delays { result
+            ≡ delay_of (record { bytes = bytes; rtt = rtt; mtu = mtu; window = window; now = now })
+            self.new }
     {
         self.resize(rtt, window, mtu);
-        if self.tokens >= bytes_to_send || window > u64::from(u32::MAX) || rtt.as_nanos() == 0 {
+        if self.tokens >= bytes || window > u64::from(u32::MAX) || rtt.as_nanos() == 0 {
             return None;
         }
         self.refill(rtt, window, now);
-        if self.tokens >= bytes_to_send {
+        if self.tokens >= bytes {
             return None;
         }
-        let short = bytes_to_send.max(self.capacity) - self.tokens;
+        let short = bytes.max(self.capacity) - self.tokens;
         Some(later_by(self.last, wait(rtt, window, short)))
     }
 
@@ -123,9 +125,7 @@ impl Pacer {
 }
 
 fn optimal_capacity(rtt: Duration, window: u64, mtu: u16) -> u64
-    ensures value { result ≡ capacity_of rtt window mtu }
-    ensures least { 10 * mtu ≤ result }
-    ensures most { result ≤ 256 * mtu }
+    ensures { result ≡ capacity_of rtt window mtu }
 {
     let capacity = quotient(
         u128::from(window) * BURST_INTERVAL_NANOS,
