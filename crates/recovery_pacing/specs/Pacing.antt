@@ -58,7 +58,7 @@ refilled rtt window now old =
     let credit = credit_of rtt window (now - old.last) in
     record old { tokens = min (old.tokens + credit) old.capacity; last = max old.last now }
 
--- nothing is delayed at a window past 32 bits, or before an RTT is known
+-- nothing is delayed at a window past 32 bits or an RTT of zero
 abbrev pub is_unpaced : PacerCall → Bool
 is_unpaced call = nat_le (2 ^ 32) call.window || (call.rtt == 0)
 

@@ -25,7 +25,7 @@ pub struct Pacer {
     last_window: u64,
     last_mtu: u16,
     tokens: u64,
-    last: Instant,
+    prev: Instant,
 }
 
 impl Model for Pacer {
@@ -52,7 +52,7 @@ impl Pacer {
             last_window: window,
             last_mtu: mtu,
             tokens: capacity,
-            last: now,
+            prev: now,
         }
     }
 
@@ -94,7 +94,7 @@ impl Pacer {
             return None;
         }
         let short = bytes.max(self.capacity) - self.tokens;
-        Some(later_by(self.last, wait(rtt, window, short)))
+        Some(later_by(self.prev, wait(rtt, window, short)))
     }
 
     fn resize(&mut self, rtt: Duration, window: u64, mtu: u16)
@@ -115,11 +115,11 @@ impl Pacer {
         requires rtt { 0 < rtt }
         ensures { self.new ≡ refilled rtt window now self.old }
     {
-        let elapsed = now.as_nanos().saturating_sub(self.last.as_nanos());
+        let elapsed = now.as_nanos().saturating_sub(self.prev.as_nanos());
         let tokens = u128::from(self.tokens) + credit(rtt, window, elapsed);
         self.tokens = tokens.min(u128::from(self.capacity)) as u64;
-        if self.last < now {
-            self.last = now;
+        if self.prev < now {
+            self.prev = now;
         }
     }
 }
