@@ -1,7 +1,7 @@
 -- A bucket stays within its bounds, whatever is asked and sent.
-use Rattle.std.proofs.Common.{ℕ, ◌+◌, ◌*◌, ◌<◌, ◌≤◌, min, max, Bool, true, false, arith}
+use Rattle.std.proofs.Common.{ℕ, ◌<◌, min, Bool, true, false, arith}
 use Rattle.std.specs.Prelude.{◌&&◌, ◌==◌, if◌then◌else◌}
-use Rattle.recovery_pacing.specs.Pacing.{Bucket, PacerCall, IsBucketSound, capacity_of, credit_of, bucket_made, resized, refilled, passes, paced, less_tokens}
+use Rattle.recovery_pacing.specs.Pacing.{Bucket, PacerCall, IsBucketSound, capacity_of, bucket_made, resized, refilled, may_send, paced, less_tokens}
 
 pub bucket_made-sound : (rtt window mtu now : ℕ) → 0 < window → 0 < mtu → IsBucketSound (bucket_made rtt window mtu now)
 bucket_made-sound rtt window mtu now some_window some_mtu = record {
@@ -35,7 +35,7 @@ refilled-sound rtt window now old sound = record {
 }
 
 pub paced-sound : (call : PacerCall) (old : Bucket) → 0 < call.window → 0 < call.mtu → IsBucketSound old → IsBucketSound (paced call old)
-paced-sound call old some_window some_mtu sound = go (passes call bucket)
+paced-sound call old some_window some_mtu sound = go (may_send call bucket)
   where
     bucket : Bucket
     bucket = resized call.rtt call.window call.mtu old

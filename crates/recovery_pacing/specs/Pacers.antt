@@ -8,5 +8,5 @@ bucket_in pacer = record {
   window = pacer.last_window;
   mtu = pacer.last_mtu;
   tokens = pacer.tokens;
-  last = pacer.last;
+  last = pacer.prev;
 }

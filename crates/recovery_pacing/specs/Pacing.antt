@@ -58,19 +58,19 @@ refilled rtt window now old =
     let credit = credit_of rtt window (now - old.last) in
     record old { tokens = min (old.tokens + credit) old.capacity; last = max old.last now }
 
--- nothing is delayed at a window past 32 bits, or before an RTT is known
+-- nothing is delayed at a window past 32 bits or an RTT of zero
 abbrev pub is_unpaced : PacerCall → Bool
 is_unpaced call = nat_le (2 ^ 32) call.window || (call.rtt == 0)
 
 -- the bytes may be sent at once
-abbrev pub passes : PacerCall → Bucket → Bool
-passes call bucket = nat_le call.bytes bucket.tokens || is_unpaced call
+abbrev pub may_send : PacerCall → Bucket → Bool
+may_send call bucket = nat_le call.bytes bucket.tokens || is_unpaced call
 
 -- what a call leaves: only where the bytes may not be sent yet is it refilled
 abbrev pub paced : PacerCall → Bucket → Bucket
 paced call old =
     let bucket = resized call.rtt call.window call.mtu old in
-    if passes call bucket then bucket else refilled call.rtt call.window call.now bucket
+    if may_send call bucket then bucket else refilled call.rtt call.window call.now bucket
 
 -- when the bytes that are short have come, or a full bucket where that is more; it stops at the last moment
 abbrev pub next_moment : PacerCall → Bucket → ℕ
@@ -80,7 +80,7 @@ next_moment call bucket =
 
 -- what a call is told, by the bucket that it leaves: nothing where the bytes may be sent, and else when to ask again
 abbrev pub delay_of : PacerCall → Bucket → Option ℕ
-delay_of call bucket = if passes call bucket then None else Some (next_moment call bucket)
+delay_of call bucket = if may_send call bucket then None else Some (next_moment call bucket)
 
 -- a packet of so many bytes was sent; a debt is not kept
 abbrev pub less_tokens : ℕ → Bucket → Bucket

@@ -1,6 +1,6 @@
 //! Spreads packets over time, so that a window is not sent in one burst (RFC 9002, 7.7).
 ghost use Rattle.std.specs.Prelude.{◌≡◌, ℕ, ◌+◌, ◌-◌, ◌*◌, ◌/◌, ◌^◌, ◌<◌, ◌≤◌, min, max};
-ghost use Rattle.recovery_pacing.specs.Pacing.{PacerCall, capacity_of, credit_of, wait_of, bucket_made, resized, refilled, paced, delay_of, less_tokens};
+ghost use Rattle.recovery_pacing.specs.Pacing.{capacity_of, credit_of, wait_of, bucket_made, resized, refilled, paced, delay_of, less_tokens};
 
 use recovery_base::time::{Duration, Instant};
 use std::marker::Model;
@@ -8,11 +8,11 @@ use std::marker::Model;
 /// A full bucket lasts this long: timers of user space are good to a millisecond, and longer bursts would undo the pacing.
 const BURST_INTERVAL_NANOS: u128 = 2_000_000;
 
-/// Packets that may go out at once whatever the rate: so the first flight is not held up, and packets are handed to the
-/// kernel several at a time.
+/// This many packets may go out at once at any rate: the first flight is not held up, and several packets are handed to the
+/// kernel by one call.
 const MIN_BURST_SIZE: u128 = 10;
 
-/// Packets that go out at once at most: more would block the connection while they are made.
+/// No more packets go out at once: nothing else is done while they are made.
 const MAX_BURST_SIZE: u128 = 256;
 
 /// A bucket of tokens, one a byte: sending takes tokens, and time brings them at 5/4 of a window in each RTT
@@ -25,7 +25,7 @@ pub struct Pacer {
     last_window: u64,
     last_mtu: u16,
     tokens: u64,
-    last: Instant,
+    prev: Instant,
 }
 
 impl Model for Pacer {
@@ -52,7 +52,7 @@ impl Pacer {
             last_window: window,
             last_mtu: mtu,
             tokens: capacity,
-            last: now,
+            prev: now,
         }
     }
 
@@ -71,28 +71,30 @@ impl Pacer {
     pub fn delay(
         &mut self,
         rtt: Duration,
-        bytes_to_send: u64,
+        bytes: u64,
         mtu: u16,
         window: u64,
         now: Instant,
     ) -> Option<Instant>
         requires window { 0 < window }
         requires mtu { 0 < mtu }
-        ensures leaves { let call : PacerCall = record { bytes = bytes_to_send; rtt = rtt; mtu = mtu; window = window; now = now } in
-            self.new ≡ paced call self.old }
-        ensures delays { let call : PacerCall = record { bytes = bytes_to_send; rtt = rtt; mtu = mtu; window = window; now = now } in
-            result ≡ delay_of call self.new }
+        ensures leaves { self.new
+            ≡ paced (record { bytes = bytes; rtt = rtt; mtu = mtu; window = window; now = now })
+            self.old }
+        ensures delays { result
+            ≡ delay_of (record { bytes = bytes; rtt = rtt; mtu = mtu; window = window; now = now })
+            self.new }
     {
         self.resize(rtt, window, mtu);
-        if self.tokens >= bytes_to_send || window > u64::from(u32::MAX) || rtt.as_nanos() == 0 {
+        if self.tokens >= bytes || window > u64::from(u32::MAX) || rtt.as_nanos() == 0 {
             return None;
         }
         self.refill(rtt, window, now);
-        if self.tokens >= bytes_to_send {
+        if self.tokens >= bytes {
             return None;
         }
-        let short = bytes_to_send.max(self.capacity) - self.tokens;
-        Some(later_by(self.last, wait(rtt, window, short)))
+        let short = bytes.max(self.capacity) - self.tokens;
+        Some(later_by(self.prev, wait(rtt, window, short)))
     }
 
     fn resize(&mut self, rtt: Duration, window: u64, mtu: u16)
@@ -113,21 +115,22 @@ impl Pacer {
         requires rtt { 0 < rtt }
         ensures { self.new ≡ refilled rtt window now self.old }
     {
-        let elapsed = now.as_nanos().saturating_sub(self.last.as_nanos());
+        let elapsed = now.as_nanos().saturating_sub(self.prev.as_nanos());
         let tokens = u128::from(self.tokens) + credit(rtt, window, elapsed);
         self.tokens = tokens.min(u128::from(self.capacity)) as u64;
-        if self.last < now {
-            self.last = now;
+        if self.prev < now {
+            self.prev = now;
         }
     }
 }
 
 fn optimal_capacity(rtt: Duration, window: u64, mtu: u16) -> u64
-    ensures value { result ≡ capacity_of rtt window mtu }
-    ensures least { 10 * mtu ≤ result }
-    ensures most { result ≤ 256 * mtu }
+    ensures { result ≡ capacity_of rtt window mtu }
 {
-    let capacity = u128::from(window) * BURST_INTERVAL_NANOS / rtt.as_nanos().max(1);
+    let capacity = quotient(
+        u128::from(window) * BURST_INTERVAL_NANOS,
+        rtt.as_nanos().max(1),
+    );
     let mtu = u128::from(mtu);
     capacity.clamp(MIN_BURST_SIZE * mtu, MAX_BURST_SIZE * mtu) as u64
 }
@@ -139,7 +142,10 @@ fn credit(rtt: Duration, window: u64, elapsed: u64) -> u128
     ensures value { result ≡ credit_of rtt window elapsed }
     ensures bound { result < 2 ^ 99 }
 {
-    5 * u128::from(window) * u128::from(elapsed) / (4 * rtt.as_nanos())
+    quotient(
+        5 * u128::from(window) * u128::from(elapsed),
+        4 * rtt.as_nanos(),
+    )
 }
 
 /// Nanoseconds until so many bytes have come. The division by 5 goes before the product with 4, so that no product wraps.
@@ -150,7 +156,7 @@ fn wait(rtt: Duration, window: u64, short: u64) -> u128
 {
     let product = rtt.as_nanos().saturating_mul(u128::from(short));
     let product = product.min(Duration::MAX.as_nanos());
-    4 * (product / u128::from(window) / 5)
+    4 * (quotient(product, u128::from(window)) / 5)
 }
 
 fn later_by(moment: Instant, nanos: u128) -> Instant
@@ -159,4 +165,15 @@ fn later_by(moment: Instant, nanos: u128) -> Instant
 {
     let sum = u128::from(moment.as_nanos()) + nanos;
     Instant::from_nanos(sum.min(u128::from(u64::MAX)) as u64)
+}
+
+/// Operands of 64 bits are divided as such: a division of 128 bits is a call.
+fn quotient(dividend: u128, divisor: u128) -> u128
+    requires { 0 < divisor }
+    ensures { result ≡ dividend / divisor }
+{
+    match (u64::try_from(dividend), u64::try_from(divisor)) {
+        (Ok(dividend), Ok(divisor)) => u128::from(dividend / divisor),
+        _ => dividend / divisor,
+    }
 }

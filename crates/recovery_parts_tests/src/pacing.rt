@@ -1,18 +1,17 @@
-//! The pacer. Rows are what is asked or sent at a moment, and the moment that is told, if any is.
-ghost use Rattle.std.specs.Prelude.{◌<◌};
-
+//! The pacer. Rows are what a path has and what is asked or sent at a moment, and the moment that is told, if one is.
 use recovery_base::time::{Duration, Instant};
 use recovery_pacing::pacing::Pacer;
 use std::process::Abort;
 
-/// What a path has at a moment: RTT, congestion window and MTU.
-#[derive(Clone, Copy)]
-struct Path {
-    rtt: Duration,
-    window: u64,
-    mtu: u16,
-}
+/// RTT in nanoseconds, congestion window and MTU.
+type Path = (u128, u64, u16);
 
+/// No RTT was measured yet.
+const FRESH: Path = (333_000_000, 12_000, 1200);
+
+const LONGEST_RTT: u128 = 18_446_744_073_709_551_615_999_999_999;
+
+/// What happens.
 #[derive(Clone, Copy)]
 enum Call {
     /// May so many bytes be sent?
@@ -21,34 +20,34 @@ enum Call {
     Packets(u16, u16),
 }
 
-/// A moment, what happens at it, and the moment that is told.
-type Row = (u64, Call, Option<u64>);
+/// A path, a moment, what happens, and the moment that is told.
+type Row = (Path, u64, Call, Option<u64>);
 
-fn at(nanos: u64) -> Instant {
-    Instant::from_nanos(nanos)
+fn made(rt: &impl Abort, path: &Path, now: u64) -> Pacer {
+    let (rtt, window, mtu) = *path;
+    assert!(rt; window > 0 && mtu > 0);
+    let rtt = Duration::checked_from_nanos(rtt).unwrap_or(Duration::MAX);
+    Pacer::new(rtt, window, mtu, Instant::from_nanos(now))
 }
 
-fn made(path: Path, now: u64) -> Pacer
-    requires window { 0 < path.window }
-    requires mtu { 0 < path.mtu }
-{
-    Pacer::new(path.rtt, path.window, path.mtu, at(now))
-}
-
-fn ask(pacer: &mut Pacer, path: Path, now: u64, bytes: u64) -> Option<Instant>
-    requires window { 0 < path.window }
-    requires mtu { 0 < path.mtu }
-{
-    pacer.delay(path.rtt, bytes, path.mtu, path.window, at(now))
+fn ask(rt: &impl Abort, pacer: &mut Pacer, path: &Path, now: u64, bytes: u64) -> Option<Instant> {
+    let (rtt, window, mtu) = *path;
+    assert!(rt; window > 0 && mtu > 0);
+    let rtt = Duration::checked_from_nanos(rtt).unwrap_or(Duration::MAX);
+    pacer.delay(rtt, bytes, mtu, window, Instant::from_nanos(now))
 }
 
 /// The moment that is told to the first packet that is delayed.
-fn send(pacer: &mut Pacer, path: Path, now: u64, count: u16, bytes: u16) -> Option<Instant>
-    requires window { 0 < path.window }
-    requires mtu { 0 < path.mtu }
-{
+fn send(
+    rt: &impl Abort,
+    pacer: &mut Pacer,
+    path: &Path,
+    now: u64,
+    count: u16,
+    bytes: u16,
+) -> Option<Instant> {
     for _ in 0..count {
-        let until = ask(pacer, path, now, u64::from(bytes));
+        let until = ask(rt, pacer, path, now, u64::from(bytes));
         if until.is_some() {
             return until;
         }
@@ -57,52 +56,38 @@ fn send(pacer: &mut Pacer, path: Path, now: u64, count: u16, bytes: u16) -> Opti
     None
 }
 
-/// Asserts that each row is told what it says.
-fn play(rt: &impl Abort, pacer: &mut Pacer, path: Path, rows: &[Row])
-    requires window { 0 < path.window }
-    requires mtu { 0 < path.mtu }
-{
+fn apply(rt: &impl Abort, pacer: &mut Pacer, path: &Path, now: u64, call: Call) -> Option<Instant> {
+    match call {
+        Call::Asks(bytes) => ask(rt, pacer, path, now, bytes),
+        Call::Packets(count, bytes) => send(rt, pacer, path, now, count, bytes),
+    }
+}
+
+/// Asserts that a pacer made for a path at a moment tells in each row what it says.
+fn play(rt: &impl Abort, path: &Path, start: u64, rows: &[Row]) {
+    let mut pacer = made(rt, path, start);
     let mut place = 0u64;
-    for (now, call, wanted) in rows {
-        let found = match *call {
-            Call::Asks(bytes) => ask(pacer, path, *now, bytes),
-            Call::Packets(count, bytes) => send(pacer, path, *now, count, bytes),
-        };
+    for (path, now, call, wanted) in rows {
+        let found = apply(rt, &mut pacer, path, *now, *call);
         assert!(rt; found == wanted.map(Instant::from_nanos), "row {place}");
         place = place.saturating_add(1);
     }
 }
 
-/// A path on which no RTT was measured yet: 333 ms, a window of 12,000 bytes, an MTU of 1,200.
-fn fresh() -> Path
-    ensures window { 0 < result.window }
-    ensures mtu { 0 < result.mtu }
-{
-    Path {
-        rtt: Duration::from_millis(333),
-        window: 12_000,
-        mtu: 1200,
-    }
-}
-
 #[test]
 fn a_burst_passes_and_time_brings_more(rt: HostRuntime) {
-    let path = Path {
-        rtt: Duration::from_millis(50),
-        window: 2_000_000,
-        mtu: 1000,
-    };
+    const PATH: Path = (50_000_000, 2_000_000, 1000);
     play(
         &rt,
-        &mut made(path, 7),
-        path,
+        &PATH,
+        7,
         &[
-            (7, Call::Packets(80, 1000), None),
-            (7, Call::Asks(0), None),
-            (7, Call::Asks(1000), Some(1_600_007)),
-            (800_007, Call::Asks(1000), None),
-            (800_007, Call::Packets(40, 1000), None),
-            (7, Call::Asks(1000), Some(2_400_007)),
+            (PATH, 7, Call::Packets(80, 1000), None),
+            (PATH, 7, Call::Asks(0), None),
+            (PATH, 7, Call::Asks(1000), Some(1_600_007)),
+            (PATH, 800_007, Call::Asks(1000), None),
+            (PATH, 800_007, Call::Packets(40, 1000), None),
+            (PATH, 7, Call::Asks(1000), Some(2_400_007)),
         ],
     );
 }
@@ -111,12 +96,14 @@ fn a_burst_passes_and_time_brings_more(rt: HostRuntime) {
 fn a_clock_that_steps_back_brings_nothing(rt: HostRuntime) {
     play(
         &rt,
-        &mut made(fresh(), 0),
-        fresh(),
+        &FRESH,
+        0,
         &[
-            (0, Call::Asks(12_001), Some(22_200)),
-            (333_000_000, Call::Asks(12_001), Some(333_022_200)),
-            (0, Call::Asks(12_001), Some(333_022_200)),
+            (FRESH, 0, Call::Asks(12_001), Some(22_200)),
+            (FRESH, 333_000_000, Call::Asks(12_001), Some(333_022_200)),
+            (FRESH, 0, Call::Asks(12_001), Some(333_022_200)),
+            (FRESH, u64::MAX, Call::Asks(12_001), Some(u64::MAX)),
+            (FRESH, 0, Call::Asks(12_001), Some(u64::MAX)),
         ],
     );
 }
@@ -125,203 +112,105 @@ fn a_clock_that_steps_back_brings_nothing(rt: HostRuntime) {
 fn the_bound_is_met_with_equality(rt: HostRuntime) {
     play(
         &rt,
-        &mut made(fresh(), 0),
-        fresh(),
+        &FRESH,
+        0,
         &[
-            (0, Call::Packets(10, 1200), None),
-            (0, Call::Asks(1200), Some(266_400_000)),
-            (266_400_000, Call::Packets(10, 1200), None),
-            (266_400_000, Call::Asks(1200), Some(532_800_000)),
+            (FRESH, 0, Call::Packets(10, 1200), None),
+            (FRESH, 0, Call::Asks(1200), Some(266_400_000)),
+            (FRESH, 266_400_000, Call::Packets(10, 1200), None),
+            (FRESH, 266_400_000, Call::Asks(1200), Some(532_800_000)),
         ],
     );
 }
 
 #[test]
-fn windows_past_32_bits_are_not_paced(rt: HostRuntime) {
-    let paced = Path {
-        rtt: Duration::from_secs(1),
-        window: 4_294_967_295,
-        mtu: 1000,
-    };
-    let wide = Path {
-        window: 4_294_967_296,
-        ..paced
-    };
+fn a_change_of_the_path_fills_nothing(rt: HostRuntime) {
+    const SMALL: Path = (333_000_000, 12_000, 600);
     play(
         &rt,
-        &mut made(wide, 0),
-        wide,
-        &[(0, Call::Asks(300_000), None)],
-    );
-    play(
-        &rt,
-        &mut made(paced, 0),
-        paced,
-        &[(0, Call::Asks(300_000), Some(8192))],
-    );
-}
-
-#[test]
-fn the_widest_paced_window_waits_for_no_time(rt: HostRuntime) {
-    let paced = Path {
-        window: 4_294_967_295,
-        ..fresh()
-    };
-    let wide = Path {
-        window: 4_294_967_296,
-        ..fresh()
-    };
-    let rows = [
-        (0, Call::Asks(307_200), None),
-        (0, Call::Asks(307_201), Some(0)),
-    ];
-    play(&rt, &mut made(paced, 0), paced, &rows);
-    play(
-        &rt,
-        &mut made(wide, 0),
-        wide,
-        &[(0, Call::Asks(307_201), None)],
-    );
-}
-
-#[test]
-fn a_wide_window_has_the_largest_bucket(rt: HostRuntime) {
-    let wide = Path {
-        rtt: Duration::from_nanos(1),
-        window: 1 << 63,
-        mtu: 1000,
-    };
-    let paced = Path {
-        window: 4_294_967_295,
-        ..wide
-    };
-    play(
-        &rt,
-        &mut made(wide, 0),
-        paced,
+        &FRESH,
+        0,
         &[
-            (0, Call::Asks(256_000), None),
-            (0, Call::Asks(256_001), Some(0)),
+            (SMALL, 0, Call::Asks(6000), None),
+            (SMALL, 0, Call::Asks(6001), Some(22_200)),
+            (FRESH, 0, Call::Asks(12_000), Some(133_200_000)),
         ],
-    );
-}
-
-#[test]
-fn many_bytes_wait_long(rt: HostRuntime) {
-    let path = Path {
-        rtt: Duration::from_secs(1),
-        window: 12_000,
-        mtu: 1000,
-    };
-    play(
-        &rt,
-        &mut made(path, 0),
-        path,
-        &[
-            (0, Call::Asks((1 << 32) + 10_000), Some(286_331_153_066_664)),
-            (0, Call::Asks(u64::MAX), Some(u64::MAX)),
-        ],
-    );
-}
-
-#[test]
-fn moments_stop_at_the_end(rt: HostRuntime) {
-    play(
-        &rt,
-        &mut made(fresh(), 0),
-        fresh(),
-        &[
-            (u64::MAX, Call::Asks(12_001), Some(u64::MAX)),
-            (0, Call::Asks(12_001), Some(u64::MAX)),
-        ],
-    );
-}
-
-#[test]
-fn rtts_from_none_to_the_longest(rt: HostRuntime) {
-    for (rtt, wanted) in [
-        (Duration::ZERO, None),
-        (Duration::from_millis(1), Some(64)),
-        (Duration::MAX, Some(u64::MAX)),
-    ] {
-        let path = Path { rtt, ..fresh() };
-        play(
-            &rt,
-            &mut made(fresh(), 0),
-            path,
-            &[(0, Call::Asks(12_001), wanted)],
-        );
-    }
-}
-
-#[test]
-fn the_widest_of_everything(rt: HostRuntime) {
-    let path = Path {
-        rtt: Duration::MAX,
-        window: u64::MAX,
-        mtu: u16::MAX,
-    };
-    play(
-        &rt,
-        &mut made(path, u64::MAX),
-        path,
-        &[(u64::MAX, Call::Asks(u64::MAX), None)],
-    );
-}
-
-#[test]
-fn a_change_of_window_or_mtu_cuts_and_never_fills(rt: HostRuntime) {
-    let mut pacer = made(fresh(), 0);
-    play(
-        &rt,
-        &mut pacer,
-        Path {
-            mtu: 600,
-            ..fresh()
-        },
-        &[
-            (0, Call::Asks(6000), None),
-            (0, Call::Asks(6001), Some(22_200)),
-        ],
-    );
-    play(
-        &rt,
-        &mut pacer,
-        fresh(),
-        &[(0, Call::Asks(12_000), Some(133_200_000))],
-    );
-}
-
-#[test]
-fn a_greater_window_shortens_the_wait(rt: HostRuntime) {
-    let path = Path {
-        window: 14_526,
-        mtu: 1326,
-        ..fresh()
-    };
-    play(
-        &rt,
-        &mut made(fresh(), 0),
-        path,
-        &[(0, Call::Asks(13_261), Some(23_126_144))],
     );
 }
 
 #[test]
 fn an_rtt_alone_changes_no_capacity(rt: HostRuntime) {
-    let mut pacer = made(fresh(), 0);
-    let quick = Path {
-        rtt: Duration::from_millis(1),
-        ..fresh()
-    };
-    play(&rt, &mut pacer, quick, &[(0, Call::Asks(12_001), Some(64))]);
     play(
         &rt,
-        &mut pacer,
-        Path {
-            window: 6000,
-            ..quick
-        },
-        &[(0, Call::Asks(12_001), Some(132))],
+        &FRESH,
+        0,
+        &[
+            ((1_000_000, 12_000, 1200), 0, Call::Asks(12_001), Some(64)),
+            ((1_000_000, 6000, 1200), 0, Call::Asks(12_001), Some(132)),
+        ],
+    );
+}
+
+/// The path that a pacer is made for, what the path has when so many bytes are asked for at 0, and the moment that is told.
+type Single = (Path, Path, u64, Option<u64>);
+
+fn play_each(rt: &impl Abort, rows: &[Single]) {
+    let mut place = 0u64;
+    for (first, path, bytes, wanted) in rows {
+        let mut pacer = made(rt, first, 0);
+        let found = ask(rt, &mut pacer, path, 0, *bytes);
+        assert!(rt; found == wanted.map(Instant::from_nanos), "row {place}");
+        place = place.saturating_add(1);
+    }
+}
+
+#[test]
+fn windows_past_32_bits_are_not_paced(rt: HostRuntime) {
+    const SECOND: u128 = 1_000_000_000;
+    const PACED: u64 = 4_294_967_295;
+    const WIDE: u64 = 4_294_967_296;
+    play_each(
+        &rt,
+        &[
+            ((SECOND, WIDE, 1000), (SECOND, WIDE, 1000), 300_000, None),
+            (
+                (SECOND, PACED, 1000),
+                (SECOND, PACED, 1000),
+                300_000,
+                Some(8192),
+            ),
+            (FRESH, (333_000_000, WIDE, 1200), 307_201, None),
+            (
+                (333_000_000, PACED, 1200),
+                (333_000_000, PACED, 1200),
+                307_200,
+                None,
+            ),
+            (
+                (333_000_000, PACED, 1200),
+                (333_000_000, PACED, 1200),
+                307_201,
+                Some(0),
+            ),
+            ((1, 1 << 63, 1000), (1, PACED, 1000), 256_000, None),
+            ((1, 1 << 63, 1000), (1, PACED, 1000), 256_001, Some(0)),
+        ],
+    );
+}
+
+#[test]
+fn takes_every_argument(rt: HostRuntime) {
+    const SECOND: Path = (1_000_000_000, 12_000, 1000);
+    const GREATEST: Path = (LONGEST_RTT, u64::MAX, u16::MAX);
+    play_each(
+        &rt,
+        &[
+            (SECOND, SECOND, 4_294_977_296, Some(286_331_153_066_664)),
+            (SECOND, SECOND, u64::MAX, Some(u64::MAX)),
+            (FRESH, (0, 12_000, 1200), 12_001, None),
+            (FRESH, (LONGEST_RTT, 12_000, 1200), 12_001, Some(u64::MAX)),
+            (FRESH, (333_000_000, 14_526, 1326), 13_261, Some(23_126_144)),
+            (GREATEST, GREATEST, u64::MAX, None),
+        ],
     );
 }
