@@ -1,16 +1,17 @@
 -- Each event keeps the bound on what goes to an address that is not validated.
 use Rattle.std.proofs.Common.{ℕ, ◌≡◌, ◌≤◌, ◌&&◌, Bool, true, false, cond, List, [], ◌∷◌, Option, None, Some, Result, Ok, Err, refl, arith}
 use Rattle.recovery_base.specs.declared.below.SpaceId.{SpaceId}
+use Rattle.recovery_congestion.specs.Calls.{ControllerCall}
 use Rattle.recovery_congestion.specs.Controllers.{ControllerWords}
 use Rattle.recovery_ledger.specs.declared.spaces.SentPacket.{SentPacket}
 use Rattle.recovery_ledger.specs.Acks.{Heard}
 use Rattle.recovery_ledger.specs.Packets.{packet_at}
-use Rattle.recovery_paths.specs.PathLog.{PathsEntry, PathEntry, OfPaths, PathPast, pasts_by, known_of, state_of, on_current, tells}
-use Rattle.recovery_paths.specs.PathStates.{PathState, is_blocked, path_delay}
+use Rattle.recovery_paths.specs.PathLog.{on_current, tells}
+use Rattle.recovery_paths.specs.PathStates.{is_blocked}
 use Rattle.recovery_paths.specs.Threefold.{IsWithinThreefold}
-use Rattle.recovery_paths.proofs.ThreefoldLaws.{IsAllowedOn, threefold_law}
+use Rattle.recovery_paths.proofs.ThreefoldLaws.{AreAllowed, threefold_after}
 use Rattle.quic_recovery.specs.declared.event.Event.{Event}
-use Rattle.quic_recovery.specs.declared.event.Event.TheVariants.{Received, Acked, AckFrequencyIn, Transmit}
+use Rattle.quic_recovery.specs.declared.event.Event.TheVariants.{Received, Send, Acked, AckFrequencyIn, Transmit, DatagramIn, Validated, Sample, PacerCheck, Congestion, EndAcks}
 use Rattle.quic_recovery.specs.declared.event.Answer.{Answer}
 use Rattle.quic_recovery.specs.declared.event.Answer.TheVariants.{New, Flag, Transmitted, Delayed, Blocked}
 use Rattle.quic_recovery.specs.declared.event.Refusal.{Refusal}
@@ -19,8 +20,7 @@ use Rattle.quic_recovery.specs.Amplification.{pasts_of, KeepsThreefold}
 use Rattle.quic_recovery.specs.Entries.{answered, entries_of, refused, acked_entry, is_own, logs_of}
 use Rattle.quic_recovery.specs.History.{Beginning, History, Reply, ThroughoutFrom, Throughout}
 use Rattle.quic_recovery.specs.Known.{Known, known_by, first_path, tracked_known}
-use Rattle.quic_recovery.specs.Logs.{onto}
-use Rattle.quic_recovery.specs.Told.{Told, ToldBy, delayed_or}
+use Rattle.quic_recovery.specs.Told.{Told, ToldBy}
 
 blocked_is_not_sent : {A : Type 0} → Transmitted ≡ Blocked → A
 blocked_is_not_sent e = cc
@@ -31,19 +31,26 @@ not_blocked true otherwise is = blocked_is_not_sent is
 not_blocked false otherwise is = refl
 
 module _ {K : Type 0} (words : ControllerWords K) (heard : SpaceId → Heard) (known : Known K) where
-  told_of_ack : (now : ℕ) (app_limited own : Bool) (entry : PathsEntry PathEntry) → IsAllowedOn known.paths.current.state (Some entry) → IsAllowedOn known.paths.current.state (cond own (Some entry) None)
-  told_of_ack now app_limited true entry allowed = allowed
-  told_of_ack now app_limited false entry allowed = tt
+  told_allowed : (own : Bool) (call : ControllerCall) → AreAllowed words known.paths.current.state (cond own (on_current (tells call) ∷ []) [])
+  told_allowed true call = (tt, tt)
+  told_allowed false call = tt
 
-  acked_allowed : (now : ℕ) (app_limited : Bool) (packet : Option SentPacket) → IsAllowedOn known.paths.current.state (acked_entry known now app_limited packet)
+  acked_allowed : (now : ℕ) (app_limited : Bool) (packet : Option SentPacket) → AreAllowed words known.paths.current.state (acked_entry known now app_limited packet)
   acked_allowed now app_limited None = tt
-  acked_allowed now app_limited (Some packet) = told_of_ack now app_limited (is_own known packet && packet.ack_eliciting) _ tt
+  acked_allowed now app_limited (Some packet) = told_allowed (is_own known packet && packet.ack_eliciting) _
 
-  answer_allowed : (event : Event) (answer : Answer) → ToldBy words heard known event (Ok answer) → IsAllowedOn known.paths.current.state (answered known event answer).paths
-  answer_allowed (Transmit now bytes true) Transmitted told = not_blocked (is_blocked known.paths.current.state bytes) _ told.1
-  answer_allowed (Transmit now bytes true) (Delayed until) told = tt
+  answer_allowed : (event : Event) (answer : Answer) → ToldBy words heard known event (Ok answer) → AreAllowed words known.paths.current.state (answered known event answer).paths
+  answer_allowed (Transmit now bytes true) Transmitted told = (not_blocked (is_blocked known.paths.current.state bytes) _ told.1, tt)
+  answer_allowed (Transmit now bytes true) (Delayed until) told = (tt, tt)
   answer_allowed (Transmit now bytes true) answer told = tt
-  answer_allowed (Transmit now bytes false) answer told = tt
+  answer_allowed (Transmit now bytes false) answer told = (tt, tt)
+  answer_allowed (Send space now size eliciting largest) answer told = (tt, tt)
+  answer_allowed (DatagramIn path bytes) answer told = (tt, tt)
+  answer_allowed (Validated path) answer told = (tt, tt)
+  answer_allowed (Sample delay rtt) answer told = (tt, tt)
+  answer_allowed (PacerCheck now bytes) answer told = (tt, tt)
+  answer_allowed (Congestion now sent persistent bytes) answer told = (tt, tt)
+  answer_allowed (EndAcks now app_limited largest) answer told = (tt, tt)
   answer_allowed (Acked space now number app_limited) answer told = acked_allowed now app_limited (packet_at (tracked_known known space) number)
   answer_allowed (Received space now number eliciting) (New arm) told = tt
   answer_allowed (Received space now number eliciting) answer told = tt
@@ -52,28 +59,22 @@ module _ {K : Type 0} (words : ControllerWords K) (heard : SpaceId → Heard) (k
   answer_allowed (AckFrequencyIn frame) answer told = tt
   answer_allowed event answer told = tt
 
-  refusal_allowed : (event : Event) (refusal : Refusal) → IsAllowedOn known.paths.current.state (refused event refusal).paths
+  refusal_allowed : (event : Event) (refusal : Refusal) → AreAllowed words known.paths.current.state (refused event refusal).paths
   refusal_allowed (AckFrequencyIn frame) DelayTooSmall = tt
   refusal_allowed (AckFrequencyIn frame) refusal = tt
   refusal_allowed event refusal = tt
 
   -- what an event is to the path in use, where it was told so
-  is_allowed : (event : Event) (reply : Reply) → ToldBy words heard known event reply → IsAllowedOn known.paths.current.state (entries_of known event reply).paths
+  is_allowed : (event : Event) (reply : Reply) → ToldBy words heard known event reply → AreAllowed words known.paths.current.state (entries_of known event reply).paths
   is_allowed event (Ok answer) told = answer_allowed event answer told
   is_allowed event (Err refusal) told = refusal_allowed event refusal
 
 module _ {F K : Type 0} (beginning : Beginning F K) where
-  first : (log : List (PathsEntry PathEntry)) (entry : Option (PathsEntry PathEntry)) → let words = beginning.words in
-      let past = (pasts_by words (first_path beginning) log).current in
-      IsAllowedOn (state_of words past) entry → IsWithinThreefold past → IsWithinThreefold (pasts_by words (first_path beginning) (onto entry log)).current
-  first log None allowed within = within
-  first log (Some (on_current entry)) allowed within = threefold_law beginning.words entry (pasts_by beginning.words (first_path beginning) log).current allowed within
-
   after_one : (before : History) (event : Event) (reply : Reply) → Told beginning before event reply → IsWithinThreefold (pasts_of beginning before).current → KeepsThreefold beginning before event reply
   after_one before event reply told within =
       let logs = logs_of beginning before in
       let known = known_by beginning logs in
-      first logs.paths (entries_of known event reply).paths (is_allowed beginning.words _ known event reply told) within
+      threefold_after beginning.words (first_path beginning) (entries_of known event reply).paths logs.paths (is_allowed beginning.words _ known event reply told) within
 
   all_within : (before : History) (events : List Event) (replies : List Reply) → ThroughoutFrom (Told beginning) before events replies → IsWithinThreefold (pasts_of beginning before).current → ThroughoutFrom (KeepsThreefold beginning) before events replies
   all_within before [] [] told within = tt

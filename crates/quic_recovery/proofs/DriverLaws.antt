@@ -1,5 +1,5 @@
 -- What an event does to one space is a step of all three.
-use Rattle.std.proofs.Common.{◌≡◌, ℕ, ◌<◌, ◌^◌, ap₂, arith, Bool, false, Option, None, Some, Result, IfOk, OnErr, Ok, Err, refl, sym, ap, subst}
+use Rattle.std.proofs.Common.{◌≡◌, ℕ, ◌<◌, ◌^◌, ap₂, arith, Bool, false, List, [], ◌∷◌, Option, Result, IfOk, OnErr, Ok, Err, refl, sym, ap, subst}
 use Rattle.recovery_base.specs.declared.below.SpaceId.{SpaceId}
 use Rattle.recovery_base.specs.declared.below.SpaceId.TheVariants.{Initial, Handshake, Data}
 use Rattle.recovery_ids.specs.CidQueue.{remote_ids}
@@ -65,8 +65,8 @@ nothing_changes {K} words old new same = record {
 }
 
 -- an event in one space, which may change what is in flight on a path, and be something to the path
-pub space_changes : {K : Type 0} (words : ControllerWords K) (old : Parts K) (space : SpaceId) (entry : SpaceEntry) (there : PacketSpace) (path : Option (PathsEntry PathEntry)) (paths : OfPaths (Path K))
-    → SpaceStep entry (space_of space old.spaces) there → StepBy (PathsStep words) path (paths_known old.paths) (paths_known paths)
+pub space_changes : {K : Type 0} (words : ControllerWords K) (old : Parts K) (space : SpaceId) (entry : SpaceEntry) (there : PacketSpace) (path : List (PathsEntry PathEntry)) (paths : OfPaths (Path K))
+    → SpaceStep entry (space_of space old.spaces) there → PathsStep words path (paths_known old.paths) (paths_known paths)
     → Steps words (record (in_space space entry) { paths = path }) old (record old { spaces = with_space old.spaces space there; paths = paths })
 space_changes words old space entry there path paths step same = record {
   spaces = spaces_step entry old.spaces space there step;
@@ -101,12 +101,12 @@ module _ {K : Type 0} (words : ControllerWords K) (old : Parts K) (space : Space
       → Changes words old (Received space now number ack_eliciting) (reply_to receipt) (record old { spaces = with_space old.spaces space there })
   received_changes (Ok (New arm)) is step kept = record {
     told = (fails _ live, ((λ most. absurd (omega (arith, is.0))), is.1));
-    steps = space_changes words old space (heard now number ack_eliciting) there None old.paths step refl;
+    steps = space_changes words old space (heard now number ack_eliciting) there [] old.paths step refl;
     refused = tt;
   }
   received_changes (Ok Duplicate) is step kept = record {
     told = (fails _ live, ((λ most. absurd (omega (arith, is.0))), is.1));
-    steps = space_changes words old space (heard_again number) there None old.paths step refl;
+    steps = space_changes words old space (heard_again number) there [] old.paths step refl;
     refused = tt;
   }
   received_changes (Err error) is step kept =
@@ -125,10 +125,10 @@ module _ {K : Type 0} (words : ControllerWords K) (old : Parts K) (space : Space
   pub sent_changes : (number : ℕ) (forgotten : Option ℕ) → let packet = packet_sent (generation_of old.paths.current.ledger) now size ack_eliciting largest_acked in
       is_discarded space old.discarded ≡ false → (¬ IsTooLarge largest_acked) → next_number_of (space_of space old.spaces) < 2 ^ 62 → (¬ Overflows (in_flight (generation_of old.paths.current.ledger) (tracked_by old.spaces)) packet)
       → number ≡ next_number_of (space_of space old.spaces) → forgotten ≡ forgotten_number (tracking_of (space_of space old.spaces)).last_eliciting packet (tracked_by old.spaces space)
-      → there ≡ space_sends packet (space_of space old.spaces) → PathsStep words (on_current (tells (sends_bytes now size (next_number_of (space_of space old.spaces))))) (paths_known old.paths) (paths_known paths)
+      → there ≡ space_sends packet (space_of space old.spaces) → PathsStep words (on_current (tells (sends_bytes now size (next_number_of (space_of space old.spaces)))) ∷ []) (paths_known old.paths) (paths_known paths)
       → Changes words old (Send space now size ack_eliciting largest_acked) (Ok (Sent number forgotten)) (record old { spaces = with_space old.spaces space there; paths = paths })
   sent_changes number forgotten live small left fits is_next is_forgotten is same = record {
     told = (fails _ live, (small, ((λ most. absurd (omega arith)), (fits, ap₂ (λ n f. Sent n f) is_next is_forgotten))));
-    steps = space_changes words old space (sends (packet_sent (generation_of old.paths.current.ledger) now size ack_eliciting largest_acked)) there (Some (on_current (tells (sends_bytes now size (next_number_of (space_of space old.spaces)))))) paths is same;
+    steps = space_changes words old space (sends (packet_sent (generation_of old.paths.current.ledger) now size ack_eliciting largest_acked)) there (on_current (tells (sends_bytes now size (next_number_of (space_of space old.spaces)))) ∷ []) paths is same;
     refused = tt;
   }

@@ -19,7 +19,7 @@ use Rattle.recovery_ids.specs.LocalLog.{FirstIds, LocalStep, LocalIdsLeft}
 use Rattle.recovery_ledger.specs.Packets.{Packets}
 use Rattle.quic_recovery.specs.Parts.{Parts}
 use Rattle.recovery_ledger.specs.Paths.{generation_of}
-use Rattle.recovery_paths.specs.PathLog.{OfPaths, PathKnown, PathsStep, PathsLeft, paths_known}
+use Rattle.recovery_paths.specs.PathLog.{OfPaths, PathKnown, PathsLeft, paths_known}
 use Rattle.recovery_paths.specs.PathStates.{Path, PathMaking}
 use Rattle.recovery_paths.proofs.PathLogLaws.{paths_law}
 use Rattle.recovery_ids.specs.RemoteLog.{RemoteStep, RemoteIdsLeft}
@@ -126,4 +126,4 @@ left_after {F} {K} beginning logs entries old new left steps balanced = record {
     path = first_path beginning
 
     paths : PathsLeft beginning.words path (logs_with entries logs).paths (paths_known new.paths)
-    paths = left_by (PathsStep beginning.words) (PathsLeft beginning.words path) (paths_law beginning.words path) entries.paths logs.paths _ _ left.paths steps.paths
+    paths = paths_law beginning.words path entries.paths logs.paths _ _ left.paths steps.paths

@@ -1,5 +1,5 @@
 -- What each event is to each part. A part that does not name an event is left as it was by it.
-use Rattle.std.specs.Prelude.{ℕ, Bool, true, false, ◌&&◌, ◌==◌, [], ◌∷◌, length, Option, None, Some, Ok, Err, if◌then◌else◌}
+use Rattle.std.specs.Prelude.{ℕ, Bool, true, false, ◌&&◌, ◌==◌, List, [], ◌∷◌, ◌++◌, length, Option, None, Some, Ok, Err, if◌then◌else◌}
 use Rattle.recovery_base.specs.declared.below.SpaceId.{SpaceId}
 use Rattle.recovery_base.specs.declared.below.SpaceId.TheVariants.{Data}
 use Rattle.quic_recovery.specs.declared.event.Event.{Event}
@@ -34,7 +34,8 @@ pub record Entries : Type 0 where
   pub timers : Option TimerEntry
   pub remote_ids : Option RemoteEntry
   pub local_ids : Option LocalEntry
-  pub paths : Option (PathsEntry PathEntry)
+  -- several, perhaps, the newest first
+  pub paths : List (PathsEntry PathEntry)
 
 abbrev pub nothing : Entries
 nothing = record {
@@ -44,7 +45,7 @@ nothing = record {
   timers = None;
   remote_ids = None;
   local_ids = None;
-  paths = None;
+  paths = [];
 }
 
 -- something that happens in one space alone
@@ -53,7 +54,7 @@ in_space space entry = record nothing { spaces = λ other. here space other entr
 
 -- something that happens on the path in use alone
 abbrev pub on_path : PathEntry → Entries
-on_path entry = record nothing { paths = Some (on_current entry) }
+on_path entry = record nothing { paths = on_current entry ∷ [] }
 
 -- ---- what the controller of the path in use is told (RFC 9002, 7)
 
@@ -65,13 +66,13 @@ abbrev pub is_own : {K : Type 0} → Known K → SentPacket → Bool
 is_own known packet = packet.path_generation == known.paths.current.generation
 
 -- an acknowledged packet, where it was tracked, went out on the path and elicits an ACK
-abbrev pub acked_entry : {K : Type 0} → Known K → ℕ → Bool → Option SentPacket → Option (PathsEntry PathEntry)
-acked_entry known now app_limited None = None
+abbrev pub acked_entry : {K : Type 0} → Known K → ℕ → Bool → Option SentPacket → List (PathsEntry PathEntry)
+acked_entry known now app_limited None = []
 acked_entry known now app_limited (Some packet) =
     let rtt = known.paths.current.state.rtt in
     if is_own known packet && packet.ack_eliciting
-    then Some (on_current (tells (acks now packet.time_sent packet.size app_limited rtt)))
-    else None
+    then on_current (tells (acks now packet.time_sent packet.size app_limited rtt)) ∷ []
+    else []
 
 -- the end of an ACK, with the bytes in flight on the path
 abbrev pub end_call : {K : Type 0} → Known K → ℕ → Bool → Option ℕ → ControllerCall
@@ -86,7 +87,7 @@ answered known (Received space now number eliciting) (New arm) =
 answered known (Received space now number eliciting) answer = in_space space (heard_again number)
 answered known (Send space now size eliciting largest) answer =
     record (in_space space (sends (packet_now known now size eliciting largest))) {
-      paths = Some (on_current (tells (sent_call known space now size)));
+      paths = on_current (tells (sent_call known space now size)) ∷ [];
     }
 answered known (Acked space now number app_limited) answer =
     record (in_space space (acknowledged number)) {
@@ -141,7 +142,7 @@ logs_with entries logs = record {
   timers = onto entries.timers logs.timers;
   remote_ids = onto entries.remote_ids logs.remote_ids;
   local_ids = onto entries.local_ids logs.local_ids;
-  paths = onto entries.paths logs.paths;
+  paths = entries.paths ++ logs.paths;
 }
 
 -- the logs of a history: what each event was, by what the logs before it know

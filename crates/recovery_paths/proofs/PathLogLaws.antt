@@ -1,8 +1,8 @@
 -- What is known of the paths, one entry at a time.
-use Rattle.std.proofs.Common.{ℕ, ◌≡◌, ◌≤◌, ◌+◌, ◌*◌, List, ◌∷◌, Bool, true, false, refl, ap, ◌∙◌, arith}
+use Rattle.std.proofs.Common.{ℕ, ◌≡◌, ◌≤◌, ◌+◌, ◌*◌, List, [], ◌∷◌, ◌++◌, Bool, true, false, refl, ap, ◌∙◌, arith}
 use Rattle.recovery_congestion.specs.Controllers.{ControllerWords}
 use Rattle.recovery_paths.specs.PathStates.{PathState, PathMaking, is_blocked}
-use Rattle.recovery_paths.specs.PathLog.{PathsEntry, OfPaths, PathEntry, PathPast, PathKnown, paths_with, pasts_by, each_path, state_of, state_with, past_with, known_of, known_with, PathsStep, PathsLeft, on_current, receives, is_validated, samples, tells, asks, transmits, passes}
+use Rattle.recovery_paths.specs.PathLog.{PathsEntry, OfPaths, PathEntry, PathPast, PathKnown, paths_with, paths_after, pasts_by, each_path, state_of, state_with, past_with, known_of, known_with, PathsStep, PathsLeft, on_current, receives, is_validated, samples, tells, asks, transmits, passes}
 use Rattle.recovery_paths.specs.Threefold.{IsWithinThreefold}
 
 module _ {K : Type 0} (words : ControllerWords K) where
@@ -37,5 +37,10 @@ module _ {K : Type 0} (words : ControllerWords K) where
   each-with : (entry : PathsEntry PathEntry) (pasts : OfPaths (PathPast K)) → paths_with (known_with words) entry (each_path (known_of words) pasts) ≡ each_path (known_of words) (paths_with (past_with words) entry pasts)
   each-with (on_current entry) pasts = ap (λ (k : PathKnown K). let all : OfPaths (PathKnown K) = record { current = k } in all) (known_of-with entry pasts.current)
 
-  pub paths_law : (first : PathMaking K) (entry : PathsEntry PathEntry) (log : List (PathsEntry PathEntry)) (old new : OfPaths (PathKnown K)) → PathsLeft words first log old → PathsStep words entry old new → PathsLeft words first (entry ∷ log) new
-  paths_law first entry log old new left step = step ∙ ap (paths_with (known_with words) entry) left ∙ each-with entry (pasts_by words first log)
+  -- entries before a log, as they change what the log leaves
+  each-after : (first : PathMaking K) (entries log : List (PathsEntry PathEntry)) → paths_after (known_with words) entries (each_path (known_of words) (pasts_by words first log)) ≡ each_path (known_of words) (pasts_by words first (entries ++ log))
+  each-after first [] log = refl
+  each-after first (entry ∷ entries) log = ap (paths_with (known_with words) entry) (each-after first entries log) ∙ each-with entry (pasts_by words first (entries ++ log))
+
+  pub paths_law : (first : PathMaking K) (entries log : List (PathsEntry PathEntry)) (old new : OfPaths (PathKnown K)) → PathsLeft words first log old → PathsStep words entries old new → PathsLeft words first (entries ++ log) new
+  paths_law first entries log old new left step = step ∙ ap (paths_after (known_with words) entries) left ∙ each-after first entries log

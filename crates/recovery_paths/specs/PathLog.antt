@@ -20,9 +20,13 @@ pub record OfPaths (P : Type 0) : Type 0 where
 abbrev pub paths_with : {E P : Type 0} → (E → P → P) → PathsEntry E → OfPaths P → OfPaths P
 paths_with change (on_current entry) old = record old { current = change entry old.current }
 
+-- entries, the newest first, change the paths one after another
+abbrev pub paths_after : {E P : Type 0} → (E → P → P) → List (PathsEntry E) → OfPaths P → OfPaths P
+paths_after change [] old = old
+paths_after change (entry ∷ earlier) old = paths_with change entry (paths_after change earlier old)
+
 abbrev pub paths_by : {E P : Type 0} → P → (E → P → P) → List (PathsEntry E) → OfPaths P
-paths_by first change [] = record { current = first }
-paths_by first change (entry ∷ earlier) = paths_with change entry (paths_by first change earlier)
+paths_by first change log = paths_after change log (record { current = first })
 
 abbrev pub each_path : {P Q : Type 0} → (P → Q) → OfPaths P → OfPaths Q
 each_path f paths = record { current = f paths.current }
@@ -159,8 +163,9 @@ module _ {K : Type 0} (words : ControllerWords K) where
   abbrev pub paths_known_by : PathMaking K → List (PathsEntry PathEntry) → OfPaths (PathKnown K)
   paths_known_by first log = each_path known_of (pasts_by first log)
 
-  abbrev pub PathsStep : PathsEntry PathEntry → OfPaths (PathKnown K) → OfPaths (PathKnown K) → Type 0
-  PathsStep entry old new = new ≡ paths_with known_with entry old
+  -- an event may be several entries to the paths, the newest first
+  abbrev pub PathsStep : List (PathsEntry PathEntry) → OfPaths (PathKnown K) → OfPaths (PathKnown K) → Type 0
+  PathsStep entries old new = new ≡ paths_after known_with entries old
 
   abbrev pub PathsLeft : PathMaking K → List (PathsEntry PathEntry) → OfPaths (PathKnown K) → Type 0
   PathsLeft first log paths = paths ≡ paths_known_by first log
