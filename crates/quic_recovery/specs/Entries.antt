@@ -3,19 +3,19 @@ use Rattle.std.specs.Prelude.{ℕ, Bool, true, false, ◌&&◌, ◌==◌, List, 
 use Rattle.recovery_base.specs.declared.below.SpaceId.{SpaceId}
 use Rattle.recovery_base.specs.declared.below.SpaceId.TheVariants.{Data}
 use Rattle.quic_recovery.specs.declared.event.Event.{Event}
-use Rattle.quic_recovery.specs.declared.event.Event.TheVariants.{Received, Send, Acked, Lost, NewId, NextId, InitialId, IssueIds, IdTimeout, PeerRetired, AckFrequencyIn, AcksSent, AckDelayTimeout, SetTimer, StopTimer, DiscardSpace, DatagramIn, Validated, Sample, Transmit, PacerCheck, Congestion, EndAcks}
+use Rattle.quic_recovery.specs.declared.event.Event.TheVariants.{Received, Send, Acked, Lost, NewId, NextId, InitialId, IssueIds, IdTimeout, PeerRetired, AckFrequencyIn, AcksSent, AckDelayTimeout, SetTimer, StopTimer, DiscardSpace, DatagramIn, Validated, Sample, Transmit, PacerCheck, Congestion, EndAcks, PollMtu, PeerLimit, LossesDone}
 use Rattle.quic_recovery.specs.declared.event.Answer.{Answer}
-use Rattle.quic_recovery.specs.declared.event.Answer.TheVariants.{New, Flag, Transmitted, Delayed}
+use Rattle.quic_recovery.specs.declared.event.Answer.TheVariants.{New, Flag, Transmitted, Delayed, Probe}
 use Rattle.quic_recovery.specs.declared.event.Refusal.{Refusal}
 use Rattle.quic_recovery.specs.declared.event.Refusal.TheVariants.{DelayTooSmall}
 use Rattle.quic_recovery.specs.History.{Beginning, History, Reply}
 use Rattle.quic_recovery.specs.Known.{Known, Logs, no_logs, known_by, packet_now, tracked_known, current_in_flight}
 use Rattle.recovery_ids.specs.LocalLog.{LocalEntry, issues, passes, retires}
 use Rattle.quic_recovery.specs.Logs.{onto}
-use Rattle.recovery_congestion.specs.Calls.{ControllerCall, sends as sends_bytes, acks, ends_acks, congests}
+use Rattle.recovery_congestion.specs.Calls.{ControllerCall, sends as sends_bytes, acks, ends_acks, congests, takes_mtu}
 use Rattle.recovery_ledger.specs.declared.spaces.SentPacket.{SentPacket}
 use Rattle.recovery_ledger.specs.Packets.{packet_at}
-use Rattle.recovery_paths.specs.PathLog.{PathEntry, PathsEntry, on_current, receives, is_validated, samples, tells, asks, transmits, passes}
+use Rattle.recovery_paths.specs.PathLog.{PathEntry, PathsEntry, on_current, receives, is_validated, samples, searches, tells, asks, transmits, passes}
 use Rattle.recovery_ids.specs.RemoteLog.{RemoteEntry, given, used, replaced}
 use Rattle.recovery_acks.specs.RequestLog.{RequestEntry, taken, too_small}
 use Rattle.recovery_base.specs.Spaces.{same_space}
@@ -36,6 +36,8 @@ pub record Entries : Type 0 where
   pub local_ids : Option LocalEntry
   -- several, perhaps, the newest first
   pub paths : List (PathsEntry PathEntry)
+  -- the largest size that the peer takes
+  pub limits : Option ℕ
 
 abbrev pub nothing : Entries
 nothing = record {
@@ -46,6 +48,7 @@ nothing = record {
   remote_ids = None;
   local_ids = None;
   paths = [];
+  limits = None;
 }
 
 -- something that happens in one space alone
@@ -74,6 +77,35 @@ acked_entry known now app_limited (Some packet) =
     then on_current (tells (acks now packet.time_sent packet.size app_limited rtt)) ∷ []
     else []
 
+-- ---- what the search for the MTU of the path in use sees (RFC 8899, 5; RFC 9000, 14.3): packets of 1-RTT keys alone
+
+-- a call of the discovery, and what the controller is told where it changes the MTU
+abbrev pub searched : {K : Type 0} → Known K → Bool → MtuCall → List (PathsEntry PathEntry)
+searched known changes call =
+    let after = discovery_after call known.paths.current.state.discovery in
+    let searches_so = on_current (searches call) ∷ [] in
+    if changes then on_current (tells (takes_mtu after.mtu)) ∷ searches_so else searches_so
+
+abbrev pub is_data : SpaceId → Bool
+is_data space = same_space space Data
+
+-- the packet is the probe in flight
+abbrev pub is_known_probe : {K : Type 0} → Known K → SpaceId → ℕ → Bool
+is_known_probe known space number = is_data space && is_probe number known.paths.current.state.discovery
+
+abbrev pub acked_search : {K : Type 0} → Known K → SpaceId → ℕ → Option SentPacket → List (PathsEntry PathEntry)
+acked_search known space number None = []
+acked_search known space number (Some packet) =
+    if is_data space
+    then searched known (is_known_probe known space number) (acks_packet number packet.size) else []
+
+abbrev pub lost_search : {K : Type 0} → Known K → SpaceId → ℕ → Option SentPacket → List (PathsEntry PathEntry)
+lost_search known space number None = []
+lost_search known space number (Some packet) =
+    if is_data space
+    then searched known false (if is_known_probe known space number then loses_probe else loses_packet number packet.size)
+    else []
+
 -- the end of an ACK, with the bytes in flight on the path
 abbrev pub end_call : {K : Type 0} → Known K → ℕ → Bool → Option ℕ → ControllerCall
 end_call known now app_limited largest = ends_acks now (current_in_flight known).bytes app_limited largest
@@ -90,10 +122,14 @@ answered known (Send space now size eliciting largest) answer =
       paths = on_current (tells (sent_call known space now size)) ∷ [];
     }
 answered known (Acked space now number app_limited) answer =
+    let packet = packet_at (tracked_known known space) number in
     record (in_space space (acknowledged number)) {
-      paths = acked_entry known now app_limited (packet_at (tracked_known known space) number);
+      paths = acked_entry known now app_limited packet ++ acked_search known space number packet;
     }
-answered known (Lost space number) answer = in_space space (loses number)
+answered known (Lost space number) answer =
+    record (in_space space (loses number)) {
+      paths = lost_search known space number (packet_at (tracked_known known space) number);
+    }
 answered known (NewId frame) answer = record nothing { remote_ids = Some (given frame) }
 answered known NextId answer = record nothing { remote_ids = Some used }
 answered known (InitialId id) answer = record nothing { remote_ids = Some (replaced id) }
@@ -121,6 +157,17 @@ answered known (Congestion now sent persistent bytes) answer =
     on_path (tells (congests now sent persistent bytes))
 answered known (EndAcks now app_limited largest) answer =
     on_path (tells (end_call known now app_limited largest))
+answered known (PollMtu now) (Probe number size) =
+    record (in_space Data (sends (packet_now known now size true None))) {
+      paths = searched known false (polls now number)
+          ++ on_current (tells (sent_call known Data now size)) ∷ [];
+    }
+answered known (PollMtu now) answer =
+    record nothing { paths = searched known false (polls now (known.spaces Data).sent.next) }
+answered known (PeerLimit size) answer =
+    record nothing { paths = searched known false (is_limited size); limits = Some size }
+answered known (LossesDone now) answer =
+    record nothing { paths = searched known (reports known.paths.current.state.discovery) (losses_end now) }
 answered known event answer = nothing
 
 -- a refused event is nothing, but for a request of ACKs whose number is kept
@@ -143,6 +190,7 @@ logs_with entries logs = record {
   remote_ids = onto entries.remote_ids logs.remote_ids;
   local_ids = onto entries.local_ids logs.local_ids;
   paths = entries.paths ++ logs.paths;
+  limits = onto entries.limits logs.limits;
 }
 
 -- the logs of a history: what each event was, by what the logs before it know

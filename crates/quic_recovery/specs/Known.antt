@@ -1,5 +1,5 @@
 -- What is known of the past: values, which the state and the logs fill alike.
-use Rattle.std.specs.Prelude.{ℕ, Bool, List, [], Option}
+use Rattle.std.specs.Prelude.{ℕ, Bool, List, [], ◌∷◌, Option, None, Some}
 use Rattle.recovery_base.specs.declared.below.SpaceId.{SpaceId}
 use Rattle.recovery_base.specs.declared.timer.Timer.{Timer}
 use Rattle.recovery_ids.specs.LocalIds.{LocalIds}
@@ -43,6 +43,8 @@ pub record Known (K : Type 0) : Type 0 where
   pub moment_of : Timer → Option ℕ
   -- what is kept for the paths
   pub paths : OfPaths (PathKnown K)
+  -- the largest size that the peer takes, where it said so
+  pub peer_limit : Option ℕ
 
 -- the packets that each space tracks
 abbrev pub tracked_known : {K : Type 0} → Known K → SpaceId → Packets
@@ -66,6 +68,7 @@ pub record Logs : Type 0 where
   pub remote_ids : List RemoteEntry
   pub local_ids : List LocalEntry
   pub paths : List (PathsEntry PathEntry)
+  pub limits : List ℕ
 
 abbrev pub no_logs : Logs
 no_logs = record {
@@ -76,6 +79,7 @@ no_logs = record {
   remote_ids = [];
   local_ids = [];
   paths = [];
+  limits = [];
 }
 
 -- what the logs know, in a run that begins so
@@ -101,6 +105,11 @@ first_path beginning =
       now = beginning.start;
     }
 
+-- the last one
+abbrev pub last_limit : List ℕ → Option ℕ
+last_limit [] = None
+last_limit (size ∷ earlier) = Some size
+
 abbrev pub known_by : {F K : Type 0} → Beginning F K → Logs → Known K
 known_by beginning logs = record {
   spaces = λ space. record {
@@ -113,4 +122,5 @@ known_by beginning logs = record {
   local_ids = local_ids_by (first_ids beginning) logs.local_ids;
   moment_of = λ kind. last_set kind logs.timers;
   paths = paths_known_by beginning.words (first_path beginning) logs.paths;
+  peer_limit = last_limit logs.limits;
 }

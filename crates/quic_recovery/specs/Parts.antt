@@ -1,4 +1,5 @@
 -- What a recovery is to those who call it: its parts.
+use Rattle.std.specs.Prelude.{ℕ, Option}
 use Rattle.recovery_base.specs.declared.timer.TimerTable.{TimerTable}
 use Rattle.recovery_acks.specs.AckFrequencies.{Frequency}
 use Rattle.recovery_ids.specs.declared.queue.CidQueue.{CidQueue}
@@ -13,6 +14,7 @@ pub record Parts (K : Type 0) : Type 0 where
   pub spaces : PacketSpaces
   pub discarded : DiscardedSpaces
   pub paths : OfPaths (Path K)
+  pub peer_limit : Option ℕ
   pub frequency : Frequency
   pub timers : TimerTable
   pub remote_cids : CidQueue

@@ -2,7 +2,7 @@
 use Rattle.std.specs.Prelude.{ℕ, List}
 use lib.Chars.{codes}
 use Rattle.quic_recovery.specs.declared.event.Refusal.{Refusal}
-use Rattle.quic_recovery.specs.declared.event.Refusal.TheVariants.{NoMemory, NumberTooLarge, NumbersExhausted, NotTracked, SpaceDiscarded, NoSuchPath, Overflow, Retired, ExceedsLimit, BadRetirePriorTo, CidsNotInUse, UnissuedCid, DelayTooSmall, NotInitialId, BadRange}
+use Rattle.quic_recovery.specs.declared.event.Refusal.TheVariants.{NoMemory, NumberTooLarge, NumbersExhausted, NotTracked, SpaceDiscarded, NoSuchPath, Searching, ZeroMtu, Overflow, Retired, ExceedsLimit, BadRetirePriorTo, CidsNotInUse, UnissuedCid, DelayTooSmall, NotInitialId, BadRange}
 
 abbrev pub refusal_number : Refusal → ℕ
 refusal_number NoMemory = 1
@@ -11,6 +11,8 @@ refusal_number NumbersExhausted = 3
 refusal_number NotTracked = 4
 refusal_number SpaceDiscarded = 5
 refusal_number NoSuchPath = 6
+refusal_number Searching = 7
+refusal_number ZeroMtu = 8
 refusal_number Overflow = 9
 refusal_number Retired = 10
 refusal_number ExceedsLimit = 11
@@ -28,6 +30,8 @@ refusal_name NumbersExhausted = codes "NumbersExhausted"
 refusal_name NotTracked = codes "NotTracked"
 refusal_name SpaceDiscarded = codes "SpaceDiscarded"
 refusal_name NoSuchPath = codes "NoSuchPath"
+refusal_name Searching = codes "Searching"
+refusal_name ZeroMtu = codes "ZeroMtu"
 refusal_name Overflow = codes "Overflow"
 refusal_name Retired = codes "Retired"
 refusal_name ExceedsLimit = codes "ExceedsLimit"

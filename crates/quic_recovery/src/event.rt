@@ -193,6 +193,26 @@ pub enum Event {
         /// The largest number that was acknowledged, if any.
         largest: Option<u64>,
     },
+    /// Is a probe of the current path's MTU due (RFC 8899, 5; RFC 9000, 14.3)? One that is due goes out as a packet of 1-RTT keys that
+    /// elicits an ACK, under the next number, and is tracked like any other. Refused by `SpaceDiscarded`, by
+    /// `NumbersExhausted`, and where a probe is due by `Overflow`, where the bytes in flight would pass `u64::MAX`, then by
+    /// `NoMemory`.
+    PollMtu {
+        /// When it is asked.
+        now: Instant,
+    },
+    /// The peer takes datagrams of at most so many bytes (RFC 9000, 18.2: max_udp_payload_size). Refused by `ZeroMtu`, then by
+    /// `Searching` while the current path's MTU is searched for.
+    PeerLimit {
+        /// The largest size in bytes, above zero.
+        size: u16,
+    },
+    /// All packets that were found lost together were told: was there a black hole for large datagrams (RFC 8899, 4.3)? Never
+    /// refused.
+    LossesDone {
+        /// When they were found lost.
+        now: Instant,
+    },
 }
 
 /// What an event that is not refused is answered.
@@ -245,6 +265,17 @@ pub enum Answer {
     Delayed(Instant),
     /// The bytes may be transmitted now, as far as the pacer goes.
     Ready,
+    /// A probe of the path's MTU goes out.
+    Probe {
+        /// The number that it was given.
+        number: u64,
+        /// Its size in bytes.
+        size: u16,
+    },
+    /// No probe of the path's MTU is due.
+    NoProbe,
+    /// Whether a black hole was reported.
+    BlackHole(bool),
     /// The event has no other answer.
     Done,
 }
@@ -270,6 +301,12 @@ pub enum Refusal {
     /// There is no such path.
     #[error("there is no such path")]
     NoSuchPath,
+    /// The MTU of the current path is searched for.
+    #[error("the MTU is searched for")]
+    Searching,
+    /// A size of no bytes is none that a path carries.
+    #[error("the size is zero")]
+    ZeroMtu,
     /// A counter would pass the end of its type.
     #[error("a counter passes 2^64 - 1")]
     Overflow,
@@ -311,6 +348,8 @@ impl Refusal {
             Refusal::NotTracked => 4,
             Refusal::SpaceDiscarded => 5,
             Refusal::NoSuchPath => 6,
+            Refusal::Searching => 7,
+            Refusal::ZeroMtu => 8,
             Refusal::Overflow => 9,
             Refusal::Retired => 10,
             Refusal::ExceedsLimit => 11,
@@ -334,6 +373,8 @@ impl Refusal {
             Refusal::NotTracked => "NotTracked",
             Refusal::SpaceDiscarded => "SpaceDiscarded",
             Refusal::NoSuchPath => "NoSuchPath",
+            Refusal::Searching => "Searching",
+            Refusal::ZeroMtu => "ZeroMtu",
             Refusal::Overflow => "Overflow",
             Refusal::Retired => "Retired",
             Refusal::ExceedsLimit => "ExceedsLimit",

@@ -95,8 +95,9 @@ where
             return Err(Refusal::NotTracked);
         };
         here.on_acked(number, &packet);
+        let probe = space == SpaceId::Data && self.current.on_data_acked(number, packet.size);
         self.current.on_packet_acked(now, &packet, app_limited);
-        Ok(Answer::Acked { probe: false })
+        Ok(Answer::Acked { probe })
     }
 
     /// A packet is lost (RFC 9002, A.10).
@@ -110,7 +111,8 @@ where
             return Err(Refusal::NotTracked);
         };
         self.current.remove_in_flight(&packet);
-        Ok(Answer::Lost { probe: false })
+        let probe = space == SpaceId::Data && self.current.on_data_lost(number, packet.size);
+        Ok(Answer::Lost { probe })
     }
 
     /// The keys of a space are dropped (RFC 9001, 4.9).
