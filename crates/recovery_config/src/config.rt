@@ -5,6 +5,7 @@ ghost use Rattle.recovery_config.specs.Settings.{settings_with, initial_mtu_of};
 
 use recovery_base::time::Duration;
 use recovery_congestion::congestion::NewRenoConfig;
+use recovery_mtud::config::MtuDiscoveryConfig;
 use std::marker::Model;
 
 /// The RTT that a path counts with before its first sample, in milliseconds (RFC 9002, 6.2.2).
@@ -56,6 +57,8 @@ pub struct TransportConfig<F> {
     pub initial_rtt: Duration,
     initial_mtu: Mtu,
     min_mtu: Mtu,
+    /// How the MTU of paths is searched for; none turns the search off. Default: that of `MtuDiscoveryConfig`.
+    pub mtu_discovery_config: Option<MtuDiscoveryConfig>,
     /// What makes the congestion controllers of paths.
     pub congestion_controller_factory: F,
 }
@@ -69,6 +72,7 @@ impl<F> TransportConfig<F> {
             initial_rtt: Duration::from_millis(INITIAL_RTT_MILLIS),
             initial_mtu: Mtu::new(LEAST_MTU),
             min_mtu: Mtu::new(LEAST_MTU),
+            mtu_discovery_config: Some(MtuDiscoveryConfig::default()),
             congestion_controller_factory: factory,
         }
     }
@@ -99,6 +103,15 @@ impl<F> TransportConfig<F> {
         ensures value { result.now ≡ record self.old { min_mtu = value } }
     {
         self.min_mtu = Mtu::new(value);
+        self
+    }
+
+    /// How the MTU of paths is searched for; none turns the search off. Default: that of `MtuDiscoveryConfig` (RFC 9000, 14.3).
+    pub fn mtu_discovery_config(&mut self, value: Option<MtuDiscoveryConfig>) -> &mut Self
+        ensures same { result.ghost_name ≡ self.entry.ghost_name }
+        ensures value { result.now ≡ record self.old { mtu_discovery_config = value } }
+    {
+        self.mtu_discovery_config = value;
         self
     }
 

@@ -2,7 +2,7 @@
 use Rattle.std.proofs.Common.{ℕ, ◌≡◌, ◌≤◌, ◌+◌, ◌*◌, List, [], ◌∷◌, ◌++◌, Bool, true, false, refl, ap, ◌∙◌, arith}
 use Rattle.recovery_congestion.specs.Controllers.{ControllerWords}
 use Rattle.recovery_paths.specs.PathStates.{PathState, PathMaking, is_blocked}
-use Rattle.recovery_paths.specs.PathLog.{PathsEntry, OfPaths, PathEntry, PathPast, PathKnown, paths_with, paths_after, pasts_by, each_path, state_of, state_with, past_with, known_of, known_with, PathsStep, PathsLeft, on_current, receives, is_validated, samples, tells, asks, transmits, passes}
+use Rattle.recovery_paths.specs.PathLog.{PathsEntry, OfPaths, PathEntry, PathPast, PathKnown, paths_with, paths_after, pasts_by, each_path, state_of, state_with, past_with, known_of, known_with, PathsStep, PathsLeft, on_current, receives, is_validated, samples, tells, searches, asks, transmits, passes}
 use Rattle.recovery_paths.specs.Threefold.{IsWithinThreefold}
 
 module _ {K : Type 0} (words : ControllerWords K) where
@@ -12,6 +12,7 @@ module _ {K : Type 0} (words : ControllerWords K) where
   state_of-with is_validated past = refl
   state_of-with (samples delay rtt) past = refl
   state_of-with (tells call) past = refl
+  state_of-with (searches call) past = refl
   state_of-with (asks now bytes) past = refl
   state_of-with (transmits bytes) past = refl
   state_of-with (passes now bytes) past = refl
@@ -21,6 +22,7 @@ module _ {K : Type 0} (words : ControllerWords K) where
   generation-with is_validated past = refl
   generation-with (samples delay rtt) past = refl
   generation-with (tells call) past = refl
+  generation-with (searches call) past = refl
   generation-with (asks now bytes) past = refl
   generation-with (transmits bytes) past = refl
   generation-with (passes now bytes) past = refl
@@ -30,6 +32,7 @@ module _ {K : Type 0} (words : ControllerWords K) where
   known_of-with is_validated past = refl
   known_of-with (samples delay rtt) past = refl
   known_of-with (tells call) past = refl
+  known_of-with (searches call) past = refl
   known_of-with (asks now bytes) past = refl
   known_of-with (transmits bytes) past = refl
   known_of-with (passes now bytes) past = refl

@@ -3,7 +3,7 @@ use Rattle.std.proofs.Common.{ℕ, ◌≡◌, ◌≤◌, ◌+◌, ◌*◌, ◌&&
 use Rattle.std.proofs.lemmas.Bool.{ltb-false}
 use Rattle.recovery_congestion.specs.Controllers.{ControllerWords}
 use Rattle.recovery_paths.specs.PathStates.{PathState, PathMaking, is_blocked}
-use Rattle.recovery_paths.specs.PathLog.{PathsEntry, PathEntry, PathPast, pasts_by, state_of, state_with, past_with, on_current, receives, is_validated, samples, tells, asks, transmits, passes}
+use Rattle.recovery_paths.specs.PathLog.{PathsEntry, PathEntry, PathPast, pasts_by, state_of, state_with, past_with, on_current, receives, is_validated, samples, tells, searches, asks, transmits, passes}
 use Rattle.recovery_paths.specs.Threefold.{IsWithinThreefold}
 use Rattle.recovery_paths.proofs.PathLogLaws.{state_of-with}
 
@@ -26,6 +26,7 @@ module _ {K : Type 0} (words : ControllerWords K) where
   threefold_law is_validated past allowed within = λ unproved checked. true_is_not_false unproved
   threefold_law (samples delay rtt) past allowed within = within
   threefold_law (tells call) past allowed within = within
+  threefold_law (searches call) past allowed within = within
   threefold_law (asks now bytes) past allowed within = within
   threefold_law (transmits bytes) past allowed within = λ unproved checked. true_is_not_false (sym (checked 0 (record { bytes = 0; checked = true }) (omega arith)))
   threefold_law (passes now bytes) past allowed within = λ unproved checked. unblocked past.validated _ _ allowed unproved

@@ -3,9 +3,10 @@ use Rattle.std.specs.Prelude.{ℕ, ◌≡◌, ◌+◌, Bool, true, false, List, 
 use Rattle.std.specs.declared.net.socket_addr.SocketAddr.{SocketAddr}
 use Rattle.recovery_congestion.specs.Calls.{ControllerCall, content_by}
 use Rattle.recovery_congestion.specs.Controllers.{ControllerWords}
+use Rattle.recovery_mtud.specs.DiscoveryLog.{MtuCall, discovery_by}
 use Rattle.recovery_pacing.specs.Pacing.{Bucket, PacerCall, paced, less_tokens}
 use Rattle.recovery_rtt.specs.Rtt.{rtt_by}
-use Rattle.recovery_paths.specs.PathStates.{PathState, Path, PathMaking, first_bucket, pacer_call, after_asking, after_transmitting, after_receiving, after_sample, after_telling, after_validation}
+use Rattle.recovery_paths.specs.PathStates.{PathState, Path, PathMaking, first_bucket, pacer_call, after_asking, after_transmitting, after_receiving, after_sample, after_searching, after_telling, after_validation}
 
 -- ---- the paths, whatever is kept for each
 
@@ -42,6 +43,8 @@ pub data PathEntry : Type 0 where
   samples : (delay rtt : ℕ) → PathEntry
   -- the controller is told of something
   tells : (call : ControllerCall) → PathEntry
+  -- the search for the MTU sees something
+  searches : (call : MtuCall) → PathEntry
   -- the pacer is asked for bytes, and nothing is transmitted
   asks : (now bytes : ℕ) → PathEntry
   -- a datagram is transmitted that was not checked
@@ -55,6 +58,7 @@ state_with words (receives bytes) old = after_receiving bytes old
 state_with words is_validated old = after_validation old
 state_with words (samples delay rtt) old = after_sample delay rtt old
 state_with words (tells call) old = after_telling words call old
+state_with words (searches call) old = after_searching call old
 state_with words (asks now bytes) old = after_asking words now bytes old
 state_with words (transmits bytes) old = after_transmitting bytes old
 state_with words (passes now bytes) old = after_transmitting bytes (after_asking words now bytes old)
@@ -80,6 +84,8 @@ pub record PathPast (K : Type 0) : Type 0 where
   pub samples_taken : List (ℕ × ℕ)
   -- what the controller was told (RFC 9002, 7)
   pub calls : List ControllerCall
+  -- what the search for the MTU saw (RFC 8899, 5)
+  pub searched : List MtuCall
   -- what the pacer was asked, and what was taken off (RFC 9002, 7.7)
   pub pacing : List PacerEntry
 
@@ -92,6 +98,7 @@ past_made generation making = record {
   transmissions = [];
   samples_taken = [];
   calls = [];
+  searched = [];
   pacing = [];
 }
 
@@ -122,7 +129,7 @@ module _ {K : Type 0} (words : ControllerWords K) where
     validated = past.validated;
     received = total past.datagrams;
     sent = total_transmitted past.transmissions;
-    mtu = past.making.mtu;
+    discovery = discovery_by past.making.discovery past.searched;
     rtt = rtt_by past.making.rtt past.samples_taken;
     controller = content_by words past.making.controller past.calls;
     pacer = bucket_by (first_bucket words past.making) past.pacing;
@@ -138,6 +145,7 @@ module _ {K : Type 0} (words : ControllerWords K) where
   past_with is_validated past = record past { validated = true }
   past_with (samples delay rtt) past = record past { samples_taken = (delay, rtt) ∷ past.samples_taken }
   past_with (tells call) past = record past { calls = call ∷ past.calls }
+  past_with (searches call) past = record past { searched = call ∷ past.searched }
   past_with (asks now bytes) past = past_asking now bytes past
   past_with (transmits bytes) past = past_transmitting bytes false past
   past_with (passes now bytes) past = past_transmitting bytes true (past_asking now bytes past)

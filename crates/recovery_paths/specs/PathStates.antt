@@ -1,11 +1,16 @@
 -- What is kept for a network path (RFC 9000, 8 and 9; RFC 9002, 5 to 7).
-use Rattle.std.specs.Prelude.{ℕ, ◌+◌, ◌*◌, ◌&&◌, ◌==◌, not, nat_lt, Bool, true, Option, if◌then◌else◌}
+use Rattle.std.specs.Prelude.{ℕ, ◌+◌, ◌*◌, ◌&&◌, ◌==◌, not, nat_lt, Bool, true, Option, None, Some, if◌then◌else◌}
 use Rattle.std.specs.declared.net.socket_addr.SocketAddr.{SocketAddr}
-use Rattle.recovery_congestion.specs.Calls.{ControllerCall, acks, told}
+use Rattle.recovery_congestion.specs.Calls.{ControllerCall, acks, takes_mtu, told}
 use Rattle.recovery_congestion.specs.Controllers.{ControllerWords}
 use Rattle.recovery_ledger.specs.declared.paths.PathLedger.{PathLedger}
 use Rattle.recovery_ledger.specs.declared.spaces.SentPacket.{SentPacket}
 use Rattle.recovery_ledger.specs.Paths.{generation_of, after_leaving}
+use Rattle.recovery_config.specs.declared.config.TransportConfig.{TransportConfig}
+use Rattle.recovery_config.specs.Settings.{initial_mtu_of}
+use Rattle.recovery_mtud.specs.declared.config.MtuDiscoveryConfig.{MtuDiscoveryConfig}
+use Rattle.recovery_mtud.specs.Discovery.{Discovery, discovery_made, discovery_disabled, is_probe}
+use Rattle.recovery_mtud.specs.DiscoveryLog.{MtuCall, loses_probe, loses, discovery_after}
 use Rattle.recovery_pacing.specs.Pacing.{Bucket, PacerCall, bucket_made, paced, delay_of, less_tokens}
 use Rattle.recovery_rtt.specs.Rtt.{Rtt, rtt_made, rtt_updated, rtt_get}
 
@@ -17,8 +22,8 @@ pub record PathState (K : Type 0) : Type 0 where
   -- the bytes of the datagrams that came in, and of those transmitted
   pub received : ℕ
   pub sent : ℕ
-  -- the bytes of a datagram
-  pub mtu : ℕ
+  -- the MTU in use, and the search for it
+  pub discovery : Discovery
   pub rtt : Rtt
   pub controller : K
   pub pacer : Bucket
@@ -32,10 +37,25 @@ pub record Path (K : Type 0) : Type 0 where
 pub record PathMaking (K : Type 0) : Type 0 where
   pub remote : SocketAddr
   pub validated : Bool
+  -- the bytes of a datagram, for the controller and the pacer
   pub mtu : ℕ
+  pub discovery : Discovery
   pub rtt : ℕ
   pub controller : K
   pub now : ℕ
+
+-- the MTU of a path that is made, and the search for it, where it is allowed and the settings say how
+abbrev pub discovery_with : {F : Type 0} → Option ℕ → TransportConfig F → Option MtuDiscoveryConfig → Discovery
+discovery_with limit config None = discovery_disabled (initial_mtu_of config) config.min_mtu
+discovery_with limit config (Some settings) = discovery_made (initial_mtu_of config) config.min_mtu limit settings
+
+abbrev pub first_discovery : {F : Type 0} → Bool → Option ℕ → TransportConfig F → Discovery
+first_discovery allowed limit config =
+    discovery_with limit config (if allowed then config.mtu_discovery_config else None)
+
+-- the probe in flight is lost, or another packet
+abbrev pub loss_call : ℕ → ℕ → Discovery → MtuCall
+loss_call number bytes discovery = if is_probe number discovery then loses_probe else loses number bytes
 
 module _ {K : Type 0} where
   -- ---- the amplification limit (RFC 9000, 8.1)
@@ -55,6 +75,10 @@ module _ {K : Type 0} where
   abbrev pub after_sample : ℕ → ℕ → PathState K → PathState K
   after_sample delay rtt path = record path { rtt = rtt_updated delay rtt path.rtt }
 
+  -- the search for the MTU sees something (RFC 8899, 5; RFC 9000, 14.3)
+  abbrev pub after_searching : MtuCall → PathState K → PathState K
+  after_searching call path = record path { discovery = discovery_after call path.discovery }
+
   abbrev pub after_transmitting : ℕ → PathState K → PathState K
   after_transmitting bytes path = record path { sent = path.sent + bytes; pacer = less_tokens bytes path.pacer }
 
@@ -70,7 +94,7 @@ module _ {K : Type 0} (words : ControllerWords K) where
     validated = making.validated;
     received = 0;
     sent = 0;
-    mtu = making.mtu;
+    discovery = making.discovery;
     rtt = rtt_made making.rtt;
     controller = making.controller;
     pacer = first_bucket making;
@@ -79,6 +103,12 @@ module _ {K : Type 0} (words : ControllerWords K) where
   -- the controller is told of something (RFC 9002, 7)
   abbrev pub after_telling : ControllerCall → PathState K → PathState K
   after_telling call path = record path { controller = told words call path.controller }
+
+  -- where the search changes the MTU, the controller is told of it
+  abbrev pub after_search : Bool → MtuCall → PathState K → PathState K
+  after_search changes call path =
+      let after = after_searching call path in
+      if changes then after_telling (takes_mtu after.discovery.mtu) after else after
 
   -- an acknowledged packet of the path that elicits an ACK is told
   abbrev pub after_acked : ℕ → Bool → SentPacket → Path K → PathState K
@@ -100,7 +130,7 @@ module _ {K : Type 0} (words : ControllerWords K) where
   pacer_call path now bytes = record {
     bytes = bytes;
     rtt = rtt_get path.rtt;
-    mtu = path.mtu;
+    mtu = path.discovery.mtu;
     window = words.window path.controller;
     now = now;
   }

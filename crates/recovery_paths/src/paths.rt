@@ -1,21 +1,25 @@
 //! What is kept for each network path: its round-trip time, its controller and its pacer, what came in and went out, and what
 //! is in flight on it (RFC 9000, 8 and 9; RFC 9002).
 ghost use Rattle.std.specs.Prelude.{◌≡◌, Decides, ◌↔◌, ◌<◌, ◌+◌, ◌^◌, ◌≤◌, false, true, OnOk, OnErr, IfOk, IsErrOf};
-ghost use Rattle.std.specs.Option.{ForSome};
+ghost use Rattle.std.specs.Option.{ForSome, IfSome};
 ghost use Rattle.recovery_congestion.specs.Calls.{sends, ends_acks, congests};
 ghost use Rattle.recovery_config.specs.Settings.{initial_mtu_of};
 ghost use Rattle.recovery_ledger.specs.InFlight.{IsCounted, IsCountedIn, SumsLeave, Overflows};
 ghost use Rattle.recovery_ledger.specs.Packets.{AreBelow, IsAboveLast, forgotten_entry, after_sending};
 ghost use Rattle.recovery_ledger.specs.Paths.{generation_of, counters_of, fresh_ledger, after_leaving, path_after_sending};
 ghost use Rattle.recovery_ledger.specs.Spaces.{tracking_of, with_tracking, packets_of, space_empties};
-ghost use Rattle.recovery_paths.specs.PathStates.{Path, is_blocked, after_receiving, after_validation, after_sample, after_transmitting};
-ghost use Rattle.recovery_paths.specs.PathStates.{state_made, after_telling, path_acked, after_asking, path_delay};
+ghost use Rattle.recovery_mtud.specs.Discovery.{is_probe, is_searching_of, reports};
+ghost use Rattle.recovery_mtud.specs.DiscoveryLog.{acks, losses_end, is_limited};
+ghost use Rattle.recovery_paths.specs.PathStates.{Path, is_blocked, after_receiving, after_validation, after_sample, after_searching, after_transmitting, loss_call, first_discovery};
+ghost use Rattle.recovery_paths.specs.PathStates.{state_made, after_telling, after_search, path_acked, after_asking, path_delay};
 
+use recovery_base::below::SpaceId;
 use recovery_base::time::{Duration, Instant};
 use recovery_config::config::TransportConfig;
 use recovery_congestion::congestion::{Controller, ControllerFactory};
 use recovery_ledger::paths::PathLedger;
 use recovery_ledger::spaces::{PacketSpace, SentPacket};
+use recovery_mtud::mtud::MtuDiscovery;
 use recovery_pacing::pacing::Pacer;
 use recovery_rtt::rtt::RttEstimator;
 use std::marker::Model;
@@ -48,12 +52,12 @@ pub struct PathData<C: Controller> {
     pub total_sent: u64,
     /// The bytes of all datagrams that came in on the path.
     pub total_recvd: u64,
-    mtu: u16,
+    /// The MTU in use, and the search for it (RFC 9000, 14.3).
+    pub mtud: MtuDiscovery,
     ledger: PathLedger,
 }
 
 impl<C: Controller> Model for PathData<C> {
-    ghost use Rattle.std.specs.Prelude.{◌<◌};
     ghost use Rattle.recovery_paths.specs.PathStates.{Path};
 
     ghost Value = { Path C.Content };
@@ -65,30 +69,35 @@ impl<C: Controller> Model for PathData<C> {
         validated = path.validated;
         received = path.total_recvd;
         sent = path.total_sent;
-        mtu = path.mtu;
+        discovery = path.mtud;
         rtt = path.rtt;
         controller = C.content path.congestion;
         pacer = path.pacing;
       };
     } };
 
-    ghost invariant = { λ path. (0 < path.mtu) × C.is_sound (C.content path.congestion) };
+    ghost invariant = { λ path. C.is_sound (C.content path.congestion) };
 }
 
 impl<C: Controller + Drop> PathData<C> {
     /// A path on which nothing was sent yet, to an address that is not validated. Its controller is built and its pacer is
-    /// full, for the initial MTU and RTT of the settings.
+    /// full, for the initial MTU and RTT of the settings. Its MTU is searched for where that is allowed and the settings say
+    /// how, up to the peer's limit (bytes, above zero) where there is one.
     pub fn new<F: ControllerFactory<Controller = C>>(
         remote: SocketAddr,
+        allow_mtud: bool,
+        peer_max_udp_payload_size: Option<u16>,
         generation: u64,
         now: Instant,
         config: &TransportConfig<F>,
     ) -> Self
+        requires limit { IfSome peer_max_udp_payload_size (λ limit. 0 < limit) }
         ensures ledger { result.ledger ≡ fresh_ledger generation }
         ensures state { result.state ≡ state_made C.words (record {
           remote = remote;
           validated = false;
           mtu = initial_mtu_of config.now;
+          discovery = first_discovery allow_mtud peer_max_udp_payload_size config.now;
           rtt = config.now.initial_rtt;
           controller = F.built config.now.congestion_controller_factory now (initial_mtu_of config.now);
           now = now;
@@ -104,7 +113,7 @@ impl<C: Controller + Drop> PathData<C> {
             validated: false,
             total_sent: 0,
             total_recvd: 0,
-            mtu,
+            mtud: discovery_for(allow_mtud, peer_max_udp_payload_size, config),
             ledger: PathLedger::new(generation),
         }
     }
@@ -125,10 +134,10 @@ impl<C: Controller + Drop> PathData<C> {
 
     /// The bytes of a datagram that the path carries, above zero.
     pub fn current_mtu(&self) -> u16
-        ensures value { result ≡ self.now.state.mtu }
+        ensures value { result ≡ self.now.state.discovery.mtu }
         ensures positive { 0 < result }
     {
-        self.mtu
+        self.mtud.current_mtu()
     }
 
     /// Whether so many bytes may not be sent, since the address is not validated and they would come to more than three
@@ -269,8 +278,9 @@ impl<C: Controller + Drop> PathData<C> {
         ensures asked { self.new ≡ record self.old { state = after_asking C.words now bytes_to_send self.old.state } }
     {
         let window = self.congestion.window();
+        let mtu = self.mtud.current_mtu();
         self.pacing
-            .delay(self.rtt.get(), bytes_to_send, self.mtu, window, now)
+            .delay(self.rtt.get(), bytes_to_send, mtu, window, now)
     }
 
     /// Whether the total sent has room for so many bytes more.
@@ -287,5 +297,82 @@ impl<C: Controller + Drop> PathData<C> {
     {
         self.total_sent += u64::from(bytes);
         self.pacing.on_transmit(bytes);
+    }
+
+    /// A packet of 1-RTT keys was acknowledged, of so many bytes: whether it was the probe of the MTU in flight. Then its size is
+    /// the MTU in use, and the controller is told of it (RFC 8899, 5).
+    pub fn on_data_acked(&mut self, number: u64, bytes: u16) -> bool
+        ensures probe { result ≡ is_probe number self.old.state.discovery }
+        ensures state { let changes = is_probe number self.old.state.discovery in
+            self.new ≡ record self.old { state = after_search C.words changes (acks number bytes) self.old.state } }
+    {
+        let is_probe = self.mtud.on_acked(SpaceId::Data, number, bytes);
+        if is_probe {
+            self.congestion.on_mtu_update(self.mtud.current_mtu());
+        }
+        is_probe
+    }
+
+    /// A packet of 1-RTT keys was lost, of so many bytes: whether it was the probe of the MTU in flight. Any other counts
+    /// as the sign of a black hole (RFC 8899, 4.3).
+    pub fn on_data_lost(&mut self, number: u64, bytes: u16) -> bool
+        ensures probe { result ≡ is_probe number self.old.state.discovery }
+        ensures state { self.new ≡ record self.old { state = after_searching (loss_call number bytes self.old.state.discovery) self.old.state } }
+    {
+        let is_probe = self.mtud.in_flight_mtu_probe() == Some(number);
+        if is_probe {
+            self.mtud.on_probe_lost();
+        } else {
+            self.mtud.on_non_probe_lost(number, bytes);
+        }
+        is_probe
+    }
+
+    /// All losses of a moment were told: whether there was a black hole. Then the least MTU is in use, and the controller is told of
+    /// it (RFC 8899, 4.3).
+    pub fn on_losses_done(&mut self, now: Instant) -> bool
+        ensures report { result ≡ reports self.old.state.discovery }
+        ensures state { let changes = reports self.old.state.discovery in
+            self.new ≡ record self.old { state = after_search C.words changes (losses_end now) self.old.state } }
+    {
+        let is_black_hole = self.mtud.black_hole_detected(now);
+        if is_black_hole {
+            self.congestion.on_mtu_update(self.mtud.current_mtu());
+        }
+        is_black_hole
+    }
+
+    /// The peer takes datagrams of at most so many bytes, above zero (RFC 9000, 18.2), while no search runs. The MTU in use falls to
+    /// it; the controller is told nothing.
+    pub fn limit_by_peer(&mut self, size: u16)
+        requires size { 0 < size }
+        requires no_search { is_searching_of self.old.state.discovery ≡ false }
+        ensures { self.new ≡ record self.old { state = after_searching (is_limited size) self.old.state } }
+    {
+        self.mtud.on_peer_max_udp_payload_size_received(size);
+    }
+
+    /// The search for the MTU goes on from here.
+    pub fn search_on(&mut self, mtud: MtuDiscovery)
+        ensures { self.new ≡ record self.old { state = record self.old.state { discovery = mtud } } }
+    {
+        self.mtud = mtud;
+    }
+}
+
+/// The search for the MTU of a path that is made.
+fn discovery_for<F>(
+    allow_mtud: bool,
+    limit: Option<u16>,
+    config: &TransportConfig<F>,
+) -> MtuDiscovery
+    requires { IfSome limit (λ size. 0 < size) }
+    ensures { result ≡ first_discovery allow_mtud limit config.now }
+{
+    let mtu = config.get_initial_mtu();
+    let min_mtu = config.get_min_mtu();
+    match config.mtu_discovery_config {
+        Some(settings) if allow_mtud => MtuDiscovery::new(mtu, min_mtu, limit, settings),
+        _ => MtuDiscovery::disabled(mtu, min_mtu),
     }
 }
