@@ -62,6 +62,7 @@ nothing_changes {K} words old new same = record {
   remote_ids = ap (λ (p : Parts K). remote_ids p.remote_cids) same;
   local_ids = ap (λ (p : Parts K). p.local_ids) same;
   paths = ap (λ (p : Parts K). paths_known p.paths) same;
+  limits = ap (λ (p : Parts K). p.peer_limit) same;
 }
 
 -- an event in one space, which may change what is in flight on a path, and be something to the path
@@ -76,6 +77,7 @@ space_changes words old space entry there path paths step same = record {
   remote_ids = refl;
   local_ids = refl;
   paths = same;
+  limits = refl;
 }
 
 -- ---- a received packet

@@ -14,7 +14,7 @@ use Rattle.quic_recovery.specs.Entries.{Entries, logs_with}
 use Rattle.quic_recovery.specs.History.{Beginning, Reply}
 use Rattle.recovery_ledger.specs.InFlight.{in_flight}
 use Rattle.recovery_ledger.specs.Ledger.{tracked_by, IsBalanced}
-use Rattle.quic_recovery.specs.Known.{SpaceKnown, Known, Logs, known_by, tracked_known, first_ids, first_path}
+use Rattle.quic_recovery.specs.Known.{SpaceKnown, Known, Logs, known_by, tracked_known, first_ids, first_path, last_limit}
 use Rattle.recovery_ids.specs.LocalLog.{FirstIds, LocalStep, LocalIdsLeft}
 use Rattle.recovery_ledger.specs.Packets.{Packets}
 use Rattle.quic_recovery.specs.Parts.{Parts}
@@ -25,7 +25,7 @@ use Rattle.recovery_paths.proofs.PathLogLaws.{paths_law}
 use Rattle.recovery_ids.specs.RemoteLog.{RemoteStep, RemoteIdsLeft}
 use Rattle.recovery_acks.specs.RequestLog.{RequestStep, FrequencyLeft}
 use Rattle.recovery_ledger.specs.Spaces.{space_of, sent_of, acks_of, counts_of, SpaceStep, SpaceLeft}
-use Rattle.quic_recovery.specs.State.{InFlightLeft, LeftBy, Steps, ChangesBy, Changes, known_to}
+use Rattle.quic_recovery.specs.State.{InFlightLeft, LeftBy, LimitStep, Steps, ChangesBy, Changes, known_to}
 use Rattle.recovery_base.specs.TimerLog.{TimerStep, TimersLeft}
 use Rattle.recovery_ledger.specs.Tracked.{Sent, sent_by}
 use Rattle.recovery_ids.proofs.LocalLogLaws.{local_law}
@@ -60,6 +60,7 @@ known_same {F} {K} beginning logs state left =
     ∙ ap (λ (l : LocalIds). record k₃ { local_ids = l }) left.local_ids.same
     ∙ ap (λ (m : Timer → Option ℕ). record k₄ { moment_of = m }) (fun_ext left.timers)
     ∙ ap (λ (p : OfPaths (PathKnown K)). record k₅ { paths = p }) left.paths
+    ∙ ap (λ (l : Option ℕ). record k₆ { peer_limit = l }) left.limits
   where
     old : Known K
     old = known_to state
@@ -81,6 +82,9 @@ known_same {F} {K} beginning logs state left =
 
     k₅ : Known K
     k₅ = record k₄ { moment_of = new.moment_of }
+
+    k₆ : Known K
+    k₆ = record k₅ { paths = new.paths }
 
     spaces : (space : SpaceId) → old.spaces space ≡ new.spaces space
     spaces space =
@@ -107,6 +111,7 @@ left_after {F} {K} beginning logs entries old new left steps balanced = record {
   remote_ids = left_by RemoteStep (RemoteIdsLeft initial) (remote_law initial) entries.remote_ids logs.remote_ids _ _ left.remote_ids steps.remote_ids;
   local_ids = left_by LocalStep (LocalIdsLeft ids) (local_law ids) entries.local_ids logs.local_ids _ _ left.local_ids steps.local_ids;
   paths = paths;
+  limits = left_by LimitStep (λ log limit. limit ≡ last_limit log) (λ size log old_limit new_limit same step. step) entries.limits logs.limits _ _ left.limits steps.limits;
   in_flight = in_flight_law beginning (logs_with entries logs) new.spaces new.paths paths spaces balanced;
 }
   where

@@ -15,6 +15,9 @@ use Rattle.quic_recovery.specs.Logs.{onto}
 use Rattle.recovery_congestion.specs.Calls.{ControllerCall, sends as sends_bytes, acks, ends_acks, congests, takes_mtu}
 use Rattle.recovery_ledger.specs.declared.spaces.SentPacket.{SentPacket}
 use Rattle.recovery_ledger.specs.Packets.{packet_at}
+use Rattle.recovery_mtud.specs.Discovery.{is_data, is_probe, reports}
+use Rattle.recovery_mtud.specs.DiscoveryLog.{MtuCall, polls, is_limited, losses_end, discovery_after, acks as acks_packet}
+use Rattle.recovery_paths.specs.PathStates.{loss_call}
 use Rattle.recovery_paths.specs.PathLog.{PathEntry, PathsEntry, on_current, receives, is_validated, samples, searches, tells, asks, transmits, passes}
 use Rattle.recovery_ids.specs.RemoteLog.{RemoteEntry, given, used, replaced}
 use Rattle.recovery_acks.specs.RequestLog.{RequestEntry, taken, too_small}
@@ -79,15 +82,12 @@ acked_entry known now app_limited (Some packet) =
 
 -- ---- what the search for the MTU of the path in use sees (RFC 8899, 5; RFC 9000, 14.3): packets of 1-RTT keys alone
 
--- a call of the discovery, and what the controller is told where it changes the MTU
+-- what the search sees, and what the controller is told where that changes the MTU
 abbrev pub searched : {K : Type 0} → Known K → Bool → MtuCall → List (PathsEntry PathEntry)
 searched known changes call =
     let after = discovery_after call known.paths.current.state.discovery in
-    let searches_so = on_current (searches call) ∷ [] in
-    if changes then on_current (tells (takes_mtu after.mtu)) ∷ searches_so else searches_so
-
-abbrev pub is_data : SpaceId → Bool
-is_data space = same_space space Data
+    let seen = on_current (searches call) ∷ [] in
+    if changes then on_current (tells (takes_mtu after.mtu)) ∷ seen else seen
 
 -- the packet is the probe in flight
 abbrev pub is_known_probe : {K : Type 0} → Known K → SpaceId → ℕ → Bool
@@ -96,15 +96,13 @@ is_known_probe known space number = is_data space && is_probe number known.paths
 abbrev pub acked_search : {K : Type 0} → Known K → SpaceId → ℕ → Option SentPacket → List (PathsEntry PathEntry)
 acked_search known space number None = []
 acked_search known space number (Some packet) =
-    if is_data space
-    then searched known (is_known_probe known space number) (acks_packet number packet.size) else []
+    if is_data space then searched known (is_known_probe known space number) (acks_packet number packet.size) else []
 
 abbrev pub lost_search : {K : Type 0} → Known K → SpaceId → ℕ → Option SentPacket → List (PathsEntry PathEntry)
 lost_search known space number None = []
 lost_search known space number (Some packet) =
-    if is_data space
-    then searched known false (if is_known_probe known space number then loses_probe else loses_packet number packet.size)
-    else []
+    let call = loss_call number packet.size known.paths.current.state.discovery in
+    if is_data space then searched known false call else []
 
 -- the end of an ACK, with the bytes in flight on the path
 abbrev pub end_call : {K : Type 0} → Known K → ℕ → Bool → Option ℕ → ControllerCall

@@ -14,7 +14,7 @@ use Rattle.recovery_ledger.specs.InFlight.{in_flight}
 use Rattle.recovery_ledger.specs.Packets.{Packets}
 use Rattle.recovery_config.specs.Settings.{initial_mtu_of}
 use Rattle.recovery_paths.specs.PathLog.{PathEntry, PathsEntry, PathKnown, OfPaths, paths_known_by}
-use Rattle.recovery_paths.specs.PathStates.{PathMaking}
+use Rattle.recovery_paths.specs.PathStates.{PathMaking, first_discovery}
 use Rattle.recovery_ids.specs.RemoteLog.{RemoteEntry, remote_ids_by}
 use Rattle.recovery_acks.specs.RequestLog.{RequestEntry, last_asked}
 use Rattle.recovery_ledger.specs.SpaceLog.{SpaceEntry}
@@ -100,6 +100,7 @@ first_path beginning =
       remote = beginning.config.remote;
       validated = beginning.config.validated;
       mtu = mtu;
+      discovery = first_discovery beginning.config.allow_mtud None transport;
       rtt = transport.initial_rtt;
       controller = beginning.built transport.congestion_controller_factory beginning.start mtu;
       now = beginning.start;
