@@ -1,1 +1,3 @@
-
+pub mod BurstLaws
+pub mod DiscoveryLaws
+pub mod SearchLaws

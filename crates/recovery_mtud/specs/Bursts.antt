@@ -1,6 +1,6 @@
 -- The detection of black holes by bursts of losses (RFC 8899, 4.3): packets that were sent one after another and lost. A burst is
 -- suspicious where all its packets were larger than what is known to get through. Sizes are in bytes.
-use Rattle.std.specs.Prelude.{ℕ, ◌≡◌, ◌+◌, ◌≤◌, ◌<◌, ◌==◌, nat_lt, nat_le, min, max, Bool, true, false, ◌&&◌, not, if◌then◌else◌, Option, Some, None, List, [], ◌∷◌, ◌++◌, length, filter}
+use Rattle.std.specs.Prelude.{ℕ, ◌+◌, ◌≤◌, ◌<◌, ◌==◌, nat_lt, nat_le, min, max, Bool, false, ◌&&◌, not, if◌then◌else◌, Option, Some, None, List, [], ◌∷◌, ◌++◌, length, filter}
 use Rattle.recovery_mtud.specs.declared.detector.Burst.{Burst}
 
 pub record LossBursts : Type 0 where

@@ -1,5 +1,5 @@
 -- MTU discovery by what was told to it.
-use Rattle.std.specs.Prelude.{ℕ, ◌≡◌, ◌<◌, min, ⊤, if◌then◌else◌, Option, List, [], ◌∷◌, unwrap_or}
+use Rattle.std.specs.Prelude.{ℕ, ◌<◌, min, ⊤, if◌then◌else◌, List, [], ◌∷◌, unwrap_or}
 use Rattle.recovery_mtud.specs.Discovery.{Discovery, discovery_polled, discovery_limited, discovery_acked, discovery_probe_lost, discovery_lost, discovery_ended, discovery_reset, size_of_probe, reports}
 
 pub data MtuCall : Type 0 where

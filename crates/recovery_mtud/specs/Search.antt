@@ -1,6 +1,6 @@
 -- The search for a path's MTU (RFC 8899, 5; RFC 9000, 14.3): it halves the distance between a size that gets through and the
 -- largest that may. Sizes are in bytes, moments and spans in nanoseconds.
-use Rattle.std.specs.Prelude.{ℕ, ◌≡◌, ◌+◌, ◌-◌, ◌/◌, ◌^◌, ◌≤◌, ◌<◌, ◌==◌, nat_lt, nat_le, min, max, ⊤, Bool, true, false, ◌&&◌, if◌then◌else◌, Option, Some, None, is_some}
+use Rattle.std.specs.Prelude.{ℕ, ◌+◌, ◌-◌, ◌/◌, ◌^◌, ◌≤◌, ◌<◌, ◌==◌, nat_lt, nat_le, min, max, ⊤, Bool, true, false, ◌&&◌, if◌then◌else◌, Option, Some, None, is_some}
 use Rattle.recovery_mtud.specs.declared.config.MtuDiscoveryConfig.{MtuDiscoveryConfig}
 use Rattle.recovery_mtud.specs.declared.search.Phase.{Phase}
 use Rattle.recovery_mtud.specs.declared.search.Phase.TheVariants.{Initial, Searching, Complete}

@@ -1,5 +1,5 @@
 //! Sizes of the bursts of losses that are suspicious.
-ghost use Rattle.std.specs.Prelude.{◌≡◌, ◌<◌, ◌≤◌, nat_lt, [], filter, length};
+ghost use Rattle.std.specs.Prelude.{◌≡◌, ◌<◌, ◌≤◌, nat_lt, [], ◌∷◌, ◌++◌, filter, length};
 ghost use Rattle.recovery_mtud.specs.Bursts.{with_burst};
 
 use std::marker::Model;
@@ -50,13 +50,21 @@ impl Bursts {
         self.count
     }
 
+    fn push(&mut self, size: u16)
+        requires { length self.old < 4 }
+        ensures { self.new ≡ self.old ++ size ∷ [] }
+    {
+        self.sizes[self.count] = size;
+        self.count += 1;
+    }
+
     /// One more, or in place of the first of the least.
     pub(crate) fn add(&mut self, size: u16)
-        ensures { self.new ≡ with_burst size self.old }
+        ensures sizes { self.new ≡ with_burst size self.old }
+        ensures few { length self.new ≤ 4 }
     {
         if self.count < BLACK_HOLE_BURSTS {
-            self.sizes[self.count] = size;
-            self.count += 1;
+            self.push(size);
             return;
         }
         let [a, b, c, d] = self.sizes;
@@ -77,16 +85,16 @@ impl Bursts {
 
     /// Keeps those that are above a size.
     pub(crate) fn retain_above(&mut self, size: u16)
-        ensures { self.new ≡ filter (λ least. nat_lt size least) self.old }
+        ensures sizes { self.new ≡ filter (λ least. nat_lt size least) self.old }
+        ensures few { length self.new ≤ 4 }
     {
-        let mut sizes = [0; BLACK_HOLE_BURSTS];
-        let mut count = 0;
+        let mut kept = Bursts::new();
         for place in 0..self.count {
-            if self.sizes[place] > size {
-                sizes[count] = self.sizes[place];
-                count += 1;
+            let least = self.sizes[place];
+            if least > size {
+                kept.push(least);
             }
         }
-        *self = Bursts { sizes, count };
+        *self = kept;
     }
 }

@@ -4,5 +4,6 @@
 mod bursts;
 pub mod config;
 mod detector;
+pub mod laws;
 pub mod mtud;
 mod search;

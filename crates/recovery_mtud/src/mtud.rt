@@ -133,6 +133,7 @@ impl MtuDiscovery {
 
     /// A packet of so many bytes was acknowledged: whether it was the probe in flight. The MTU in use is then its size. Outside
     /// Data nothing changes.
+    #[tactic(auto, using(crate::proofs::BurstLaws::bursts_acked_sound))]
     pub fn on_acked(&mut self, space: SpaceId, packet_number: u64, packet_bytes: u16) -> bool
         ensures answer { result ≡ is_data space && is_probe packet_number self.old }
         ensures after { self.new ≡ (if is_data space then discovery_acked packet_number packet_bytes self.old else self.old) }

@@ -1,6 +1,6 @@
 //! The search for a path's MTU (RFC 8899, 5; RFC 9000, 14.3).
 ghost use Rattle.std.specs.Prelude.{◌≡◌, ◌<◌, ◌≤◌, IfSome};
-ghost use Rattle.recovery_mtud.specs.Search.{search_made, begun, narrowed, next_size, size_to_probe, search_poll, search_polled};
+ghost use Rattle.recovery_mtud.specs.Search.{search_made, begun, narrowed, next_size, size_to_probe, probing_at, search_poll, search_polled};
 ghost use Rattle.recovery_mtud.specs.Search.{flight_in, is_running, probed_size, search_acked, search_lost, search_reported, search_limited};
 ghost use Rattle.recovery_mtud.specs.Search.{IsProbingSound};
 
@@ -155,34 +155,43 @@ impl Search {
         }
     }
 
+    /// The search that a poll finds, or begins.
+    fn probing_at(&self, mtu: u16, now: Instant) -> Option<Probing>
+        requires { 0 < mtu }
+        ensures value { result ≡ probing_at mtu now self.now }
+        ensures sound { IfSome result IsProbingSound }
+    {
+        match self.phase {
+            Phase::Initial => Some(self.begin(mtu)),
+            Phase::Searching(probing) => Some(probing),
+            Phase::Complete(activation) => {
+                if now < activation {
+                    return None;
+                }
+                Some(self.begin(mtu))
+            }
+        }
+    }
+
     /// The size to probe now, if any, with a packet of this number.
     pub(crate) fn poll(&mut self, mtu: u16, now: Instant, number: u64) -> Option<u16>
         requires { 0 < mtu }
         ensures answer { result ≡ search_poll mtu now self.old }
         ensures after { self.new ≡ search_polled mtu now number self.old }
     {
-        let mut probing = match self.phase {
-            Phase::Initial => self.begin(mtu),
-            Phase::Searching(probing) => probing,
-            Phase::Complete(activation) => {
-                if now < activation {
-                    return None;
-                }
-                self.begin(mtu)
-            }
-        };
+        let mut probing = self.probing_at(mtu, now)?;
         if probing.in_flight.is_some() {
             return None;
         }
         let next = probing.advance(self.config.minimum_change);
-        self.phase = match next {
-            Some(size) => Phase::Searching(Probing {
-                in_flight: Some(number),
-                last: size,
-                ..probing
-            }),
-            None => Phase::Complete(now + self.config.interval),
-        };
+        match next {
+            Some(size) => {
+                probing.in_flight = Some(number);
+                probing.last = size;
+                self.phase = Phase::Searching(probing);
+            }
+            None => self.phase = Phase::Complete(now + self.config.interval),
+        }
         next
     }
 
@@ -207,10 +216,9 @@ impl Search {
     pub(crate) fn on_probe_lost(&mut self)
         ensures { self.new ≡ search_lost self.old }
     {
-        let Phase::Searching(probing) = &mut self.phase else {
-            return;
-        };
-        if probing.in_flight.is_some() {
+        if let Phase::Searching(probing) = &mut self.phase
+            && probing.in_flight.is_some()
+        {
             probing.in_flight = None;
             probing.losses += 1;
         }
