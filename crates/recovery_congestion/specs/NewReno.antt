@@ -1,7 +1,6 @@
 -- NewReno (RFC 9002, 7 and appendix B), with whole numbers: a fraction in place of the reduction factor, sums that stop at
 -- the end of 64 bits, and growth in congestion avoidance by counted bytes (RFC 3465, 2.1).
-use Rattle.std.specs.Prelude.{ℕ, ◌≡◌, ◌+◌, ◌-◌, ◌*◌, ◌/◌, ◌<◌, ◌≤◌, ◌^◌, min, max, Bool, true, false, Some, None, ◌||◌, nat_le, nat_lt, if◌then◌else◌}
-use Rattle.recovery_rtt.specs.Rtt.{Rtt}
+use Rattle.std.specs.Prelude.{ℕ, ◌≡◌, ◌+◌, ◌-◌, ◌*◌, ◌/◌, ◌<◌, ◌≤◌, ◌^◌, min, max, Bool, false, Some, None, ◌||◌, nat_le, nat_lt, if◌then◌else◌}
 use Rattle.recovery_congestion.specs.declared.congestion.ControllerMetrics.{ControllerMetrics}
 use Rattle.recovery_congestion.specs.declared.congestion.new_reno.NewReno.{NewReno}
 use Rattle.recovery_congestion.specs.RenoSettings.{RenoSettings}

@@ -1,5 +1,5 @@
 -- The estimate of the round-trip time, in nanoseconds (RFC 9002, 5).
-use Rattle.std.specs.Prelude.{ℕ, ◌≡◌, ◌+◌, ◌-◌, ◌*◌, ◌/◌, ◌≤◌, ◌^◌, min, max, List, [], ◌∷◌, Option, None, Some, nat_le, if◌then◌else◌}
+use Rattle.std.specs.Prelude.{ℕ, ◌+◌, ◌-◌, ◌*◌, ◌/◌, ◌≤◌, ◌^◌, min, max, List, [], ◌∷◌, Option, None, Some, nat_le, if◌then◌else◌}
 use Rattle.std.specs.Option.{unwrap_or}
 
 pub record Rtt : Type 0 where
@@ -45,6 +45,12 @@ rtt_updated delay sample old = rtt_sampled delay sample old.smoothed old
 abbrev pub rtt_by : ℕ → List (ℕ × ℕ) → Rtt
 rtt_by initial [] = rtt_made initial
 rtt_by initial (sample ∷ earlier) = rtt_updated sample.0 sample.1 (rtt_by initial earlier)
+
+-- the least of some samples, the newest first; the initial RTT where there is none
+abbrev pub least_of : ℕ → List (ℕ × ℕ) → ℕ
+least_of initial [] = initial
+least_of initial (sample ∷ []) = sample.1
+least_of initial (sample ∷ (before ∷ earlier)) = min (least_of initial (before ∷ earlier)) sample.1
 
 -- the best estimate: the smoothed value, or the initial RTT before the first sample
 abbrev pub rtt_get : Rtt → ℕ

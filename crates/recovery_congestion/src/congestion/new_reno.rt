@@ -144,8 +144,7 @@ impl Controller for NewReno {
     /// Changes nothing.
     fn on_sent(&mut self, _now: Instant, _bytes: u64, _last_packet_number: u64)
         ensures { self.new ≡ self.old }
-    {
-    }
+    {}
 
     /// The window never falls. In congestion avoidance it grows by one MTU for each window of bytes.
     fn on_ack(
@@ -158,7 +157,8 @@ impl Controller for NewReno {
     )
         ensures value { self.new ≡ reno_acked sent bytes app_limited self.old }
         ensures kept { self.old.window ≤ self.new.window }
-        ensures raises { AvoidsBelowMost sent bytes app_limited self.old → RaisesArea bytes self.old self.new }
+        ensures raises { AvoidsBelowMost sent bytes app_limited self.old
+            → RaisesArea bytes self.old self.new }
     {
         if app_limited || sent <= self.recovery_start_time {
             return;
@@ -187,8 +187,7 @@ impl Controller for NewReno {
         _largest_packet_num_acked: Option<u64>,
     )
         ensures { self.new ≡ self.old }
-    {
-    }
+    {}
 
     /// Does nothing for packets sent before the recovery began. Nothing else lets the window fall.
     fn on_congestion_event(
