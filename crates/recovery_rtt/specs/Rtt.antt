@@ -1,5 +1,5 @@
 -- The estimate of the round-trip time, in nanoseconds (RFC 9002, 5).
-use Rattle.std.specs.Prelude.{ℕ, ◌+◌, ◌-◌, ◌*◌, ◌/◌, ◌≤◌, ◌^◌, min, max, List, [], ◌∷◌, Option, None, Some, nat_le, if◌then◌else◌}
+use Rattle.std.specs.Prelude.{ℕ, ◌+◌, ◌-◌, ◌*◌, ◌/◌, ◌≤◌, ◌^◌, ⊤, min, max, List, [], ◌∷◌, Option, None, Some, nat_le, if◌then◌else◌}
 use Rattle.std.specs.Option.{unwrap_or}
 
 pub record Rtt : Type 0 where
@@ -74,7 +74,7 @@ pto_base_of rtt = min (rtt_get rtt + max (4 * rtt.variance) granularity) longest
 
 -- what holds of every estimate: the smoothed value, where there is one, is no less than the least
 abbrev pub IsAboveLeast : Option ℕ → ℕ → Type 0
-IsAboveLeast None least = Unit {0}
+IsAboveLeast None least = ⊤
 IsAboveLeast (Some smoothed) least = least ≤ smoothed
 
 -- the greater of a sample and the smoothed value, where there is one

@@ -1,7 +1,7 @@
 //! NewReno (RFC 9002, 7 and appendix B).
 ghost use Rattle.std.specs.Prelude.{◌≡◌, ◌<◌, ◌≤◌, Ok, refl};
 ghost use Rattle.recovery_congestion.specs.RenoSettings.{default_reno};
-ghost use Rattle.recovery_congestion.specs.NewReno.{reno_made, reno_words, reno_acked, reno_congested, reno_with_mtu, reno_metrics, minimum_window, reduced_window, IsRenoSound, AvoidsBelowMost, RaisesArea};
+ghost use Rattle.recovery_congestion.specs.NewReno.{reno_made, reno_words, reno_acked, reno_congested, reno_with_mtu, reno_metrics, minimum_window, reduced_window, IsRenoSound, AvoidsBelowMost, CountsBytes};
 ghost use Rattle.recovery_congestion.specs.RenoLaws.{reno_laws};
 
 use super::{Controller, ControllerFactory, ControllerMetrics};
@@ -157,8 +157,8 @@ impl Controller for NewReno {
     )
         ensures value { self.new ≡ reno_acked sent bytes app_limited self.old }
         ensures kept { self.old.window ≤ self.new.window }
-        ensures raises { AvoidsBelowMost sent bytes app_limited self.old
-            → RaisesArea bytes self.old self.new }
+        ensures exact { AvoidsBelowMost sent bytes app_limited self.old
+            → CountsBytes bytes self.old self.new }
     {
         if app_limited || sent <= self.recovery_start_time {
             return;
