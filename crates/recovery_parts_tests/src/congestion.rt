@@ -2,7 +2,9 @@
 ghost use Rattle.std.specs.Prelude.{◌<◌};
 
 use recovery_base::time::{Duration, Instant};
-use recovery_congestion::congestion::{Controller, ControllerFactory, ControllerMetrics, NewRenoConfig};
+use recovery_congestion::congestion::{
+    Controller, ControllerFactory, ControllerMetrics, NewRenoConfig,
+};
 use recovery_halving::HalvingConfig;
 use recovery_rtt::rtt::RttEstimator;
 use std::process::Abort;
