@@ -5,7 +5,7 @@ An input is a beginning, which brings the program into a state, and the lines th
 this file. A figure is what the whole input takes less what its beginning takes, divided by the lines that are counted.
 A '*' marks instructions that differ by more than 5% between the numbers of lines.
 
-    bench/run.py                          every input at 10^4, 10^5 and 10^6 lines (an hour of a processor)
+    bench/run.py                          every input at 10^4, 10^5 and 10^6 lines (half an hour)
     bench/run.py --quick                  a few inputs at 10^4 and 10^5 lines (a minute)
     bench/run.py in_order --lines 1000    these inputs, so many lines
     bench/run.py --jobs 4                 four runs side by side: the figures are the same
@@ -264,8 +264,8 @@ def row(an_input, counts, pool):
         figures = [run.result() for run in runs]
         taken = [figure[0] for figure in figures]
         mark = "*" if max(taken) > 1.05 * min(taken) else " "
-        return "".join([f"{an_input.name:{WIDTH}}", *(f"{a:12,.0f}" for a in taken), mark,
-                        *(f"{b:12,.0f}" for _, b in figures)])
+        return "".join([f"{an_input.name:{WIDTH}}", *(f"{a:13,.0f}" for a in taken), mark,
+                        *(f"{b:13,.0f}" for _, b in figures)])
     return text
 
 
@@ -288,9 +288,9 @@ def main():
     inputs = [each for each in INPUTS if each.name in chosen.inputs or not chosen.inputs and (each.quick or not chosen.quick)]
     counts = chosen.lines or ([10**4, 10**5] if chosen.quick else [10**4, 10**5, 10**6])
     subprocess.run([SCRIPT], stdin=subprocess.DEVNULL, check=True)
-    titles = f"{'instructions a line':>{12 * len(counts)}} {'peak bytes a line':>{12 * len(counts)}}"
-    print(f"{'':{WIDTH}}{titles}")
-    print("".join([f"{'lines':{WIDTH}}", *(f"{count:12,}" for count in counts), " ", *(f"{count:12,}" for count in counts)]))
+    width = 13 * len(counts)
+    print(f"{'of each line':{WIDTH}}{'instructions':>{width}} {'peak bytes':>{width}}")
+    print("".join([f"{'lines':{WIDTH}}", *(f"{count:13,}" for count in counts), " ", *(f"{count:13,}" for count in counts)]))
     with concurrent.futures.ThreadPoolExecutor(chosen.jobs) as pool:
         for text in [row(each, counts, pool) for each in inputs]:
             print(text(), flush=True)
