@@ -12,7 +12,7 @@ use quic_recovery::driver::{Recovery, RecoveryConfig};
 use quic_recovery::event::Event;
 use recovery_base::below::{ConnectionId, NoMemory};
 use recovery_base::time::{Duration, Instant};
-use recovery_lines::answers::write_reply;
+use recovery_lines::answers::render;
 use recovery_lines::number_in;
 use std::alloc::Global;
 use std::io;
@@ -87,19 +87,14 @@ fn config() -> RecoveryConfig
     }
 }
 
-/// The lines that are written for events. Each reply is written as it comes, so that none is kept.
+/// The lines that are written for events.
 fn answers(alloc: Global, events: Vec<Event>) -> Result<String, NoMemory>
     ensures { IfOk result (λ text.
         Session (λ said. said ≡ events.items) (λ lines. string_bytes text ≡ lines)) }
 {
     let start = Instant::from_nanos(0);
-    let mut recovery = Recovery::new(alloc, config(), start)?;
-    let mut text = String::new(alloc);
-    for event in events {
-        let reply = recovery.apply(event);
-        write_reply(&mut text, &reply)?;
-    }
-    Ok(text)
+    let (_, replies) = Recovery::run(alloc, config(), start, events)?;
+    render(alloc, &replies)
 }
 
 /// Are these the arguments of a run: nothing, or a number?
