@@ -1,6 +1,9 @@
 //! What is written for each reply: one line.
 ghost use Rattle.std.specs.Prelude.{◌≡◌, IfOk, OnOk, string_bytes};
-ghost use Rattle.recovery_lines.specs.Answers.{Writes, new_text, sent_text, done_with_text, retire_text, flag_text, timeout_text, in_flight_text, refusal_text, answer_text, answer_lines};
+ghost use Rattle.recovery_lines.specs.Answers.{Writes, new_text, sent_text, done_with_text};
+ghost use Rattle.recovery_lines.specs.Answers.{retire_text, flag_text, timeout_text};
+ghost use Rattle.recovery_lines.specs.Answers.{in_flight_text, delayed_text, refusal_text};
+ghost use Rattle.recovery_lines.specs.Answers.{answer_text, answer_lines};
 
 use quic_recovery::event::{Answer, Refusal};
 use recovery_base::below::{NoMemory, ResetToken};
@@ -75,6 +78,12 @@ fn write_in_flight(text: &mut String, bytes: u64, ack_eliciting: u64) -> Result<
     writeln!(text, "in-flight {bytes} {ack_eliciting}")
 }
 
+fn write_delayed(text: &mut String, until: Instant) -> Result<(), AllocError>
+    ensures { OnOk result (Writes text.old (delayed_text until) text.new) }
+{
+    writeln!(text, "delayed {}", until.as_nanos())
+}
+
 fn write_refusal(text: &mut String, refusal: Refusal) -> Result<(), AllocError>
     ensures { OnOk result (Writes text.old (refusal_text refusal) text.new) }
 {
@@ -100,6 +109,10 @@ pub fn write_reply(text: &mut String, reply: &Result<Answer, Refusal>) -> Result
                 ack_eliciting,
             },
         ) => write_in_flight(text, *bytes, *ack_eliciting),
+        Ok(Answer::Transmitted) => writeln!(text, "transmitted"),
+        Ok(Answer::Blocked) => writeln!(text, "blocked"),
+        Ok(Answer::Delayed(until)) => write_delayed(text, *until),
+        Ok(Answer::Ready) => writeln!(text, "ready"),
         Ok(Answer::Done) => writeln!(text, "done"),
         Err(refusal) => write_refusal(text, *refusal),
     }
