@@ -178,16 +178,79 @@ is_issue_ids = record { own = ids_own; ids = ids_words; plain = refl }
 -- each of them, in their order
 are_forms : AllByRecursion IsForm forms
 unfolding is_plain
-are_forms =
-    (says (λ x. refl) refl, (says (λ x. refl) refl, (says (λ x. refl) refl,
-    (says (λ x. refl) refl, (says (λ x. refl) refl, (says (λ x. refl) refl,
-    (says (λ x. refl) refl, (is_issue_ids, (says (λ x. refl) refl,
-    (says (λ x. refl) refl, (says (λ x. refl) refl, (says (λ x. refl) refl,
-    (says (λ x. refl) refl, (says (λ x. refl) refl, (says (λ x. refl) refl,
-    (says (λ x. refl) refl, (says (λ x. refl) refl, (says (λ x. refl) refl,
-    (says (λ x. refl) refl, (says (λ x. refl) refl, (says (λ x. refl) refl,
-    (says (λ x. refl) refl, (says (λ x. refl) refl, (says (λ x. refl) refl,
-    (says (λ x. refl) refl, tt)))))))))))))))))))))))))
+are_forms = (
+  says (λ x. refl) refl,
+  (
+    says (λ x. refl) refl,
+    (
+      says (λ x. refl) refl,
+      (
+        says (λ x. refl) refl,
+        (
+          says (λ x. refl) refl,
+          (
+            says (λ x. refl) refl,
+            (
+              says (λ x. refl) refl,
+              (
+                is_issue_ids,
+                (
+                  says (λ x. refl) refl,
+                  (
+                    says (λ x. refl) refl,
+                    (
+                      says (λ x. refl) refl,
+                      (
+                        says (λ x. refl) refl,
+                        (
+                          says (λ x. refl) refl,
+                          (
+                            says (λ x. refl) refl,
+                            (
+                              says (λ x. refl) refl,
+                              (
+                                says (λ x. refl) refl,
+                                (
+                                  says (λ x. refl) refl,
+                                  (
+                                    says (λ x. refl) refl,
+                                    (
+                                      says (λ x. refl) refl,
+                                      (
+                                        says (λ x. refl) refl,
+                                        (
+                                          says (λ x. refl) refl,
+                                          (
+                                            says (λ x. refl) refl,
+                                            (
+                                              says (λ x. refl) refl,
+                                              (
+                                                says (λ x. refl) refl,
+                                                (says (λ x. refl) refl, tt),
+                                              ),
+                                            ),
+                                          ),
+                                        ),
+                                      ),
+                                    ),
+                                  ),
+                                ),
+                              ),
+                            ),
+                          ),
+                        ),
+                      ),
+                    ),
+                  ),
+                ),
+              ),
+            ),
+          ),
+        ),
+      ),
+    ),
+  ),
+)
 
 -- the form of an event's line is the one of its name
 is_listed : (unkept : ℕ) (event : Event) → form_named forms (saying unkept event).0.name ≡ Some (saying unkept event).0

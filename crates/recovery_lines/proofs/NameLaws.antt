@@ -38,10 +38,61 @@ pub none_of_length : (n : ℕ)
     → n ≢ 4 → n ≢ 5 → n ≢ 6 → n ≢ 7 → n ≢ 8 → n ≢ 9 → n ≢ 10 → n ≢ 11 → n ≢ 12 → n ≢ 13 → n ≢ 17
     → of_length n forms ≡ []
 none_of_length n h4 h5 h6 h7 h8 h9 h10 h11 h12 h13 h17 =
-    none_of n forms
-    (h8, (h4, (h5, (h4, (h6, (h7, (h10, (h9, (h10, (h12,
-    (h13, (h9, (h17, (h9, (h10, (h12, (h7, (h9,
-    (h6, (h11, (h9, (h8, (h11, (h10, (h8, tt)))))))))))))))))))))))))
+    none_of n forms (
+      h8,
+      (
+        h4,
+        (
+          h5,
+          (
+            h4,
+            (
+              h6,
+              (
+                h7,
+                (
+                  h10,
+                  (
+                    h9,
+                    (
+                      h10,
+                      (
+                        h12,
+                        (
+                          h13,
+                          (
+                            h9,
+                            (
+                              h17,
+                              (
+                                h9,
+                                (
+                                  h10,
+                                  (
+                                    h12,
+                                    (
+                                      h7,
+                                      (
+                                        h9,
+                                        (h6, (h11, (h9, (h8, (h11, (h10, (h8, tt))))))),
+                                      ),
+                                    ),
+                                  ),
+                                ),
+                              ),
+                            ),
+                          ),
+                        ),
+                      ),
+                    ),
+                  ),
+                ),
+              ),
+            ),
+          ),
+        ),
+      ),
+    )
 
 -- a name that none of its length is
 pub unnamed : (name : List ℕ) (words : List (List ℕ)) (n : ℕ) → length name ≡ n → form_named (of_length n forms) name ≡ None → line_behind name words ≡ None

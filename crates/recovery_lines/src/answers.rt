@@ -11,6 +11,14 @@ use recovery_base::time::Instant;
 use std::alloc::{AllocError, Global};
 use std::ops::Range;
 
+/// A line of one word.
+fn write_word(text: &mut String, word: &str) -> Result<(), AllocError>
+    ensures { OnOk result (Writes text.old word.now text.new) }
+{
+    text.push_str(word)?;
+    text.push_str("\n")
+}
+
 fn write_new(text: &mut String, arm: bool) -> Result<(), AllocError>
     ensures { OnOk result (Writes text.old (new_text arm) text.new) }
 {
@@ -96,7 +104,7 @@ pub fn write_reply(text: &mut String, reply: &Result<Answer, Refusal>) -> Result
 {
     match reply {
         Ok(Answer::New { arm }) => write_new(text, *arm),
-        Ok(Answer::Duplicate) => writeln!(text, "duplicate"),
+        Ok(Answer::Duplicate) => write_word(text, "duplicate"),
         Ok(Answer::Sent { number, forgotten }) => write_sent(text, *number, *forgotten),
         Ok(Answer::Acked { probe }) => write_done_with(text, "acked", *probe),
         Ok(Answer::Lost { probe }) => write_done_with(text, "lost", *probe),
@@ -109,11 +117,11 @@ pub fn write_reply(text: &mut String, reply: &Result<Answer, Refusal>) -> Result
                 ack_eliciting,
             },
         ) => write_in_flight(text, *bytes, *ack_eliciting),
-        Ok(Answer::Transmitted) => writeln!(text, "transmitted"),
-        Ok(Answer::Blocked) => writeln!(text, "blocked"),
+        Ok(Answer::Transmitted) => write_word(text, "transmitted"),
+        Ok(Answer::Blocked) => write_word(text, "blocked"),
         Ok(Answer::Delayed(until)) => write_delayed(text, *until),
-        Ok(Answer::Ready) => writeln!(text, "ready"),
-        Ok(Answer::Done) => writeln!(text, "done"),
+        Ok(Answer::Ready) => write_word(text, "ready"),
+        Ok(Answer::Done) => write_word(text, "done"),
         Err(refusal) => write_refusal(text, *refusal),
     }
 }

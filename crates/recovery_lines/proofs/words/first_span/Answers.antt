@@ -1,4 +1,4 @@
-use Rattle.std.proofs.Common.{◌≡◌, ◌==◌, ◌*◌, ◌^◌, ◌∙◌, ℕ, Some, ap, sym, lit≤}
+use Rattle.std.proofs.Common.{◌==◌, ◌*◌, ◌^◌, ◌∙◌, ℕ, Some, ap, sym, lit≤}
 use Rattle.std.specs.List.{before_first}
 use Rattle.recovery_lines.proofs.NumberLaws.{wider_limit}
 use Rattle.recovery_lines.proofs.words.first_span.Goals as goal
