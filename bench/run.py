@@ -171,6 +171,46 @@ def refused_ids():
         yield issue_ids(i, 10**6, MOST_IDS)
 
 
+# ---- the path in use
+
+def late(i):
+    """Ten digits each, 20 ms apart, for ever: the pacer gets tokens, and too few now and then."""
+    return 10**9 + i % 400 * 20_000_000
+
+
+def pacing():
+    """On a validated path (the beginning) a datagram is to be transmitted, and the pacer is asked for another."""
+    yield "validated current"
+    for i in itertools.count():
+        yield f"transmit {late(i)} 1200 1"
+        yield f"pacer-check {late(i)} 1200"
+
+
+def samples():
+    for i in itertools.count():
+        yield f"sample {i * 31 % 1000 + 1000} {10**8 + i * 7919 % 10**8}"
+
+
+def congestion():
+    """Each loss is of a packet that was sent after the recovery before it began."""
+    for i in itertools.count():
+        yield f"congestion {moment(i)} {moment(i)} 0 1200"
+
+
+def connection():
+    """As on a connection, whose path is validated and on which a packet is in flight (the beginning): two packets come in and
+    two go out, one is acknowledged, and a datagram is transmitted."""
+    yield "validated current"
+    yield send(0)
+    for i in itertools.count():
+        yield f"received data {late(i)} {10**6 + 2 * i} 1"
+        yield f"received data {late(i)} {10**6 + 2 * i + 1} 0"
+        yield f"send data {late(i)} 1200 1 {10**6 + 2 * i + 1}"
+        yield f"send data {late(i)} 40 0 {10**6 + 2 * i + 1}"
+        yield f"acked data {late(i)} {2 * i} 0"
+        yield f"transmit {late(i)} 1200 1"
+
+
 # ---- timers
 
 def timers():
@@ -217,6 +257,10 @@ INPUTS = [
     *(of_ids(unretired, name, place_of) for unretired in [8, 1000, 100000]
       for name, place_of in [("middle", middle), ("random", any_place)]),
     Input("refused_ids", refused_ids),
+    Input("pacing", pacing, beginning=1, quick=True),
+    Input("samples", samples),
+    Input("congestion", congestion),
+    Input("connection", connection, beginning=2, quick=True),
     Input("timers", timers, quick=True),
     Input("mixed", lambda: in_pairs(received_each(in_blocks, 1), timers())),
 ]
