@@ -198,16 +198,16 @@ def congestion():
 
 
 def connection():
-    """As on a connection, whose path is validated and on which a packet is in flight (the beginning): two packets come in and
-    two go out, one is acknowledged, and a datagram is transmitted."""
+    """As on a connection, whose path is validated (the beginning): two packets come in, two go out and are acknowledged, and a
+    datagram is transmitted."""
     yield "validated current"
-    yield send(0)
     for i in itertools.count():
         yield f"received data {late(i)} {10**6 + 2 * i} 1"
         yield f"received data {late(i)} {10**6 + 2 * i + 1} 0"
         yield f"send data {late(i)} 1200 1 {10**6 + 2 * i + 1}"
         yield f"send data {late(i)} 40 0 {10**6 + 2 * i + 1}"
         yield f"acked data {late(i)} {2 * i} 0"
+        yield f"acked data {late(i)} {2 * i + 1} 0"
         yield f"transmit {late(i)} 1200 1"
 
 
@@ -260,7 +260,7 @@ INPUTS = [
     Input("pacing", pacing, beginning=1, quick=True),
     Input("samples", samples),
     Input("congestion", congestion),
-    Input("connection", connection, beginning=2, quick=True),
+    Input("connection", connection, beginning=1, quick=True),
     Input("timers", timers, quick=True),
     Input("mixed", lambda: in_pairs(received_each(in_blocks, 1), timers())),
 ]
