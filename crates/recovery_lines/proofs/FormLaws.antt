@@ -31,6 +31,7 @@ use Rattle.recovery_lines.specs.Reading.{◌>>=◌, field, value_of, fields_read
 use Rattle.recovery_lines.specs.Words.{flag_word, space_word, timer_word, path_word, largest_word}
 use Rattle.recovery_lines.proofs.FieldLaws.{bind_some, some_is, IsField, number_field, flag_field, space_field, timer_field, path_field, largest_field, field_takes, field_again}
 use Rattle.recovery_lines.proofs.IdLaws.{AreZero, zero_ids_are}
+use Rattle.recovery_lines.proofs.NameLaws.{◌⨾◌}
 use Rattle.recovery_lines.proofs.PlainLaws.{IsPlain, is_plain, tested_plain, decimal_plain}
 
 -- ---- the fields
@@ -178,79 +179,16 @@ is_issue_ids = record { own = ids_own; ids = ids_words; plain = refl }
 -- each of them, in their order
 are_forms : AllByRecursion IsForm forms
 unfolding is_plain
-are_forms = (
-  says (λ x. refl) refl,
-  (
-    says (λ x. refl) refl,
-    (
-      says (λ x. refl) refl,
-      (
-        says (λ x. refl) refl,
-        (
-          says (λ x. refl) refl,
-          (
-            says (λ x. refl) refl,
-            (
-              says (λ x. refl) refl,
-              (
-                is_issue_ids,
-                (
-                  says (λ x. refl) refl,
-                  (
-                    says (λ x. refl) refl,
-                    (
-                      says (λ x. refl) refl,
-                      (
-                        says (λ x. refl) refl,
-                        (
-                          says (λ x. refl) refl,
-                          (
-                            says (λ x. refl) refl,
-                            (
-                              says (λ x. refl) refl,
-                              (
-                                says (λ x. refl) refl,
-                                (
-                                  says (λ x. refl) refl,
-                                  (
-                                    says (λ x. refl) refl,
-                                    (
-                                      says (λ x. refl) refl,
-                                      (
-                                        says (λ x. refl) refl,
-                                        (
-                                          says (λ x. refl) refl,
-                                          (
-                                            says (λ x. refl) refl,
-                                            (
-                                              says (λ x. refl) refl,
-                                              (
-                                                says (λ x. refl) refl,
-                                                (says (λ x. refl) refl, tt),
-                                              ),
-                                            ),
-                                          ),
-                                        ),
-                                      ),
-                                    ),
-                                  ),
-                                ),
-                              ),
-                            ),
-                          ),
-                        ),
-                      ),
-                    ),
-                  ),
-                ),
-              ),
-            ),
-          ),
-        ),
-      ),
-    ),
-  ),
-)
+are_forms =
+    says (λ x. refl) refl ⨾ says (λ x. refl) refl ⨾ says (λ x. refl) refl ⨾
+    says (λ x. refl) refl ⨾ says (λ x. refl) refl ⨾ says (λ x. refl) refl ⨾
+    says (λ x. refl) refl ⨾ is_issue_ids ⨾ says (λ x. refl) refl ⨾
+    says (λ x. refl) refl ⨾ says (λ x. refl) refl ⨾ says (λ x. refl) refl ⨾
+    says (λ x. refl) refl ⨾ says (λ x. refl) refl ⨾ says (λ x. refl) refl ⨾
+    says (λ x. refl) refl ⨾ says (λ x. refl) refl ⨾ says (λ x. refl) refl ⨾
+    says (λ x. refl) refl ⨾ says (λ x. refl) refl ⨾ says (λ x. refl) refl ⨾
+    says (λ x. refl) refl ⨾ says (λ x. refl) refl ⨾ says (λ x. refl) refl ⨾
+    says (λ x. refl) refl ⨾ tt
 
 -- the form of an event's line is the one of its name
 is_listed : (unkept : ℕ) (event : Event) → form_named forms (saying unkept event).0.name ≡ Some (saying unkept event).0
