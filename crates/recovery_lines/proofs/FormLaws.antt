@@ -1,5 +1,7 @@
 -- Each form of a line: what is read is spelled so, what is spelled so is read, and the words are plain.
-use Rattle.std.proofs.Common.{◌≡◌, ℕ, ◌*◌, ◌<◌, ◌^◌, Bool, true, false, cond, List, [], ◌∷◌, ◌++◌, Option, Some, None, IfSome, bytes_eq, refl, sym, ap, ap₂, subst, ◌∙◌, arith, lit≤}
+use Rattle.std.proofs.Common.{◌≡◌, ℕ, ◌*◌, ◌<◌, ◌^◌, Bool, true, false, cond, List, [], ◌∷◌, ◌++◌}
+use Rattle.std.proofs.Common.{Option, Some, None, IfSome, bytes_eq, refl, sym, ap, ap₂, subst}
+use Rattle.std.proofs.Common.{◌∙◌, arith, lit≤}
 use Rattle.std.specs.Global.{Vec}
 use Rattle.std.specs.List.{AllByRecursion}
 use Rattle.std.proofs.lemmas.Slice.Eq.{bytes_eq-Decides}
@@ -14,8 +16,9 @@ use Rattle.quic_recovery.specs.declared.event.Event.TheVariants.{Received, Send,
 use Rattle.quic_recovery.specs.declared.event.Event.TheVariants.{NewId, NextId, InitialId, IssueIds}
 use Rattle.quic_recovery.specs.declared.event.Event.TheVariants.{IdTimeout, PeerRetired}
 use Rattle.quic_recovery.specs.declared.event.Event.TheVariants.{AckFrequencyIn, AcksSent}
-use Rattle.quic_recovery.specs.declared.event.Event.TheVariants.{AckDelayTimeout, SetTimer, StopTimer}
-use Rattle.quic_recovery.specs.declared.event.Event.TheVariants.{NextTimeout, DiscardSpace, InFlight}
+use Rattle.quic_recovery.specs.declared.event.Event.TheVariants.{AckDelayTimeout, SetTimer}
+use Rattle.quic_recovery.specs.declared.event.Event.TheVariants.{StopTimer, NextTimeout}
+use Rattle.quic_recovery.specs.declared.event.Event.TheVariants.{DiscardSpace, InFlight}
 use Rattle.quic_recovery.specs.declared.event.Event.TheVariants.{Sample, DatagramIn, Validated}
 use Rattle.quic_recovery.specs.declared.event.Event.TheVariants.{Transmit, PacerCheck}
 use Rattle.quic_recovery.specs.declared.event.Event.TheVariants.{Congestion, EndAcks}

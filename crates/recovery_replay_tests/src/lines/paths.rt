@@ -5,11 +5,7 @@ use std::process::Abort;
 use std::test::Fail;
 
 /// Asserts what the program writes to one script, of which each line comes so many times and is answered so.
-fn assert_lines(
-    rt: &impl Abort,
-    alloc: Global,
-    lines: &[(usize, &str, &str)],
-) -> Result<(), Fail> {
+fn assert_lines(rt: &impl Abort, alloc: Global, lines: &[(usize, &str, &str)]) -> Result<(), Fail> {
     let mut script = String::new(alloc);
     let mut answers = String::new(alloc);
     for (times, line, answer) in lines {
