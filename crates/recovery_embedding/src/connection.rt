@@ -12,8 +12,9 @@ use std::net::SocketAddr;
 /// How late this end's ACKs may be (RFC 9000, 18.2: max_ack_delay).
 const MAX_ACK_DELAY: u64 = 25;
 
-/// What the recovery starts with: the default settings of paths, with NewReno; a client, whose peer's address needs no
-/// validation (RFC 9000, 8.1); ids of eight bytes that last for ten seconds, one of them issued.
+/// What the recovery starts with: the default settings of paths, with NewReno; a client, whose peer's
+/// address needs no validation (RFC 9000, 8.1); ids of eight bytes that last for ten seconds, one of
+/// them issued.
 pub fn config(remote: SocketAddr) -> RecoveryConfig<NewRenoConfig>
     ensures { result.issued ≡ 1 }
 {

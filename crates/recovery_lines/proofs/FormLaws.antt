@@ -1,5 +1,7 @@
 -- Each form of a line: what is read is spelled so, what is spelled so is read, and the words are plain.
-use Rattle.std.proofs.Common.{◌≡◌, ℕ, ◌*◌, ◌<◌, ◌^◌, Bool, true, false, cond, List, [], ◌∷◌, ◌++◌, Option, Some, None, IfSome, bytes_eq, refl, sym, ap, ap₂, subst, ◌∙◌, arith, lit≤}
+use Rattle.std.proofs.Common.{◌≡◌, ℕ, ◌*◌, ◌<◌, ◌^◌, Bool, true, false, cond, List, [], ◌∷◌, ◌++◌}
+use Rattle.std.proofs.Common.{Option, Some, None, IfSome, bytes_eq, refl, sym, ap, ap₂, subst}
+use Rattle.std.proofs.Common.{◌∙◌, arith, lit≤}
 use Rattle.std.specs.Global.{Vec}
 use Rattle.std.specs.List.{AllByRecursion}
 use Rattle.std.proofs.lemmas.Slice.Eq.{bytes_eq-Decides}
@@ -14,8 +16,9 @@ use Rattle.quic_recovery.specs.declared.event.Event.TheVariants.{Received, Send,
 use Rattle.quic_recovery.specs.declared.event.Event.TheVariants.{NewId, NextId, InitialId, IssueIds}
 use Rattle.quic_recovery.specs.declared.event.Event.TheVariants.{IdTimeout, PeerRetired}
 use Rattle.quic_recovery.specs.declared.event.Event.TheVariants.{AckFrequencyIn, AcksSent}
-use Rattle.quic_recovery.specs.declared.event.Event.TheVariants.{AckDelayTimeout, SetTimer, StopTimer}
-use Rattle.quic_recovery.specs.declared.event.Event.TheVariants.{NextTimeout, DiscardSpace, InFlight}
+use Rattle.quic_recovery.specs.declared.event.Event.TheVariants.{AckDelayTimeout, SetTimer}
+use Rattle.quic_recovery.specs.declared.event.Event.TheVariants.{StopTimer, NextTimeout}
+use Rattle.quic_recovery.specs.declared.event.Event.TheVariants.{DiscardSpace, InFlight}
 use Rattle.quic_recovery.specs.declared.event.Event.TheVariants.{Sample, DatagramIn, Validated}
 use Rattle.quic_recovery.specs.declared.event.Event.TheVariants.{Transmit, PacerCheck}
 use Rattle.quic_recovery.specs.declared.event.Event.TheVariants.{Congestion, EndAcks}
@@ -31,6 +34,7 @@ use Rattle.recovery_lines.specs.Reading.{◌>>=◌, field, value_of, fields_read
 use Rattle.recovery_lines.specs.Words.{flag_word, space_word, timer_word, path_word, largest_word}
 use Rattle.recovery_lines.proofs.FieldLaws.{bind_some, some_is, IsField, number_field, flag_field, space_field, timer_field, path_field, largest_field, field_takes, field_again}
 use Rattle.recovery_lines.proofs.IdLaws.{AreZero, zero_ids_are}
+use Rattle.recovery_lines.proofs.NameLaws.{◌⨾◌}
 use Rattle.recovery_lines.proofs.PlainLaws.{IsPlain, is_plain, tested_plain, decimal_plain}
 
 -- ---- the fields
@@ -178,79 +182,16 @@ is_issue_ids = record { own = ids_own; ids = ids_words; plain = refl }
 -- each of them, in their order
 are_forms : AllByRecursion IsForm forms
 unfolding is_plain
-are_forms = (
-  says (λ x. refl) refl,
-  (
-    says (λ x. refl) refl,
-    (
-      says (λ x. refl) refl,
-      (
-        says (λ x. refl) refl,
-        (
-          says (λ x. refl) refl,
-          (
-            says (λ x. refl) refl,
-            (
-              says (λ x. refl) refl,
-              (
-                is_issue_ids,
-                (
-                  says (λ x. refl) refl,
-                  (
-                    says (λ x. refl) refl,
-                    (
-                      says (λ x. refl) refl,
-                      (
-                        says (λ x. refl) refl,
-                        (
-                          says (λ x. refl) refl,
-                          (
-                            says (λ x. refl) refl,
-                            (
-                              says (λ x. refl) refl,
-                              (
-                                says (λ x. refl) refl,
-                                (
-                                  says (λ x. refl) refl,
-                                  (
-                                    says (λ x. refl) refl,
-                                    (
-                                      says (λ x. refl) refl,
-                                      (
-                                        says (λ x. refl) refl,
-                                        (
-                                          says (λ x. refl) refl,
-                                          (
-                                            says (λ x. refl) refl,
-                                            (
-                                              says (λ x. refl) refl,
-                                              (
-                                                says (λ x. refl) refl,
-                                                (says (λ x. refl) refl, tt),
-                                              ),
-                                            ),
-                                          ),
-                                        ),
-                                      ),
-                                    ),
-                                  ),
-                                ),
-                              ),
-                            ),
-                          ),
-                        ),
-                      ),
-                    ),
-                  ),
-                ),
-              ),
-            ),
-          ),
-        ),
-      ),
-    ),
-  ),
-)
+are_forms =
+    says (λ x. refl) refl ⨾ says (λ x. refl) refl ⨾ says (λ x. refl) refl ⨾
+    says (λ x. refl) refl ⨾ says (λ x. refl) refl ⨾ says (λ x. refl) refl ⨾
+    says (λ x. refl) refl ⨾ is_issue_ids ⨾ says (λ x. refl) refl ⨾
+    says (λ x. refl) refl ⨾ says (λ x. refl) refl ⨾ says (λ x. refl) refl ⨾
+    says (λ x. refl) refl ⨾ says (λ x. refl) refl ⨾ says (λ x. refl) refl ⨾
+    says (λ x. refl) refl ⨾ says (λ x. refl) refl ⨾ says (λ x. refl) refl ⨾
+    says (λ x. refl) refl ⨾ says (λ x. refl) refl ⨾ says (λ x. refl) refl ⨾
+    says (λ x. refl) refl ⨾ says (λ x. refl) refl ⨾ says (λ x. refl) refl ⨾
+    says (λ x. refl) refl ⨾ tt
 
 -- the form of an event's line is the one of its name
 is_listed : (unkept : ℕ) (event : Event) → form_named forms (saying unkept event).0.name ≡ Some (saying unkept event).0

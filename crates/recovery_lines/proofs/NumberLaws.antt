@@ -134,7 +134,8 @@ first_read bytes value end digits le some lead stops is small =
     position_or_len_is (λ b. b == 32) bytes end 0 le (λ k lt. ne_eqb (get_or bytes k 0) 32 (λ e. let d = digits k lt in omega (arith, d.0))) (λ lt. eq-eqb (get_or bytes end 0) 32 (stops lt)) in
     let len : length (take end bytes) ≡ end = length-take-le end bytes le in
     let number : Some value ≡ number_of (2 ^ 64) (take end bytes) =
-    digits_read (2 ^ 64) (lit≤ tt) (take end bytes) value (taken_digits bytes end digits le) is small (omega arith) (λ first. let few : end ≤ 1 = lead (sym (get_or-take end bytes 0 0 some) ∙ first) in omega arith) in
+    digits_read (2 ^ 64) (lit≤ tt) (take end bytes) value (taken_digits bytes end digits le) is small
+    (omega arith) (λ first. let few : end ≤ 1 = lead (sym (get_or-take end bytes 0 0 some) ∙ first) in omega arith) in
     (rw place (sym number), sym place)
 
 pub empty_none : (limit : ℕ) → limit ≤ 10 ^ 64 → (word : List ℕ) → length word ≡ 0
@@ -189,7 +190,8 @@ large_narrower : (limit small : ℕ) (word : List ℕ) (n : ℕ) → limit ≤ 1
     → number_of limit word ≡ Some n → small ≤ n → number_of small word ≡ None
 large_narrower limit small word n most le some large = no_number small word (λ m lt same.
     let read = number_again limit m most (omega (arith, le, lt)) in
-    let is : n ≡ m = one_number n m (sym some ∙ ap (λ (w : List ℕ). number_of limit w) same ∙ read) in
+    let is : n ≡ m =
+    one_number n m (sym some ∙ ap (λ (w : List ℕ). number_of limit w) same ∙ read) in
     omega (arith, is, lt, large))
 
 pub number_narrow_none : (small : ℕ) (word : List ℕ) → small ≤ 2 ^ 64

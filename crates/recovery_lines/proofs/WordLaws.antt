@@ -1,5 +1,7 @@
 -- The first word of a line.
-use Rattle.std.proofs.Common.{inl, inr, None, Option, refl, ◌⊎◌, ◌≡◌, ℕ, ◌<◌, ◌==◌, Bool, false, List, [], length, take, drop, take_all, ◌+◌, Some, ◌≤◌, not, sym, subst, ap, arith}
+use Rattle.std.proofs.Common.{inl, inr, None, Option, refl, ◌⊎◌, ◌≡◌, ℕ, ◌<◌, ◌==◌, Bool, false}
+use Rattle.std.proofs.Common.{List, [], length, take, drop, take_all, ◌+◌, Some, ◌≤◌, not, sym}
+use Rattle.std.proofs.Common.{subst, ap, arith}
 use Rattle.std.specs.List.{position_or_len, before_first, All}
 use Rattle.std.proofs.lemmas.List.Splits.{slice_split_none, slice_split_first}
 use Rattle.std.proofs.lemmas.List.Sums.{fails_before_first, prefix_len-le-length}

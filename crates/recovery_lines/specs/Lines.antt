@@ -9,8 +9,9 @@ use Rattle.quic_recovery.specs.declared.event.Event.TheVariants.{Received, Send,
 use Rattle.quic_recovery.specs.declared.event.Event.TheVariants.{NewId, NextId, InitialId, IssueIds}
 use Rattle.quic_recovery.specs.declared.event.Event.TheVariants.{IdTimeout, PeerRetired}
 use Rattle.quic_recovery.specs.declared.event.Event.TheVariants.{AckFrequencyIn, AcksSent}
-use Rattle.quic_recovery.specs.declared.event.Event.TheVariants.{AckDelayTimeout, SetTimer, StopTimer}
-use Rattle.quic_recovery.specs.declared.event.Event.TheVariants.{NextTimeout, DiscardSpace, InFlight}
+use Rattle.quic_recovery.specs.declared.event.Event.TheVariants.{AckDelayTimeout, SetTimer}
+use Rattle.quic_recovery.specs.declared.event.Event.TheVariants.{StopTimer, NextTimeout}
+use Rattle.quic_recovery.specs.declared.event.Event.TheVariants.{DiscardSpace, InFlight}
 use Rattle.quic_recovery.specs.declared.event.Event.TheVariants.{Sample, DatagramIn, Validated}
 use Rattle.quic_recovery.specs.declared.event.Event.TheVariants.{Transmit, PacerCheck}
 use Rattle.quic_recovery.specs.declared.event.Event.TheVariants.{Congestion, EndAcks}

@@ -218,7 +218,8 @@ fn first_number(bytes: &[u8]) -> Option<(u64, usize)>
     Some((value, end))
 }
 
-/// The span that the first word of bytes spells, and the length of that word. Few spans are longer than a number.
+/// The span that the first word of bytes spells, and the length of that word. Few spans are longer than
+/// a number.
 fn first_span(bytes: &[u8]) -> Option<(Duration, usize)>
     ensures { IsFirstNumber (2 ^ 64 * 10 ^ 9) bytes.now result }
 {

@@ -4,12 +4,9 @@ use std::alloc::Global;
 use std::process::Abort;
 use std::test::Fail;
 
-/// Asserts what the program writes to one script, of which each line comes so many times and is answered so.
-fn assert_lines(
-    rt: &impl Abort,
-    alloc: Global,
-    lines: &[(usize, &str, &str)],
-) -> Result<(), Fail> {
+/// Asserts what the program writes to one script, of which each line comes so many times and is
+/// answered so.
+fn assert_lines(rt: &impl Abort, alloc: Global, lines: &[(usize, &str, &str)]) -> Result<(), Fail> {
     let mut script = String::new(alloc);
     let mut answers = String::new(alloc);
     for (times, line, answer) in lines {
@@ -43,10 +40,6 @@ fn datagrams(rt: HostRuntime) -> Result<(), Fail> {
         (
             "datagram-in previous 1\nvalidated previous\ntransmit 0 1 1\nvalidated current\ntransmit 0 1 1\n",
             "refused 6 NoSuchPath\nrefused 6 NoSuchPath\nblocked\ndone\ntransmitted\n",
-        ),
-        (
-            "datagram-in current 18446744073709551615\ntransmit 18446744073709551615 65535 0\n",
-            "done\ntransmitted\n",
         ),
     ];
     assert_rows(&rt, rt.alloc(), &rows)
@@ -98,10 +91,6 @@ fn windows(rt: HostRuntime) -> Result<(), Fail> {
             "delayed 22200\ndone\ndelayed 44400\n",
         ),
         (
-            "pacer-check 0 12001\ncongestion 5 1 0 0\npacer-check 0 12001\ncongestion 0 5 0 0\npacer-check 0 12001\ncongestion 0 6 0 0\npacer-check 0 12001\ncongestion 9 1 0 0\npacer-check 0 12001\n",
-            "delayed 22200\ndone\ndelayed 44400\ndone\ndelayed 44400\ndone\ndelayed 88800\ndone\ndelayed 111000\n",
-        ),
-        (
             "send data 1 1200 1 -\nacked data 3 0 0\npacer-check 0 12001\n",
             "sent 0\nacked\ndelayed 20180\n",
         ),
@@ -117,12 +106,40 @@ fn windows(rt: HostRuntime) -> Result<(), Fail> {
             "end-acks 0 1 -\nend-acks 18446744073709551615 0 18446744073709551615\n",
             "done\ndone\n",
         ),
-        (
-            "congestion 18446744073709551615 18446744073709551615 1 18446744073709551615\npacer-check 18446744073709551615 18446744073709551615\n",
-            "done\ndelayed 18446744073709551615\n",
-        ),
     ];
     assert_rows(&rt, rt.alloc(), &rows)
+}
+
+#[test]
+fn one_reduction_in_a_recovery(rt: HostRuntime) -> Result<(), Fail> {
+    let lines = [
+        (1, "pacer-check 0 12001", "delayed 22200"),
+        (1, "congestion 5 1 0 0", "done"),
+        (1, "pacer-check 0 12001", "delayed 44400"),
+        (1, "congestion 0 5 0 0", "done"),
+        (1, "pacer-check 0 12001", "delayed 44400"),
+        (1, "congestion 0 6 0 0", "done"),
+        (1, "pacer-check 0 12001", "delayed 88800"),
+        (1, "congestion 9 1 0 0", "done"),
+        (1, "pacer-check 0 12001", "delayed 111000"),
+    ];
+    assert_lines(&rt, rt.alloc(), &lines)
+}
+
+#[test]
+fn ends_of_64_bits(rt: HostRuntime) -> Result<(), Fail> {
+    const LAST: &str = "pacer-check 18446744073709551615 18446744073709551615";
+    let lines = [
+        (1, "datagram-in current 18446744073709551615", "done"),
+        (1, "transmit 18446744073709551615 65535 0", "transmitted"),
+        (
+            1,
+            "congestion 18446744073709551615 1 1 18446744073709551615",
+            "done",
+        ),
+        (1, LAST, "delayed 18446744073709551615"),
+    ];
+    assert_lines(&rt, rt.alloc(), &lines)
 }
 
 #[test]
