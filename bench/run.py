@@ -1,10 +1,18 @@
 #!/usr/bin/env python3
-"""Runs the proved program on inputs of 10^4, 10^5 and 10^6 lines, and prints events a second and, where valgrind is
-installed, instructions a line. The inputs depend on nothing but this file.
+"""Counts what the proved program takes for a line: instructions (valgrind's callgrind) and peak memory (GNU time).
 
-usage: bench/run.py [--lines N ..] [--no-instructions]
+An input is a beginning, which brings the program into a state, and the lines that are counted. It depends on nothing but
+this file. A figure is what the whole input takes less what its beginning takes, divided by the lines that are counted.
+A '*' marks instructions that differ by more than 5% between the numbers of lines.
+
+    bench/run.py                          every input at 10^4, 10^5 and 10^6 lines (half an hour)
+    bench/run.py --quick                  a few inputs at 10^4 and 10^5 lines (a minute)
+    bench/run.py in_order --lines 1000    these inputs, so many lines
+    bench/run.py --jobs 4                 four runs side by side: the figures are the same
 """
 import argparse
+import concurrent.futures
+import itertools
 import pathlib
 import random
 import re
@@ -12,7 +20,8 @@ import shutil
 import subprocess
 import sys
 import tempfile
-import time
+from dataclasses import dataclass
+from typing import Callable, Iterator
 
 ROOT = pathlib.Path(__file__).resolve().parent.parent
 SCRIPT = ROOT / "recovery-replay"
@@ -20,6 +29,16 @@ PROGRAM = ROOT / "crates" / "recovery_program" / "out" / "recovery_program"
 SPACES = ["initial", "handshake", "data"]
 TIMERS = ["loss-detection", "idle", "close", "key-discard", "path-validation", "keep-alive", "pacing", "push-new-cid",
           "max-ack-delay"]
+MOST_IDS = 64  # that one line issues
+
+
+@dataclass
+class Input:
+    """Lines without end, of which so many are the beginning."""
+    name: str
+    lines: Callable[[], Iterator[str]]
+    beginning: int = 0
+    quick: bool = False
 
 
 def moment(i):
@@ -27,137 +46,299 @@ def moment(i):
     return 10**9 + i * 1000
 
 
-def received(space, i, number):
-    """Numbers have seven digits each."""
-    return f"received {space} {moment(i)} {10**6 + number} {int(number % 2 == 0)}"
+# ---- packets received
+
+def received(i, number):
+    """The spaces in turn. Numbers have seven digits each."""
+    return f"received {SPACES[i % 3]} {moment(i)} {10**6 + number} {int(number % 2 == 0)}"
 
 
-def in_order(count):
-    """Each space receives its numbers in order."""
-    for i in range(count):
-        yield received(SPACES[i % 3], i, i // 3)
+def received_each(numbers_of, step):
+    """Each space receives the same numbers, times a step: with a step of two, 64 ranges are to be acknowledged."""
+    spaces = [numbers_of(random.Random(1)) for _ in SPACES]
+    for i in itertools.count():
+        yield received(i, next(spaces[i % 3]) * step)
 
 
-def gaps(count):
-    """Each space receives every other number in order, so that 64 ranges are to be acknowledged."""
-    for i in range(count):
-        yield received(SPACES[i % 3], i, i // 3 * 2)
+def in_order(_chance):
+    return itertools.count()
 
 
-def reordered(count, step=1):
-    """Each space receives every number once, in blocks of 64 that are shuffled."""
-    chance = random.Random(1)
-    numbers = [iter(()) for _ in SPACES]
-    blocks = [0, 0, 0]
-    for i in range(count):
-        space = i % 3
-        number = next(numbers[space], None)
-        if number is None:
-            block = list(range(blocks[space] * 64, blocks[space] * 64 + 64))
+def in_blocks(chance):
+    """Every number once, in blocks of 64 that are shuffled."""
+    for start in itertools.count(step=64):
+        block = list(range(start, start + 64))
+        chance.shuffle(block)
+        yield from block
+
+
+def at_random(chance):
+    """Every number once, any of the 16 least that did not come yet: some come so late that they count as duplicates."""
+    waiting = list(range(16))
+    for number in itertools.count(16):
+        place = chance.randrange(16)
+        yield waiting[place]
+        waiting[place] = number
+
+
+# ---- packets sent
+
+def send(i):
+    return f"send data {moment(i)} 1200 1 -"
+
+
+def in_turns(window, order, chance):
+    """The numbers from 0 on, in blocks of `window` that are in order, reversed or shuffled."""
+    for start in itertools.count(step=window):
+        block = list(range(start, start + window))
+        if order == "reversed":
+            block.reverse()
+        if order == "shuffled":
             chance.shuffle(block)
-            blocks[space] += 1
-            numbers[space] = iter(block)
-            number = next(numbers[space])
-        yield received(SPACES[space], i, number * step)
-
-
-def reordered_gaps(count):
-    """The same with every other number."""
-    return reordered(count, 2)
-
-
-def remote_ids(count):
-    """The peer issues ids in order, and retires those more than four below."""
-    for i in range(count):
-        yield f"new-id {10**6 + i} {10**6 + i - 4 if i else 10**6} {i % 256}"
-
-
-def local_ids(count):
-    """Ids are issued one by one, and each is retired by the peer; their deadlines pass."""
-    for i in range(count):
-        yield [f"issue-ids {moment(i)} {i // 3 + 1} 1", f"peer-retired {i // 3} 4", "id-timeout"][i % 3]
-
-
-def timers(count):
-    """Timers are set, asked for and stopped in turn."""
-    for i in range(count):
-        timer = TIMERS[i // 3 % 9]
-        yield [f"set-timer {timer} {moment(i) + i * 7919 % 1009}", "next-timeout", f"stop-timer {timer}"][i % 3]
-
-
-def mixed(count):
-    """A received number, reordered, and a timer's line in turn."""
-    kinds = [reordered(count), timers(count)]
-    for i in range(count):
-        yield next(kinds[i % 2])
+        yield from block
 
 
 def tracked(window, order):
-    """Packets are sent and acknowledged with `window` of them in flight, acknowledged in the order given in blocks."""
-    def lines(count):
-        chance = random.Random(2)
-        for number in range(window):
-            yield f"send data {moment(number)} 1200 1 -"
-        acked, sent = [], window
-        for i in range(max(0, count - window)):
-            if i % 2 == 1:
-                yield f"send data {moment(sent)} 1200 1 -"
-                sent += 1
-                continue
-            if not acked:
-                start = i // 2
-                acked = list(range(start, start + window))
-                if order == "reversed":
-                    acked.reverse()
-                if order == "shuffled":
-                    chance.shuffle(acked)
-                acked.reverse()
-            yield f"acked data {moment(i)} {acked.pop()} 0"
-    lines.__name__ = f"tracked_{window}_{order}"
-    return lines
+    """`window` packets are in flight (the beginning); then one is acknowledged and one sent, in turn."""
+    for number in range(window):
+        yield send(number)
+    for i, number in enumerate(in_turns(window, order, random.Random(2))):
+        yield f"acked data {moment(i)} {number} 0"
+        yield send(window + i)
 
 
-INPUTS = [in_order, reordered, gaps, reordered_gaps, timers, mixed, remote_ids, local_ids] + [tracked(window, order) for window in [100, 1000, 10000]
-                                                  for order in ["in_order", "reversed", "shuffled"]]
+# ---- ids of the peer
+
+def new_id(number, retire_prior_to):
+    return f"new-id {10**6 + number} {10**6 + retire_prior_to} {number % 256}"
 
 
-def seconds(path):
-    """The shortest of three runs."""
-    best = None
-    for _ in range(3):
-        with open(path, "rb") as script:
-            start = time.perf_counter()
-            subprocess.run([PROGRAM], stdin=script, stdout=subprocess.DEVNULL, check=True)
-            taken = time.perf_counter() - start
-        best = taken if best is None else min(best, taken)
-    return best
+def remote_ids():
+    """The peer issues ids in order, and retires those more than four below."""
+    for i in itertools.count():
+        yield new_id(i, max(0, i - 4))
 
 
-def instructions(path, folder):
-    """All instructions that callgrind counts, the start of the process among them."""
-    out = pathlib.Path(folder) / "callgrind.out"
-    command = ["valgrind", "--tool=callgrind", f"--callgrind-out-file={out}", str(PROGRAM)]
-    with open(path, "rb") as script:
-        run = subprocess.run(command, stdin=script, stdout=subprocess.DEVNULL, stderr=subprocess.PIPE, check=True)
+def next_ids():
+    """The peer issues ids in order and retires none; this end takes the next one each time."""
+    yield new_id(0, 0)
+    for i in itertools.count(1):
+        yield new_id(i, 0)
+        yield "next-id"
+
+
+# ---- ids of this end
+
+def issue_ids(i, first, count):
+    return f"issue-ids {moment(i)} {first} {count}"
+
+
+def issued_lines(unretired):
+    """How many lines issue all of these but number 0, which is issued at the start."""
+    return -(-(unretired - 1) // MOST_IDS)
+
+
+def local_ids(unretired, place_of):
+    """So many ids are not retired (the beginning). Then the peer retires one, another is issued, and a deadline passes."""
+    chance = random.Random(3)
+    for i in range(issued_lines(unretired)):
+        first = 1 + i * MOST_IDS
+        yield issue_ids(i, first, min(MOST_IDS, unretired - first))
+    ids = list(range(unretired))
+    for i in itertools.count(issued_lines(unretired)):
+        number = ids[-1] + 1
+        yield f"peer-retired {ids.pop(place_of(chance, unretired))} 4"
+        yield issue_ids(i, number, 1)
+        yield "id-timeout"
+        ids.append(number)
+
+
+def least(_chance, _unretired):
+    return 0
+
+
+def middle(_chance, unretired):
+    return unretired // 2
+
+
+def any_place(chance, unretired):
+    return chance.randrange(unretired)
+
+
+def refused_ids():
+    """64 ids that do not go on where they should."""
+    for i in itertools.count():
+        yield issue_ids(i, 10**6, MOST_IDS)
+
+
+# ---- the path in use
+
+def late(i):
+    """Ten digits each, 20 ms apart, for ever: the pacer gets tokens, and too few now and then."""
+    return 10**9 + i % 400 * 20_000_000
+
+
+def pacing():
+    """On a validated path (the beginning) a datagram is to be transmitted, and the pacer is asked for another."""
+    yield "validated current"
+    for i in itertools.count():
+        yield f"transmit {late(i)} 1200 1"
+        yield f"pacer-check {late(i)} 1200"
+
+
+def samples():
+    for i in itertools.count():
+        yield f"sample {i * 31 % 1000 + 1000} {10**8 + i * 7919 % 10**8}"
+
+
+def congestion():
+    """Each loss is of a packet that was sent after the recovery before it began."""
+    for i in itertools.count():
+        yield f"congestion {moment(i)} {moment(i)} 0 1200"
+
+
+def connection():
+    """As on a connection, whose path is validated (the beginning): two packets come in, two go out and are acknowledged, and a
+    datagram is transmitted."""
+    yield "validated current"
+    for i in itertools.count():
+        yield f"received data {late(i)} {10**6 + 2 * i} 1"
+        yield f"received data {late(i)} {10**6 + 2 * i + 1} 0"
+        yield f"send data {late(i)} 1200 1 {10**6 + 2 * i + 1}"
+        yield f"send data {late(i)} 40 0 {10**6 + 2 * i + 1}"
+        yield f"acked data {late(i)} {2 * i} 0"
+        yield f"acked data {late(i)} {2 * i + 1} 0"
+        yield f"transmit {late(i)} 1200 1"
+
+
+# ---- timers
+
+def timers():
+    """Timers are set, asked for and stopped in turn."""
+    for i in itertools.count():
+        timer = TIMERS[i % 9]
+        yield f"set-timer {timer} {moment(i) + i * 7919 % 1009}"
+        yield "next-timeout"
+        yield f"stop-timer {timer}"
+
+
+def in_pairs(first, second):
+    """A line of each in turn."""
+    for lines in zip(first, second):
+        yield from lines
+
+
+# ---- all inputs: an event that joins gets a function above, and its lines here
+
+def of_numbers(name, numbers, step=1, quick=False):
+    return Input(name, lambda: received_each(numbers, step), quick=quick)
+
+
+def of_window(window, order):
+    return Input(f"tracked_{window}_{order}", lambda: tracked(window, order), beginning=window,
+                 quick=(window, order) == (100, "in_order"))
+
+
+def of_ids(unretired, name, place_of):
+    return Input(f"local_ids_{unretired}_{name}", lambda: local_ids(unretired, place_of),
+                 beginning=issued_lines(unretired), quick=(unretired, name) == (8, "random"))
+
+
+INPUTS = [
+    of_numbers("in_order", in_order, quick=True),
+    of_numbers("reordered", in_blocks),
+    of_numbers("gaps", in_order, step=2),
+    of_numbers("reordered_gaps", in_blocks, step=2),
+    of_numbers("random_gaps", at_random, step=2),
+    *(of_window(window, order) for window in [100, 1000, 10000] for order in ["in_order", "reversed", "shuffled"]),
+    Input("remote_ids", remote_ids, quick=True),
+    Input("next_ids", next_ids),
+    of_ids(1, "in_order", least),
+    *(of_ids(unretired, name, place_of) for unretired in [8, 1000, 100000]
+      for name, place_of in [("middle", middle), ("random", any_place)]),
+    Input("refused_ids", refused_ids),
+    Input("pacing", pacing, beginning=1, quick=True),
+    Input("samples", samples),
+    Input("congestion", congestion),
+    Input("connection", connection, beginning=1, quick=True),
+    Input("timers", timers, quick=True),
+    Input("mixed", lambda: in_pairs(received_each(in_blocks, 1), timers())),
+]
+
+
+# ---- what a run takes
+
+def instructions(script, folder):
+    """All that the process executes, its start among them."""
+    command = ["valgrind", "--tool=callgrind", f"--callgrind-out-file={folder / 'callgrind.out'}", PROGRAM]
+    with open(script, "rb") as lines:
+        run = subprocess.run(command, stdin=lines, stdout=subprocess.DEVNULL, stderr=subprocess.PIPE, check=True)
     return int(re.search(rb"Collected : (\d+)", run.stderr).group(1))
+
+
+def peak_memory(script, folder):
+    """The most memory that the process held at once, in bytes."""
+    report = folder / "peak"
+    with open(script, "rb") as lines:
+        subprocess.run(["time", "-f", "%M", "-o", report, PROGRAM], stdin=lines, stdout=subprocess.DEVNULL, check=True)
+    return int(report.read_text()) * 1024
+
+
+def costs(an_input, count):
+    """Instructions and bytes for each of so many lines behind the beginning."""
+    with tempfile.TemporaryDirectory() as name:
+        folder = pathlib.Path(name)
+        script = folder / "script"
+
+        def taken(lines):
+            with open(script, "w") as out:
+                out.writelines(line + "\n" for line in itertools.islice(an_input.lines(), lines))
+            return instructions(script, folder), peak_memory(script, folder)
+
+        before = taken(an_input.beginning)
+        after = taken(an_input.beginning + count)
+    return [(b - a) / count for a, b in zip(before, after)]
+
+
+def row(an_input, counts, pool):
+    """The figures of an input, once they are there."""
+    runs = [pool.submit(costs, an_input, count) for count in counts]
+
+    def text():
+        figures = [run.result() for run in runs]
+        taken = [figure[0] for figure in figures]
+        mark = "*" if max(taken) > 1.05 * min(taken) else " "
+        return "".join([f"{an_input.name:{WIDTH}}", *(f"{a:13,.0f}" for a in taken), mark,
+                        *(f"{b:13,.0f}" for _, b in figures)])
+    return text
+
+
+WIDTH = max(len(each.name) for each in INPUTS)
 
 
 def main():
     options = argparse.ArgumentParser(description=__doc__, formatter_class=argparse.RawDescriptionHelpFormatter)
-    options.add_argument("--lines", type=int, nargs="+", default=[10**4, 10**5, 10**6])
-    options.add_argument("--no-instructions", action="store_true")
+    options.add_argument("inputs", nargs="*", metavar="INPUT", help="the names of inputs; none: all")
+    options.add_argument("--lines", type=int, nargs="+", help="how many lines are counted")
+    options.add_argument("--quick", action="store_true")
+    options.add_argument("--jobs", type=int, default=1)
     chosen = options.parse_args()
-    counts = not chosen.no_instructions and shutil.which("valgrind")
+    for tool in ["valgrind", "time"]:
+        if not shutil.which(tool):
+            return f"bench/run.py: {tool} is not installed"
+    unknown = set(chosen.inputs) - {each.name for each in INPUTS}
+    if unknown:
+        return f"bench/run.py: no input has the name {', '.join(sorted(unknown))}"
+    inputs = [each for each in INPUTS if each.name in chosen.inputs or not chosen.inputs and (each.quick or not chosen.quick)]
+    counts = chosen.lines or ([10**4, 10**5] if chosen.quick else [10**4, 10**5, 10**6])
     subprocess.run([SCRIPT], stdin=subprocess.DEVNULL, check=True)
-    print(f"{'input':10} {'lines':>8} {'events a second':>16} {'instructions a line':>20}")
-    with tempfile.TemporaryDirectory() as folder:
-        for make in INPUTS:
-            for lines in chosen.lines:
-                path = pathlib.Path(folder) / "script"
-                path.write_text("".join(line + "\n" for line in make(lines)))
-                rate = f"{lines / seconds(path):,.0f}"
-                cost = f"{instructions(path, folder) / lines:,.0f}" if counts else "-"
-                print(f"{make.__name__:10} {lines:>8} {rate:>16} {cost:>20}", flush=True)
+    width = 13 * len(counts)
+    print(f"{'of each line':{WIDTH}}{'instructions':>{width}} {'peak bytes':>{width}}")
+    print("".join([f"{'lines':{WIDTH}}", *(f"{count:13,}" for count in counts), " ", *(f"{count:13,}" for count in counts)]))
+    with concurrent.futures.ThreadPoolExecutor(chosen.jobs) as pool:
+        for text in [row(each, counts, pool) for each in inputs]:
+            print(text(), flush=True)
+    return 0
 
 
 if __name__ == "__main__":

@@ -1,5 +1,5 @@
 -- What a controller was told keeps its content sound.
-use Rattle.std.specs.Prelude.{ℕ, ◌<◌, List, [], ◌∷◌}
+use Rattle.std.specs.Prelude.{◌<◌, List, [], ◌∷◌}
 use Rattle.recovery_congestion.specs.Controllers.{ControllerWords, ControllerLaws}
 use Rattle.recovery_congestion.specs.Calls.{ControllerCall, sends, acks, ends_acks, congests, takes_mtu, told, content_by, IsPositiveCall, ArePositiveCalls}
 

@@ -1,2 +1,2 @@
 pub mod CallLaws
-pub mod RenoAreas
+pub mod RenoCounts

@@ -1,7 +1,6 @@
 -- NewReno (RFC 9002, 7 and appendix B), with whole numbers: a fraction in place of the reduction factor, sums that stop at
 -- the end of 64 bits, and growth in congestion avoidance by counted bytes (RFC 3465, 2.1).
-use Rattle.std.specs.Prelude.{ℕ, ◌≡◌, ◌+◌, ◌-◌, ◌*◌, ◌/◌, ◌<◌, ◌≤◌, ◌^◌, min, max, Bool, true, false, Some, None, ◌||◌, nat_le, nat_lt, if◌then◌else◌}
-use Rattle.recovery_rtt.specs.Rtt.{Rtt}
+use Rattle.std.specs.Prelude.{ℕ, ◌≡◌, ◌+◌, ◌-◌, ◌*◌, ◌/◌, ◌<◌, ◌≤◌, ◌^◌, min, max, Bool, false, Some, None, ◌||◌, nat_le, nat_lt, if◌then◌else◌}
 use Rattle.recovery_congestion.specs.declared.congestion.ControllerMetrics.{ControllerMetrics}
 use Rattle.recovery_congestion.specs.declared.congestion.new_reno.NewReno.{NewReno}
 use Rattle.recovery_congestion.specs.RenoSettings.{RenoSettings}
@@ -97,12 +96,13 @@ pub record AvoidsBelowMost (sent bytes : ℕ) (limited : Bool) (reno : NewReno) 
   pub counts : is_ignored sent limited reno ≡ false
   pub above : reno.ssthresh ≤ reno.window
   pub counted : reno.bytes_acked + bytes ≤ most
-  pub grown : reno.window + reno.current_mtu ≤ most
+  pub grown : reno.window ≤ reno.bytes_acked + bytes → reno.window + reno.current_mtu ≤ most
 
--- the area under the window's growth, w·(w - m) + 2·m·c for window w, MTU m and count c, rises by exactly 2·m·b for
--- b bytes: one MTU for each window of bytes, neither more nor less; m·w stands on both sides so that nothing goes below zero
-abbrev pub RaisesArea : ℕ → NewReno → NewReno → Type 0
-RaisesArea bytes old new =
+-- every byte counts once: to grow from a window of one MTU m to w, by m for each window of bytes, takes w·(w - m) / (2·m) bytes;
+-- these and the bytes counted since then rise by exactly the bytes acknowledged (here times 2·m, and with m·w of the other
+-- window on each side, so that nothing is divided or goes below zero)
+abbrev pub CountsBytes : ℕ → NewReno → NewReno → Type 0
+CountsBytes bytes old new =
     let mtu = old.current_mtu in
     new.window * new.window + 2 * mtu * new.bytes_acked + mtu * old.window
     ≡ old.window * old.window + 2 * mtu * old.bytes_acked + mtu * new.window + 2 * mtu * bytes

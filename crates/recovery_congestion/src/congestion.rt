@@ -51,7 +51,8 @@ pub trait Controller: Sized {
         app_limited: bool,
         rtt: &RttEstimator,
     )
-        ensures { content self.new ≡ words.acked now sent bytes app_limited rtt.now (content self.old) };
+        ensures { content self.new
+            ≡ words.acked now sent bytes app_limited rtt.now (content self.old) };
 
     /// All packets of one ACK were told, with the bytes still in flight and the largest number acknowledged.
     fn on_end_acks(

@@ -2,18 +2,26 @@
 ghost use Rattle.std.specs.Prelude.{◌≡◌};
 
 use quic_recovery::below::{ConnectionId, SpaceId};
+use quic_recovery::config::TransportConfig;
+use quic_recovery::congestion::NewRenoConfig;
 use quic_recovery::time::{Duration, Instant};
 use quic_recovery::timer::Timer;
 use quic_recovery::{Answer, Event, Recovery, RecoveryConfig, Refusal};
+use std::net::SocketAddr;
 
 /// How late this end's ACKs may be (RFC 9000, 18.2: max_ack_delay).
 const MAX_ACK_DELAY: u64 = 25;
 
-/// What the recovery starts with: ids of eight bytes that last for ten seconds, one of them issued.
-pub fn config() -> RecoveryConfig
+/// What the recovery starts with: the default settings of paths, with NewReno; a client, whose peer's
+/// address needs no validation (RFC 9000, 8.1); ids of eight bytes that last for ten seconds, one of
+/// them issued.
+pub fn config(remote: SocketAddr) -> RecoveryConfig<NewRenoConfig>
     ensures { result.issued ≡ 1 }
 {
     RecoveryConfig {
+        transport: TransportConfig::default(),
+        remote,
+        validated: true,
         max_ack_delay: Duration::from_millis(MAX_ACK_DELAY),
         initial_cid: ConnectionId::new(&[0xff; 8]),
         cid_len: 8,
@@ -25,11 +33,11 @@ pub fn config() -> RecoveryConfig
 /// One end of a connection.
 #[derive(Drop)]
 pub struct Connection {
-    recovery: Recovery,
+    recovery: Recovery<NewRenoConfig>,
 }
 
 impl Connection {
-    pub fn new(recovery: Recovery) -> Self {
+    pub fn new(recovery: Recovery<NewRenoConfig>) -> Self {
         Connection { recovery }
     }
 

@@ -8,6 +8,7 @@ use connection::Connection;
 use quic_recovery::time::{Duration, Instant};
 use quic_recovery::{Recovery, Refusal};
 use std::io;
+use std::net::{IpAddr, Ipv4Addr, SocketAddr};
 use thiserror::Error;
 
 /// Why the example ends early.
@@ -53,7 +54,8 @@ fn tell(rt: &impl Print, connection: &Connection) -> io::Result<()> {
 }
 
 fn run(rt: &HostRuntime) -> Result<(), Failure> {
-    let Ok(recovery) = Recovery::new(rt.alloc(), connection::config(), at(0)) else {
+    let peer = SocketAddr::new(IpAddr::V4(Ipv4Addr::new(192, 0, 2, 1)), 4433);
+    let Ok(recovery) = Recovery::new(rt.alloc(), connection::config(peer), at(0)) else {
         return Err(Failure::NoMemory);
     };
     let mut connection = Connection::new(recovery);

@@ -1,7 +1,6 @@
 -- A window that congestion events halve.
 use Rattle.std.specs.Prelude.{ℕ, ◌*◌, ◌/◌, ◌<◌, max, None}
 use Rattle.std.proofs.Common.{arith}
-use Rattle.recovery_congestion.specs.declared.congestion.ControllerMetrics.{ControllerMetrics}
 use Rattle.recovery_congestion.specs.Controllers.{ControllerWords, ControllerLaws}
 use Rattle.recovery_halving.specs.declared.Halving.{Halving}
 

@@ -1,5 +1,6 @@
 //! A congestion controller for tests: what is generic in the controller is seen at work on one that is not NewReno.
 #![tactic(auto)]
+
 ghost use Rattle.std.specs.Prelude.{◌≡◌, ◌<◌, refl};
 ghost use Rattle.recovery_halving.specs.Halving.{halving_made, halving_words, IsHalvingSound, halving_laws};
 
@@ -67,8 +68,7 @@ impl Controller for Halving {
         _bytes: u64,
         _app_limited: bool,
         _rtt: &RttEstimator,
-    ) {
-    }
+    ) {}
 
     fn on_end_acks(
         &mut self,
@@ -76,8 +76,7 @@ impl Controller for Halving {
         _in_flight: u64,
         _app_limited: bool,
         _largest_packet_num_acked: Option<u64>,
-    ) {
-    }
+    ) {}
 
     fn on_congestion_event(
         &mut self,

@@ -11,18 +11,21 @@ pub type CidData = (ConnectionId, Option<ResetToken>);
 /// The most ids of the peer that are held.
 pub const LEN: usize = 5;
 
-/// What is held for each of `LEN` numbers from `start` on. The entry of a number stands at its rest by `LEN`.
+/// The places for entries: more than are needed, so that no division finds a number's place.
+const PLACES: usize = 8;
+
+/// What is held for each of `LEN` numbers from `start` on. The entry of a number stands at its rest by `PLACES`.
 #[derive(Drop)]
 pub struct Window {
-    entries: [Option<CidData>; LEN],
+    entries: [Option<CidData>; PLACES],
     start: u64,
 }
 
 /// Where a number's entry stands.
 fn slot(number: u64) -> usize
-    ensures { result ≡ number % LEN }
+    ensures { result ≡ number % PLACES }
 {
-    (number % LEN as u64) as usize
+    (number % PLACES as u64) as usize
 }
 
 impl Window {
@@ -31,7 +34,7 @@ impl Window {
         ensures start { result.start ≡ 0 }
         ensures entries { (n : ℕ) → held_at result n ≡ (if n == 0 then Some entry else None) }
     {
-        let mut entries = [None; LEN];
+        let mut entries = [None; PLACES];
         entries[0] = Some(entry);
         Window { entries, start: 0 }
     }
@@ -63,11 +66,13 @@ impl Window {
     /// Moves the start up to a number, and drops what was held below.
     pub fn drop_below(&mut self, low: u64)
         requires ahead { self.old.start ≤ low }
-        requires small { self.old.start < 2 ^ 62 }
+        requires small { low < 2 ^ 62 }
         ensures start { self.new.start ≡ low }
         ensures entries { (n : ℕ) → held_at self.new n ≡ without_below low (held_at self.old) n }
     {
-        for number in self.start..low.min(self.start + LEN as u64) {
+        // What is held below is past reach once the start has moved. Numbers that come into the window find no entry.
+        let end = self.start + LEN as u64;
+        for number in end.max(low)..low + LEN as u64 {
             self.entries[slot(number)] = None;
         }
         self.start = low;

@@ -1,5 +1,7 @@
 -- Each form of a line: what is read is spelled so, what is spelled so is read, and the words are plain.
-use Rattle.std.proofs.Common.{◌≡◌, ℕ, ◌<◌, ◌^◌, Bool, true, false, cond, List, [], ◌∷◌, ◌++◌, Option, Some, None, IfSome, bytes_eq, refl, sym, ap, ap₂, subst, ◌∙◌, arith, lit≤}
+use Rattle.std.proofs.Common.{◌≡◌, ℕ, ◌*◌, ◌<◌, ◌^◌, Bool, true, false, cond, List, [], ◌∷◌, ◌++◌}
+use Rattle.std.proofs.Common.{Option, Some, None, IfSome, bytes_eq, refl, sym, ap, ap₂, subst}
+use Rattle.std.proofs.Common.{◌∙◌, arith, lit≤}
 use Rattle.std.specs.Global.{Vec}
 use Rattle.std.specs.List.{AllByRecursion}
 use Rattle.std.proofs.lemmas.Slice.Eq.{bytes_eq-Decides}
@@ -10,17 +12,29 @@ use Rattle.recovery_base.specs.declared.below.ids.IssuedCid.{IssuedCid}
 use Rattle.recovery_base.specs.declared.timer.Timer.{Timer}
 use Rattle.recovery_base.specs.declared.timer.Timer.TheVariants.{LossDetection, Idle, Close, KeyDiscard, PathValidation, KeepAlive, Pacing, PushNewCid, MaxAckDelay}
 use Rattle.quic_recovery.specs.declared.event.Event.{Event}
-use Rattle.quic_recovery.specs.declared.event.Event.TheVariants.{Received, Send, Acked, Lost, NewId, NextId, InitialId, IssueIds, IdTimeout, PeerRetired, AckFrequencyIn, AcksSent, AckDelayTimeout, SetTimer, StopTimer, NextTimeout, DiscardSpace, InFlight}
+use Rattle.quic_recovery.specs.declared.event.Event.TheVariants.{Received, Send, Acked, Lost}
+use Rattle.quic_recovery.specs.declared.event.Event.TheVariants.{NewId, NextId, InitialId, IssueIds}
+use Rattle.quic_recovery.specs.declared.event.Event.TheVariants.{IdTimeout, PeerRetired}
+use Rattle.quic_recovery.specs.declared.event.Event.TheVariants.{AckFrequencyIn, AcksSent}
+use Rattle.quic_recovery.specs.declared.event.Event.TheVariants.{AckDelayTimeout, SetTimer}
+use Rattle.quic_recovery.specs.declared.event.Event.TheVariants.{StopTimer, NextTimeout}
+use Rattle.quic_recovery.specs.declared.event.Event.TheVariants.{DiscardSpace, InFlight}
+use Rattle.quic_recovery.specs.declared.event.Event.TheVariants.{Sample, DatagramIn, Validated}
+use Rattle.quic_recovery.specs.declared.event.Event.TheVariants.{Transmit, PacerCheck}
+use Rattle.quic_recovery.specs.declared.event.Event.TheVariants.{Congestion, EndAcks}
 use Rattle.quic_recovery.specs.declared.event.PathName.{PathName}
 use Rattle.quic_recovery.specs.declared.event.PathName.TheVariants.{Current, Previous}
 use Rattle.recovery_lines.specs.declared.lines.Line.{Line}
 use Rattle.recovery_lines.specs.declared.lines.Line.TheVariants.{Said, Ids}
-use Rattle.recovery_lines.specs.Fields.{Field, a_space, a_timer, a_path, a_flag, a_largest, a_u64, a_u16, a_var_int, a_byte, a_count, Value, word_for, Fits, Values, words_for, AllFit}
+use Rattle.recovery_lines.specs.Fields.{Field, Value, word_for, Fits, Values, words_for, AllFit}
+use Rattle.recovery_lines.specs.Fields.{a_space, a_timer, a_path, a_flag, a_largest}
+use Rattle.recovery_lines.specs.Fields.{a_u64, a_span, a_u16, a_var_int, a_byte, a_count}
 use Rattle.recovery_lines.specs.Lines.{Means, Form, form_of, issue_ids, forms, saying, words_said, spelling, IsWithinTypes}
 use Rattle.recovery_lines.specs.Reading.{◌>>=◌, field, value_of, fields_read, all_read, reading, form_named, line_at, line_behind}
 use Rattle.recovery_lines.specs.Words.{flag_word, space_word, timer_word, path_word, largest_word}
 use Rattle.recovery_lines.proofs.FieldLaws.{bind_some, some_is, IsField, number_field, flag_field, space_field, timer_field, path_field, largest_field, field_takes, field_again}
 use Rattle.recovery_lines.proofs.IdLaws.{AreZero, zero_ids_are}
+use Rattle.recovery_lines.proofs.NameLaws.{◌⨾◌}
 use Rattle.recovery_lines.proofs.PlainLaws.{IsPlain, is_plain, tested_plain, decimal_plain}
 
 -- ---- the fields
@@ -59,7 +73,7 @@ dash_plain = refl
 
 largest_plain : (l : Option ℕ) → IfSome l (λ n. n < 2 ^ 64) → IsPlain (largest_word l)
 largest_plain None h = tested_plain (codes "-") dash_plain
-largest_plain (Some n) h = decimal_plain n h
+largest_plain (Some n) h = decimal_plain n (omega (arith, h))
 
 field_plain : (f : Field) (x : Value f) → Fits f x → IsPlain (word_for f x)
 field_plain a_space x h = tested_plain (space_word x) (space_plain x)
@@ -67,7 +81,8 @@ field_plain a_timer x h = tested_plain (timer_word x) (timer_plain x)
 field_plain a_path x h = tested_plain (path_word x) (path_plain x)
 field_plain a_flag x h = tested_plain (flag_word x) (flag_plain x)
 field_plain a_largest x h = largest_plain x h
-field_plain a_u64 x h = decimal_plain x h
+field_plain a_u64 x h = decimal_plain x (omega (arith, h))
+field_plain a_span x h = decimal_plain x (omega (arith, h))
 field_plain a_u16 x h = decimal_plain x (omega (arith, h))
 field_plain a_var_int x h = decimal_plain x (omega (arith, h))
 field_plain a_byte x h = decimal_plain x (omega (arith, h))
@@ -80,6 +95,7 @@ is_field a_path = path_field
 is_field a_flag = flag_field
 is_field a_largest = largest_field
 is_field a_u64 = number_field (2 ^ 64) (lit≤ tt)
+is_field a_span = number_field (2 ^ 64 * 10 ^ 9) (lit≤ tt)
 is_field a_u16 = number_field (2 ^ 16) (lit≤ tt)
 is_field a_var_int = number_field (2 ^ 62) (lit≤ tt)
 is_field a_byte = number_field (2 ^ 8) (lit≤ tt)
@@ -166,7 +182,16 @@ is_issue_ids = record { own = ids_own; ids = ids_words; plain = refl }
 -- each of them, in their order
 are_forms : AllByRecursion IsForm forms
 unfolding is_plain
-are_forms = (says (λ x. refl) refl, (says (λ x. refl) refl, (says (λ x. refl) refl, (says (λ x. refl) refl, (says (λ x. refl) refl, (says (λ x. refl) refl, (says (λ x. refl) refl, (is_issue_ids, (says (λ x. refl) refl, (says (λ x. refl) refl, (says (λ x. refl) refl, (says (λ x. refl) refl, (says (λ x. refl) refl, (says (λ x. refl) refl, (says (λ x. refl) refl, (says (λ x. refl) refl, (says (λ x. refl) refl, (says (λ x. refl) refl, tt))))))))))))))))))
+are_forms =
+    says (λ x. refl) refl ⨾ says (λ x. refl) refl ⨾ says (λ x. refl) refl ⨾
+    says (λ x. refl) refl ⨾ says (λ x. refl) refl ⨾ says (λ x. refl) refl ⨾
+    says (λ x. refl) refl ⨾ is_issue_ids ⨾ says (λ x. refl) refl ⨾
+    says (λ x. refl) refl ⨾ says (λ x. refl) refl ⨾ says (λ x. refl) refl ⨾
+    says (λ x. refl) refl ⨾ says (λ x. refl) refl ⨾ says (λ x. refl) refl ⨾
+    says (λ x. refl) refl ⨾ says (λ x. refl) refl ⨾ says (λ x. refl) refl ⨾
+    says (λ x. refl) refl ⨾ says (λ x. refl) refl ⨾ says (λ x. refl) refl ⨾
+    says (λ x. refl) refl ⨾ says (λ x. refl) refl ⨾ says (λ x. refl) refl ⨾
+    says (λ x. refl) refl ⨾ tt
 
 -- the form of an event's line is the one of its name
 is_listed : (unkept : ℕ) (event : Event) → form_named forms (saying unkept event).0.name ≡ Some (saying unkept event).0
@@ -188,6 +213,13 @@ is_listed unkept (StopTimer timer) = refl
 is_listed unkept NextTimeout = refl
 is_listed unkept (DiscardSpace space) = refl
 is_listed unkept (InFlight path) = refl
+is_listed unkept (Sample delay rtt) = refl
+is_listed unkept (DatagramIn path bytes) = refl
+is_listed unkept (Validated path) = refl
+is_listed unkept (Transmit now bytes checked) = refl
+is_listed unkept (PacerCheck now bytes) = refl
+is_listed unkept (Congestion now sent persistent bytes) = refl
+is_listed unkept (EndAcks now app_limited largest) = refl
 
 named_form : (listed : List Form) → AllByRecursion IsForm listed → (name : List ℕ) (form : Form) → form_named listed name ≡ Some form → (name ≡ form.name) × IsForm form
 named_form [] h name form e = absurd cc

@@ -4,5 +4,6 @@ pub mod IdLaws
 pub mod LineLaws
 mod NameLaws
 pub mod NumberLaws
+mod NumeralLaws
 pub mod PlainLaws
 pub mod WordLaws

@@ -6,6 +6,11 @@ use Rattle.std.proofs.lemmas.Slice.Eq.{bytes_eq-Decides}
 use Rattle.recovery_lines.specs.Lines.{Form, forms}
 use Rattle.recovery_lines.specs.Reading.{form_named, line_behind}
 
+-- what holds of each in a list, one after the other
+infixr 20 ◌⨾◌
+pub ◌⨾◌ : {A B : Type 0} → A → B → A × B
+first ⨾ others = (first, others)
+
 -- the forms whose names have this length
 abbrev pub of_length : ℕ → List Form → List Form
 of_length n [] = []
@@ -34,8 +39,13 @@ none_of n [] h = refl
 none_of n (form ∷ others) h = let t : (n == length form.name) ≡ false = ne_eqb n (length form.name) h.0 in rw t (none_of n others h.1)
 
 -- no form has a name of another length
-pub none_of_length : (n : ℕ) → n ≢ 4 → n ≢ 5 → n ≢ 6 → n ≢ 7 → n ≢ 8 → n ≢ 9 → n ≢ 10 → n ≢ 12 → n ≢ 13 → n ≢ 17 → of_length n forms ≡ []
-none_of_length n h4 h5 h6 h7 h8 h9 h10 h12 h13 h17 = none_of n forms (h8, (h4, (h5, (h4, (h6, (h7, (h10, (h9, (h10, (h12, (h13, (h9, (h17, (h9, (h10, (h12, (h7, (h9, tt))))))))))))))))))
+pub none_of_length : (n : ℕ)
+    → n ≢ 4 → n ≢ 5 → n ≢ 6 → n ≢ 7 → n ≢ 8 → n ≢ 9 → n ≢ 10 → n ≢ 11 → n ≢ 12 → n ≢ 13 → n ≢ 17
+    → of_length n forms ≡ []
+none_of_length n h4 h5 h6 h7 h8 h9 h10 h11 h12 h13 h17 =
+    none_of n forms
+    (h8 ⨾ h4 ⨾ h5 ⨾ h4 ⨾ h6 ⨾ h7 ⨾ h10 ⨾ h9 ⨾ h10 ⨾ h12 ⨾ h13 ⨾ h9 ⨾ h17 ⨾ h9 ⨾ h10 ⨾ h12 ⨾ h7 ⨾ h9
+    ⨾ h6 ⨾ h11 ⨾ h9 ⨾ h8 ⨾ h11 ⨾ h10 ⨾ h8 ⨾ tt)
 
 -- a name that none of its length is
 pub unnamed : (name : List ℕ) (words : List (List ℕ)) (n : ℕ) → length name ≡ n → form_named (of_length n forms) name ≡ None → line_behind name words ≡ None

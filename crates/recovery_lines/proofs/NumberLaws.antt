@@ -7,16 +7,18 @@ use Rattle.std.specs.List.{before_first, position_or_len}
 use Rattle.std.specs.Prelude.{nat_lt}
 use lib.Chars.{codes}
 use Rattle.std.specs.Result.{OkIff}
+use Rattle.std.specs.Option.{SomeIff}
 use Rattle.std.specs.Result.{result_ok}
 use Rattle.std.specs.Str.Parse.{digits_value}
 use Rattle.std.specs.Char.{digit_value}
 use Rattle.std.specs.Int.{IsInRange}
 use Rattle.std.proofs.lemmas.Int.Digits.{digits_value_more}
 use borrow.Author.Count.{below_more}
-use Rattle.std.proofs.lemmas.Fmt.{decimal_is_IsNumeral_wide, decimal_is_IsNumeral, first_decimal, decimal-digits_value, decimal_digit}
+use Rattle.std.proofs.lemmas.Fmt.{decimal_is_IsNumeral_wide, decimal_is_IsNumeral, decimal_digit}
 use Rattle.std.proofs.lemmas.Str.Parse.{IsNumeralModel, numerals_by_value, tells_by_index, digits_value_short, digits_value-take-le, digit_at}
 use Rattle.std.proofs.lemmas.Slice.Eq.{bytes_eq-Decides}
 use Rattle.recovery_lines.specs.Reading.{AreDigits, number_of}
+use Rattle.recovery_lines.proofs.NumeralLaws.{digits_written, leads_above_zero}
 
 guarded : {A : Type 0} (b c : Bool) (x : A) (y : A) → cond (b && c) (Some x) None ≡ Some y → (b ≡ true) × (c ≡ true) × (x ≡ y)
 guarded true true x y e = (refl, refl, cc)
@@ -54,30 +56,33 @@ no_number limit word h = number_none limit word h (number_of limit word) refl
 first_is_digit : (n : ℕ) → n < 2 ^ 64 → (48 ≤ get_or (decimal n) 0 0) × (get_or (decimal n) 0 0 ≤ 57)
 first_is_digit n lt = let d = decimal_is_IsNumeral n lt in digit_at (decimal n) 0 d.0.1 d.0.0
 
-zero_first : (n : ℕ) → n < 2 ^ 64 → get_or (decimal n) 0 0 ≡ 48 → length (decimal n) ≡ 1
+zero_first : (n : ℕ) → n < 10 ^ 64 → get_or (decimal n) 0 0 ≡ 48 → length (decimal n) ≡ 1
 zero_first zero lt e = ap length (decimal_digit 0 (omega arith))
-zero_first (suc n) lt e = let f = first_decimal (suc n) (omega arith) lt in absurd (omega arith)
+zero_first (suc n) lt e = let f = leads_above_zero (suc n) (omega arith) lt in absurd (omega arith)
 
-pub no_zeros : (word : List ℕ) → get_or word 0 0 ≡ 48 → 1 < length word → number_of (2 ^ 64) word ≡ None
-no_zeros word e long = no_number (2 ^ 64) word (λ n lt same.
+pub no_zeros : (limit : ℕ) → limit ≤ 10 ^ 64 → (word : List ℕ) → get_or word 0 0 ≡ 48
+    → 1 < length word → number_of limit word ≡ None
+no_zeros limit most word e long = no_number limit word (λ n lt same.
     let f : get_or (decimal n) 0 0 ≡ 48 = ap (λ (w : List ℕ). get_or w 0 0) (sym same) ∙ e in
-    let one = zero_first n lt f in
+    let one = zero_first n (omega (arith, lt, most)) f in
     let len : length word ≡ length (decimal n) = ap length same in
     omega arith)
 
 -- a word with a byte that is no digit
-pub not_a_digit : (word : List ℕ) (i : ℕ) → i < length word → get_or word i 0 < 256 → 9 < (get_or word i 0 + 208) % 256 → number_of (2 ^ 64) word ≡ None
-not_a_digit word i lt byte far = no_number (2 ^ 64) word (λ n less same.
-    let d = decimal_is_IsNumeral n less in
+pub not_a_digit : (limit : ℕ) → limit ≤ 10 ^ 64 → (word : List ℕ) (i : ℕ) → i < length word
+    → get_or word i 0 < 256 → 9 < (get_or word i 0 + 208) % 256 → number_of limit word ≡ None
+not_a_digit limit most word i lt byte far = no_number limit word (λ n less same.
+    let d = decimal_is_IsNumeral_wide n (omega (arith, less, most)) in
     let len : length word ≡ length (decimal n) = ap length same in
     let digit = digit_at (decimal n) i d.0.1 (omega arith) in
     let f : get_or word i 0 ≡ get_or (decimal n) i 0 = ap (λ (w : List ℕ). get_or w i 0) same in
     omega arith)
 
 -- a word whose first digits are worth too much
-pub too_large : (word : List ℕ) (i : ℕ) → 2 ^ 64 ≤ digits_value 10 (take i word) → number_of (2 ^ 64) word ≡ None
-too_large word i large = no_number (2 ^ 64) word (λ n less same.
-    let d = decimal_is_IsNumeral n less in
+pub too_large : (limit : ℕ) → limit ≤ 10 ^ 64 → (word : List ℕ) (i : ℕ)
+    → limit ≤ digits_value 10 (take i word) → number_of limit word ≡ None
+too_large limit most word i large = no_number limit word (λ n less same.
+    let d = decimal_is_IsNumeral_wide n (omega (arith, less, most)) in
     let most : digits_value 10 (take i word) ≤ digits_value 10 word = digits_value-take-le 10 word i (lit≤ tt) in
     let worth : digits_value 10 word ≡ n = ap (digits_value 10) same ∙ d.1 in
     omega arith)
@@ -102,11 +107,15 @@ by_index : IsNumeralModel (λ ds. AreDigits ds (length ds)) (digits_value 10)
 by_index = numerals_by_value (λ ds. AreDigits ds (length ds)) tells_by_index
 
 -- a word of digits
-pub digits_read : (word : List ℕ) (value : ℕ) → AreDigits word (length word) → value ≡ digits_value 10 word → value < 2 ^ 64 → 0 < length word → (get_or word 0 0 ≡ 48 → length word ≤ 1) → Some value ≡ number_of (2 ^ 64) word
-digits_read word value digits is small some lead =
-    let spelled : decimal (digits_value 10 word) ≡ word = decimal-digits_value by_index word digits some (λ e. let one = lead e in omega (arith, some, one)) (omega arith) in
-    let again = number_again (2 ^ 64) (digits_value 10 word) (lit≤ tt) (omega arith) in
-    ap (λ (m : ℕ). Some m) is ∙ sym again ∙ ap (λ (w : List ℕ). number_of (2 ^ 64) w) spelled
+pub digits_read : (limit : ℕ) → limit ≤ 10 ^ 64 → (word : List ℕ) (value : ℕ)
+    → AreDigits word (length word) → value ≡ digits_value 10 word → value < limit
+    → 0 < length word → (get_or word 0 0 ≡ 48 → length word ≤ 1) → Some value ≡ number_of limit word
+digits_read limit most word value digits is small some lead =
+    let less : digits_value 10 word < limit = subst (λ (m : ℕ). m < limit) is small in
+    let spelled : decimal (digits_value 10 word) ≡ word =
+    digits_written word (by_index.to word digits) some lead (omega (arith, less, most)) in
+    let again = number_again limit (digits_value 10 word) most less in
+    ap (λ (m : ℕ). Some m) is ∙ sym again ∙ ap (λ (w : List ℕ). number_of limit w) spelled
 
 taken_digits : (bytes : List ℕ) (n : ℕ) → AreDigits bytes n → n ≤ length bytes → AreDigits (take n bytes) (length (take n bytes))
 taken_digits bytes n digits le = λ i lt.
@@ -125,12 +134,14 @@ first_read bytes value end digits le some lead stops is small =
     position_or_len_is (λ b. b == 32) bytes end 0 le (λ k lt. ne_eqb (get_or bytes k 0) 32 (λ e. let d = digits k lt in omega (arith, d.0))) (λ lt. eq-eqb (get_or bytes end 0) 32 (stops lt)) in
     let len : length (take end bytes) ≡ end = length-take-le end bytes le in
     let number : Some value ≡ number_of (2 ^ 64) (take end bytes) =
-    digits_read (take end bytes) value (taken_digits bytes end digits le) is small (omega arith) (λ first. let few : end ≤ 1 = lead (sym (get_or-take end bytes 0 0 some) ∙ first) in omega arith) in
+    digits_read (2 ^ 64) (lit≤ tt) (take end bytes) value (taken_digits bytes end digits le) is small
+    (omega arith) (λ first. let few : end ≤ 1 = lead (sym (get_or-take end bytes 0 0 some) ∙ first) in omega arith) in
     (rw place (sym number), sym place)
 
-pub empty_none : (word : List ℕ) → length word ≡ 0 → number_of (2 ^ 64) word ≡ None
-empty_none word none = no_number (2 ^ 64) word (λ n less same.
-    let d = decimal_is_IsNumeral n less in
+pub empty_none : (limit : ℕ) → limit ≤ 10 ^ 64 → (word : List ℕ) → length word ≡ 0
+    → number_of limit word ≡ None
+empty_none limit most word none = no_number limit word (λ n less same.
+    let d = decimal_is_IsNumeral_wide n (omega (arith, less, most)) in
     let len : length word ≡ length (decimal n) = ap length same in
     omega (arith, d.0.0))
 
@@ -155,26 +166,72 @@ one_number m n e = cc
 some_is_none : {A : Type 0} (n : ℕ) (r : Option ℕ) → r ≡ Some n → r ≡ None → A
 some_is_none n r e f = cc
 
--- a number below a smaller limit
-pub number_narrow_none : (small : ℕ) (word : List ℕ) → small ≤ 2 ^ 64 → number_of (2 ^ 64) word ≡ None → number_of small word ≡ None
-number_narrow_none small word le none = no_number small word (λ n lt same. some_is_none n (number_of (2 ^ 64) word) (ap (λ (w : List ℕ). number_of (2 ^ 64) w) same ∙ number_again (2 ^ 64) n (lit≤ tt) (omega arith)) none)
+-- a number below another limit
+pub other_limit : (limit other : ℕ) (word : List ℕ) (n : ℕ) → other ≤ 10 ^ 64
+    → number_of limit word ≡ Some n → n < other → number_of other word ≡ Some n
+other_limit limit other word n most some lt =
+    ap (λ (w : List ℕ). number_of other w) (number_takes limit word n some).0
+    ∙ number_again other n most lt
 
-pub number_narrow_some : (small : ℕ) (word : List ℕ) (n : ℕ) → small ≤ 2 ^ 64 → number_of (2 ^ 64) word ≡ Some n → n < small → number_of small word ≡ Some n
-number_narrow_some small word n le some lt = ap (λ (w : List ℕ). number_of small w) (number_takes (2 ^ 64) word n some).0 ∙ number_again small n (omega arith) lt
+-- the same below a greater limit
+pub wider_limit : (limit other : ℕ) (word : List ℕ) (n : ℕ) → limit ≤ other → other ≤ 10 ^ 64
+    → number_of limit word ≡ Some n → number_of other word ≡ Some n
+wider_limit limit other word n le most some =
+    let takes = number_takes limit word n some in
+    other_limit limit other word n most some (omega (arith, le, takes.1))
 
-pub number_narrow_large : (small : ℕ) (word : List ℕ) (n : ℕ) → small ≤ 2 ^ 64 → number_of (2 ^ 64) word ≡ Some n → small ≤ n → number_of small word ≡ None
-number_narrow_large small word n le some large = no_number small word (λ m lt same.
-    let is : n ≡ m = one_number n m (sym some ∙ ap (λ (w : List ℕ). number_of (2 ^ 64) w) same ∙ number_again (2 ^ 64) m (lit≤ tt) (omega arith)) in
-    omega arith)
+none_narrower : (limit small : ℕ) (word : List ℕ) → limit ≤ 10 ^ 64 → small ≤ limit
+    → number_of limit word ≡ None → number_of small word ≡ None
+none_narrower limit small word most le none = no_number small word (λ n lt same.
+    let read = number_again limit n most (omega (arith, le, lt)) in
+    some_is_none n (number_of limit word) (ap (λ (w : List ℕ). number_of limit w) same ∙ read) none)
+
+large_narrower : (limit small : ℕ) (word : List ℕ) (n : ℕ) → limit ≤ 10 ^ 64 → small ≤ limit
+    → number_of limit word ≡ Some n → small ≤ n → number_of small word ≡ None
+large_narrower limit small word n most le some large = no_number small word (λ m lt same.
+    let read = number_again limit m most (omega (arith, le, lt)) in
+    let is : n ≡ m =
+    one_number n m (sym some ∙ ap (λ (w : List ℕ). number_of limit w) same ∙ read) in
+    omega (arith, is, lt, large))
+
+pub number_narrow_none : (small : ℕ) (word : List ℕ) → small ≤ 2 ^ 64
+    → number_of (2 ^ 64) word ≡ None → number_of small word ≡ None
+number_narrow_none small word le none = none_narrower (2 ^ 64) small word (lit≤ tt) le none
+
+pub number_narrow_some : (small : ℕ) (word : List ℕ) (n : ℕ) → small ≤ 2 ^ 64
+    → number_of (2 ^ 64) word ≡ Some n → n < small → number_of small word ≡ Some n
+number_narrow_some small word n le some lt = other_limit (2 ^ 64) small word n (omega arith) some lt
+
+pub number_narrow_large : (small : ℕ) (word : List ℕ) (n : ℕ) → small ≤ 2 ^ 64
+    → number_of (2 ^ 64) word ≡ Some n → small ≤ n → number_of small word ≡ None
+number_narrow_large small word n le some large =
+    large_narrower (2 ^ 64) small word n (lit≤ tt) le some large
+
+not_below : (a b : ℕ) → ¬ (a < b) → b ≤ a
+not_below a b no_less = go (cases_lt a b)
+  where
+    go : (a < b) ⊎ (b ≤ a) → b ≤ a
+    go (inl less) = absurd (no_less less)
+    go (inr more) = more
 
 -- what `try_from` makes of a number that was read
-pub narrowed : {E : Type 0} (small : ℕ) (word : List ℕ) (n : ℕ) (r : Result ℕ E) → small ≤ 2 ^ 64 → number_of (2 ^ 64) word ≡ Some n → OkIff r (n < small) n → result_ok r ≡ number_of small word
-narrowed small word n (Ok m) le some h = ap (λ (k : ℕ). Some k) h.1 ∙ sym (number_narrow_some small word n le some h.0)
-narrowed small word n (Err e) le some h = sym (number_narrow_large small word n le some (not_below n small h))
-  where
-    not_below : (a b : ℕ) → ¬ (a < b) → b ≤ a
-    not_below a b no_less = go (cases_lt a b)
-      where
-        go : (a < b) ⊎ (b ≤ a) → b ≤ a
-        go (inl less) = absurd (no_less less)
-        go (inr more) = more
+pub narrowed : {E : Type 0} (small : ℕ) (word : List ℕ) (n : ℕ) (r : Result ℕ E) → small ≤ 2 ^ 64
+    → number_of (2 ^ 64) word ≡ Some n → OkIff r (n < small) n → result_ok r ≡ number_of small word
+narrowed small word n (Ok m) le some h =
+    ap (λ (k : ℕ). Some k) h.1 ∙ sym (number_narrow_some small word n le some h.0)
+narrowed small word n (Err e) le some h =
+    sym (number_narrow_large small word n le some (not_below n small h))
+
+-- the same of a test that gives an option
+pub kept_below : (limit small : ℕ) (word : List ℕ) (n : ℕ) (r : Option ℕ) → limit ≤ 10 ^ 64
+    → small ≤ limit → number_of limit word ≡ Some n → SomeIff r (n < small) n
+    → r ≡ number_of small word
+kept_below limit small word n (Some m) most le some h =
+    ap (λ (k : ℕ). Some k) h.1
+    ∙ sym (other_limit limit small word n (omega (arith, most, le)) some h.0)
+kept_below limit small word n None most le some h =
+    sym (large_narrower limit small word n most le some (not_below n small h))
+
+pub kept_none : (limit small : ℕ) (word : List ℕ) → limit ≤ 10 ^ 64 → small ≤ limit
+    → number_of limit word ≡ None → None ≡ number_of small word
+kept_none limit small word most le none = sym (none_narrower limit small word most le none)

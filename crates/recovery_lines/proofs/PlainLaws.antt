@@ -5,7 +5,7 @@ use Rattle.std.specs.List.{AllByRecursion, All, join_with_byte}
 use Rattle.std.specs.Str.Parse.{AllDigits}
 use Rattle.std.proofs.lemmas.List.Splits.{join_with_byte-slice_split, slice_split_at, slice_split_none}
 use Rattle.std.proofs.lemmas.List.Elements.{All-from_recursion}
-use Rattle.std.proofs.lemmas.Fmt.{decimal_is_IsNumeral}
+use Rattle.std.proofs.lemmas.Fmt.{decimal_is_IsNumeral_wide}
 use Rattle.std.proofs.lemmas.Str.Parse.{digit_from_value}
 use Rattle.recovery_lines.specs.Words.{words_of}
 
@@ -38,8 +38,8 @@ digits_plain : (digits : List ℕ) → AllDigits 10 digits → IsPlain digits
 digits_plain [] h = tt
 digits_plain (d ∷ digits) h = let r = digit_from_value d h.0 in ((omega (arith, r.0), omega (arith, r.1)), digits_plain digits h.1)
 
-pub decimal_plain : (n : ℕ) → n < 2 ^ 64 → IsPlain (decimal n)
-decimal_plain n lt = digits_plain (decimal n) (decimal_is_IsNumeral n lt).0.1
+pub decimal_plain : (n : ℕ) → n < 10 ^ 64 → IsPlain (decimal n)
+decimal_plain n lt = digits_plain (decimal n) (decimal_is_IsNumeral_wide n lt).0.1
 
 feedless : (b : ℕ) → 32 < b → b ≢ 10
 feedless b low = λ e. omega (arith, low, e)

@@ -1,5 +1,7 @@
 -- The first word of a line.
-use Rattle.std.proofs.Common.{inl, inr, None, Option, refl, ◌^◌, ◌⊎◌, ◌≡◌, ℕ, ◌<◌, ◌==◌, Bool, false, List, [], length, take, drop, take_all, ◌+◌, Some, ◌≤◌, not, sym, subst, ap, arith}
+use Rattle.std.proofs.Common.{inl, inr, None, Option, refl, ◌⊎◌, ◌≡◌, ℕ, ◌<◌, ◌==◌, Bool, false}
+use Rattle.std.proofs.Common.{List, [], length, take, drop, take_all, ◌+◌, Some, ◌≤◌, not, sym}
+use Rattle.std.proofs.Common.{subst, ap, arith}
 use Rattle.std.specs.List.{position_or_len, before_first, All}
 use Rattle.std.proofs.lemmas.List.Splits.{slice_split_none, slice_split_first}
 use Rattle.std.proofs.lemmas.List.Sums.{fails_before_first, prefix_len-le-length}
@@ -27,11 +29,14 @@ some_first bytes = go (cases_lt (position_or_len (λ b. b == 32) bytes) (length 
   go (inr le) = (_, last_word bytes (position_or_len (λ b. b == 32) bytes) refl le)
 
 -- where the first word is no number, no number is read
-pub no_first_number : (bytes : List ℕ) (words : List (List ℕ)) (read : Option (ℕ × ℕ)) → words ≡ words_of bytes → read ≡ None → IsFirstNumber bytes read → field (number_of (2 ^ 64)) words ≡ None
+pub no_first_number : (limit : ℕ) (bytes : List ℕ) (words : List (List ℕ)) (read : Option (ℕ × ℕ))
+    → words ≡ words_of bytes → read ≡ None → IsFirstNumber limit bytes read
+    → field (number_of limit) words ≡ None
 unfolding field
-no_first_number bytes words read is none first =
+no_first_number limit bytes words read is none first =
     let f = some_first bytes in
-    let n : number_of (2 ^ 64) (before_first (λ b. b == 32) bytes) ≡ None = subst (IsFirstNumber bytes) none first in
+    let n : number_of limit (before_first (λ b. b == 32) bytes) ≡ None =
+    subst (IsFirstNumber limit bytes) none first in
     rw (is, f.1, n) refl
 
 -- a word ends within its bytes

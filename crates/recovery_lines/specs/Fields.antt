@@ -1,5 +1,5 @@
 -- What stands behind the name of a line: fields, each of one word.
-use Rattle.std.specs.Prelude.{ℕ, ◌<◌, ◌^◌, Bool, List, [], ◌∷◌, Option, IfSome, decimal}
+use Rattle.std.specs.Prelude.{ℕ, ◌*◌, ◌<◌, ◌^◌, Bool, List, [], ◌∷◌, Option, IfSome, decimal}
 use Rattle.recovery_base.specs.declared.below.SpaceId.{SpaceId}
 use Rattle.recovery_base.specs.declared.timer.Timer.{Timer}
 use Rattle.quic_recovery.specs.declared.event.PathName.{PathName}
@@ -13,6 +13,8 @@ pub data Field : Type 0 where
   -- a packet number, or none
   a_largest : Field
   a_u64 : Field
+  -- a span of time, in nanoseconds
+  a_span : Field
   a_u16 : Field
   -- a number of a QUIC frame (RFC 9000, 16)
   a_var_int : Field
@@ -27,6 +29,7 @@ Value a_path = PathName
 Value a_flag = Bool
 Value a_largest = Option ℕ
 Value a_u64 = ℕ
+Value a_span = ℕ
 Value a_u16 = ℕ
 Value a_var_int = ℕ
 Value a_byte = ℕ
@@ -40,6 +43,7 @@ word_for a_path = path_word
 word_for a_flag = flag_word
 word_for a_largest = largest_word
 word_for a_u64 = decimal
+word_for a_span = decimal
 word_for a_u16 = decimal
 word_for a_var_int = decimal
 word_for a_byte = decimal
@@ -53,6 +57,7 @@ Fits a_path = λ path. Unit {0}
 Fits a_flag = λ flag. Unit {0}
 Fits a_largest = λ largest. IfSome largest (λ n. n < 2 ^ 64)
 Fits a_u64 = λ n. n < 2 ^ 64
+Fits a_span = λ n. n < 2 ^ 64 * 10 ^ 9
 Fits a_u16 = λ n. n < 2 ^ 16
 Fits a_var_int = λ n. n < 2 ^ 62
 Fits a_byte = λ n. n < 2 ^ 8

@@ -5,11 +5,22 @@ use Rattle.std.specs.Global.{Vec}
 use lib.Chars.{codes}
 use Rattle.recovery_base.specs.declared.below.ids.IssuedCid.{IssuedCid}
 use Rattle.quic_recovery.specs.declared.event.Event.{Event}
-use Rattle.quic_recovery.specs.declared.event.Event.TheVariants.{Received, Send, Acked, Lost, NewId, NextId, InitialId, IssueIds, IdTimeout, PeerRetired, AckFrequencyIn, AcksSent, AckDelayTimeout, SetTimer, StopTimer, NextTimeout, DiscardSpace, InFlight}
+use Rattle.quic_recovery.specs.declared.event.Event.TheVariants.{Received, Send, Acked, Lost}
+use Rattle.quic_recovery.specs.declared.event.Event.TheVariants.{NewId, NextId, InitialId, IssueIds}
+use Rattle.quic_recovery.specs.declared.event.Event.TheVariants.{IdTimeout, PeerRetired}
+use Rattle.quic_recovery.specs.declared.event.Event.TheVariants.{AckFrequencyIn, AcksSent}
+use Rattle.quic_recovery.specs.declared.event.Event.TheVariants.{AckDelayTimeout, SetTimer}
+use Rattle.quic_recovery.specs.declared.event.Event.TheVariants.{StopTimer, NextTimeout}
+use Rattle.quic_recovery.specs.declared.event.Event.TheVariants.{DiscardSpace, InFlight}
+use Rattle.quic_recovery.specs.declared.event.Event.TheVariants.{Sample, DatagramIn, Validated}
+use Rattle.quic_recovery.specs.declared.event.Event.TheVariants.{Transmit, PacerCheck}
+use Rattle.quic_recovery.specs.declared.event.Event.TheVariants.{Congestion, EndAcks}
 use Rattle.recovery_base.specs.declared.timer.Timer.TheVariants.{Idle}
 use Rattle.recovery_lines.specs.declared.lines.Line.{Line}
 use Rattle.recovery_lines.specs.declared.lines.Line.TheVariants.{Said, Ids}
-use Rattle.recovery_lines.specs.Fields.{Field, a_space, a_timer, a_path, a_flag, a_largest, a_u64, a_u16, a_var_int, a_byte, a_count, Values, words_for, AllFit}
+use Rattle.recovery_lines.specs.Fields.{Field, Values, words_for, AllFit}
+use Rattle.recovery_lines.specs.Fields.{a_space, a_timer, a_path, a_flag, a_largest}
+use Rattle.recovery_lines.specs.Fields.{a_u64, a_span, a_u16, a_var_int, a_byte, a_count}
 use Rattle.recovery_lines.specs.Words.{words_of}
 
 -- ---- ids
@@ -123,12 +134,37 @@ discard = form_of (codes "discard") (a_space ∷ []) (λ x. DiscardSpace x.0)
 abbrev pub in_flight : Form
 in_flight = form_of (codes "in-flight") (a_path ∷ []) (λ x. InFlight x.0)
 
+abbrev pub sample : Form
+sample = form_of (codes "sample") (a_span ∷ a_span ∷ []) (λ x. Sample x.0 x.1.0)
+
+abbrev pub datagram_in : Form
+datagram_in = form_of (codes "datagram-in") (a_path ∷ a_u64 ∷ []) (λ x. DatagramIn x.0 x.1.0)
+
+abbrev pub validated : Form
+validated = form_of (codes "validated") (a_path ∷ []) (λ x. Validated x.0)
+
+abbrev pub transmit : Form
+transmit = form_of (codes "transmit") (a_u64 ∷ a_u16 ∷ a_flag ∷ [])
+    (λ x. Transmit x.0 x.1.0 x.1.1.0)
+
+abbrev pub pacer_check : Form
+pacer_check = form_of (codes "pacer-check") (a_u64 ∷ a_u64 ∷ []) (λ x. PacerCheck x.0 x.1.0)
+
+abbrev pub congestion : Form
+congestion = form_of (codes "congestion") (a_u64 ∷ a_u64 ∷ a_flag ∷ a_u64 ∷ [])
+    (λ x. Congestion x.0 x.1.0 x.1.1.0 x.1.1.1.0)
+
+abbrev pub end_acks : Form
+end_acks = form_of (codes "end-acks") (a_u64 ∷ a_flag ∷ a_largest ∷ [])
+    (λ x. EndAcks x.0 x.1.0 x.1.1.0)
+
 abbrev pub forms : List Form
 forms = received ∷ send ∷ acked ∷ lost
     ∷ new_id ∷ next_id ∷ initial_id ∷ issue_ids ∷ id_timeout ∷ peer_retired
     ∷ ack_frequency ∷ acks_sent ∷ ack_delay_timeout
     ∷ set_timer ∷ stop_timer ∷ next_timeout
-    ∷ discard ∷ in_flight ∷ []
+    ∷ discard ∷ in_flight
+    ∷ sample ∷ datagram_in ∷ validated ∷ transmit ∷ pacer_check ∷ congestion ∷ end_acks ∷ []
 
 -- ---- how an event is said
 
@@ -154,6 +190,15 @@ saying unkept (StopTimer timer) = (stop_timer, (timer, tt))
 saying unkept NextTimeout = (next_timeout, tt)
 saying unkept (DiscardSpace space) = (discard, (space, tt))
 saying unkept (InFlight path) = (in_flight, (path, tt))
+saying unkept (Sample delay rtt) = (sample, (delay, (rtt, tt)))
+saying unkept (DatagramIn path bytes) = (datagram_in, (path, (bytes, tt)))
+saying unkept (Validated path) = (validated, (path, tt))
+saying unkept (Transmit now bytes checked) = (transmit, (now, (bytes, (checked, tt))))
+saying unkept (PacerCheck now bytes) = (pacer_check, (now, (bytes, tt)))
+saying unkept (Congestion now sent persistent bytes) =
+    (congestion, (now, (sent, (persistent, (bytes, tt)))))
+saying unkept (EndAcks now app_limited largest) =
+    (end_acks, (now, (app_limited, (largest, tt))))
 
 -- the words that a form says with values
 abbrev pub words_said : (form : Form) × Values form.fields → List (List ℕ)

@@ -1,5 +1,7 @@
 -- How the parser goes over the words of a line. What a line means is said by the grammar in Lines.antt alone.
-use Rattle.std.specs.Prelude.{◌≡◌, ℕ, ◌+◌, ◌<◌, ◌≤◌, ◌^◌, ◌==◌, nat_lt, ◌&&◌, Bool, true, false, List, [], ◌∷◌, length, Option, Some, None, option_and_then, if◌then◌else◌, bytes_eq, decimal, slice_index}
+use Rattle.std.specs.Prelude.{◌≡◌, ℕ, ◌+◌, ◌*◌, ◌<◌, ◌≤◌, ◌^◌, ◌==◌, nat_lt, ◌&&◌, Bool, true}
+use Rattle.std.specs.Prelude.{false, List, [], ◌∷◌, length, Option, Some, None, option_and_then}
+use Rattle.std.specs.Prelude.{if◌then◌else◌, bytes_eq, decimal, slice_index}
 use Rattle.std.specs.Int.{IsInRange}
 use Rattle.std.specs.List.{before_first, position_or_len}
 use Rattle.std.specs.Str.Parse.{digits_value}
@@ -13,7 +15,9 @@ use Rattle.quic_recovery.specs.declared.event.PathName.TheVariants.{Current, Pre
 use Rattle.recovery_lines.specs.declared.lines.Line.{Line}
 use Rattle.recovery_lines.specs.declared.lines.Line.TheVariants.{Said, Ids}
 use Rattle.recovery_lines.specs.declared.words.Words.{Words}
-use Rattle.recovery_lines.specs.Fields.{Field, a_space, a_timer, a_path, a_flag, a_largest, a_u64, a_u16, a_var_int, a_byte, a_count, Value, Values}
+use Rattle.recovery_lines.specs.Fields.{Field, Value, Values}
+use Rattle.recovery_lines.specs.Fields.{a_space, a_timer, a_path, a_flag, a_largest}
+use Rattle.recovery_lines.specs.Fields.{a_u64, a_span, a_u16, a_var_int, a_byte, a_count}
 use Rattle.recovery_lines.specs.Lines.{Form, forms}
 use Rattle.recovery_lines.specs.Words.{words_of}
 
@@ -61,10 +65,12 @@ number_of limit word = let n = digits_value 10 word in if nat_lt n limit && byte
 abbrev pub AreDigits : List ℕ → ℕ → Type 0
 AreDigits bytes n = (i : ℕ) → i < n → IsInRange 48 57 (slice_index bytes i)
 
--- the number that the first word of bytes is, with the length of that word
-abbrev pub IsFirstNumber : List ℕ → Option (ℕ × ℕ) → Type 0
-IsFirstNumber bytes None = number_of (2 ^ 64) (before_first (λ b. b == 32) bytes) ≡ None
-IsFirstNumber bytes (Some (number, end)) = (number_of (2 ^ 64) (before_first (λ b. b == 32) bytes) ≡ Some number) × (end ≡ position_or_len (λ b. b == 32) bytes)
+-- the number below a limit that the first word of bytes is, with the length of that word
+abbrev pub IsFirstNumber : ℕ → List ℕ → Option (ℕ × ℕ) → Type 0
+IsFirstNumber limit bytes None = number_of limit (before_first (λ b. b == 32) bytes) ≡ None
+IsFirstNumber limit bytes (Some (number, end)) =
+    (number_of limit (before_first (λ b. b == 32) bytes) ≡ Some number)
+    × (end ≡ position_or_len (λ b. b == 32) bytes)
 
 -- a number, or none
 unfoldable pub largest_of : List ℕ → Option (Option ℕ)
@@ -108,6 +114,7 @@ value_of a_path = path_of
 value_of a_flag = flag_of
 value_of a_largest = largest_of
 value_of a_u64 = number_of (2 ^ 64)
+value_of a_span = number_of (2 ^ 64 * 10 ^ 9)
 value_of a_u16 = number_of (2 ^ 16)
 value_of a_var_int = number_of (2 ^ 62)
 value_of a_byte = number_of (2 ^ 8)

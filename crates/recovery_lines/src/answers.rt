@@ -1,12 +1,23 @@
 //! What is written for each reply: one line.
 ghost use Rattle.std.specs.Prelude.{◌≡◌, IfOk, OnOk, string_bytes};
-ghost use Rattle.recovery_lines.specs.Answers.{Writes, new_text, sent_text, done_with_text, retire_text, flag_text, timeout_text, in_flight_text, refusal_text, answer_text, answer_lines};
+ghost use Rattle.recovery_lines.specs.Answers.{Writes, new_text, sent_text, done_with_text};
+ghost use Rattle.recovery_lines.specs.Answers.{retire_text, flag_text, timeout_text};
+ghost use Rattle.recovery_lines.specs.Answers.{in_flight_text, delayed_text, refusal_text};
+ghost use Rattle.recovery_lines.specs.Answers.{answer_text, answer_lines};
 
 use quic_recovery::event::{Answer, Refusal};
 use recovery_base::below::{NoMemory, ResetToken};
 use recovery_base::time::Instant;
 use std::alloc::{AllocError, Global};
 use std::ops::Range;
+
+/// A line of one word.
+fn write_word(text: &mut String, word: &str) -> Result<(), AllocError>
+    ensures { OnOk result (Writes text.old word.now text.new) }
+{
+    text.push_str(word)?;
+    text.push_str("\n")
+}
 
 fn write_new(text: &mut String, arm: bool) -> Result<(), AllocError>
     ensures { OnOk result (Writes text.old (new_text arm) text.new) }
@@ -75,6 +86,12 @@ fn write_in_flight(text: &mut String, bytes: u64, ack_eliciting: u64) -> Result<
     writeln!(text, "in-flight {bytes} {ack_eliciting}")
 }
 
+fn write_delayed(text: &mut String, until: Instant) -> Result<(), AllocError>
+    ensures { OnOk result (Writes text.old (delayed_text until) text.new) }
+{
+    writeln!(text, "delayed {}", until.as_nanos())
+}
+
 fn write_refusal(text: &mut String, refusal: Refusal) -> Result<(), AllocError>
     ensures { OnOk result (Writes text.old (refusal_text refusal) text.new) }
 {
@@ -87,7 +104,7 @@ pub fn write_reply(text: &mut String, reply: &Result<Answer, Refusal>) -> Result
 {
     match reply {
         Ok(Answer::New { arm }) => write_new(text, *arm),
-        Ok(Answer::Duplicate) => writeln!(text, "duplicate"),
+        Ok(Answer::Duplicate) => write_word(text, "duplicate"),
         Ok(Answer::Sent { number, forgotten }) => write_sent(text, *number, *forgotten),
         Ok(Answer::Acked { probe }) => write_done_with(text, "acked", *probe),
         Ok(Answer::Lost { probe }) => write_done_with(text, "lost", *probe),
@@ -100,7 +117,11 @@ pub fn write_reply(text: &mut String, reply: &Result<Answer, Refusal>) -> Result
                 ack_eliciting,
             },
         ) => write_in_flight(text, *bytes, *ack_eliciting),
-        Ok(Answer::Done) => writeln!(text, "done"),
+        Ok(Answer::Transmitted) => write_word(text, "transmitted"),
+        Ok(Answer::Blocked) => write_word(text, "blocked"),
+        Ok(Answer::Delayed(until)) => write_delayed(text, *until),
+        Ok(Answer::Ready) => write_word(text, "ready"),
+        Ok(Answer::Done) => write_word(text, "done"),
         Err(refusal) => write_refusal(text, *refusal),
     }
 }

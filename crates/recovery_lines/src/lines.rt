@@ -1,7 +1,13 @@
 //! The event that a line of a script spells.
 ghost use Rattle.std.specs.Prelude.{◌≡◌, ◌+◌, ◌<◌, ◌≤◌, ◌^◌, IfSome, IfOk, OnErr, IsSome, IsSomeAnd, bytes_eq};
 ghost use Rattle.quic_recovery.specs.declared.event.Event.{Event};
-ghost use Rattle.recovery_lines.specs.Lines.{id_of, token_of, zero_ids, received, send, acked, lost, new_id, initial_id, issue_ids, peer_retired, ack_frequency, acks_sent, ack_delay_timeout, set_timer, stop_timer, discard, in_flight, Means, Spells, IsSame, IssuesIds};
+ghost use Rattle.recovery_lines.specs.Lines.{id_of, token_of, zero_ids, Means, Spells};
+ghost use Rattle.recovery_lines.specs.Lines.{IsSame, IssuesIds, received, send, acked, lost};
+ghost use Rattle.recovery_lines.specs.Lines.{new_id, initial_id, issue_ids, peer_retired};
+ghost use Rattle.recovery_lines.specs.Lines.{ack_frequency, acks_sent, ack_delay_timeout};
+ghost use Rattle.recovery_lines.specs.Lines.{set_timer, stop_timer, discard, in_flight, sample};
+ghost use Rattle.recovery_lines.specs.Lines.{datagram_in, validated, transmit, pacer_check};
+ghost use Rattle.recovery_lines.specs.Lines.{congestion, end_acks};
 ghost use Rattle.recovery_lines.specs.Reading.{ReadsBy, reading, line_behind, line_at, line_of, TakesMemory};
 
 use crate::words::Words;
@@ -189,6 +195,79 @@ fn in_flight(words: &mut Words<'_>) -> Option<Line>
 }
 
 #[tactic(auto, unfolding(crate::specs::Reading::fields_read))]
+fn sample(words: &mut Words<'_>) -> Option<Line>
+    ensures { ReadsBy (reading sample) words.old words.new result }
+{
+    Some(Line::Said(Event::Sample {
+        delay: words.span()?,
+        rtt: words.span()?,
+    }))
+}
+
+#[tactic(auto, unfolding(crate::specs::Reading::fields_read))]
+fn datagram_in(words: &mut Words<'_>) -> Option<Line>
+    ensures { ReadsBy (reading datagram_in) words.old words.new result }
+{
+    Some(Line::Said(Event::DatagramIn {
+        path: words.path()?,
+        bytes: words.number()?,
+    }))
+}
+
+#[tactic(auto, unfolding(crate::specs::Reading::fields_read))]
+fn validated(words: &mut Words<'_>) -> Option<Line>
+    ensures { ReadsBy (reading validated) words.old words.new result }
+{
+    Some(Line::Said(Event::Validated {
+        path: words.path()?,
+    }))
+}
+
+#[tactic(auto, unfolding(crate::specs::Reading::fields_read))]
+fn transmit(words: &mut Words<'_>) -> Option<Line>
+    ensures { ReadsBy (reading transmit) words.old words.new result }
+{
+    Some(Line::Said(Event::Transmit {
+        now: words.moment()?,
+        bytes: words.size()?,
+        checked: words.flag()?,
+    }))
+}
+
+#[tactic(auto, unfolding(crate::specs::Reading::fields_read))]
+fn pacer_check(words: &mut Words<'_>) -> Option<Line>
+    ensures { ReadsBy (reading pacer_check) words.old words.new result }
+{
+    Some(Line::Said(Event::PacerCheck {
+        now: words.moment()?,
+        bytes: words.number()?,
+    }))
+}
+
+#[tactic(auto, unfolding(crate::specs::Reading::fields_read))]
+fn congestion(words: &mut Words<'_>) -> Option<Line>
+    ensures { ReadsBy (reading congestion) words.old words.new result }
+{
+    Some(Line::Said(Event::Congestion {
+        now: words.moment()?,
+        sent: words.moment()?,
+        persistent: words.flag()?,
+        bytes: words.number()?,
+    }))
+}
+
+#[tactic(auto, unfolding(crate::specs::Reading::fields_read))]
+fn end_acks(words: &mut Words<'_>) -> Option<Line>
+    ensures { ReadsBy (reading end_acks) words.old words.new result }
+{
+    Some(Line::Said(Event::EndAcks {
+        now: words.moment()?,
+        app_limited: words.flag()?,
+        largest: words.largest()?,
+    }))
+}
+
+#[tactic(auto, unfolding(crate::specs::Reading::fields_read))]
 fn issue_ids(words: &mut Words<'_>) -> Option<Line>
     ensures { ReadsBy (reading issue_ids) words.old words.new result }
 {
@@ -216,16 +295,23 @@ fn line_behind(name: &[u8], words: &mut Words<'_>) -> Option<Line>
         4 if is_name(name, "lost") => lost(words),
         5 if is_name(name, "acked") => acked(words),
         6 if is_name(name, "new-id") => new_id(words),
+        6 if is_name(name, "sample") => sample(words),
         7 if is_name(name, "next-id") => Some(Line::Said(Event::NextId)),
         7 if is_name(name, "discard") => discard(words),
         8 if is_name(name, "received") => received(words),
+        8 if is_name(name, "transmit") => transmit(words),
+        8 if is_name(name, "end-acks") => end_acks(words),
         9 if is_name(name, "issue-ids") => issue_ids(words),
         9 if is_name(name, "acks-sent") => acks_sent(words),
         9 if is_name(name, "set-timer") => set_timer(words),
         9 if is_name(name, "in-flight") => in_flight(words),
+        9 if is_name(name, "validated") => validated(words),
         10 if is_name(name, "initial-id") => initial_id(words),
         10 if is_name(name, "id-timeout") => Some(Line::Said(Event::IdTimeout)),
         10 if is_name(name, "stop-timer") => stop_timer(words),
+        10 if is_name(name, "congestion") => congestion(words),
+        11 if is_name(name, "datagram-in") => datagram_in(words),
+        11 if is_name(name, "pacer-check") => pacer_check(words),
         12 if is_name(name, "peer-retired") => peer_retired(words),
         12 if is_name(name, "next-timeout") => Some(Line::Said(Event::NextTimeout)),
         13 if is_name(name, "ack-frequency") => ack_frequency(words),

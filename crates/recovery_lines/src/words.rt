@@ -1,5 +1,5 @@
 //! The words of a line, read one after the other.
-ghost use Rattle.std.specs.Prelude.{◌≡◌, ◌<◌, ◌≤◌, ◌^◌, ◌==◌, Some, length, take};
+ghost use Rattle.std.specs.Prelude.{◌≡◌, ◌*◌, ◌<◌, ◌≤◌, ◌^◌, ◌==◌, Some, length, take};
 ghost use Rattle.std.specs.List.{position_or_len};
 ghost use Rattle.std.specs.Str.Parse.{digits_value};
 ghost use Rattle.recovery_lines.specs.Words.{words_of};
@@ -7,7 +7,7 @@ ghost use Rattle.recovery_lines.specs.Reading.{AreDigits, IsFirstNumber, Reads, 
 
 use quic_recovery::event::PathName;
 use recovery_base::below::{SpaceId, VarInt};
-use recovery_base::time::Instant;
+use recovery_base::time::{Duration, Instant};
 use recovery_base::timer::Timer;
 
 /// The most ids that a line issues.
@@ -29,6 +29,34 @@ pub fn number_in(word: &[u8]) -> Option<u64>
         value = value.checked_mul(10)?.checked_add(u64::from(digit))?;
     }
     Some(value)
+}
+
+/// The number that digits spell, 0 to `u128::MAX`, as a number is spelled.
+fn long_number_in(digits: &[u8]) -> Option<u128>
+    ensures { result ≡ number_of (2 ^ 128) digits.now }
+{
+    if digits.is_empty() || (digits.len() > 1 && digits[0] == b'0') {
+        return None;
+    }
+    let mut value = 0u128;
+    for byte in digits {
+        let digit = byte.wrapping_sub(b'0');
+        if digit > 9 {
+            return None;
+        }
+        value = value.checked_mul(10)?.checked_add(u128::from(digit))?;
+    }
+    Some(value)
+}
+
+/// The span that a word spells: nanoseconds, 0 to 2^64 · 10^9 - 1, as a number is spelled.
+fn span_in(word: &[u8]) -> Option<Duration>
+    ensures { result ≡ number_of (2 ^ 64 * 10 ^ 9) word.now }
+{
+    match long_number_in(word) {
+        Some(nanos) => Duration::checked_from_nanos(nanos),
+        None => None,
+    }
 }
 
 /// The size that a word spells, 0 to `u16::MAX`, as a number is spelled.
@@ -169,7 +197,7 @@ fn leading_digits(bytes: &[u8]) -> (u64, usize)
 
 /// The number that the first word of bytes spells, 0 to `u64::MAX`, and the length of that word.
 fn first_number_of_any_length(bytes: &[u8]) -> Option<(u64, usize)>
-    ensures { IsFirstNumber bytes.now result }
+    ensures { IsFirstNumber (2 ^ 64) bytes.now result }
 {
     let end = word_len(bytes);
     Some((number_in(&bytes[..end])?, end))
@@ -178,7 +206,7 @@ fn first_number_of_any_length(bytes: &[u8]) -> Option<(u64, usize)>
 /// The number that the first word of bytes spells, 0 to `u64::MAX`, and the length of that word: in one pass, where it
 /// has no more than 19 digits.
 fn first_number(bytes: &[u8]) -> Option<(u64, usize)>
-    ensures { IsFirstNumber bytes.now result }
+    ensures { IsFirstNumber (2 ^ 64) bytes.now result }
 {
     let (value, end) = leading_digits(bytes);
     if end == 0 || (end > 1 && bytes[0] == b'0') {
@@ -188,6 +216,18 @@ fn first_number(bytes: &[u8]) -> Option<(u64, usize)>
         return first_number_of_any_length(bytes);
     }
     Some((value, end))
+}
+
+/// The span that the first word of bytes spells, and the length of that word. Few spans are longer than
+/// a number.
+fn first_span(bytes: &[u8]) -> Option<(Duration, usize)>
+    ensures { IsFirstNumber (2 ^ 64 * 10 ^ 9) bytes.now result }
+{
+    if let Some((nanos, end)) = first_number(bytes) {
+        return Some((Duration::from_nanos(nanos), end));
+    }
+    let end = word_len(bytes);
+    Some((span_in(&bytes[..end])?, end))
 }
 
 /// The words of a line that are left to read.
@@ -244,6 +284,17 @@ impl<'a> Words<'a> {
         ensures { ReadsBy (field (number_of (2 ^ 64))) self.old self.new result }
     {
         Some(Instant::from_nanos(self.number()?))
+    }
+
+    /// The next word as a span: nanoseconds, 0 to 2^64 · 10^9 - 1.
+    #[tactic(auto, unfolding(crate::specs::Reading::field))]
+    pub fn span(&mut self) -> Option<Duration>
+        ensures { ReadsBy (field (number_of (2 ^ 64 * 10 ^ 9))) self.old self.new result }
+    {
+        let rest = self.rest?;
+        let (span, end) = first_span(rest)?;
+        self.pass(rest, end);
+        Some(span)
     }
 
     /// The next word as a size in bytes, 0 to `u16::MAX`.

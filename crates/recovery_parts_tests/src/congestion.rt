@@ -2,7 +2,9 @@
 ghost use Rattle.std.specs.Prelude.{◌<◌};
 
 use recovery_base::time::{Duration, Instant};
-use recovery_congestion::congestion::{Controller, ControllerFactory, NewRenoConfig};
+use recovery_congestion::congestion::{
+    Controller, ControllerFactory, ControllerMetrics, NewRenoConfig,
+};
 use recovery_halving::HalvingConfig;
 use recovery_rtt::rtt::RttEstimator;
 use std::process::Abort;
@@ -30,7 +32,7 @@ fn at(nanos: u64) -> Instant {
     Instant::from_nanos(nanos)
 }
 
-/// Tells a controller. Its window stays above zero, as long as MTUs do.
+/// Tells a controller.
 fn tell<C: Controller>(controller: &mut C, call: Call) {
     let rtt = RttEstimator::new(Duration::from_millis(333));
     match call {
@@ -70,6 +72,27 @@ where
         clone.metrics().congestion_window == controller.window(),
         "metrics"
     );
+}
+
+/// The window after a loss, which no controller lets fall to zero.
+fn lose<C: Controller>(controller: &mut C) -> u64
+    requires { C.is_sound (C.content controller.old) }
+    ensures above { 0 < result }
+    ensures sound { C.is_sound (C.content controller.new) }
+{
+    controller.on_congestion_event(at(1), at(1), true, u64::MAX);
+    controller.window()
+}
+
+/// The window of a fresh controller after two losses.
+fn lose_twice<F: ControllerFactory>(factory: &F) -> u64
+where
+    F::Controller: Drop,
+    ensures { 0 < result }
+{
+    let mut controller = factory.build(at(0), 1);
+    lose(&mut controller);
+    lose(&mut controller)
 }
 
 /// A NewReno of this window at first, which a loss multiplies by a fraction.
@@ -213,6 +236,7 @@ fn reno_shows_its_threshold(rt: HostRuntime) {
     assert!(rt; metrics.congestion_window == 2400);
     assert!(rt; metrics.ssthresh == Some(6000));
     assert!(rt; metrics.pacing_rate.is_none());
+    assert!(rt; ControllerMetrics::default().congestion_window == 0);
 }
 
 #[test]
@@ -232,4 +256,10 @@ fn halving_halves(rt: HostRuntime) {
             (Call::Lost(0, 0), 18000),
         ],
     );
+}
+
+#[test]
+fn no_window_falls_to_zero(rt: HostRuntime) {
+    assert!(rt; lose_twice(&reno(1, 0, 1)) == 2, "NewReno");
+    assert!(rt; lose_twice(&HalvingConfig::new(1)) == 2, "Halving");
 }

@@ -2,12 +2,16 @@
 ghost use Rattle.std.specs.Prelude.{◌≡◌, IfOk, OnOk, OnErr, Decides, string_bytes};
 ghost use Rattle.std.specs.Io.KnownBytes.{Appends};
 ghost use Rattle.recovery_replay.specs.Script.{Hears};
-ghost use Rattle.recovery_replay.specs.Replay.{status_of, error_text, beginning, AreArguments, Session, PlaysBytes, Plays, Tells, EndsSo};
+ghost use Rattle.recovery_replay.specs.Replay.{status_of, error_text, IsRemote, beginning};
+ghost use Rattle.recovery_replay.specs.Replay.{AreArguments, Session, PlaysBytes, Plays};
+ghost use Rattle.recovery_replay.specs.Replay.{Tells, EndsSo};
 
 use crate::script::{Ending, read_bytes, read_script};
 use crate::writing::deliver;
 use arrayvec::ArrayString;
 use itoa::Buffer;
+use quic_recovery::config::TransportConfig;
+use quic_recovery::congestion::NewRenoConfig;
 use quic_recovery::driver::{Recovery, RecoveryConfig};
 use quic_recovery::event::Event;
 use recovery_base::below::{ConnectionId, NoMemory};
@@ -17,6 +21,7 @@ use recovery_lines::number_in;
 use std::alloc::Global;
 use std::io;
 use std::io::{Read, Write};
+use std::net::{IpAddr, Ipv4Addr, SocketAddr};
 
 /// How the program ends.
 #[derive(Clone, Copy)]
@@ -74,11 +79,21 @@ impl Outcome {
     }
 }
 
-/// What a run starts with.
-fn config() -> RecoveryConfig
-    ensures { result ≡ beginning.config }
+/// The peer's address, one of those for documentation (RFC 5737, 3).
+fn remote() -> SocketAddr
+    ensures { IsRemote result }
+{
+    SocketAddr::new(IpAddr::V4(Ipv4Addr::new(192, 0, 2, 1)), 4433)
+}
+
+/// What a run with the peer at an address starts with.
+fn config(remote: SocketAddr) -> RecoveryConfig<NewRenoConfig>
+    ensures { result ≡ (beginning remote).config }
 {
     RecoveryConfig {
+        transport: TransportConfig::default(),
+        remote,
+        validated: false,
         max_ack_delay: Duration::from_millis(25),
         initial_cid: ConnectionId::new(&[0xFF; 8]),
         cid_len: 8,
@@ -93,7 +108,7 @@ fn answers(alloc: Global, events: Vec<Event>) -> Result<String, NoMemory>
         Session (λ said. said ≡ events.items) (λ lines. string_bytes text ≡ lines)) }
 {
     let start = Instant::from_nanos(0);
-    let (_, replies) = Recovery::run(alloc, config(), start, events)?;
+    let (_, replies) = Recovery::run(alloc, config(remote()), start, events)?;
     render(alloc, &replies)
 }
 

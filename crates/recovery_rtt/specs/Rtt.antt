@@ -1,5 +1,5 @@
 -- The estimate of the round-trip time, in nanoseconds (RFC 9002, 5).
-use Rattle.std.specs.Prelude.{ℕ, ◌≡◌, ◌+◌, ◌-◌, ◌*◌, ◌/◌, ◌≤◌, ◌^◌, min, max, List, [], ◌∷◌, Option, None, Some, nat_le, if◌then◌else◌}
+use Rattle.std.specs.Prelude.{ℕ, ◌+◌, ◌-◌, ◌*◌, ◌/◌, ◌≤◌, ◌^◌, ⊤, min, max, List, [], ◌∷◌, Option, None, Some, nat_le, if◌then◌else◌}
 use Rattle.std.specs.Option.{unwrap_or}
 
 pub record Rtt : Type 0 where
@@ -46,6 +46,12 @@ abbrev pub rtt_by : ℕ → List (ℕ × ℕ) → Rtt
 rtt_by initial [] = rtt_made initial
 rtt_by initial (sample ∷ earlier) = rtt_updated sample.0 sample.1 (rtt_by initial earlier)
 
+-- the least of some samples, the newest first; the initial RTT where there is none
+abbrev pub least_of : ℕ → List (ℕ × ℕ) → ℕ
+least_of initial [] = initial
+least_of initial (sample ∷ []) = sample.1
+least_of initial (sample ∷ (before ∷ earlier)) = min (least_of initial (before ∷ earlier)) sample.1
+
 -- the best estimate: the smoothed value, or the initial RTT before the first sample
 abbrev pub rtt_get : Rtt → ℕ
 rtt_get rtt = unwrap_or rtt.smoothed rtt.latest
@@ -68,7 +74,7 @@ pto_base_of rtt = min (rtt_get rtt + max (4 * rtt.variance) granularity) longest
 
 -- what holds of every estimate: the smoothed value, where there is one, is no less than the least
 abbrev pub IsAboveLeast : Option ℕ → ℕ → Type 0
-IsAboveLeast None least = Unit {0}
+IsAboveLeast None least = ⊤
 IsAboveLeast (Some smoothed) least = least ≤ smoothed
 
 -- the greater of a sample and the smoothed value, where there is one

@@ -1,7 +1,7 @@
 //! NewReno (RFC 9002, 7 and appendix B).
-ghost use Rattle.std.specs.Prelude.{◌≡◌, ◌<◌, ◌≤◌, Ok, refl};
+ghost use Rattle.std.specs.Prelude.{◌≡◌, ◌<◌, ◌≤◌, nat_le, Ok, refl};
 ghost use Rattle.recovery_congestion.specs.RenoSettings.{default_reno};
-ghost use Rattle.recovery_congestion.specs.NewReno.{reno_made, reno_words, reno_acked, reno_congested, reno_with_mtu, reno_metrics, minimum_window, reduced_window, IsRenoSound, AvoidsBelowMost, RaisesArea};
+ghost use Rattle.recovery_congestion.specs.NewReno.{reno_made, reno_words, reno_acked, reno_congested, reno_with_mtu, reno_metrics, minimum_window, reduced_window, slow_started, avoided, sum_to_most, IsRenoSound, AvoidsBelowMost, CountsBytes};
 ghost use Rattle.recovery_congestion.specs.RenoLaws.{reno_laws};
 
 use super::{Controller, ControllerFactory, ControllerMetrics};
@@ -10,8 +10,8 @@ use recovery_base::time::Instant;
 use recovery_rtt::rtt::RttEstimator;
 use std::marker::Model;
 
-/// The size of the datagrams that the default initial window is for, in bytes.
-const BASE_DATAGRAM_SIZE: u64 = 1200;
+/// The default initial window, in bytes: ten datagrams of 1200 bytes, since these are less than 14720 bytes (RFC 9002, 7.2).
+const INITIAL_WINDOW: u64 = 12_000;
 
 /// How a [`NewReno`] begins, and how a loss reduces its window.
 #[derive(Clone, Copy)]
@@ -65,7 +65,7 @@ impl Default for NewRenoConfig {
 
     fn default() -> Self {
         NewRenoConfig {
-            initial_window: 14720u64.clamp(2 * BASE_DATAGRAM_SIZE, 10 * BASE_DATAGRAM_SIZE),
+            initial_window: INITIAL_WINDOW,
             numerator: 1,
             denominator: 2,
         }
@@ -130,6 +130,38 @@ impl NewReno {
         let reduced = u64::try_from(reduced).unwrap_or(u64::MAX);
         reduced.max(self.minimum_window())
     }
+
+    /// Whether a packet was sent before the recovery began, or as it began.
+    fn precedes_recovery(&self, sent: Instant) -> bool
+        ensures { result ≡ nat_le sent self.now.recovery_start_time }
+    {
+        sent <= self.recovery_start_time
+    }
+
+    /// Grows in slow start. What goes past the threshold counts for congestion avoidance already.
+    fn start_slowly(&mut self, bytes: u64)
+        ensures { self.new ≡ slow_started bytes self.old }
+    {
+        let window = self.window.saturating_add(bytes);
+        if let Some(excess) = window.checked_sub(self.ssthresh) {
+            self.bytes_acked = excess;
+        }
+        self.window = window;
+    }
+
+    /// Counts in congestion avoidance, and grows by one MTU where a window of bytes is counted.
+    fn avoid_congestion(&mut self, bytes: u64)
+        ensures { self.new ≡ avoided (sum_to_most self.old.bytes_acked bytes) self.old }
+    {
+        let counted = self.bytes_acked.saturating_add(bytes);
+        match counted.checked_sub(self.window) {
+            Some(rest) => {
+                self.bytes_acked = rest;
+                self.window = self.window.saturating_add(u64::from(self.current_mtu));
+            }
+            None => self.bytes_acked = counted,
+        }
+    }
 }
 
 impl Controller for NewReno {
@@ -144,8 +176,7 @@ impl Controller for NewReno {
     /// Changes nothing.
     fn on_sent(&mut self, _now: Instant, _bytes: u64, _last_packet_number: u64)
         ensures { self.new ≡ self.old }
-    {
-    }
+    {}
 
     /// The window never falls. In congestion avoidance it grows by one MTU for each window of bytes.
     fn on_ack(
@@ -158,23 +189,16 @@ impl Controller for NewReno {
     )
         ensures value { self.new ≡ reno_acked sent bytes app_limited self.old }
         ensures kept { self.old.window ≤ self.new.window }
-        ensures raises { AvoidsBelowMost sent bytes app_limited self.old → RaisesArea bytes self.old self.new }
+        ensures exact { AvoidsBelowMost sent bytes app_limited self.old
+            → CountsBytes bytes self.old self.new }
     {
-        if app_limited || sent <= self.recovery_start_time {
+        if app_limited || self.precedes_recovery(sent) {
             return;
         }
         if self.window < self.ssthresh {
-            self.window = self.window.saturating_add(bytes);
-            if self.window >= self.ssthresh {
-                // Bytes past the threshold count for congestion avoidance already.
-                self.bytes_acked = self.window - self.ssthresh;
-            }
-            return;
-        }
-        self.bytes_acked = self.bytes_acked.saturating_add(bytes);
-        if self.bytes_acked >= self.window {
-            self.bytes_acked -= self.window;
-            self.window = self.window.saturating_add(u64::from(self.current_mtu));
+            self.start_slowly(bytes);
+        } else {
+            self.avoid_congestion(bytes);
         }
     }
 
@@ -187,8 +211,7 @@ impl Controller for NewReno {
         _largest_packet_num_acked: Option<u64>,
     )
         ensures { self.new ≡ self.old }
-    {
-    }
+    {}
 
     /// Does nothing for packets sent before the recovery began. Nothing else lets the window fall.
     fn on_congestion_event(
@@ -201,15 +224,16 @@ impl Controller for NewReno {
         ensures value { self.new ≡ reno_congested now sent is_persistent_congestion self.old }
         ensures falls { self.new.window < self.old.window → self.old.recovery_start_time < sent }
     {
-        if sent <= self.recovery_start_time {
+        if self.precedes_recovery(sent) {
             return;
         }
+        let reduced = self.reduced_window();
         self.recovery_start_time = now;
-        self.ssthresh = self.reduced_window();
+        self.ssthresh = reduced;
         self.window = if is_persistent_congestion {
             self.minimum_window()
         } else {
-            self.ssthresh
+            reduced
         };
     }
 
@@ -219,7 +243,7 @@ impl Controller for NewReno {
         ensures kept { self.old.window ≤ self.new.window }
     {
         self.current_mtu = new_mtu;
-        self.window = self.window.max(self.minimum_window());
+        self.window = self.minimum_window().max(self.window);
     }
 
     fn window(&self) -> u64

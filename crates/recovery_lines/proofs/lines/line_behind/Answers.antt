@@ -3,23 +3,62 @@ use Rattle.recovery_lines.specs.Reading.{form_named, words_left}
 use Rattle.recovery_lines.specs.Lines.{Form}
 use Rattle.recovery_lines.proofs.NameLaws.{none_of_length, skip, unnamed}
 use Rattle.recovery_lines.proofs.lines.line_behind.Goals as goal
-use Rattle.recovery_lines.proofs.lines.line_behind.Goals.{in_default-via-in-4-2+else-is_name-2, in_default-via-in-5+else-is_name-3, in_default-via-in-6+else-is_name-4, in_default-via-in-7-2+else-is_name-6, in_default-via-in-8+else-is_name-7, in_default-via-in-9-4+else-is_name-11, in_default-via-in-10-3+else-is_name-14, in_default-via-in-12-2+else-is_name-16, in_default-via-in-13+else-is_name-17, in_default-via-in-17+else-is_name-18, in_default-via-in_default-1}
+use Rattle.recovery_lines.proofs.lines.line_behind.Goals.{in_default-via-in-4-2+else-is_name-2}
+use Rattle.recovery_lines.proofs.lines.line_behind.Goals.{in_default-via-in-5+else-is_name-3}
+use Rattle.recovery_lines.proofs.lines.line_behind.Goals.{in_default-via-in-6-2+else-is_name-5}
+use Rattle.recovery_lines.proofs.lines.line_behind.Goals.{in_default-via-in-7-2+else-is_name-7}
+use Rattle.recovery_lines.proofs.lines.line_behind.Goals.{in_default-via-in-8-3+else-is_name-10}
+use Rattle.recovery_lines.proofs.lines.line_behind.Goals.{in_default-via-in-9-5+else-is_name-15}
+use Rattle.recovery_lines.proofs.lines.line_behind.Goals.{in_default-via-in-10-4+else-is_name-19}
+use Rattle.recovery_lines.proofs.lines.line_behind.Goals.{in_default-via-in-11-2+else-is_name-21}
+use Rattle.recovery_lines.proofs.lines.line_behind.Goals.{in_default-via-in-12-2+else-is_name-23}
+use Rattle.recovery_lines.proofs.lines.line_behind.Goals.{in_default-via-in-13+else-is_name-24}
+use Rattle.recovery_lines.proofs.lines.line_behind.Goals.{in_default-via-in-17+else-is_name-25}
+use Rattle.recovery_lines.proofs.lines.line_behind.Goals.{in_default-via-in_default-1}
 
 pub returns-in_default : goal.returns-in_default
 returns-in_default c =
     let name = c.args.name.now in
     let words = words_left c.args.words.now in
     elim c.in_default.branch [
-      | in_default-via-in-4-2+else-is_name-2 w ↦ unnamed name words 4 (omega arith) (skip _ _ _ w.if-is_name.ensures (skip _ _ _ w.if-is_name-2.ensures refl))
-      | in_default-via-in-5+else-is_name-3 w ↦ unnamed name words 5 (omega arith) (skip _ _ _ w.if-is_name-3.ensures refl)
-      | in_default-via-in-6+else-is_name-4 w ↦ unnamed name words 6 (omega arith) (skip _ _ _ w.if-is_name-4.ensures refl)
-      | in_default-via-in-7-2+else-is_name-6 w ↦ unnamed name words 7 (omega arith) (skip _ _ _ w.if-is_name-5.ensures (skip _ _ _ w.if-is_name-6.ensures refl))
-      | in_default-via-in-8+else-is_name-7 w ↦ unnamed name words 8 (omega arith) (skip _ _ _ w.if-is_name-7.ensures refl)
-      | in_default-via-in-9-4+else-is_name-11 w ↦ unnamed name words 9 (omega arith) (skip _ _ _ w.if-is_name-8.ensures (skip _ _ _ w.if-is_name-9.ensures (skip _ _ _ w.if-is_name-10.ensures (skip _ _ _ w.if-is_name-11.ensures refl))))
-      | in_default-via-in-10-3+else-is_name-14 w ↦ unnamed name words 10 (omega arith) (skip _ _ _ w.if-is_name-12.ensures (skip _ _ _ w.if-is_name-13.ensures (skip _ _ _ w.if-is_name-14.ensures refl)))
-      | in_default-via-in-12-2+else-is_name-16 w ↦ unnamed name words 12 (omega arith) (skip _ _ _ w.if-is_name-15.ensures (skip _ _ _ w.if-is_name-16.ensures refl))
-      | in_default-via-in-13+else-is_name-17 w ↦ unnamed name words 13 (omega arith) (skip _ _ _ w.if-is_name-17.ensures refl)
-      | in_default-via-in-17+else-is_name-18 w ↦ unnamed name words 17 (omega arith) (skip _ _ _ w.if-is_name-18.ensures refl)
+      | in_default-via-in-4-2+else-is_name-2 w ↦
+          unnamed name words 4 (omega arith)
+          (skip _ _ _ w.if-is_name.ensures (skip _ _ _ w.if-is_name-2.ensures refl))
+      | in_default-via-in-5+else-is_name-3 w ↦
+          unnamed name words 5 (omega arith) (skip _ _ _ w.if-is_name-3.ensures refl)
+      | in_default-via-in-6-2+else-is_name-5 w ↦
+          unnamed name words 6 (omega arith)
+          (skip _ _ _ w.if-is_name-4.ensures (skip _ _ _ w.if-is_name-5.ensures refl))
+      | in_default-via-in-7-2+else-is_name-7 w ↦
+          unnamed name words 7 (omega arith)
+          (skip _ _ _ w.if-is_name-6.ensures (skip _ _ _ w.if-is_name-7.ensures refl))
+      | in_default-via-in-8-3+else-is_name-10 w ↦
+          unnamed name words 8 (omega arith)
+          (skip _ _ _ w.if-is_name-8.ensures (skip _ _ _ w.if-is_name-9.ensures
+          (skip _ _ _ w.if-is_name-10.ensures refl)))
+      | in_default-via-in-9-5+else-is_name-15 w ↦
+          unnamed name words 9 (omega arith)
+          (skip _ _ _ w.if-is_name-11.ensures (skip _ _ _ w.if-is_name-12.ensures
+          (skip _ _ _ w.if-is_name-13.ensures (skip _ _ _ w.if-is_name-14.ensures
+          (skip _ _ _ w.if-is_name-15.ensures refl)))))
+      | in_default-via-in-10-4+else-is_name-19 w ↦
+          unnamed name words 10 (omega arith)
+          (skip _ _ _ w.if-is_name-16.ensures (skip _ _ _ w.if-is_name-17.ensures
+          (skip _ _ _ w.if-is_name-18.ensures (skip _ _ _ w.if-is_name-19.ensures refl))))
+      | in_default-via-in-11-2+else-is_name-21 w ↦
+          unnamed name words 11 (omega arith)
+          (skip _ _ _ w.if-is_name-20.ensures (skip _ _ _ w.if-is_name-21.ensures refl))
+      | in_default-via-in-12-2+else-is_name-23 w ↦
+          unnamed name words 12 (omega arith)
+          (skip _ _ _ w.if-is_name-22.ensures (skip _ _ _ w.if-is_name-23.ensures refl))
+      | in_default-via-in-13+else-is_name-24 w ↦
+          unnamed name words 13 (omega arith) (skip _ _ _ w.if-is_name-24.ensures refl)
+      | in_default-via-in-17+else-is_name-25 w ↦
+          unnamed name words 17 (omega arith) (skip _ _ _ w.if-is_name-25.ensures refl)
       | in_default-via-in_default-1 w ↦
-          unnamed name words (length name) refl (ap (λ (forms : List Form). form_named forms name) (none_of_length (length name) (λ e. omega arith) (λ e. omega arith) (λ e. omega arith) (λ e. omega arith) (λ e. omega arith) (λ e. omega arith) (λ e. omega arith) (λ e. omega arith) (λ e. omega arith) (λ e. omega arith)))
+          unnamed name words (length name) refl
+          (ap (λ (forms : List Form). form_named forms name)
+          (none_of_length (length name) (λ e. omega arith) (λ e. omega arith) (λ e. omega arith)
+          (λ e. omega arith) (λ e. omega arith) (λ e. omega arith) (λ e. omega arith)
+          (λ e. omega arith) (λ e. omega arith) (λ e. omega arith) (λ e. omega arith)))
     ]

@@ -1,4 +1,5 @@
-use Rattle.std.proofs.Common.{◌≡◌, ◌≢◌, ◌+◌, ◌*◌, ◌%◌, sym, ◌∙◌, get_or, length, take, take_all, ap, arith, le-ltb}
+use Rattle.std.proofs.Common.{◌≡◌, ◌≢◌, ◌+◌, ◌*◌, ◌%◌, ◌^◌, lit≤, sym, ◌∙◌, get_or, length, take}
+use Rattle.std.proofs.Common.{take_all, ap, arith, le-ltb}
 use borrow.Author.Tests.{eqb-true, eqb-false}
 use Rattle.std.specs.Str.Parse.{digits_value}
 use Rattle.recovery_lines.specs.Reading.{AreDigits}
@@ -9,30 +10,40 @@ use Rattle.recovery_lines.proofs.words.number_in.Goals.{then-is_empty-via-then-i
 pub returns-then-is_empty : goal.returns-then-is_empty
 returns-then-is_empty c =
     elim c.then-is_empty.branch [
-      | then-is_empty-via-then-is_empty w ↦ sym (empty_none c.args.word.now (eqb-true _ _ (sym c.is_empty.ensures ∙ w.if-is_empty.true)))
+      | then-is_empty-via-then-is_empty w ↦
+          sym (empty_none (2 ^ 64) (lit≤ tt) c.args.word.now
+          (eqb-true _ _ (sym c.is_empty.ensures ∙ w.if-is_empty.true)))
       | then-is_empty-via-else-is_empty+then-word-eq48 w ↦
           elim w.if-word-gt1.branch [
-            | then-word-gt1 v ↦ sym (no_zeros c.args.word.now (eqb-true _ _ (sym v.value-is ∙ w.if-word-eq48.true)) v.if-word-gt1.true)
-            | else-word-gt1 v ↦ absurd (not_both w.if-word-gt1.value (v.value-is ∙ le-ltb _ _ v.if-word-gt1.false) w.if-word-eq48.true)
+            | then-word-gt1 v ↦
+                sym (no_zeros (2 ^ 64) (lit≤ tt) c.args.word.now
+                (eqb-true _ _ (sym v.value-is ∙ w.if-word-eq48.true)) v.if-word-gt1.true)
+            | else-word-gt1 v ↦
+                absurd (not_both w.if-word-gt1.value
+                (v.value-is ∙ le-ltb _ _ v.if-word-gt1.false) w.if-word-eq48.true)
           ]
     ]
 
 pub returns-then-digit-gt9 : goal.returns-then-digit-gt9
-returns-then-digit-gt9 c = sym (not_a_digit c.args.word.now c.loop-byte.byte-index c.loop-byte-test.true (omega (arith, c.type_inv.word c.loop-byte.byte-index)) c.if-digit-gt9.true)
+returns-then-digit-gt9 c =
+    sym (not_a_digit (2 ^ 64) (lit≤ tt) c.args.word.now c.loop-byte.byte-index c.loop-byte-test.true
+    (omega (arith, c.type_inv.word c.loop-byte.byte-index)) c.if-digit-gt9.true)
 
 pub returns-in_err-value : goal.returns-in_err-value
 returns-in_err-value c =
     let i = c.loop-byte.byte-index in
     let more : digits_value 10 (take (i + 1) c.args.word.now) ≡ c.loop-byte.value * 10 + (get_or c.args.word.now i 0 + 208) % 256 =
     one_digit c.args.word.now i c.loop-byte.value c.loop-byte-test.true (omega (arith, c.type_inv.word i)) c.if-digit-gt9.false c.loop-byte.invariant.1 in
-    c.from_residual-in_err-value.ensures ∙ sym (too_large c.args.word.now (i + 1) (omega (arith, c.in_err-value.ensures)))
+    c.from_residual-in_err-value.ensures
+    ∙ sym (too_large (2 ^ 64) (lit≤ tt) c.args.word.now (i + 1) (omega (arith, c.in_err-value.ensures)))
 
 pub returns-in_err-checked_mul : goal.returns-in_err-checked_mul
 returns-in_err-checked_mul c =
     let i = c.loop-byte.byte-index in
     let more : digits_value 10 (take (i + 1) c.args.word.now) ≡ c.loop-byte.value * 10 + (get_or c.args.word.now i 0 + 208) % 256 =
     one_digit c.args.word.now i c.loop-byte.value c.loop-byte-test.true (omega (arith, c.type_inv.word i)) c.if-digit-gt9.false c.loop-byte.invariant.1 in
-    c.from_residual.ensures ∙ sym (too_large c.args.word.now (i + 1) (omega (arith, c.in_err-checked_mul.ensures)))
+    c.from_residual.ensures
+    ∙ sym (too_large (2 ^ 64) (lit≤ tt) c.args.word.now (i + 1) (omega (arith, c.in_err-checked_mul.ensures)))
 
 pub returns : goal.returns
 returns c =
@@ -41,7 +52,8 @@ returns c =
     let digits : AreDigits word (length word) = rw i at c.loop-byte.invariant.0 in
     let value : c.loop-byte.value ≡ digits_value 10 word = c.loop-byte.invariant.1 ∙ ap (digits_value 10) (take_all c.loop-byte.byte-index word c.loop-byte-test.false) in
     let some : length word ≢ 0 = eqb-false _ _ (sym c.is_empty.ensures ∙ c.if-is_empty.false) in
-    digits_read word c.loop-byte.value digits value c.loop-byte.invariant.2 (omega (arith, some)) (λ first.
+    digits_read (2 ^ 64) (lit≤ tt) word c.loop-byte.value digits value c.loop-byte.invariant.2
+    (omega (arith, some)) (λ first.
     elim c.if-word-gt1.branch [
       | then-word-gt1 v ↦ absurd (eqb-false _ _ (sym v.value-is ∙ c.if-word-eq48.false) first)
       | else-word-gt1 v ↦ v.if-word-gt1.false

@@ -4,8 +4,7 @@ use Rattle.recovery_ids.proofs.window.Window.drop_below.Goals as goal
 
 pub returns-clause-entries : goal.returns-clause-entries
 returns-clause-entries c =
-    let old = c.args.self.now in
-    let kept = c.loop-number.invariant in
-    drops_below old.entries c.loop-number.self.entries old.start c.args.low c.requires.ahead
-    (λ m above below. kept.dropped m above (omega arith))
-    (λ m above below. kept.kept m (omega arith) below)
+    let at = c.loop-number in
+    drops_below c.args.self.now record { entries = at.self.entries; start = c.args.low } c.requires.ahead
+    (λ m above below. at.invariant.fresh m above (omega arith))
+    at.invariant.kept

@@ -5,5 +5,8 @@ use Rattle.recovery_lines.proofs.words.Words.number.Goals as goal
 
 pub returns-in_err-number : goal.returns-in_err-number
 returns-in_err-number c =
-    subst (λ (read : Option ℕ). ReadsBy (field (number_of (2 ^ 64))) c.args.self.now c.args.self.now read) (sym c.from_residual-in_err-number.ensures)
-    (no_first_number c.in_ok-rest.rest.now _ c.first_number.result (ap (left_of (λ s. s.now)) c.in_ok-rest.was) c.in_err-number.was c.first_number.ensures)
+    let self = c.args.self.now in
+    subst (λ (read : Option ℕ). ReadsBy (field (number_of (2 ^ 64))) self self read)
+    (sym c.from_residual-in_err-number.ensures)
+    (no_first_number (2 ^ 64) c.in_ok-rest.rest.now _ c.first_number.result
+    (ap (left_of (λ s. s.now)) c.in_ok-rest.was) c.in_err-number.was c.first_number.ensures)
