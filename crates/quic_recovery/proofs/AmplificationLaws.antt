@@ -7,9 +7,9 @@ use Rattle.recovery_ledger.specs.declared.spaces.SentPacket.{SentPacket}
 use Rattle.recovery_ledger.specs.Acks.{Heard}
 use Rattle.recovery_ledger.specs.Packets.{packet_at}
 use Rattle.recovery_mtud.specs.Discovery.{is_data, reports}
-use Rattle.recovery_mtud.specs.DiscoveryLog.{MtuCall, losses_end}
+use Rattle.recovery_mtud.specs.DiscoveryLog.{MtuCall, losses_end, acks as acks_packet}
 use Rattle.recovery_paths.specs.PathLog.{PathsEntry, PathEntry, on_current, tells}
-use Rattle.recovery_paths.specs.PathStates.{is_blocked}
+use Rattle.recovery_paths.specs.PathStates.{is_blocked, is_path_probe, loss_call}
 use Rattle.recovery_paths.specs.Threefold.{IsWithinThreefold}
 use Rattle.recovery_paths.proofs.ThreefoldLaws.{AreAllowed, threefold_after}
 use Rattle.quic_recovery.specs.declared.event.Event.{Event}
@@ -19,7 +19,7 @@ use Rattle.quic_recovery.specs.declared.event.Answer.TheVariants.{New, Flag, Tra
 use Rattle.quic_recovery.specs.declared.event.Refusal.{Refusal}
 use Rattle.quic_recovery.specs.declared.event.Refusal.TheVariants.{DelayTooSmall}
 use Rattle.quic_recovery.specs.Amplification.{pasts_of, KeepsThreefold}
-use Rattle.quic_recovery.specs.Entries.{answered, entries_of, refused, acked_entry, acked_search, lost_search, searched, is_known_probe, is_own, logs_of}
+use Rattle.quic_recovery.specs.Entries.{answered, entries_of, refused, acked_entry, acked_search, lost_search, searched, is_own, logs_of}
 use Rattle.quic_recovery.specs.History.{Beginning, History, Reply, ThroughoutFrom, Throughout}
 use Rattle.quic_recovery.specs.Known.{Known, known_by, first_path, tracked_known}
 use Rattle.quic_recovery.specs.Told.{Told, ToldBy}
@@ -49,11 +49,11 @@ module _ {K : Type 0} (words : ControllerWords K) (heard : SpaceId → Heard) (k
   acked_allowed : (space : SpaceId) (now number : ℕ) (app_limited : Bool) (packet : Option SentPacket) → AreAllowed words known.paths.current.state (acked_entry known now app_limited packet ++ acked_search known space number packet)
   acked_allowed space now number app_limited None = tt
   acked_allowed space now number app_limited (Some packet) =
-      acked_with (is_own known packet && packet.ack_eliciting) _ (acked_search known space number (Some packet)) (data_allowed (is_data space) (is_known_probe known space number) _)
+      acked_with (is_own known packet && packet.ack_eliciting) _ (acked_search known space number (Some packet)) (data_allowed (is_data space) (is_path_probe space number known.paths.current.state) (acks_packet number packet.size))
 
   lost_allowed : (space : SpaceId) (number : ℕ) (packet : Option SentPacket) → AreAllowed words known.paths.current.state (lost_search known space number packet)
   lost_allowed space number None = tt
-  lost_allowed space number (Some packet) = data_allowed (is_data space) false _
+  lost_allowed space number (Some packet) = data_allowed (is_data space) false (loss_call number packet.size known.paths.current.state.discovery)
 
   answer_allowed : (event : Event) (answer : Answer) → ToldBy words heard known event (Ok answer) → AreAllowed words known.paths.current.state (answered known event answer).paths
   answer_allowed (Transmit now bytes true) Transmitted told = (not_blocked (is_blocked known.paths.current.state bytes) _ told.1, tt)

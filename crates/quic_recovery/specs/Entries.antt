@@ -15,9 +15,9 @@ use Rattle.quic_recovery.specs.Logs.{onto}
 use Rattle.recovery_congestion.specs.Calls.{ControllerCall, sends as sends_bytes, acks, ends_acks, congests, takes_mtu}
 use Rattle.recovery_ledger.specs.declared.spaces.SentPacket.{SentPacket}
 use Rattle.recovery_ledger.specs.Packets.{packet_at}
-use Rattle.recovery_mtud.specs.Discovery.{is_data, is_probe, reports}
+use Rattle.recovery_mtud.specs.Discovery.{is_data, reports}
 use Rattle.recovery_mtud.specs.DiscoveryLog.{MtuCall, polls, is_limited, losses_end, discovery_after, acks as acks_packet}
-use Rattle.recovery_paths.specs.PathStates.{loss_call}
+use Rattle.recovery_paths.specs.PathStates.{loss_call, is_path_probe}
 use Rattle.recovery_paths.specs.PathLog.{PathEntry, PathsEntry, on_current, receives, is_validated, samples, searches, tells, asks, transmits, passes}
 use Rattle.recovery_ids.specs.RemoteLog.{RemoteEntry, given, used, replaced}
 use Rattle.recovery_acks.specs.RequestLog.{RequestEntry, taken, too_small}
@@ -89,14 +89,10 @@ searched known changes call =
     let seen = on_current (searches call) ∷ [] in
     if changes then on_current (tells (takes_mtu after.mtu)) ∷ seen else seen
 
--- the packet is the probe in flight
-abbrev pub is_known_probe : {K : Type 0} → Known K → SpaceId → ℕ → Bool
-is_known_probe known space number = is_data space && is_probe number known.paths.current.state.discovery
-
 abbrev pub acked_search : {K : Type 0} → Known K → SpaceId → ℕ → Option SentPacket → List (PathsEntry PathEntry)
 acked_search known space number None = []
 acked_search known space number (Some packet) =
-    if is_data space then searched known (is_known_probe known space number) (acks_packet number packet.size) else []
+    if is_data space then searched known (is_path_probe space number known.paths.current.state) (acks_packet number packet.size) else []
 
 abbrev pub lost_search : {K : Type 0} → Known K → SpaceId → ℕ → Option SentPacket → List (PathsEntry PathEntry)
 lost_search known space number None = []

@@ -1,6 +1,7 @@
 -- What is kept for a network path (RFC 9000, 8 and 9; RFC 9002, 5 to 7).
 use Rattle.std.specs.Prelude.{ℕ, ◌+◌, ◌*◌, ◌&&◌, ◌==◌, not, nat_lt, Bool, true, Option, None, Some, if◌then◌else◌}
 use Rattle.std.specs.declared.net.socket_addr.SocketAddr.{SocketAddr}
+use Rattle.recovery_base.specs.declared.below.SpaceId.{SpaceId}
 use Rattle.recovery_congestion.specs.Calls.{ControllerCall, acks, takes_mtu, told}
 use Rattle.recovery_congestion.specs.Controllers.{ControllerWords}
 use Rattle.recovery_ledger.specs.declared.paths.PathLedger.{PathLedger}
@@ -9,8 +10,8 @@ use Rattle.recovery_ledger.specs.Paths.{generation_of, after_leaving}
 use Rattle.recovery_config.specs.declared.config.TransportConfig.{TransportConfig}
 use Rattle.recovery_config.specs.Settings.{initial_mtu_of}
 use Rattle.recovery_mtud.specs.declared.config.MtuDiscoveryConfig.{MtuDiscoveryConfig}
-use Rattle.recovery_mtud.specs.Discovery.{Discovery, discovery_made, discovery_disabled, is_probe}
-use Rattle.recovery_mtud.specs.DiscoveryLog.{MtuCall, loses_probe, loses, discovery_after}
+use Rattle.recovery_mtud.specs.Discovery.{Discovery, discovery_made, discovery_disabled, is_data, is_probe}
+use Rattle.recovery_mtud.specs.DiscoveryLog.{MtuCall, acks as acks_packet, loses_probe, loses, discovery_after}
 use Rattle.recovery_pacing.specs.Pacing.{Bucket, PacerCall, bucket_made, paced, delay_of, less_tokens}
 use Rattle.recovery_rtt.specs.Rtt.{Rtt, rtt_made, rtt_updated, rtt_get}
 
@@ -82,6 +83,17 @@ module _ {K : Type 0} where
   abbrev pub after_transmitting : ℕ → PathState K → PathState K
   after_transmitting bytes path = record path { sent = path.sent + bytes; pacer = less_tokens bytes path.pacer }
 
+  -- ---- what the search sees
+
+  abbrev pub is_path_probe : SpaceId → ℕ → PathState K → Bool
+  is_path_probe space number path = is_data space && is_probe number path.discovery
+
+  abbrev pub path_lost : SpaceId → ℕ → SentPacket → Path K → Path K
+  path_lost space number packet path = record {
+    ledger = after_leaving path.ledger packet;
+    state = (if is_data space then after_searching (loss_call number packet.size path.state.discovery) path.state else path.state);
+  }
+
 module _ {K : Type 0} (words : ControllerWords K) where
   -- the pacer is made full, for the initial RTT and the initial window
   abbrev pub first_bucket : PathMaking K → Bucket
@@ -110,17 +122,21 @@ module _ {K : Type 0} (words : ControllerWords K) where
       let after = after_searching call path in
       if changes then after_telling (takes_mtu after.discovery.mtu) after else after
 
-  -- an acknowledged packet of the path that elicits an ACK is told
-  abbrev pub after_acked : ℕ → Bool → SentPacket → Path K → PathState K
-  after_acked now app_limited packet path =
-      let call = acks now packet.time_sent packet.size app_limited path.state.rtt in
-      if packet.path_generation == generation_of path.ledger && packet.ack_eliciting
-      then after_telling call path.state else path.state
+  -- what the search sees of an acknowledged packet
+  abbrev pub acked_by_search : SpaceId → ℕ → ℕ → PathState K → PathState K
+  acked_by_search space number bytes path =
+      if is_data space then after_search (is_path_probe space number path) (acks_packet number bytes) path else path
 
-  abbrev pub path_acked : ℕ → Bool → SentPacket → Path K → Path K
-  path_acked now app_limited packet path = record {
+  -- an acknowledged packet of the path that elicits an ACK is told
+  abbrev pub acked_by_controller : ℕ → Bool → SentPacket → PathLedger → PathState K → PathState K
+  acked_by_controller now app_limited packet ledger path =
+      let call = acks now packet.time_sent packet.size app_limited path.rtt in
+      if packet.path_generation == generation_of ledger && packet.ack_eliciting then after_telling call path else path
+
+  abbrev pub path_acked : SpaceId → ℕ → ℕ → Bool → SentPacket → Path K → Path K
+  path_acked space number now app_limited packet path = record {
     ledger = after_leaving path.ledger packet;
-    state = after_acked now app_limited packet path;
+    state = acked_by_controller now app_limited packet path.ledger (acked_by_search space number packet.size path.state);
   }
 
   -- ---- pacing (RFC 9002, 7.7)

@@ -9,9 +9,9 @@ ghost use Rattle.recovery_ledger.specs.Packets.{AreBelow, IsAboveLast, forgotten
 ghost use Rattle.recovery_ledger.specs.Paths.{generation_of, counters_of, fresh_ledger, after_leaving, path_after_sending};
 ghost use Rattle.recovery_ledger.specs.Spaces.{tracking_of, with_tracking, packets_of, space_empties};
 ghost use Rattle.recovery_mtud.specs.Discovery.{is_probe, is_searching_of, reports};
-ghost use Rattle.recovery_mtud.specs.DiscoveryLog.{acks, losses_end, is_limited};
+ghost use Rattle.recovery_mtud.specs.DiscoveryLog.{losses_end, is_limited};
 ghost use Rattle.recovery_paths.specs.PathStates.{Path, is_blocked, after_receiving, after_validation, after_sample, after_searching, after_transmitting, loss_call, first_discovery};
-ghost use Rattle.recovery_paths.specs.PathStates.{state_made, after_telling, after_search, path_acked, after_asking, path_delay};
+ghost use Rattle.recovery_paths.specs.PathStates.{state_made, after_telling, after_search, path_acked, is_path_probe, path_lost, after_asking, path_delay};
 
 use recovery_base::below::SpaceId;
 use recovery_base::time::{Duration, Instant};
@@ -233,18 +233,44 @@ impl<C: Controller + Drop> PathData<C> {
         self.congestion.on_sent(now, bytes, number);
     }
 
-    /// A packet was acknowledged: it is counted no more, where it is one of this path's, and the controller is told of it, where
-    /// it elicits an ACK too.
-    pub fn on_packet_acked(&mut self, now: Instant, packet: &SentPacket, app_limited: bool)
+    /// A packet of a space was acknowledged: whether it was the probe of the MTU in flight, whose size is the MTU in use then
+    /// (RFC 8899, 5). It is counted no more, where it is one of this path's, and the controller is told of it, where it elicits an
+    /// ACK too, last of all: of a new MTU before.
+    pub fn on_packet_acked(
+        &mut self,
+        space: SpaceId,
+        number: u64,
+        now: Instant,
+        packet: &SentPacket,
+        app_limited: bool,
+    ) -> bool
         requires { packet.now.path_generation ≡ generation_of self.old.ledger
             → IsCounted (counters_of self.old.ledger) packet.now }
-        ensures { self.new ≡ path_acked C.words now app_limited packet.now self.old }
+        ensures probe { result ≡ is_path_probe space number self.old.state }
+        ensures after { self.new ≡ path_acked C.words space number now app_limited packet.now self.old }
     {
+        let is_probe = self.mtud.on_acked(space, number, packet.size);
+        if is_probe {
+            self.congestion.on_mtu_update(self.mtud.current_mtu());
+        }
         if self.remove_in_flight(packet) && packet.ack_eliciting {
             let bytes = u64::from(packet.size);
             self.congestion
                 .on_ack(now, packet.time_sent, bytes, app_limited, &self.rtt);
         }
+        is_probe
+    }
+
+    /// A packet of a space was lost: whether it was the probe of the MTU in flight. Any other packet of 1-RTT keys counts as the sign
+    /// of a black hole (RFC 8899, 4.3). It is counted no more, where it is one of this path's.
+    pub fn on_packet_lost(&mut self, space: SpaceId, number: u64, packet: &SentPacket) -> bool
+        requires { packet.now.path_generation ≡ generation_of self.old.ledger
+            → IsCounted (counters_of self.old.ledger) packet.now }
+        ensures probe { result ≡ is_path_probe space number self.old.state }
+        ensures after { self.new ≡ path_lost space number packet.now self.old }
+    {
+        self.remove_in_flight(packet);
+        space == SpaceId::Data && self.on_data_lost(number, packet.size)
     }
 
     /// The controller is told that an ACK ends, with the bytes still in flight on the path.
@@ -299,23 +325,9 @@ impl<C: Controller + Drop> PathData<C> {
         self.pacing.on_transmit(bytes);
     }
 
-    /// A packet of 1-RTT keys was acknowledged, of so many bytes: whether it was the probe of the MTU in flight. Then its size is
-    /// the MTU in use, and the controller is told of it (RFC 8899, 5).
-    pub fn on_data_acked(&mut self, number: u64, bytes: u16) -> bool
-        ensures probe { result ≡ is_probe number self.old.state.discovery }
-        ensures state { let changes = is_probe number self.old.state.discovery in
-            self.new ≡ record self.old { state = after_search C.words changes (acks number bytes) self.old.state } }
-    {
-        let is_probe = self.mtud.on_acked(SpaceId::Data, number, bytes);
-        if is_probe {
-            self.congestion.on_mtu_update(self.mtud.current_mtu());
-        }
-        is_probe
-    }
-
     /// A packet of 1-RTT keys was lost, of so many bytes: whether it was the probe of the MTU in flight. Any other counts
     /// as the sign of a black hole (RFC 8899, 4.3).
-    pub fn on_data_lost(&mut self, number: u64, bytes: u16) -> bool
+    fn on_data_lost(&mut self, number: u64, bytes: u16) -> bool
         ensures probe { result ≡ is_probe number self.old.state.discovery }
         ensures state { self.new ≡ record self.old { state = after_searching (loss_call number bytes self.old.state.discovery) self.old.state } }
     {

@@ -95,8 +95,9 @@ where
             return Err(Refusal::NotTracked);
         };
         here.on_acked(number, &packet);
-        let probe = space == SpaceId::Data && self.current.on_data_acked(number, packet.size);
-        self.current.on_packet_acked(now, &packet, app_limited);
+        let probe = self
+            .current
+            .on_packet_acked(space, number, now, &packet, app_limited);
         Ok(Answer::Acked { probe })
     }
 
@@ -110,8 +111,7 @@ where
         let Some(packet) = self.spaces[space].take(number) else {
             return Err(Refusal::NotTracked);
         };
-        self.current.remove_in_flight(&packet);
-        let probe = space == SpaceId::Data && self.current.on_data_lost(number, packet.size);
+        let probe = self.current.on_packet_lost(space, number, &packet);
         Ok(Answer::Lost { probe })
     }
 

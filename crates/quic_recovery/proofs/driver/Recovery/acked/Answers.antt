@@ -10,8 +10,8 @@ use Rattle.recovery_ledger.proofs.AmongLaws.{acknowledging_found}
 use Rattle.recovery_ledger.proofs.LedgerLaws.{packet_counted, balanced_taken}
 use Rattle.quic_recovery.proofs.driver.Recovery.acked.Goals as goal
 
-pub on_packet_acked-requires : goal.on_packet_acked-requires
-on_packet_acked-requires g c =
+pub on_packet_acked-probe-requires : goal.on_packet_acked-probe-requires
+on_packet_acked-probe-requires g c =
     let found = ap (λ (s : PacketSpace). packet_at (packets_of s) c.args.number) (sym c.index_mut-here.ensures.value) ∙ sym c.take.ensures.packet ∙ c.in-Some.is in
     packet_counted c.args.self.now.spaces c.args.self.now.current.ledger c.args.self.now.balanced c.args.space c.args.number c.in-Some.packet found
 
@@ -32,6 +32,6 @@ invariant_of-self-2 g c =
     let come = acked_greatest c.args.number c.in-Some.packet c.take.new.self c.on_acked.new.self came c.on_acked.ensures.subtracts c.on_acked.ensures.others in
     let P : PathLedger → Type 0 = IsBalanced (with_space c.args.self.now.spaces c.args.space c.on_acked.new.self) in
     record {
-      balanced = subst P (sym (ap (λ (p : Path _). p.ledger) c.on_packet_acked.ensures))
+      balanced = subst P (sym (ap (λ (p : Path _). p.ledger) c.on_packet_acked-probe.ensures.after))
           (balanced_taken c.args.self.now.spaces c.args.self.now.current.ledger c.args.self.now.balanced c.args.space c.on_acked.new.self c.args.number c.in-Some.packet found tracking next come);
     }

@@ -8,8 +8,8 @@ use Rattle.recovery_ledger.specs.Spaces.{with_space, tracking_of, packets_of, ne
 use Rattle.recovery_ledger.proofs.LedgerLaws.{packet_counted, balanced_taken}
 use Rattle.quic_recovery.proofs.driver.Recovery.lost.Goals as goal
 
-pub remove_in_flight-requires : goal.remove_in_flight-requires
-remove_in_flight-requires g c =
+pub on_packet_lost-probe-requires : goal.on_packet_lost-probe-requires
+on_packet_lost-probe-requires g c =
     let found = ap (λ (s : PacketSpace). packet_at (packets_of s) c.args.number) (sym c.index_mut.ensures.value) ∙ sym c.take.ensures.packet ∙ c.in-Some.is in
     packet_counted c.args.self.now.spaces c.args.self.now.current.ledger c.args.self.now.balanced c.args.space c.args.number c.in-Some.packet found
 
@@ -24,6 +24,6 @@ invariant_of-self-2 g c =
     in
     let P : PathLedger → Type 0 = IsBalanced (with_space c.args.self.now.spaces c.args.space c.take.new.self) in
     record {
-      balanced = subst P (sym (ap (λ (p : Path _). p.ledger) c.remove_in_flight.ensures.after))
+      balanced = subst P (sym (ap (λ (p : Path _). p.ledger) c.on_packet_lost-probe.ensures.after))
           (balanced_taken c.args.self.now.spaces c.args.self.now.current.ledger c.args.self.now.balanced c.args.space c.take.new.self c.args.number c.in-Some.packet found tracking next come);
     }

@@ -21,6 +21,7 @@ returns g c =
         spaces = λ space. fresh_space c.args.now _ (made.numbers space) (made.acks space) (made.packets space) (made.next space) (made.received space) (made.kept space);
         discarded = search rules;
         paths = search rules;
+        limits = search rules;
         in_flight = search rules;
         frequency = c.new-ack_frequency.ensures;
         timers = search rules;
