@@ -31,9 +31,13 @@ where
             self.current.search_on(discovery);
             return Ok(Answer::NoProbe);
         };
-        self.send(SpaceId::Data, now, size, true, None)?;
-        self.current.search_on(discovery);
-        Ok(Answer::Probe { number, size })
+        match self.send(SpaceId::Data, now, size, true, None) {
+            Ok(_) => {
+                self.current.search_on(discovery);
+                Ok(Answer::Probe { number, size })
+            }
+            Err(refusal) => Err(refusal),
+        }
     }
 
     /// The peer takes datagrams of at most so many bytes.
