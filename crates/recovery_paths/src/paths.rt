@@ -18,6 +18,7 @@ use recovery_base::time::{Duration, Instant};
 use recovery_config::config::TransportConfig;
 use recovery_congestion::congestion::{Controller, ControllerFactory};
 use recovery_ledger::paths::PathLedger;
+pub use recovery_ledger::paths::{InFlight, LedgerError};
 use recovery_ledger::spaces::{PacketSpace, SentPacket};
 use recovery_mtud::mtud::MtuDiscovery;
 use recovery_pacing::pacing::Pacer;
@@ -25,8 +26,6 @@ use recovery_rtt::rtt::RttEstimator;
 use std::marker::Model;
 use std::net::SocketAddr;
 use thiserror::Error;
-
-pub use recovery_ledger::paths::{InFlight, LedgerError};
 
 /// A total would pass `u64::MAX` bytes. It stays as it was.
 #[derive(Clone, Copy, Debug, PartialEq, Eq, Error)]
@@ -275,8 +274,10 @@ impl<C: Controller + Drop> PathData<C> {
 
     /// The controller is told that an ACK ends, with the bytes still in flight on the path.
     pub fn on_end_acks(&mut self, now: Instant, app_limited: bool, largest: Option<u64>)
-        ensures { self.new ≡ record self.old { state = after_telling C.words
-            (ends_acks now (counters_of self.old.ledger).bytes app_limited largest) self.old.state } }
+        ensures { self.new ≡ record self.old {
+          state = after_telling C.words
+              (ends_acks now (counters_of self.old.ledger).bytes app_limited largest) self.old.state;
+        } }
     {
         self.congestion
             .on_end_acks(now, self.ledger.in_flight().bytes, app_limited, largest);
@@ -290,8 +291,10 @@ impl<C: Controller + Drop> PathData<C> {
         is_persistent: bool,
         lost_bytes: u64,
     )
-        ensures { self.new ≡ record self.old { state = after_telling C.words
-            (congests now sent is_persistent lost_bytes) self.old.state } }
+        ensures { self.new ≡ record self.old {
+          state = after_telling C.words
+              (congests now sent is_persistent lost_bytes) self.old.state;
+        } }
     {
         self.congestion
             .on_congestion_event(now, sent, is_persistent, lost_bytes);

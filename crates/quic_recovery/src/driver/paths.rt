@@ -65,7 +65,12 @@ where
     }
 
     /// A datagram is to be transmitted (RFC 9000, 8.1; RFC 9002, 7.7).
-    pub(super) fn transmit(&mut self, now: Instant, bytes: u16, checked: bool) -> Result<Answer, Refusal>
+    pub(super) fn transmit(
+        &mut self,
+        now: Instant,
+        bytes: u16,
+        checked: bool,
+    ) -> Result<Answer, Refusal>
         ensures { Does (Transmit now bytes checked) self.old result self.new }
     {
         if !self.current.has_room(bytes) {
