@@ -1,4 +1,4 @@
-//! Settings of a connection's paths.
+//! Settings of a connection.
 #![tactic(auto)]
 
 pub mod config;
