@@ -103,7 +103,8 @@ impl Fraction {
 
 /// Settings of a connection, with a factory `F` of their congestion controllers.
 ///
-/// Each setting has a setter of its name. MTUs and the denominator of the time threshold are above zero, whatever is set.
+/// Each setting has a setter of its name. MTUs and the denominator of the time threshold are above zero, whatever is
+/// set.
 #[derive(Drop)]
 pub struct TransportConfig<F> {
     /// How many bidirectional streams the peer may have open at once (RFC 9000, 4.6).
@@ -112,15 +113,15 @@ pub struct TransportConfig<F> {
     pub max_concurrent_uni_streams: VarInt,
     /// How long the connection may be idle, in milliseconds; none sets no limit (RFC 9000, 10.1).
     pub max_idle_timeout: Option<VarInt>,
-    /// How many bytes of one stream the peer may send unread (RFC 9000, 4.1).
+    /// How many bytes of one stream the peer may send that were not read (RFC 9000, 4.1).
     pub stream_receive_window: VarInt,
-    /// How many bytes of all streams the peer may send unread (RFC 9000, 4.1).
+    /// How many bytes of all streams the peer may send that were not read (RFC 9000, 4.1).
     pub receive_window: VarInt,
     /// How many bytes of streams this end may hold that were sent and not acknowledged.
     pub send_window: u64,
     /// Whether streams of one priority take turns at sending; else each sends until it has no more.
     pub send_fairness: bool,
-    /// How many packets later one must be acknowledged for a packet to be lost (RFC 9002, 6.1.1).
+    /// A packet is lost once one that was sent this many packets later is acknowledged (RFC 9002, 6.1.1).
     pub packet_threshold: u32,
     time_threshold: Fraction,
     /// The RTT that a path counts with before its first sample. Default 333 ms (RFC 9002, 6.2.2).
@@ -129,9 +130,11 @@ pub struct TransportConfig<F> {
     min_mtu: Mtu,
     /// Whether datagrams of application data are padded to the MTU.
     pub pad_to_mtu: bool,
-    /// What the peer is asked for by ACK_FREQUENCY frames; none asks for nothing (draft-ietf-quic-ack-frequency-04, section 4).
+    /// What the peer is asked for by ACK_FREQUENCY frames; none asks for nothing (draft-ietf-quic-ack-frequency-04,
+    /// section 4).
     pub ack_frequency_config: Option<AckFrequencyConfig>,
-    /// How many probe timeouts all packets must be lost over for congestion to be persistent (RFC 9002, 7.6.1).
+    /// Congestion is persistent once all packets that were sent over this many probe timeouts are lost (RFC 9002,
+    /// 7.6.1).
     pub persistent_congestion_threshold: u32,
     /// How long the connection may be silent before a PING keeps it alive; none sends no such PING (RFC 9000, 10.1.2).
     pub keep_alive_interval: Option<Duration>,
@@ -171,13 +174,13 @@ impl<F> TransportConfig<F> {
             keep_alive_interval: None,
             crypto_buffer_size: 16_384,
             allow_spin: true,
-            datagram_receive_buffer_size: Some(1_250_000),
+            datagram_receive_buffer_size: Some(STREAM_WINDOW as usize),
             datagram_send_buffer_size: 1_048_576,
             congestion_controller_factory: factory,
         }
     }
 
-    /// How many packets later one must be acknowledged for a packet to be lost (RFC 9002, 6.1.1). Default 3.
+    /// A packet is lost once one that was sent this many packets later is acknowledged (RFC 9002, 6.1.1). Default 3.
     pub fn packet_threshold(&mut self, value: u32) -> &mut Self
         ensures same { result.ghost_name ≡ self.entry.ghost_name }
         ensures value { result.now ≡ record self.old { packet_threshold = value } }
@@ -186,7 +189,7 @@ impl<F> TransportConfig<F> {
         self
     }
 
-    /// After how many RTTs, counted from its sending, a packet is lost once a later one is acknowledged (RFC 9002, 6.1.2): a
+    /// A packet is lost this many RTTs after it was sent, once a later one is acknowledged (RFC 9002, 6.1.2): a
     /// fraction whose denominator is above zero. Default 9/8.
     pub fn time_threshold(&mut self, numerator: u64, denominator: u64) -> &mut Self
         requires { 0 < denominator }
@@ -253,8 +256,8 @@ impl<F> TransportConfig<F> {
         self
     }
 
-    /// How many probe timeouts all packets must be lost over for congestion to be persistent (RFC 9002, 7.6.1). Default
-    /// 3.
+    /// Congestion is persistent once all packets that were sent over this many probe timeouts are lost (RFC 9002,
+    /// 7.6.1). Default 3.
     pub fn persistent_congestion_threshold(&mut self, value: u32) -> &mut Self
         ensures same { result.ghost_name ≡ self.entry.ghost_name }
         ensures value { result.now ≡ record self.old { persistent_congestion_threshold = value } }

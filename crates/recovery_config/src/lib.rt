@@ -2,3 +2,4 @@
 #![tactic(auto)]
 
 pub mod config;
+pub mod laws;

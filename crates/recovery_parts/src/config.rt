@@ -1,4 +1,4 @@
 //! Settings.
 
 pub use recovery_base::config::AckFrequencyConfig;
-pub use recovery_config::config::TransportConfig;
+pub use recovery_config::config::{IdleTimeout, TransportConfig};

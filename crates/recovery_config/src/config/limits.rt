@@ -30,15 +30,12 @@ impl<F> TransportConfig<F> {
         ensures same { result.ghost_name ≡ self.entry.ghost_name }
         ensures value { result.now ≡ record self.old { max_idle_timeout = value } }
     {
-        self.max_idle_timeout = match value {
-            Some(timeout) => Some(timeout.into_millis()),
-            None => None,
-        };
+        self.max_idle_timeout = value.map(IdleTimeout::into_millis);
         self
     }
 
-    /// How many bytes of one stream the peer may send unread (RFC 9000, 4.1). Default 1250000, which is 100 ms at 12.5
-    /// MB a second.
+    /// How many bytes of one stream the peer may send that were not read (RFC 9000, 4.1). Default 1250000, which is 100
+    /// ms at 12.5 MB a second.
     pub fn stream_receive_window(&mut self, value: VarInt) -> &mut Self
         ensures same { result.ghost_name ≡ self.entry.ghost_name }
         ensures value { result.now ≡ record self.old { stream_receive_window = value } }
@@ -47,8 +44,8 @@ impl<F> TransportConfig<F> {
         self
     }
 
-    /// How many bytes of all streams the peer may send unread (RFC 9000, 4.1). Default `VarInt::MAX`, which leaves the
-    /// limit to the streams.
+    /// How many bytes of all streams the peer may send that were not read (RFC 9000, 4.1). Default `VarInt::MAX`, which
+    /// leaves the limit to the streams.
     pub fn receive_window(&mut self, value: VarInt) -> &mut Self
         ensures same { result.ghost_name ≡ self.entry.ghost_name }
         ensures value { result.now ≡ record self.old { receive_window = value } }
