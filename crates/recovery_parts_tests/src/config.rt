@@ -6,6 +6,7 @@ use recovery_config::config::{IdleTimeout, TransportConfig};
 use recovery_config::laws::idle_timeouts_agree;
 use recovery_congestion::congestion::{Controller, ControllerFactory, NewRenoConfig};
 use recovery_halving::HalvingConfig;
+use std::hash::{DefaultHasher, Hash, Hasher};
 use std::process::Abort;
 
 fn settings() -> TransportConfig<NewRenoConfig> {
@@ -248,6 +249,12 @@ fn idle_timeouts_are_whole_milliseconds(rt: HostRuntime) {
         ],
     );
     assert!(rt; IdleTimeout::try_from(Duration::MAX).is_err());
+}
+
+fn hash_of(timeout: &IdleTimeout) -> u64 {
+    let mut state = DefaultHasher::new();
+    timeout.hash(&mut state);
+    state.finish()
 }
 
 #[test]
