@@ -4,7 +4,10 @@ use Rattle.recovery_ledger.specs.declared.spaces.PacketSpace.{PacketSpace}
 use Rattle.recovery_ledger.specs.Ledger.{IsBalanced}
 use Rattle.recovery_paths.specs.PathStates.{Path}
 use Rattle.recovery_ledger.specs.Packets.{packet_at, after_taking}
-use Rattle.recovery_ledger.specs.Spaces.{with_space, tracking_of, packets_of, next_number_of, HasGreatestCome, space_takes}
+use Rattle.recovery_acks.specs.Acks.{Acks}
+use Rattle.recovery_ledger.specs.Spaces.{with_space, tracking_of, packets_of, next_number_of, acks_of, with_acks, after_acknowledging, SubtractsLargest, HasGreatestCome, space_takes}
+use Rattle.quic_recovery.specs.State.{parts_of}
+use Rattle.quic_recovery.proofs.LeavingLaws.{acked_changes}
 use Rattle.recovery_ledger.proofs.AckLaws.{acked_greatest}
 use Rattle.recovery_ledger.proofs.AmongLaws.{acknowledging_found}
 use Rattle.recovery_ledger.proofs.LedgerLaws.{packet_counted, balanced_taken}
@@ -35,3 +38,19 @@ invariant_of-self-2 g c =
       balanced = subst P (sym (ap (λ (p : Path _). p.ledger) c.on_packet_acked-probe.ensures.after))
           (balanced_taken c.args.self.now.spaces c.args.self.now.current.ledger c.args.self.now.balanced c.args.space c.on_acked.new.self c.args.number c.in-Some.packet found tracking next come);
     }
+
+pub returns : goal.returns
+returns g c =
+    let words = g.F.Controller.Controller.words in
+    let there = c.index_mut-here.ensures.value in
+    let found = ap (λ (s : PacketSpace). packet_at (packets_of s) c.args.number) (sym there) ∙ sym c.take.ensures.packet ∙ c.in-Some.is in
+    let taken = c.take.ensures.after ∙ ap (space_takes c.args.number) there in
+    let R : PacketSpace → Type 0 = λ s. SubtractsLargest c.in-Some.packet.largest_acked (acks_of s) (acks_of c.on_acked.new.self) in
+    acked_changes words (parts_of c.args.self.now) c.args.space c.args.number c.in-Some.packet c.on_acked.new.self c.on_packet_acked-probe.new.self c.on_packet_acked-probe.result (sym c.if-contains.ensures) found c.on_packet_acked-probe.ensures.probe c.args.now c.args.app_limited
+    (record {
+      packet = c.in-Some.packet;
+      found = found;
+      subtracts = subst R taken c.on_acked.ensures.subtracts;
+      others = c.on_acked.ensures.others ∙ ap (λ (s : PacketSpace). with_acks (acks_of c.on_acked.new.self) (after_acknowledging c.args.number c.in-Some.packet.time_sent s)) taken;
+    })
+    c.on_packet_acked-probe.ensures.after

@@ -6,6 +6,8 @@ use Rattle.recovery_paths.specs.PathStates.{Path}
 use Rattle.recovery_ledger.specs.Packets.{packet_at, after_taking}
 use Rattle.recovery_ledger.specs.Spaces.{with_space, tracking_of, packets_of, next_number_of, HasGreatestCome, space_takes}
 use Rattle.recovery_ledger.proofs.LedgerLaws.{packet_counted, balanced_taken}
+use Rattle.quic_recovery.specs.State.{parts_of}
+use Rattle.quic_recovery.proofs.LeavingLaws.{lost_changes}
 use Rattle.quic_recovery.proofs.driver.Recovery.lost.Goals as goal
 
 pub on_packet_lost-probe-requires : goal.on_packet_lost-probe-requires
@@ -27,3 +29,11 @@ invariant_of-self-2 g c =
       balanced = subst P (sym (ap (λ (p : Path _). p.ledger) c.on_packet_lost-probe.ensures.after))
           (balanced_taken c.args.self.now.spaces c.args.self.now.current.ledger c.args.self.now.balanced c.args.space c.take.new.self c.args.number c.in-Some.packet found tracking next come);
     }
+
+pub returns : goal.returns
+returns g c =
+    let words = g.F.Controller.Controller.words in
+    let there = c.index_mut.ensures.value in
+    let found = ap (λ (s : PacketSpace). packet_at (packets_of s) c.args.number) (sym there) ∙ sym c.take.ensures.packet ∙ c.in-Some.is in
+    lost_changes words (parts_of c.args.self.now) c.args.space c.args.number c.in-Some.packet c.take.new.self c.on_packet_lost-probe.new.self c.on_packet_lost-probe.result (sym c.if-contains.ensures) found c.on_packet_lost-probe.ensures.probe
+    (c.take.ensures.after ∙ ap (space_takes c.args.number) there) c.on_packet_lost-probe.ensures.after
