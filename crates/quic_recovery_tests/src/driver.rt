@@ -15,6 +15,7 @@ use std::process::Abort;
 use std::test::Fail;
 
 mod acks;
+mod discovery;
 mod ids;
 mod paths;
 mod refused_memory;
