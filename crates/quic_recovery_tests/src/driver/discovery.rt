@@ -80,7 +80,9 @@ fn a_probe_is_tracked(rt: HostRuntime) {
         ],
         |recovery| {
             let path = recovery.current();
-            let traces = path.total_sent == 0 && path.total_recvd == 0 && path.current_mtu() == 1200;
+            let traces = path.total_sent == 0
+                && path.total_recvd == 0
+                && path.current_mtu() == 1200;
             match recovery.space(SpaceId::Data) {
                 Some(space) => {
                     traces

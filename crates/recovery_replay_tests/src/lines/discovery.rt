@@ -4,19 +4,24 @@ use std::alloc::Global;
 use std::process::Abort;
 use std::test::Fail;
 
-/// Seven packets of 1,300 bytes, above the least MTU of a path.
-const LARGE: &str = "send data 0 1300 1 -\nsend data 0 1300 1 -\nsend data 0 1300 1 -\nsend data 0 1300 1 -\nsend data 0 1300 1 -\nsend data 0 1300 1 -\nsend data 0 1300 1 -\n";
+/// Sends seven packets of 1,300 bytes, which is above the least MTU of a path.
+fn send_large(script: &mut String, answers: &mut String) -> Result<(), Fail> {
+    for number in 0..7 {
+        writeln!(script, "send data 0 1300 1 -")?;
+        writeln!(answers, "sent {number}")?;
+    }
+    Ok(())
+}
 
-const SENT: &str = "sent 0\nsent 1\nsent 2\nsent 3\nsent 4\nsent 5\nsent 6\n";
-
-/// Asserts what the program writes to lines behind the large packets.
+/// Asserts what the program writes to scripts that begin with the large packets.
 fn assert_behind(rt: &impl Abort, alloc: Global, rows: &[(&str, &str)]) -> Result<(), Fail> {
-    for (lines, answers) in rows {
-        let mut script = String::from_str(alloc, LARGE)?;
-        let mut want = String::from_str(alloc, SENT)?;
+    for (lines, wanted) in rows {
+        let mut script = String::new(alloc);
+        let mut answers = String::new(alloc);
+        send_large(&mut script, &mut answers)?;
         script.push_str(lines)?;
-        want.push_str(answers)?;
-        assert_rows(rt, alloc, &[(script.as_str(), want.as_str())])?;
+        answers.push_str(wanted)?;
+        assert_rows(rt, alloc, &[(script.as_str(), answers.as_str())])?;
     }
     Ok(())
 }
@@ -81,12 +86,15 @@ fn black_holes(rt: HostRuntime) -> Result<(), Fail> {
 #[test]
 fn a_report_above_the_limit(rt: HostRuntime) -> Result<(), Fail> {
     let mut script = String::from_str(rt.alloc(), "peer-limit 600\n")?;
-    let mut want = String::from_str(rt.alloc(), "done\n")?;
-    script.push_str(LARGE)?;
-    want.push_str(SENT)?;
-    script.push_str("lost data 0\nlost data 2\nlost data 4\nlost data 6\nlosses-done 0\npacer-check 0 12000\n")?;
-    want.push_str("lost\nlost\nlost\nlost\nblack-hole yes\nready\n")?;
-    assert_rows(&rt, rt.alloc(), &[(script.as_str(), want.as_str())])
+    let mut answers = String::from_str(rt.alloc(), "done\n")?;
+    send_large(&mut script, &mut answers)?;
+    for number in [0, 2, 4, 6] {
+        writeln!(script, "lost data {number}")?;
+        writeln!(answers, "lost")?;
+    }
+    writeln!(script, "losses-done 0\npacer-check 0 12000")?;
+    writeln!(answers, "black-hole yes\nready")?;
+    assert_rows(&rt, rt.alloc(), &[(script.as_str(), answers.as_str())])
 }
 
 /// A probe joins no burst of losses and closes none: 3 and 5 around it are two bursts.
@@ -132,14 +140,14 @@ fn a_probe_behind_a_report(rt: HostRuntime) -> Result<(), Fail> {
 #[test]
 fn a_probe_behind_silent_packets(rt: HostRuntime) -> Result<(), Fail> {
     let mut script = String::new(rt.alloc());
-    let mut want = String::new(rt.alloc());
+    let mut answers = String::new(rt.alloc());
     for number in 0..1001 {
         writeln!(script, "send data 0 1 0 -")?;
-        writeln!(want, "sent {number}")?;
+        writeln!(answers, "sent {number}")?;
     }
     writeln!(script, "poll-mtu 0\nsend data 0 1 0 -")?;
-    writeln!(want, "probe 1001 1326\nsent 1002")?;
-    assert_rows(&rt, rt.alloc(), &[(script.as_str(), want.as_str())])
+    writeln!(answers, "probe 1001 1326\nsent 1002")?;
+    assert_rows(&rt, rt.alloc(), &[(script.as_str(), answers.as_str())])
 }
 
 #[test]
