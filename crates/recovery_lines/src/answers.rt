@@ -103,9 +103,9 @@ fn write_black_hole(text: &mut String, reported: bool) -> Result<(), AllocError>
     ensures { OnOk result (Writes text.old (black_hole_text reported) text.new) }
 {
     if reported {
-        writeln!(text, "black-hole yes")
+        write_word(text, "black-hole yes")
     } else {
-        writeln!(text, "black-hole no")
+        write_word(text, "black-hole no")
     }
 }
 
