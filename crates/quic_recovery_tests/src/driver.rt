@@ -380,7 +380,7 @@ fn a_refused_event_leaves_no_trace(rt: HostRuntime) {
 }
 
 /// The refusals with their numbers, names and texts.
-const REFUSALS: [(Refusal, u8, &str, &str); 9] = [
+const REFUSALS: [(Refusal, u8, &str, &str); 7] = [
     (Refusal::NoMemory, 1, "NoMemory", "out of memory"),
     (
         Refusal::NumberTooLarge,
@@ -412,13 +412,6 @@ const REFUSALS: [(Refusal, u8, &str, &str); 9] = [
         "NoSuchPath",
         "there is no such path",
     ),
-    (
-        Refusal::Searching,
-        7,
-        "Searching",
-        "the MTU is searched for",
-    ),
-    (Refusal::ZeroMtu, 8, "ZeroMtu", "the size is zero"),
     (
         Refusal::Overflow,
         9,
