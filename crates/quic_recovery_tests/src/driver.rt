@@ -15,6 +15,7 @@ use std::process::Abort;
 use std::test::Fail;
 
 mod acks;
+mod discovery;
 mod ids;
 mod paths;
 mod refused_memory;
@@ -138,6 +139,7 @@ fn settings_with<F: Drop>(transport: TransportConfig<F>, cid_len: usize) -> Reco
         transport,
         remote: SocketAddr::new(IpAddr::V4(Ipv4Addr::new(192, 0, 2, 1)), 4433),
         validated: false,
+        allow_mtud: true,
         max_ack_delay: Duration::from_millis(25),
         initial_cid: ConnectionId::new(&[0xFF; 8]),
         cid_len,

@@ -22,6 +22,7 @@ pub fn config(remote: SocketAddr) -> RecoveryConfig<NewRenoConfig>
         transport: TransportConfig::default(),
         remote,
         validated: true,
+        allow_mtud: true,
         max_ack_delay: Duration::from_millis(MAX_ACK_DELAY),
         initial_cid: ConnectionId::new(&[0xff; 8]),
         cid_len: 8,

@@ -22,6 +22,7 @@ use Rattle.quic_recovery.specs.declared.event.Event.TheVariants.{DiscardSpace, I
 use Rattle.quic_recovery.specs.declared.event.Event.TheVariants.{Sample, DatagramIn, Validated}
 use Rattle.quic_recovery.specs.declared.event.Event.TheVariants.{Transmit, PacerCheck}
 use Rattle.quic_recovery.specs.declared.event.Event.TheVariants.{Congestion, EndAcks}
+use Rattle.quic_recovery.specs.declared.event.Event.TheVariants.{PollMtu, PeerLimit, LossesDone}
 use Rattle.quic_recovery.specs.declared.event.PathName.{PathName}
 use Rattle.quic_recovery.specs.declared.event.PathName.TheVariants.{Current, Previous}
 use Rattle.recovery_lines.specs.declared.lines.Line.{Line}
@@ -191,6 +192,7 @@ are_forms =
     says (λ x. refl) refl ⨾ says (λ x. refl) refl ⨾ says (λ x. refl) refl ⨾
     says (λ x. refl) refl ⨾ says (λ x. refl) refl ⨾ says (λ x. refl) refl ⨾
     says (λ x. refl) refl ⨾ says (λ x. refl) refl ⨾ says (λ x. refl) refl ⨾
+    says (λ x. refl) refl ⨾ says (λ x. refl) refl ⨾ says (λ x. refl) refl ⨾
     says (λ x. refl) refl ⨾ tt
 
 -- the form of an event's line is the one of its name
@@ -220,6 +222,9 @@ is_listed unkept (Transmit now bytes checked) = refl
 is_listed unkept (PacerCheck now bytes) = refl
 is_listed unkept (Congestion now sent persistent bytes) = refl
 is_listed unkept (EndAcks now app_limited largest) = refl
+is_listed unkept (PollMtu now) = refl
+is_listed unkept (PeerLimit size) = refl
+is_listed unkept (LossesDone now) = refl
 
 named_form : (listed : List Form) → AllByRecursion IsForm listed → (name : List ℕ) (form : Form) → form_named listed name ≡ Some form → (name ≡ form.name) × IsForm form
 named_form [] h name form e = absurd cc

@@ -45,7 +45,7 @@ pub none_of_length : (n : ℕ)
 none_of_length n h4 h5 h6 h7 h8 h9 h10 h11 h12 h13 h17 =
     none_of n forms
     (h8 ⨾ h4 ⨾ h5 ⨾ h4 ⨾ h6 ⨾ h7 ⨾ h10 ⨾ h9 ⨾ h10 ⨾ h12 ⨾ h13 ⨾ h9 ⨾ h17 ⨾ h9 ⨾ h10 ⨾ h12 ⨾ h7 ⨾ h9
-    ⨾ h6 ⨾ h11 ⨾ h9 ⨾ h8 ⨾ h11 ⨾ h10 ⨾ h8 ⨾ tt)
+    ⨾ h6 ⨾ h11 ⨾ h9 ⨾ h8 ⨾ h11 ⨾ h10 ⨾ h8 ⨾ h8 ⨾ h10 ⨾ h11 ⨾ tt)
 
 -- a name that none of its length is
 pub unnamed : (name : List ℕ) (words : List (List ℕ)) (n : ℕ) → length name ≡ n → form_named (of_length n forms) name ≡ None → line_behind name words ≡ None

@@ -15,6 +15,7 @@ use Rattle.quic_recovery.specs.declared.event.Event.TheVariants.{DiscardSpace, I
 use Rattle.quic_recovery.specs.declared.event.Event.TheVariants.{Sample, DatagramIn, Validated}
 use Rattle.quic_recovery.specs.declared.event.Event.TheVariants.{Transmit, PacerCheck}
 use Rattle.quic_recovery.specs.declared.event.Event.TheVariants.{Congestion, EndAcks}
+use Rattle.quic_recovery.specs.declared.event.Event.TheVariants.{PollMtu, PeerLimit, LossesDone}
 use Rattle.recovery_base.specs.declared.timer.Timer.TheVariants.{Idle}
 use Rattle.recovery_lines.specs.declared.lines.Line.{Line}
 use Rattle.recovery_lines.specs.declared.lines.Line.TheVariants.{Said, Ids}
@@ -158,13 +159,23 @@ abbrev pub end_acks : Form
 end_acks = form_of (codes "end-acks") (a_u64 ∷ a_flag ∷ a_largest ∷ [])
     (λ x. EndAcks x.0 x.1.0 x.1.1.0)
 
+abbrev pub poll_mtu : Form
+poll_mtu = form_of (codes "poll-mtu") (a_u64 ∷ []) (λ x. PollMtu x.0)
+
+abbrev pub peer_limit : Form
+peer_limit = form_of (codes "peer-limit") (a_u16 ∷ []) (λ x. PeerLimit x.0)
+
+abbrev pub losses_done : Form
+losses_done = form_of (codes "losses-done") (a_u64 ∷ []) (λ x. LossesDone x.0)
+
 abbrev pub forms : List Form
 forms = received ∷ send ∷ acked ∷ lost
     ∷ new_id ∷ next_id ∷ initial_id ∷ issue_ids ∷ id_timeout ∷ peer_retired
     ∷ ack_frequency ∷ acks_sent ∷ ack_delay_timeout
     ∷ set_timer ∷ stop_timer ∷ next_timeout
     ∷ discard ∷ in_flight
-    ∷ sample ∷ datagram_in ∷ validated ∷ transmit ∷ pacer_check ∷ congestion ∷ end_acks ∷ []
+    ∷ sample ∷ datagram_in ∷ validated ∷ transmit ∷ pacer_check ∷ congestion ∷ end_acks
+    ∷ poll_mtu ∷ peer_limit ∷ losses_done ∷ []
 
 -- ---- how an event is said
 
@@ -199,6 +210,9 @@ saying unkept (Congestion now sent persistent bytes) =
     (congestion, (now, (sent, (persistent, (bytes, tt)))))
 saying unkept (EndAcks now app_limited largest) =
     (end_acks, (now, (app_limited, (largest, tt))))
+saying unkept (PollMtu now) = (poll_mtu, (now, tt))
+saying unkept (PeerLimit size) = (peer_limit, (size, tt))
+saying unkept (LossesDone now) = (losses_done, (now, tt))
 
 -- the words that a form says with values
 abbrev pub words_said : (form : Form) × Values form.fields → List (List ℕ)

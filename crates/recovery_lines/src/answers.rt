@@ -2,7 +2,8 @@
 ghost use Rattle.std.specs.Prelude.{◌≡◌, IfOk, OnOk, string_bytes};
 ghost use Rattle.recovery_lines.specs.Answers.{Writes, new_text, sent_text, done_with_text};
 ghost use Rattle.recovery_lines.specs.Answers.{retire_text, flag_text, timeout_text};
-ghost use Rattle.recovery_lines.specs.Answers.{in_flight_text, delayed_text, refusal_text};
+ghost use Rattle.recovery_lines.specs.Answers.{in_flight_text, delayed_text, probe_text};
+ghost use Rattle.recovery_lines.specs.Answers.{black_hole_text, refusal_text};
 ghost use Rattle.recovery_lines.specs.Answers.{answer_text, answer_lines};
 
 use quic_recovery::event::{Answer, Refusal};
@@ -11,7 +12,7 @@ use recovery_base::time::Instant;
 use std::alloc::{AllocError, Global};
 use std::ops::Range;
 
-/// A line of one word.
+/// A line that is always the same.
 fn write_word(text: &mut String, word: &str) -> Result<(), AllocError>
     ensures { OnOk result (Writes text.old word.now text.new) }
 {
@@ -92,6 +93,22 @@ fn write_delayed(text: &mut String, until: Instant) -> Result<(), AllocError>
     writeln!(text, "delayed {}", until.as_nanos())
 }
 
+fn write_probe(text: &mut String, number: u64, size: u16) -> Result<(), AllocError>
+    ensures { OnOk result (Writes text.old (probe_text number size) text.new) }
+{
+    writeln!(text, "probe {number} {size}")
+}
+
+fn write_black_hole(text: &mut String, reported: bool) -> Result<(), AllocError>
+    ensures { OnOk result (Writes text.old (black_hole_text reported) text.new) }
+{
+    if reported {
+        write_word(text, "black-hole yes")
+    } else {
+        write_word(text, "black-hole no")
+    }
+}
+
 fn write_refusal(text: &mut String, refusal: Refusal) -> Result<(), AllocError>
     ensures { OnOk result (Writes text.old (refusal_text refusal) text.new) }
 {
@@ -121,6 +138,9 @@ pub fn write_reply(text: &mut String, reply: &Result<Answer, Refusal>) -> Result
         Ok(Answer::Blocked) => write_word(text, "blocked"),
         Ok(Answer::Delayed(until)) => write_delayed(text, *until),
         Ok(Answer::Ready) => write_word(text, "ready"),
+        Ok(Answer::Probe { number, size }) => write_probe(text, *number, *size),
+        Ok(Answer::NoProbe) => write_word(text, "no probe"),
+        Ok(Answer::BlackHole(reported)) => write_black_hole(text, *reported),
         Ok(Answer::Done) => write_word(text, "done"),
         Err(refusal) => write_refusal(text, *refusal),
     }

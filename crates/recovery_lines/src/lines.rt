@@ -7,7 +7,7 @@ ghost use Rattle.recovery_lines.specs.Lines.{new_id, initial_id, issue_ids, peer
 ghost use Rattle.recovery_lines.specs.Lines.{ack_frequency, acks_sent, ack_delay_timeout};
 ghost use Rattle.recovery_lines.specs.Lines.{set_timer, stop_timer, discard, in_flight, sample};
 ghost use Rattle.recovery_lines.specs.Lines.{datagram_in, validated, transmit, pacer_check};
-ghost use Rattle.recovery_lines.specs.Lines.{congestion, end_acks};
+ghost use Rattle.recovery_lines.specs.Lines.{congestion, end_acks, poll_mtu, peer_limit, losses_done};
 ghost use Rattle.recovery_lines.specs.Reading.{ReadsBy, reading, line_behind, line_at, line_of, TakesMemory};
 
 use crate::words::Words;
@@ -268,6 +268,33 @@ fn end_acks(words: &mut Words<'_>) -> Option<Line>
 }
 
 #[tactic(auto, unfolding(crate::specs::Reading::fields_read))]
+fn poll_mtu(words: &mut Words<'_>) -> Option<Line>
+    ensures { ReadsBy (reading poll_mtu) words.old words.new result }
+{
+    Some(Line::Said(Event::PollMtu {
+        now: words.moment()?,
+    }))
+}
+
+#[tactic(auto, unfolding(crate::specs::Reading::fields_read))]
+fn peer_limit(words: &mut Words<'_>) -> Option<Line>
+    ensures { ReadsBy (reading peer_limit) words.old words.new result }
+{
+    Some(Line::Said(Event::PeerLimit {
+        size: words.size()?,
+    }))
+}
+
+#[tactic(auto, unfolding(crate::specs::Reading::fields_read))]
+fn losses_done(words: &mut Words<'_>) -> Option<Line>
+    ensures { ReadsBy (reading losses_done) words.old words.new result }
+{
+    Some(Line::Said(Event::LossesDone {
+        now: words.moment()?,
+    }))
+}
+
+#[tactic(auto, unfolding(crate::specs::Reading::fields_read))]
 fn issue_ids(words: &mut Words<'_>) -> Option<Line>
     ensures { ReadsBy (reading issue_ids) words.old words.new result }
 {
@@ -301,6 +328,7 @@ fn line_behind(name: &[u8], words: &mut Words<'_>) -> Option<Line>
         8 if is_name(name, "received") => received(words),
         8 if is_name(name, "transmit") => transmit(words),
         8 if is_name(name, "end-acks") => end_acks(words),
+        8 if is_name(name, "poll-mtu") => poll_mtu(words),
         9 if is_name(name, "issue-ids") => issue_ids(words),
         9 if is_name(name, "acks-sent") => acks_sent(words),
         9 if is_name(name, "set-timer") => set_timer(words),
@@ -310,8 +338,10 @@ fn line_behind(name: &[u8], words: &mut Words<'_>) -> Option<Line>
         10 if is_name(name, "id-timeout") => Some(Line::Said(Event::IdTimeout)),
         10 if is_name(name, "stop-timer") => stop_timer(words),
         10 if is_name(name, "congestion") => congestion(words),
+        10 if is_name(name, "peer-limit") => peer_limit(words),
         11 if is_name(name, "datagram-in") => datagram_in(words),
         11 if is_name(name, "pacer-check") => pacer_check(words),
+        11 if is_name(name, "losses-done") => losses_done(words),
         12 if is_name(name, "peer-retired") => peer_retired(words),
         12 if is_name(name, "next-timeout") => Some(Line::Said(Event::NextTimeout)),
         13 if is_name(name, "ack-frequency") => ack_frequency(words),

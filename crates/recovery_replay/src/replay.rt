@@ -94,6 +94,7 @@ fn config(remote: SocketAddr) -> RecoveryConfig<NewRenoConfig>
         transport: TransportConfig::default(),
         remote,
         validated: false,
+        allow_mtud: true,
         max_ack_delay: Duration::from_millis(25),
         initial_cid: ConnectionId::new(&[0xFF; 8]),
         cid_len: 8,

@@ -77,6 +77,35 @@ fn a_refused_send_leaves_no_trace(rt: HostRuntime) -> Result<(), Fail> {
     end(is_refused)
 }
 
+fn poll() -> Event {
+    Event::PollMtu { now: at(7) }
+}
+
+/// A search that memory was refused to begin is begun by the same question with memory.
+#[test]
+fn a_refused_probe_leaves_no_trace(rt: HostRuntime) -> Result<(), Fail> {
+    let Ok(mut recovery) = Recovery::new(rt.alloc(), settings(8), at(0)) else {
+        return end(true);
+    };
+    let want = Ok(Answer::Probe {
+        number: 0,
+        size: 1326,
+    });
+    let before = traces_in(&recovery, SpaceId::Data);
+    let reply = recovery.apply(poll());
+    let is_refused = reply == NO_MEMORY;
+    if is_refused {
+        assert!(rt; traces_in(&recovery, SpaceId::Data) == before);
+        assert!(rt; !recovery.current().mtud.is_searching());
+        told(&rt, &mut recovery, 0, poll(), want);
+    } else {
+        assert!(rt; reply == want);
+    }
+    told(&rt, &mut recovery, 1, poll(), Ok(Answer::NoProbe));
+    told(&rt, &mut recovery, 2, CURRENT, in_flight(1326, 1));
+    end(is_refused)
+}
+
 fn twenty_sends(alloc: Global) -> Result<Vec<Event>, NoMemory> {
     let mut events = Vec::with_capacity(alloc, 20)?;
     for _ in 0..20u64 {

@@ -1,22 +1,6 @@
 //! Rows of what paths are told: samples, datagrams, transmissions, pacing and congestion.
-use super::{assert_bad, assert_rows};
-use std::alloc::Global;
-use std::process::Abort;
+use super::{assert_bad, assert_lines, assert_rows};
 use std::test::Fail;
-
-/// Asserts what the program writes to one script, of which each line comes so many times and is
-/// answered so.
-fn assert_lines(rt: &impl Abort, alloc: Global, lines: &[(usize, &str, &str)]) -> Result<(), Fail> {
-    let mut script = String::new(alloc);
-    let mut answers = String::new(alloc);
-    for (times, line, answer) in lines {
-        for _ in 0..*times {
-            writeln!(script, "{line}")?;
-            writeln!(answers, "{answer}")?;
-        }
-    }
-    assert_rows(rt, alloc, &[(script.as_str(), answers.as_str())])
-}
 
 #[test]
 fn datagrams(rt: HostRuntime) -> Result<(), Fail> {

@@ -7,13 +7,13 @@ use Rattle.recovery_lines.proofs.lines.line_behind.Goals.{in_default-via-in-4-2+
 use Rattle.recovery_lines.proofs.lines.line_behind.Goals.{in_default-via-in-5+else-is_name-3}
 use Rattle.recovery_lines.proofs.lines.line_behind.Goals.{in_default-via-in-6-2+else-is_name-5}
 use Rattle.recovery_lines.proofs.lines.line_behind.Goals.{in_default-via-in-7-2+else-is_name-7}
-use Rattle.recovery_lines.proofs.lines.line_behind.Goals.{in_default-via-in-8-3+else-is_name-10}
-use Rattle.recovery_lines.proofs.lines.line_behind.Goals.{in_default-via-in-9-5+else-is_name-15}
-use Rattle.recovery_lines.proofs.lines.line_behind.Goals.{in_default-via-in-10-4+else-is_name-19}
-use Rattle.recovery_lines.proofs.lines.line_behind.Goals.{in_default-via-in-11-2+else-is_name-21}
-use Rattle.recovery_lines.proofs.lines.line_behind.Goals.{in_default-via-in-12-2+else-is_name-23}
-use Rattle.recovery_lines.proofs.lines.line_behind.Goals.{in_default-via-in-13+else-is_name-24}
-use Rattle.recovery_lines.proofs.lines.line_behind.Goals.{in_default-via-in-17+else-is_name-25}
+use Rattle.recovery_lines.proofs.lines.line_behind.Goals.{in_default-via-in-8-4+else-is_name-11}
+use Rattle.recovery_lines.proofs.lines.line_behind.Goals.{in_default-via-in-9-5+else-is_name-16}
+use Rattle.recovery_lines.proofs.lines.line_behind.Goals.{in_default-via-in-10-5+else-is_name-21}
+use Rattle.recovery_lines.proofs.lines.line_behind.Goals.{in_default-via-in-11-3+else-is_name-24}
+use Rattle.recovery_lines.proofs.lines.line_behind.Goals.{in_default-via-in-12-2+else-is_name-26}
+use Rattle.recovery_lines.proofs.lines.line_behind.Goals.{in_default-via-in-13+else-is_name-27}
+use Rattle.recovery_lines.proofs.lines.line_behind.Goals.{in_default-via-in-17+else-is_name-28}
 use Rattle.recovery_lines.proofs.lines.line_behind.Goals.{in_default-via-in_default-1}
 
 pub returns-in_default : goal.returns-in_default
@@ -32,29 +32,31 @@ returns-in_default c =
       | in_default-via-in-7-2+else-is_name-7 w ↦
           unnamed name words 7 (omega arith)
           (skip _ _ _ w.if-is_name-6.ensures (skip _ _ _ w.if-is_name-7.ensures refl))
-      | in_default-via-in-8-3+else-is_name-10 w ↦
+      | in_default-via-in-8-4+else-is_name-11 w ↦
           unnamed name words 8 (omega arith)
           (skip _ _ _ w.if-is_name-8.ensures (skip _ _ _ w.if-is_name-9.ensures
-          (skip _ _ _ w.if-is_name-10.ensures refl)))
-      | in_default-via-in-9-5+else-is_name-15 w ↦
+          (skip _ _ _ w.if-is_name-10.ensures (skip _ _ _ w.if-is_name-11.ensures refl))))
+      | in_default-via-in-9-5+else-is_name-16 w ↦
           unnamed name words 9 (omega arith)
-          (skip _ _ _ w.if-is_name-11.ensures (skip _ _ _ w.if-is_name-12.ensures
-          (skip _ _ _ w.if-is_name-13.ensures (skip _ _ _ w.if-is_name-14.ensures
-          (skip _ _ _ w.if-is_name-15.ensures refl)))))
-      | in_default-via-in-10-4+else-is_name-19 w ↦
+          (skip _ _ _ w.if-is_name-12.ensures (skip _ _ _ w.if-is_name-13.ensures
+          (skip _ _ _ w.if-is_name-14.ensures (skip _ _ _ w.if-is_name-15.ensures
+          (skip _ _ _ w.if-is_name-16.ensures refl)))))
+      | in_default-via-in-10-5+else-is_name-21 w ↦
           unnamed name words 10 (omega arith)
-          (skip _ _ _ w.if-is_name-16.ensures (skip _ _ _ w.if-is_name-17.ensures
-          (skip _ _ _ w.if-is_name-18.ensures (skip _ _ _ w.if-is_name-19.ensures refl))))
-      | in_default-via-in-11-2+else-is_name-21 w ↦
+          (skip _ _ _ w.if-is_name-17.ensures (skip _ _ _ w.if-is_name-18.ensures
+          (skip _ _ _ w.if-is_name-19.ensures (skip _ _ _ w.if-is_name-20.ensures
+          (skip _ _ _ w.if-is_name-21.ensures refl)))))
+      | in_default-via-in-11-3+else-is_name-24 w ↦
           unnamed name words 11 (omega arith)
-          (skip _ _ _ w.if-is_name-20.ensures (skip _ _ _ w.if-is_name-21.ensures refl))
-      | in_default-via-in-12-2+else-is_name-23 w ↦
+          (skip _ _ _ w.if-is_name-22.ensures (skip _ _ _ w.if-is_name-23.ensures
+          (skip _ _ _ w.if-is_name-24.ensures refl)))
+      | in_default-via-in-12-2+else-is_name-26 w ↦
           unnamed name words 12 (omega arith)
-          (skip _ _ _ w.if-is_name-22.ensures (skip _ _ _ w.if-is_name-23.ensures refl))
-      | in_default-via-in-13+else-is_name-24 w ↦
-          unnamed name words 13 (omega arith) (skip _ _ _ w.if-is_name-24.ensures refl)
-      | in_default-via-in-17+else-is_name-25 w ↦
-          unnamed name words 17 (omega arith) (skip _ _ _ w.if-is_name-25.ensures refl)
+          (skip _ _ _ w.if-is_name-25.ensures (skip _ _ _ w.if-is_name-26.ensures refl))
+      | in_default-via-in-13+else-is_name-27 w ↦
+          unnamed name words 13 (omega arith) (skip _ _ _ w.if-is_name-27.ensures refl)
+      | in_default-via-in-17+else-is_name-28 w ↦
+          unnamed name words 17 (omega arith) (skip _ _ _ w.if-is_name-28.ensures refl)
       | in_default-via-in_default-1 w ↦
           unnamed name words (length name) refl
           (ap (λ (forms : List Form). form_named forms name)
