@@ -43,10 +43,10 @@ module _ {K : Type 0} (words : ControllerWords K) (old : Parts K) (space : Space
       told : PathState K → PathState K
       told state = after_telling words (acks now packet.time_sent packet.size app_limited state.rtt) state
 
-      go : (own data probe : Bool) → let searched = cond data (after probe) path.state in
+      go : (own in_data probe : Bool) → let searched = cond in_data (after probe) path.state in
           let known : OfPaths (PathKnown K) = record { current = record { generation = generation_of path.ledger; state = cond own (told searched) searched } } in
           known ≡ paths_after (known_with words) (cond own (on_current (tells (acks now packet.time_sent packet.size app_limited path.state.rtt)) ∷ []) []
-          ++ cond data (cond probe (on_current (tells (takes_mtu seen.discovery.mtu)) ∷ on_current (searches call) ∷ []) (on_current (searches call) ∷ [])) []) (paths_known old.paths)
+          ++ cond in_data (cond probe (on_current (tells (takes_mtu seen.discovery.mtu)) ∷ on_current (searches call) ∷ []) (on_current (searches call) ∷ [])) []) (paths_known old.paths)
       go true true true = refl
       go true true false = refl
       go true false probe = refl
@@ -63,8 +63,8 @@ module _ {K : Type 0} (words : ControllerWords K) (old : Parts K) (space : Space
       path : Path K
       path = old.paths.current
 
-      go : (data : Bool) → let known : OfPaths (PathKnown K) = record { current = record { generation = generation_of path.ledger; state = cond data (after_searching call path.state) path.state } } in
-          known ≡ paths_after (known_with words) (cond data (on_current (searches call) ∷ []) []) (paths_known old.paths)
+      go : (in_data : Bool) → let known : OfPaths (PathKnown K) = record { current = record { generation = generation_of path.ledger; state = cond in_data (after_searching call path.state) path.state } } in
+          known ≡ paths_after (known_with words) (cond in_data (on_current (searches call) ∷ []) []) (paths_known old.paths)
       go true = refl
       go false = refl
 
