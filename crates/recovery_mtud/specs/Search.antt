@@ -143,7 +143,7 @@ search_limited limit search = record search { limit = limit }
 
 -- ---- what holds of every search
 
--- the last size is above zero; it was lost at most three times, and a third time at the earliest after the probe in flight
+-- the last size is above zero, and at most three probes of it were lost, at most two while one is in flight
 abbrev pub IsProbingSound : Probing → Type 0
 IsProbingSound p = (0 < p.last) × (p.losses ≤ (if is_some p.in_flight then 2 else 3))
 
