@@ -2,3 +2,4 @@
 
 pub use recovery_base::config::AckFrequencyConfig;
 pub use recovery_config::config::TransportConfig;
+pub use recovery_mtud::config::MtuDiscoveryConfig;

@@ -5,5 +5,6 @@ pub mod acks;
 pub mod cids;
 pub mod config;
 pub mod congestion;
+pub mod mtud;
 pub mod pacing;
 pub mod rtt;

@@ -13,6 +13,8 @@ mod congestion;
 #[cfg(test)]
 mod ids;
 #[cfg(test)]
+mod mtud;
+#[cfg(test)]
 mod pacing;
 #[cfg(test)]
 mod rtt;

@@ -1,0 +1,9 @@
+pub mod Bursts
+pub mod Detectors
+pub mod Discoveries
+pub mod Discovery
+pub mod DiscoveryLog
+pub mod Search
+pub mod Searches
+pub mod Settings
+pub mod Sizes

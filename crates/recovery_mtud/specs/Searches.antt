@@ -1,0 +1,9 @@
+-- What a `Search` holds.
+use Rattle.recovery_mtud.specs.Search.{MtuSearch}
+use Rattle.recovery_mtud.specs.declared.search.Search.TheInside.{Inside}
+
+abbrev pub search_in : Inside → MtuSearch
+search_in search = record { limit = search.limit; phase = search.phase; settings = search.config }
+
+abbrev pub search_back : MtuSearch → Inside
+search_back search = record { limit = search.limit; phase = search.phase; config = search.settings }

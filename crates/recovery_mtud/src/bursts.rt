@@ -1,0 +1,100 @@
+//! Sizes of the bursts of losses that are suspicious.
+ghost use Rattle.std.specs.Prelude.{◌≡◌, ◌<◌, ◌≤◌, nat_lt, [], ◌∷◌, ◌++◌, filter, length};
+ghost use Rattle.recovery_mtud.specs.Bursts.{with_burst};
+
+use std::marker::Model;
+
+/// So many suspicious bursts are a black hole.
+pub(crate) const BLACK_HOLE_BURSTS: usize = 4;
+
+/// The least sizes of at most four bursts.
+///
+/// Contracts see the list of the sizes.
+#[derive(Clone, Copy)]
+pub(crate) struct Bursts {
+    /// The sizes, and zeros behind them.
+    sizes: [u16; BLACK_HOLE_BURSTS],
+    count: usize,
+}
+
+impl Model for Bursts {
+    ghost use Rattle.std.specs.Prelude.{ℕ, List};
+
+    ghost Value = { List ℕ };
+
+    ghost use Rattle.recovery_mtud.specs.Sizes.{sizes_in, IsPadded, padded, padded-sizes_in};
+
+    ghost view = { sizes_in };
+
+    ghost invariant = { IsPadded };
+
+    ghost inverse = { padded };
+
+    ghost inverse_ok = { padded-sizes_in };
+}
+
+impl Bursts {
+    pub(crate) fn new() -> Self
+        ensures { result ≡ [] }
+    {
+        Bursts {
+            sizes: [0; BLACK_HOLE_BURSTS],
+            count: 0,
+        }
+    }
+
+    pub(crate) fn len(&self) -> usize
+        ensures value { result ≡ length self.now }
+        ensures few { length self.now ≤ 4 }
+    {
+        self.count
+    }
+
+    fn push(&mut self, size: u16)
+        requires { length self.old < 4 }
+        ensures { self.new ≡ self.old ++ size ∷ [] }
+    {
+        self.sizes[self.count] = size;
+        self.count += 1;
+    }
+
+    /// One more, or in place of the first of the least.
+    pub(crate) fn add(&mut self, size: u16)
+        ensures sizes { self.new ≡ with_burst size self.old }
+        ensures few { length self.new ≤ 4 }
+    {
+        if self.count < BLACK_HOLE_BURSTS {
+            self.push(size);
+            return;
+        }
+        let [a, b, c, d] = self.sizes;
+        let least = a.min(b.min(c.min(d)));
+        if least >= size {
+            return;
+        }
+        if a == least {
+            self.sizes[0] = size;
+        } else if b == least {
+            self.sizes[1] = size;
+        } else if c == least {
+            self.sizes[2] = size;
+        } else {
+            self.sizes[3] = size;
+        }
+    }
+
+    /// Keeps those that are above a size.
+    pub(crate) fn retain_above(&mut self, size: u16)
+        ensures sizes { self.new ≡ filter (λ least. nat_lt size least) self.old }
+        ensures few { length self.new ≤ 4 }
+    {
+        let mut kept = Bursts::new();
+        for place in 0..self.count {
+            let least = self.sizes[place];
+            if least > size {
+                kept.push(least);
+            }
+        }
+        *self = kept;
+    }
+}

@@ -1,0 +1,140 @@
+//! The detection of black holes by bursts of losses (RFC 8899, 4.3).
+ghost use Rattle.std.specs.Prelude.{◌≡◌, ◌<◌, ◌≤◌, length};
+ghost use Rattle.recovery_mtud.specs.Bursts.{bursts_made, bursts_probed, bursts_acked, bursts_closed, bursts_lost, bursts_ended, is_black_hole};
+
+use crate::bursts::{BLACK_HOLE_BURSTS, Bursts};
+use std::marker::Model;
+
+/// Packets that were sent one after another and lost.
+#[derive(Clone, Copy)]
+pub(crate) struct Burst {
+    /// The size of the smallest.
+    pub(crate) least: u16,
+    /// The number of the last.
+    pub(crate) last: u64,
+}
+
+/// What losses and acknowledgements say of the path's MTU.
+#[derive(Clone, Copy)]
+pub(crate) struct Detector {
+    bursts: Bursts,
+    /// The burst that the next lost packet may join.
+    current: Option<Burst>,
+    /// The largest size acknowledged since the newest suspicious burst, or the least MTU.
+    acked_mtu: u16,
+    /// The number of the newest packet of that size.
+    newest: u64,
+    min_mtu: u16,
+}
+
+impl Model for Detector {
+    ghost use Rattle.recovery_mtud.specs.Bursts.{LossBursts, AreBurstsSound};
+
+    ghost Value = { LossBursts };
+
+    ghost use Rattle.recovery_mtud.specs.Detectors.{bursts_in, bursts_back};
+
+    ghost view = { bursts_in };
+
+    ghost invariant = { λ detector. AreBurstsSound (bursts_in detector) };
+
+    ghost inverse = { bursts_back };
+}
+
+impl Detector {
+    pub(crate) fn new(min_mtu: u16) -> Self
+        requires { 0 < min_mtu }
+        ensures { result ≡ bursts_made min_mtu }
+    {
+        Detector {
+            bursts: Bursts::new(),
+            current: None,
+            acked_mtu: min_mtu,
+            newest: 0,
+            min_mtu,
+        }
+    }
+
+    /// The size that the path is known to carry.
+    pub(crate) fn min_mtu(&self) -> u16
+        ensures value { result ≡ self.now.min_mtu }
+        ensures positive { 0 < result }
+    {
+        self.min_mtu
+    }
+
+    /// The probe in flight was acknowledged.
+    pub(crate) fn on_probe_acked(&mut self, number: u64, size: u16)
+        ensures { self.new ≡ bursts_probed number size self.old }
+    {
+        self.bursts = Bursts::new();
+        self.acked_mtu = size;
+        self.newest = number;
+    }
+
+    /// Another packet was acknowledged.
+    pub(crate) fn on_non_probe_acked(&mut self, number: u64, size: u16)
+        ensures { self.new ≡ bursts_acked number size self.old }
+    {
+        if size < self.acked_mtu {
+            return;
+        }
+        if size == self.acked_mtu {
+            self.newest = self.newest.max(number);
+            return;
+        }
+        self.acked_mtu = size;
+        self.newest = number;
+        self.bursts.retain_above(size);
+    }
+
+    fn close(&mut self)
+        ensures { self.new ≡ bursts_closed self.old }
+    {
+        let Some(burst) = self.current else {
+            return;
+        };
+        self.current = None;
+        let is_refuted = burst.last < self.newest && burst.least <= self.acked_mtu;
+        if burst.least <= self.min_mtu || is_refuted {
+            return;
+        }
+        if burst.last > self.newest {
+            self.acked_mtu = self.min_mtu;
+        }
+        self.bursts.add(burst.least);
+    }
+
+    /// A packet that is no probe in flight was lost.
+    pub(crate) fn on_non_probe_lost(&mut self, number: u64, size: u16)
+        ensures { self.new ≡ bursts_lost number size self.old }
+    {
+        if let Some(burst) = self.current
+            && burst.last.checked_add(1) == Some(number)
+        {
+            self.current = Some(Burst {
+                least: burst.least.min(size),
+                last: number,
+            });
+            return;
+        }
+        self.close();
+        self.current = Some(Burst {
+            least: size,
+            last: number,
+        });
+    }
+
+    /// All losses of a moment were told: whether there is a black hole.
+    pub(crate) fn black_hole_detected(&mut self) -> bool
+        ensures answer { result ≡ is_black_hole (bursts_closed self.old) }
+        ensures after { self.new ≡ bursts_ended self.old }
+    {
+        self.close();
+        if self.bursts.len() < BLACK_HOLE_BURSTS {
+            return false;
+        }
+        self.bursts = Bursts::new();
+        true
+    }
+}

@@ -1,0 +1,216 @@
+//! Discovery of the MTU of a path, and detection of black holes (RFC 8899; RFC 9000, 14.3).
+ghost use Rattle.std.specs.Prelude.{◌≡◌, ◌<◌, ◌≤◌, Bool, false, ◌&&◌, if◌then◌else◌};
+ghost use Rattle.std.specs.Option.{IfSome};
+ghost use Rattle.recovery_mtud.specs.Discovery.{discovery_made, discovery_disabled, discovery_polled, discovery_limited, discovery_acked, discovery_probe_lost, discovery_lost, discovery_ended, discovery_reset};
+ghost use Rattle.recovery_mtud.specs.Discovery.{poll_of, probe_of, is_probe, is_searching_of, reports, is_data};
+
+use crate::config::{MAX_UDP_PAYLOAD, MtuDiscoveryConfig};
+use crate::detector::Detector;
+use crate::search::Search;
+use recovery_base::below::SpaceId;
+use recovery_base::time::Instant;
+use std::marker::Model;
+
+/// What is known of the MTU of one path: the size in use, a search for a larger one, and the losses that may mean that it
+/// fell.
+///
+/// A search probes sizes in the middle of its bounds, each three times at most, and begins again after an interval. Four
+/// suspicious bursts of losses are a black hole: the least MTU is then in use again (RFC 8899, 4.3).
+///
+/// Contracts see a `Discovery`. Its MTU is above zero, and it keeps at most four bursts. Sizes are in bytes.
+#[derive(Clone, Copy)]
+pub struct MtuDiscovery {
+    current_mtu: u16,
+    /// None where discovery is disabled.
+    search: Option<Search>,
+    detector: Detector,
+}
+
+impl Model for MtuDiscovery {
+    ghost use Rattle.recovery_mtud.specs.Discovery.{Discovery, IsDiscoverySound};
+
+    ghost Value = { Discovery };
+
+    ghost use Rattle.recovery_mtud.specs.Discoveries.{discovery_in, discovery_back};
+
+    ghost view = { discovery_in };
+
+    ghost invariant = { λ discovery. IsDiscoverySound (discovery_in discovery) };
+
+    ghost inverse = { discovery_back };
+}
+
+impl MtuDiscovery {
+    /// A discovery that begins to search at the first poll.
+    ///
+    /// It begins with `initial_plpmtu`, or with the peer's limit where that is less; no size is probed above the limit. The
+    /// path is known to carry `min_mtu`. All are above zero.
+    pub fn new(
+        initial_plpmtu: u16,
+        min_mtu: u16,
+        peer_max_udp_payload_size: Option<u16>,
+        config: MtuDiscoveryConfig,
+    ) -> Self
+        requires least { 0 < min_mtu }
+        requires initial { min_mtu ≤ initial_plpmtu }
+        requires limit { IfSome peer_max_udp_payload_size (λ limit. 0 < limit) }
+        ensures { result ≡ discovery_made initial_plpmtu min_mtu peer_max_udp_payload_size config }
+    {
+        let (current_mtu, limit) = match peer_max_udp_payload_size {
+            Some(limit) => (initial_plpmtu.min(limit), limit),
+            None => (initial_plpmtu, MAX_UDP_PAYLOAD),
+        };
+        MtuDiscovery {
+            current_mtu,
+            search: Some(Search::new(limit, config)),
+            detector: Detector::new(min_mtu),
+        }
+    }
+
+    /// A discovery that never probes. Black holes are detected all the same: the MTU then falls from `plpmtu` to `min_mtu`.
+    /// Both are above zero.
+    pub fn disabled(plpmtu: u16, min_mtu: u16) -> Self
+        requires mtu { 0 < plpmtu }
+        requires least { 0 < min_mtu }
+        ensures { result ≡ discovery_disabled plpmtu min_mtu }
+    {
+        MtuDiscovery {
+            current_mtu: plpmtu,
+            search: None,
+            detector: Detector::new(min_mtu),
+        }
+    }
+
+    /// Begins anew with these sizes, both above zero. The peer's limit stays, also of the MTU in use; a disabled discovery has
+    /// none, and stays disabled.
+    pub fn reset(&mut self, current_mtu: u16, min_mtu: u16)
+        requires mtu { 0 < current_mtu }
+        requires least { 0 < min_mtu }
+        ensures { self.new ≡ discovery_reset current_mtu min_mtu self.old }
+    {
+        self.detector = Detector::new(min_mtu);
+        self.current_mtu = match &mut self.search {
+            Some(search) => {
+                search.restart();
+                current_mtu.min(search.limit())
+            }
+            None => current_mtu,
+        };
+    }
+
+    /// The MTU in use.
+    pub fn current_mtu(&self) -> u16
+        ensures value { result ≡ self.now.mtu }
+        ensures positive { 0 < result }
+    {
+        self.current_mtu
+    }
+
+    /// The size of the probe to send now, if any, as the packet of number `next_packet_number`.
+    ///
+    /// None while a probe is in flight, before the next search is due, and where discovery is disabled.
+    pub fn poll_transmit(&mut self, now: Instant, next_packet_number: u64) -> Option<u16>
+        ensures answer { result ≡ poll_of now self.old }
+        ensures after { self.new ≡ discovery_polled now next_packet_number self.old }
+    {
+        match &mut self.search {
+            Some(search) => search.poll(self.current_mtu, now, next_packet_number),
+            None => None,
+        }
+    }
+
+    /// The peer takes no packets larger than this, above zero (max_udp_payload_size of RFC 9000, 18.2). No search may run.
+    pub fn on_peer_max_udp_payload_size_received(&mut self, peer_max_udp_payload_size: u16)
+        requires size { 0 < peer_max_udp_payload_size }
+        requires no_search { is_searching_of self.old ≡ false }
+        ensures { self.new ≡ discovery_limited peer_max_udp_payload_size self.old }
+    {
+        self.current_mtu = self.current_mtu.min(peer_max_udp_payload_size);
+        if let Some(search) = &mut self.search {
+            search.set_limit(peer_max_udp_payload_size);
+        }
+    }
+
+    /// A packet of so many bytes was acknowledged: whether it was the probe in flight. The MTU in use is then its size. Outside
+    /// Data nothing changes.
+    #[tactic(auto, using(crate::proofs::BurstLaws::bursts_acked_sound))]
+    pub fn on_acked(&mut self, space: SpaceId, packet_number: u64, packet_bytes: u16) -> bool
+        ensures answer { result ≡ is_data space && is_probe packet_number self.old }
+        ensures after { self.new ≡ (if is_data space then discovery_acked packet_number packet_bytes self.old else self.old) }
+    {
+        if space != SpaceId::Data {
+            return false;
+        }
+        let probed = match &mut self.search {
+            Some(search) => search.on_acked(packet_number),
+            None => None,
+        };
+        match probed {
+            Some(size) => {
+                self.current_mtu = size;
+                self.detector.on_probe_acked(packet_number, packet_bytes);
+                true
+            }
+            None => {
+                self.detector
+                    .on_non_probe_acked(packet_number, packet_bytes);
+                false
+            }
+        }
+    }
+
+    /// The number of the probe in flight.
+    pub fn in_flight_mtu_probe(&self) -> Option<u64>
+        ensures { result ≡ probe_of self.now }
+    {
+        match &self.search {
+            Some(search) => search.in_flight(),
+            None => None,
+        }
+    }
+
+    /// The probe in flight was lost. With none in flight nothing changes.
+    pub fn on_probe_lost(&mut self)
+        ensures { self.new ≡ discovery_probe_lost self.old }
+    {
+        if let Some(search) = &mut self.search {
+            search.on_probe_lost();
+        }
+    }
+
+    /// A packet of Data that is no probe in flight was lost, of so many bytes. It joins the burst whose last number is the one
+    /// before it; else that burst closes and another begins.
+    ///
+    /// `black_hole_detected` is to be called once all losses of a moment were told.
+    pub fn on_non_probe_lost(&mut self, packet_number: u64, packet_bytes: u16)
+        ensures { self.new ≡ discovery_lost packet_number packet_bytes self.old }
+    {
+        self.detector.on_non_probe_lost(packet_number, packet_bytes);
+    }
+
+    /// Closes the open burst: whether four suspicious bursts have closed, which is a black hole. The least MTU is then in use,
+    /// even above the peer's limit, a search ends, and none begins before the cooldown is over.
+    pub fn black_hole_detected(&mut self, now: Instant) -> bool
+        ensures answer { result ≡ reports self.old }
+        ensures after { self.new ≡ discovery_ended now self.old }
+    {
+        if !self.detector.black_hole_detected() {
+            return false;
+        }
+        self.current_mtu = self.detector.min_mtu();
+        if let Some(search) = &mut self.search {
+            search.on_black_hole(now);
+        }
+        true
+    }
+
+    /// Whether a search has begun and not ended.
+    pub fn is_searching(&self) -> bool
+        ensures { result ≡ is_searching_of self.now }
+    {
+        match &self.search {
+            Some(search) => search.is_running(),
+            None => false,
+        }
+    }
+}

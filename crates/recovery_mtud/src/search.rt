@@ -1,0 +1,233 @@
+//! The search for a path's MTU (RFC 8899, 5; RFC 9000, 14.3).
+ghost use Rattle.std.specs.Prelude.{◌≡◌, ◌<◌, ◌≤◌, IfSome};
+ghost use Rattle.recovery_mtud.specs.Search.{search_made, begun, narrowed, next_size, size_to_probe, probing_at, search_poll, search_polled};
+ghost use Rattle.recovery_mtud.specs.Search.{flight_in, is_running, probed_size, search_acked, search_lost, search_reported, search_limited};
+ghost use Rattle.recovery_mtud.specs.Search.{IsProbingSound};
+
+use crate::config::MtuDiscoveryConfig;
+use recovery_base::time::Instant;
+use std::marker::Model;
+
+/// A size that was lost so often is too large (RFC 8899, 5.1.2).
+const MAX_PROBES: u8 = 3;
+
+/// What a search does.
+#[derive(Clone, Copy)]
+pub(crate) enum Phase {
+    /// It waits for the first poll.
+    Initial,
+    Searching(Probing),
+    /// It is over until this moment.
+    Complete(Instant),
+}
+
+/// A search that runs.
+#[derive(Clone, Copy)]
+pub(crate) struct Probing {
+    /// A size that gets through, unless the path changed.
+    pub(crate) lower: u16,
+    /// The largest size that may get through.
+    pub(crate) upper: u16,
+    /// The last size probed, or the lower bound before the first probe.
+    pub(crate) last: u16,
+    /// The number of the probe in flight.
+    pub(crate) in_flight: Option<u64>,
+    /// How many probes of the last size were lost, one after another.
+    pub(crate) losses: u8,
+}
+
+/// The search of a discovery that is enabled.
+#[derive(Clone, Copy)]
+pub(crate) struct Search {
+    phase: Phase,
+    /// The largest size that the peer takes.
+    limit: u16,
+    config: MtuDiscoveryConfig,
+}
+
+impl Model for Search {
+    ghost use Rattle.recovery_mtud.specs.Search.{MtuSearch, IsSearchSound};
+
+    ghost Value = { MtuSearch };
+
+    ghost use Rattle.recovery_mtud.specs.Searches.{search_in, search_back};
+
+    ghost view = { search_in };
+
+    ghost invariant = { λ search. IsSearchSound (search_in search) };
+
+    ghost inverse = { search_back };
+}
+
+impl Probing {
+    /// Narrows the bounds by what became of the last size, and gives the size to probe next.
+    fn advance(&mut self, minimum_change: u16) -> Option<u16>
+        ensures size { result ≡ size_to_probe minimum_change self.old }
+        ensures bounds { self.new ≡ narrowed self.old }
+    {
+        if self.losses == 0 {
+            self.lower = self.last;
+        } else if self.losses < MAX_PROBES {
+            return Some(self.last);
+        } else {
+            self.upper = self.last.saturating_sub(1);
+            self.losses = 0;
+        }
+        self.next_size(minimum_change)
+    }
+
+    fn next_size(&self, minimum_change: u16) -> Option<u16>
+        ensures { result ≡ next_size minimum_change self.now }
+    {
+        let middle = ((u32::from(self.lower) + u32::from(self.upper)) / 2) as u16;
+        if middle.abs_diff(self.last) >= minimum_change {
+            return if middle == 0 { None } else { Some(middle) };
+        }
+        if self.upper.saturating_sub(self.last) >= minimum_change {
+            return Some(self.upper);
+        }
+        None
+    }
+}
+
+impl Search {
+    pub(crate) fn new(limit: u16, config: MtuDiscoveryConfig) -> Self
+        requires { 0 < limit }
+        ensures { result ≡ search_made limit config }
+    {
+        Search {
+            phase: Phase::Initial,
+            limit,
+            config,
+        }
+    }
+
+    pub(crate) fn is_running(&self) -> bool
+        ensures { result ≡ is_running self.now.phase }
+    {
+        matches!(self.phase, Phase::Searching(_))
+    }
+
+    /// The number of the probe in flight.
+    pub(crate) fn in_flight(&self) -> Option<u64>
+        ensures { result ≡ flight_in self.now.phase }
+    {
+        match self.phase {
+            Phase::Searching(probing) => probing.in_flight,
+            _ => None,
+        }
+    }
+
+    /// The largest size that the peer takes.
+    pub(crate) fn limit(&self) -> u16
+        ensures value { result ≡ self.now.limit }
+        ensures positive { 0 < result }
+    {
+        self.limit
+    }
+
+    /// Begins anew, with the peer's limit kept.
+    pub(crate) fn restart(&mut self)
+        ensures { self.new ≡ search_made self.old.limit self.old.settings }
+    {
+        self.phase = Phase::Initial;
+    }
+
+    pub(crate) fn set_limit(&mut self, limit: u16)
+        requires { 0 < limit }
+        ensures { self.new ≡ search_limited limit self.old }
+    {
+        self.limit = limit;
+    }
+
+    fn begin(&self, mtu: u16) -> Probing
+        requires { 0 < mtu }
+        ensures value { result ≡ begun mtu self.now }
+        ensures sound { IsProbingSound result }
+    {
+        let lower = mtu.min(self.limit);
+        Probing {
+            lower,
+            upper: self.config.upper_bound.max(lower).min(self.limit),
+            last: lower,
+            in_flight: None,
+            losses: 0,
+        }
+    }
+
+    /// The search that a poll finds, or begins.
+    fn probing_at(&self, mtu: u16, now: Instant) -> Option<Probing>
+        requires { 0 < mtu }
+        ensures value { result ≡ probing_at mtu now self.now }
+        ensures sound { IfSome result IsProbingSound }
+    {
+        match self.phase {
+            Phase::Initial => Some(self.begin(mtu)),
+            Phase::Searching(probing) => Some(probing),
+            Phase::Complete(activation) => {
+                if now < activation {
+                    return None;
+                }
+                Some(self.begin(mtu))
+            }
+        }
+    }
+
+    /// The size to probe now, if any, with a packet of this number.
+    pub(crate) fn poll(&mut self, mtu: u16, now: Instant, number: u64) -> Option<u16>
+        requires { 0 < mtu }
+        ensures answer { result ≡ search_poll mtu now self.old }
+        ensures after { self.new ≡ search_polled mtu now number self.old }
+    {
+        let mut probing = self.probing_at(mtu, now)?;
+        if probing.in_flight.is_some() {
+            return None;
+        }
+        let next = probing.advance(self.config.minimum_change);
+        match next {
+            Some(size) => {
+                probing.in_flight = Some(number);
+                probing.last = size;
+                self.phase = Phase::Searching(probing);
+            }
+            None => self.phase = Phase::Complete(now + self.config.interval),
+        }
+        next
+    }
+
+    /// Where the packet is the probe in flight, its size.
+    pub(crate) fn on_acked(&mut self, number: u64) -> Option<u16>
+        ensures size { result ≡ probed_size number self.old }
+        ensures positive { IfSome result (λ size. 0 < size) }
+        ensures after { self.new ≡ search_acked number self.old }
+    {
+        let Phase::Searching(probing) = &mut self.phase else {
+            return None;
+        };
+        if probing.in_flight != Some(number) {
+            return None;
+        }
+        probing.in_flight = None;
+        probing.losses = 0;
+        Some(probing.last)
+    }
+
+    /// The probe in flight was lost, if there is one.
+    pub(crate) fn on_probe_lost(&mut self)
+        ensures { self.new ≡ search_lost self.old }
+    {
+        if let Phase::Searching(probing) = &mut self.phase
+            && probing.in_flight.is_some()
+        {
+            probing.in_flight = None;
+            probing.losses += 1;
+        }
+    }
+
+    /// A black hole was found at this moment.
+    pub(crate) fn on_black_hole(&mut self, now: Instant)
+        ensures { self.new ≡ search_reported now self.old }
+    {
+        self.phase = Phase::Complete(now + self.config.black_hole_cooldown);
+    }
+}

@@ -1,0 +1,627 @@
+//! MTU discovery. Rows are what a discovery is told, what it answers, and the MTU that is then in use.
+use recovery_base::below::SpaceId;
+use recovery_base::time::{Duration, Instant};
+use recovery_mtud::config::MtuDiscoveryConfig;
+use recovery_mtud::mtud::MtuDiscovery;
+use std::process::Abort;
+
+const SECOND: u64 = 1_000_000_000;
+
+/// What a discovery is told, with numbers of Data.
+#[derive(Clone, Copy)]
+enum Call {
+    /// At this moment, with the next packet number.
+    Polls(u64, u64),
+    Limit(u16),
+    /// The number and size of a packet.
+    Acked(u64, u16),
+    /// The same outside Data.
+    AckedIn(SpaceId, u64, u16),
+    ProbeLost,
+    Lost(u64, u16),
+    LossesEnd(u64),
+    /// The MTU and the least one.
+    Reset(u16, u16),
+}
+
+use Call::{Acked, AckedIn, Limit, LossesEnd, Lost, Polls, ProbeLost, Reset};
+
+#[derive(Clone, Copy, PartialEq)]
+enum Answer {
+    Probe(u16),
+    NoProbe,
+    Yes,
+    No,
+    Done,
+    /// A search runs.
+    Refused,
+}
+
+use Answer::{Done, No, NoProbe, Probe, Refused, Yes};
+
+type Row = (Call, Answer, u16);
+
+fn flag(value: bool) -> Answer {
+    if value { Yes } else { No }
+}
+
+fn limit(rt: &impl Abort, discovery: &mut MtuDiscovery, size: u16) -> Answer {
+    assert!(rt; size > 0);
+    if discovery.is_searching() {
+        return Refused;
+    }
+    discovery.on_peer_max_udp_payload_size_received(size);
+    Done
+}
+
+fn apply(rt: &impl Abort, discovery: &mut MtuDiscovery, call: Call) -> Answer {
+    match call {
+        Polls(now, number) => match discovery.poll_transmit(Instant::from_nanos(now), number) {
+            Some(size) => Probe(size),
+            None => NoProbe,
+        },
+        Limit(size) => limit(rt, discovery, size),
+        Acked(number, size) => flag(discovery.on_acked(SpaceId::Data, number, size)),
+        AckedIn(space, number, size) => flag(discovery.on_acked(space, number, size)),
+        ProbeLost => {
+            discovery.on_probe_lost();
+            Done
+        }
+        Lost(number, size) => {
+            discovery.on_non_probe_lost(number, size);
+            Done
+        }
+        LossesEnd(now) => flag(discovery.black_hole_detected(Instant::from_nanos(now))),
+        Reset(mtu, min_mtu) => {
+            assert!(rt; mtu > 0 && min_mtu > 0);
+            discovery.reset(mtu, min_mtu);
+            Done
+        }
+    }
+}
+
+/// Asserts that each row answers what it says, and leaves the MTU that it says.
+fn play(rt: &impl Abort, discovery: &mut MtuDiscovery, rows: &[Row]) {
+    let mut place = 0u64;
+    for (call, answer, mtu) in rows {
+        let found = apply(rt, discovery, *call);
+        assert!(rt; found == *answer, "answer of row {place}");
+        assert!(rt; discovery.current_mtu() == *mtu, "MTU of row {place}");
+        place = place.saturating_add(1);
+    }
+}
+
+/// The MTU at the start, the least one, the peer's limit, the upper bound and the minimum change.
+type Setting = (u16, u16, Option<u16>, u16, u16);
+
+const DEFAULT: Setting = (1200, 1200, None, 1452, 20);
+
+fn made(rt: &impl Abort, setting: &Setting) -> MtuDiscovery {
+    let (start, min_mtu, limit, upper_bound, minimum_change) = *setting;
+    let mut config = MtuDiscoveryConfig::default();
+    config
+        .upper_bound(upper_bound)
+        .minimum_change(minimum_change);
+    assert!(rt; min_mtu > 0 && min_mtu <= start);
+    match limit {
+        Some(limit) => {
+            assert!(rt; limit > 0);
+            MtuDiscovery::new(start, min_mtu, Some(limit), config)
+        }
+        None => MtuDiscovery::new(start, min_mtu, None, config),
+    }
+}
+
+fn play_default(rt: &impl Abort, rows: &[Row]) {
+    let mut discovery = made(rt, &DEFAULT);
+    play(rt, &mut discovery, rows);
+}
+
+/// A search over a link that carries so many bytes: the sizes that it probes, each so often, and the MTU at its end.
+type Search = (Setting, u16, &'static [(u16, u8)], u16);
+
+/// Probes one size so often. Those that the link carries are acknowledged, and the others lost.
+fn probe(
+    rt: &impl Abort,
+    discovery: &mut MtuDiscovery,
+    first: u64,
+    size: u16,
+    times: u8,
+    link: u16,
+) {
+    let mut number = first;
+    for _ in 0..times {
+        let probed = discovery.poll_transmit(Instant::from_nanos(0), number);
+        assert!(rt; probed == Some(size), "{size}");
+        assert!(rt; discovery.in_flight_mtu_probe() == Some(number), "{size}");
+        if size <= link {
+            assert!(rt; discovery.on_acked(SpaceId::Data, number, size), "{size}");
+        } else {
+            discovery.on_probe_lost();
+        }
+        number = number.saturating_add(1);
+    }
+}
+
+/// Asserts of each search that it takes the probes of its row, and ends with its MTU.
+fn play_searches(rt: &impl Abort, searches: &[Search]) {
+    let mut place = 0u64;
+    for (setting, link, sizes, end) in searches {
+        let mut discovery = made(rt, setting);
+        let mut first = 0u64;
+        for (size, times) in *sizes {
+            probe(rt, &mut discovery, first, *size, *times, *link);
+            first = first.saturating_add(u64::from(*times));
+        }
+        let last = discovery.poll_transmit(Instant::from_nanos(0), first);
+        assert!(rt;
+            last.is_none() && !discovery.is_searching(),
+            "end of search {place}"
+        );
+        assert!(rt; discovery.current_mtu() == *end, "MTU of search {place}");
+        place = place.saturating_add(1);
+    }
+}
+
+#[test]
+fn a_search_halves_its_bounds(rt: HostRuntime) {
+    play_searches(
+        &rt,
+        &[
+            (
+                DEFAULT,
+                1500,
+                &[(1326, 1), (1389, 1), (1420, 1), (1452, 1)],
+                1452,
+            ),
+            (
+                (1200, 1200, Some(1300), 1452, 20),
+                1500,
+                &[(1250, 1), (1275, 1), (1300, 1)],
+                1300,
+            ),
+            (
+                (1200, 1200, None, 10_000, 20),
+                1500,
+                &[
+                    (5600, 3),
+                    (3399, 3),
+                    (2299, 3),
+                    (1749, 3),
+                    (1474, 1),
+                    (1611, 3),
+                    (1542, 3),
+                    (1507, 3),
+                ],
+                1474,
+            ),
+            (DEFAULT, 1400, &[(1326, 1), (1389, 1), (1420, 3)], 1389),
+            (DEFAULT, 1200, &[(1326, 3), (1262, 3), (1230, 3)], 1200),
+        ],
+    );
+}
+
+/// From 1 byte to the greatest size, by steps of 3.
+const WIDEST: Setting = (1, 1, None, 65_527, 3);
+
+#[test]
+fn the_widest_searches(rt: HostRuntime) {
+    play_searches(
+        &rt,
+        &[
+            (
+                WIDEST,
+                1,
+                &[
+                    (32_764, 3),
+                    (16_382, 3),
+                    (8191, 3),
+                    (4095, 3),
+                    (2047, 3),
+                    (1023, 3),
+                    (511, 3),
+                    (255, 3),
+                    (127, 3),
+                    (63, 3),
+                    (31, 3),
+                    (15, 3),
+                    (7, 3),
+                    (3, 3),
+                ],
+                1,
+            ),
+            (
+                WIDEST,
+                65_527,
+                &[
+                    (32_764, 1),
+                    (49_145, 1),
+                    (57_336, 1),
+                    (61_431, 1),
+                    (63_479, 1),
+                    (64_503, 1),
+                    (65_015, 1),
+                    (65_271, 1),
+                    (65_399, 1),
+                    (65_463, 1),
+                    (65_495, 1),
+                    (65_511, 1),
+                    (65_519, 1),
+                    (65_523, 1),
+                    (65_527, 1),
+                ],
+                65_527,
+            ),
+            (
+                WIDEST,
+                65_526,
+                &[
+                    (32_764, 1),
+                    (49_145, 1),
+                    (57_336, 1),
+                    (61_431, 1),
+                    (63_479, 1),
+                    (64_503, 1),
+                    (65_015, 1),
+                    (65_271, 1),
+                    (65_399, 1),
+                    (65_463, 1),
+                    (65_495, 1),
+                    (65_511, 1),
+                    (65_519, 1),
+                    (65_523, 1),
+                    (65_527, 3),
+                    (65_524, 1),
+                ],
+                65_524,
+            ),
+        ],
+    );
+}
+
+#[test]
+fn the_least_changes_probe_the_lower_bound_again(rt: HostRuntime) {
+    play_searches(
+        &rt,
+        &[
+            ((1, 1, None, 2, 1), 0, &[(2, 3), (1, 3)], 1),
+            (
+                (1200, 1200, None, 1201, 1),
+                1,
+                &[(1201, 3), (1200, 3), (1199, 3)],
+                1200,
+            ),
+            (
+                (1200, 1200, None, 1202, 2),
+                1,
+                &[(1202, 3), (1200, 3)],
+                1200,
+            ),
+            (
+                (1200, 1200, None, 1202, 2),
+                1200,
+                &[(1202, 3), (1200, 1)],
+                1200,
+            ),
+            (
+                (1200, 1200, None, 1300, 0),
+                1500,
+                &[
+                    (1250, 1),
+                    (1275, 1),
+                    (1287, 1),
+                    (1293, 1),
+                    (1296, 1),
+                    (1298, 1),
+                    (1299, 1),
+                    (1300, 1),
+                ],
+                1300,
+            ),
+        ],
+    );
+}
+
+#[test]
+fn no_size_above_the_greatest_is_probed(rt: HostRuntime) {
+    play_searches(
+        &rt,
+        &[
+            (
+                (65_500, 1200, None, 65_535, 20),
+                65_535,
+                &[(65_527, 1)],
+                65_527,
+            ),
+            (
+                (65_500, 1200, Some(65_535), 65_535, 20),
+                65_535,
+                &[(65_527, 1)],
+                65_527,
+            ),
+            ((65_535, 1200, None, 65_535, 20), 65_535, &[], 65_535),
+        ],
+    );
+    let mut discovery = made(&rt, &(65_535, 1200, None, 65_535, 20));
+    play(
+        &rt,
+        &mut discovery,
+        &[
+            (Reset(65_535, 1200), Done, 65_527),
+            (Limit(65_535), Done, 65_527),
+            (Reset(65_535, 1200), Done, 65_535),
+        ],
+    );
+}
+
+#[test]
+fn one_probe_is_in_flight(rt: HostRuntime) {
+    play_default(
+        &rt,
+        &[
+            (Limit(1300), Done, 1200),
+            (Polls(0, 0), Probe(1250), 1200),
+            (Polls(0, 1), NoProbe, 1200),
+            (AckedIn(SpaceId::Initial, 0, 1250), No, 1200),
+            (AckedIn(SpaceId::Handshake, 0, 1250), No, 1200),
+            (Acked(1, 1250), No, 1200),
+            (Acked(0, 1250), Yes, 1250),
+            (Acked(0, 1250), No, 1250),
+            (Polls(0, 1), Probe(1275), 1250),
+            (Limit(1400), Refused, 1250),
+            (ProbeLost, Done, 1250),
+            (Polls(0, 2), Probe(1275), 1250),
+            (Acked(2, 1275), Yes, 1275),
+            (ProbeLost, Done, 1275),
+            (Polls(0, 3), Probe(1300), 1275),
+        ],
+    );
+    play_default(
+        &rt,
+        &[
+            (Polls(0, 0), Probe(1326), 1200),
+            (Acked(0, 1326), Yes, 1326),
+            (ProbeLost, Done, 1326),
+            (Polls(0, 1), Probe(1389), 1326),
+        ],
+    );
+}
+
+#[test]
+fn a_poll_may_begin_and_end_a_search(rt: HostRuntime) {
+    play_default(
+        &rt,
+        &[
+            (Limit(1200), Done, 1200),
+            (Polls(0, 0), NoProbe, 1200),
+            (Limit(1300), Done, 1200),
+            (Polls(600 * SECOND - 1, 0), NoProbe, 1200),
+            (Polls(600 * SECOND, 0), Probe(1250), 1200),
+        ],
+    );
+    play_default(
+        &rt,
+        &[
+            (Limit(1200), Done, 1200),
+            (Polls(u64::MAX - 1, 0), NoProbe, 1200),
+            (Limit(1300), Done, 1200),
+            (Polls(u64::MAX - 1, 0), NoProbe, 1200),
+            (Polls(u64::MAX, 0), Probe(1250), 1200),
+        ],
+    );
+}
+
+#[test]
+fn limits_may_lie_below_the_least_mtu(rt: HostRuntime) {
+    play_default(
+        &rt,
+        &[
+            (Limit(600), Done, 600),
+            (Limit(1400), Done, 600),
+            (Polls(0, 0), Probe(1000), 600),
+        ],
+    );
+    play_default(
+        &rt,
+        &[
+            (Limit(600), Done, 600),
+            (Lost(0, 1300), Done, 600),
+            (Lost(2, 1300), Done, 600),
+            (Lost(4, 1300), Done, 600),
+            (Lost(6, 1300), Done, 600),
+            (LossesEnd(0), Yes, 1200),
+            (Polls(60 * SECOND, 0), NoProbe, 1200),
+            (Reset(1200, 1200), Done, 600),
+            (Polls(0, 0), NoProbe, 600),
+        ],
+    );
+}
+
+#[test]
+fn four_bursts_are_a_black_hole(rt: HostRuntime) {
+    play_default(
+        &rt,
+        &[
+            (Lost(0, 1300), Done, 1200),
+            (Lost(2, 1300), Done, 1200),
+            (Lost(4, 1300), Done, 1200),
+            (LossesEnd(0), No, 1200),
+            (Lost(6, 1300), Done, 1200),
+            (LossesEnd(0), Yes, 1200),
+            (LossesEnd(0), No, 1200),
+            (Polls(0, 7), NoProbe, 1200),
+            (Polls(60 * SECOND, 7), Probe(1326), 1200),
+        ],
+    );
+    play_default(
+        &rt,
+        &[
+            (Lost(0, 1300), Done, 1200),
+            (Lost(2, 1300), Done, 1200),
+            (Lost(4, 1300), Done, 1200),
+            (LossesEnd(0), No, 1200),
+            (Acked(5, 1300), No, 1200),
+            (Lost(6, 1300), Done, 1200),
+            (LossesEnd(0), No, 1200),
+        ],
+    );
+    play_default(
+        &rt,
+        &[
+            (Lost(0, 1300), Done, 1200),
+            (Lost(2, 1300), Done, 1200),
+            (Lost(4, 1300), Done, 1200),
+            (Lost(6, 1200), Done, 1200),
+            (LossesEnd(0), No, 1200),
+            (Lost(8, 1201), Done, 1200),
+            (LossesEnd(0), Yes, 1200),
+        ],
+    );
+}
+
+#[test]
+fn a_report_ends_a_search(rt: HostRuntime) {
+    play_default(
+        &rt,
+        &[
+            (Polls(0, 0), Probe(1326), 1200),
+            (Acked(0, 1326), Yes, 1326),
+            (Polls(0, 1), Probe(1389), 1326),
+            (Lost(2, 1326), Done, 1326),
+            (Lost(4, 1326), Done, 1326),
+            (Lost(6, 1326), Done, 1326),
+            (Lost(8, 1326), Done, 1326),
+            (LossesEnd(5), Yes, 1200),
+            (Acked(1, 1389), No, 1200),
+            (Polls(60 * SECOND + 4, 9), NoProbe, 1200),
+            (Polls(60 * SECOND + 5, 9), Probe(1326), 1200),
+        ],
+    );
+    play_default(
+        &rt,
+        &[
+            (Lost(0, 1300), Done, 1200),
+            (Lost(2, 1300), Done, 1200),
+            (Lost(4, 1300), Done, 1200),
+            (Lost(6, 1300), Done, 1200),
+            (LossesEnd(u64::MAX - 1), Yes, 1200),
+            (Polls(u64::MAX - 1, 7), NoProbe, 1200),
+            (Polls(u64::MAX, 7), Probe(1326), 1200),
+        ],
+    );
+}
+
+#[test]
+fn a_lost_probe_parts_no_numbers_and_joins_none(rt: HostRuntime) {
+    play_default(
+        &rt,
+        &[
+            (Polls(0, 4), Probe(1326), 1200),
+            (Lost(0, 1300), Done, 1200),
+            (Lost(3, 1300), Done, 1200),
+            (ProbeLost, Done, 1200),
+            (Lost(5, 1300), Done, 1200),
+            (Lost(7, 1300), Done, 1200),
+            (LossesEnd(0), Yes, 1200),
+        ],
+    );
+}
+
+#[test]
+fn a_burst_is_joined_by_the_next_number_alone(rt: HostRuntime) {
+    play_default(
+        &rt,
+        &[
+            (Lost(u64::MAX, 1300), Done, 1200),
+            (Lost(0, 1300), Done, 1200),
+            (Lost(2, 1300), Done, 1200),
+            (Lost(4, 1300), Done, 1200),
+            (LossesEnd(0), Yes, 1200),
+        ],
+    );
+    play_default(
+        &rt,
+        &[
+            (Lost(u64::MAX - 1, 1300), Done, 1200),
+            (Lost(u64::MAX, 1300), Done, 1200),
+            (Lost(0, 1300), Done, 1200),
+            (Lost(2, 1300), Done, 1200),
+            (LossesEnd(0), No, 1200),
+            (Lost(4, 1300), Done, 1200),
+            (LossesEnd(0), Yes, 1200),
+        ],
+    );
+    play_default(
+        &rt,
+        &[
+            (Lost(5, 1300), Done, 1200),
+            (Lost(3, 1300), Done, 1200),
+            (Lost(1, 1300), Done, 1200),
+            (Lost(7, 1300), Done, 1200),
+            (LossesEnd(0), Yes, 1200),
+        ],
+    );
+}
+
+#[test]
+fn a_disabled_discovery_detects_black_holes(rt: HostRuntime) {
+    let mut discovery = MtuDiscovery::disabled(1400, 1200);
+    play(
+        &rt,
+        &mut discovery,
+        &[
+            (Polls(0, 0), NoProbe, 1400),
+            (Acked(0, 1400), No, 1400),
+            (Acked(8, 1400), No, 1400),
+            (Lost(1, 1400), Done, 1400),
+            (Lost(3, 1400), Done, 1400),
+            (Lost(5, 1400), Done, 1400),
+            (Lost(7, 1400), Done, 1400),
+            (LossesEnd(0), No, 1400),
+            (Lost(9, 1400), Done, 1400),
+            (Lost(11, 1400), Done, 1400),
+            (Lost(13, 1400), Done, 1400),
+            (Lost(15, 1400), Done, 1400),
+            (LossesEnd(0), Yes, 1200),
+            (ProbeLost, Done, 1200),
+            (Polls(u64::MAX, 16), NoProbe, 1200),
+            (Limit(600), Done, 600),
+            (Reset(1400, 1200), Done, 1400),
+        ],
+    );
+    assert!(&rt; discovery.in_flight_mtu_probe().is_none() && !discovery.is_searching());
+}
+
+#[test]
+fn the_settings_count(rt: HostRuntime) {
+    let mut config = MtuDiscoveryConfig::default();
+    config
+        .interval(Duration::from_nanos(5))
+        .black_hole_cooldown(Duration::from_nanos(7))
+        .upper_bound(1300)
+        .minimum_change(100);
+    let mut discovery = MtuDiscovery::new(1200, 1200, None, config);
+    play(
+        &rt,
+        &mut discovery,
+        &[
+            (Polls(10, 0), Probe(1300), 1200),
+            (ProbeLost, Done, 1200),
+            (Polls(10, 1), Probe(1300), 1200),
+            (ProbeLost, Done, 1200),
+            (Polls(10, 2), Probe(1300), 1200),
+            (ProbeLost, Done, 1200),
+            (Polls(10, 3), NoProbe, 1200),
+            (Polls(14, 3), NoProbe, 1200),
+            (Polls(15, 3), Probe(1300), 1200),
+            (Acked(3, 1300), Yes, 1300),
+            (Lost(4, 1300), Done, 1300),
+            (Lost(6, 1300), Done, 1300),
+            (Lost(8, 1300), Done, 1300),
+            (Lost(10, 1300), Done, 1300),
+            (LossesEnd(20), Yes, 1200),
+            (Polls(26, 11), NoProbe, 1200),
+            (Polls(27, 11), Probe(1300), 1200),
+        ],
+    );
+}
