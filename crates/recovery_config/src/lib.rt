@@ -1,4 +1,5 @@
-//! Settings of a connection's paths.
+//! Settings of a connection.
 #![tactic(auto)]
 
 pub mod config;
+pub mod laws;

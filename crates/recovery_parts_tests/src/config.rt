@@ -1,9 +1,186 @@
-//! Settings of paths.
+//! Settings of a connection: each default by its name, each setter once, and idle timeouts.
+use recovery_base::below::{VarInt, VarIntBoundsExceeded};
+use recovery_base::config::AckFrequencyConfig;
 use recovery_base::time::{Duration, Instant};
-use recovery_config::config::TransportConfig;
+use recovery_config::config::{IdleTimeout, TransportConfig};
+use recovery_config::laws::idle_timeouts_agree;
 use recovery_congestion::congestion::{Controller, ControllerFactory, NewRenoConfig};
 use recovery_halving::HalvingConfig;
+use std::hash::{DefaultHasher, Hash, Hasher};
 use std::process::Abort;
+
+fn settings() -> TransportConfig<NewRenoConfig> {
+    TransportConfig::default()
+}
+
+#[test]
+fn default_max_concurrent_bidi_streams(rt: HostRuntime) {
+    assert!(rt; settings().max_concurrent_bidi_streams.into_inner() == 100);
+}
+
+#[test]
+fn default_max_concurrent_uni_streams(rt: HostRuntime) {
+    assert!(rt; settings().max_concurrent_uni_streams.into_inner() == 100);
+}
+
+#[test]
+fn default_max_idle_timeout(rt: HostRuntime) {
+    assert!(rt; settings().max_idle_timeout == Some(VarInt::from_u32(30_000)));
+}
+
+#[test]
+fn default_stream_receive_window(rt: HostRuntime) {
+    assert!(rt; settings().stream_receive_window.into_inner() == 1_250_000);
+}
+
+#[test]
+fn default_receive_window(rt: HostRuntime) {
+    assert!(rt; settings().receive_window == VarInt::MAX);
+}
+
+#[test]
+fn default_send_window(rt: HostRuntime) {
+    assert!(rt; settings().send_window == 10_000_000);
+}
+
+#[test]
+fn default_send_fairness(rt: HostRuntime) {
+    assert!(rt; settings().send_fairness);
+}
+
+#[test]
+fn default_packet_threshold(rt: HostRuntime) {
+    assert!(rt; settings().packet_threshold == 3);
+}
+
+#[test]
+fn default_time_threshold(rt: HostRuntime) {
+    assert!(rt; settings().get_time_threshold() == (9, 8));
+}
+
+#[test]
+fn default_initial_rtt(rt: HostRuntime) {
+    assert!(rt; settings().initial_rtt == Duration::from_millis(333));
+}
+
+#[test]
+fn default_initial_mtu(rt: HostRuntime) {
+    assert!(rt; settings().get_initial_mtu() == 1200);
+}
+
+#[test]
+fn default_min_mtu(rt: HostRuntime) {
+    assert!(rt; settings().get_min_mtu() == 1200);
+}
+
+#[test]
+fn default_mtu_discovery_config(rt: HostRuntime) {
+    assert!(rt; settings().mtu_discovery_config.is_some());
+}
+
+#[test]
+fn default_pad_to_mtu(rt: HostRuntime) {
+    assert!(rt; !settings().pad_to_mtu);
+}
+
+#[test]
+fn default_ack_frequency_config(rt: HostRuntime) {
+    assert!(rt; settings().ack_frequency_config.is_none());
+}
+
+#[test]
+fn default_persistent_congestion_threshold(rt: HostRuntime) {
+    assert!(rt; settings().persistent_congestion_threshold == 3);
+}
+
+#[test]
+fn default_keep_alive_interval(rt: HostRuntime) {
+    assert!(rt; settings().keep_alive_interval.is_none());
+}
+
+#[test]
+fn default_crypto_buffer_size(rt: HostRuntime) {
+    assert!(rt; settings().crypto_buffer_size == 16_384);
+}
+
+#[test]
+fn default_allow_spin(rt: HostRuntime) {
+    assert!(rt; settings().allow_spin);
+}
+
+#[test]
+fn default_datagram_receive_buffer_size(rt: HostRuntime) {
+    assert!(rt; settings().datagram_receive_buffer_size == Some(1_250_000));
+}
+
+#[test]
+fn default_datagram_send_buffer_size(rt: HostRuntime) {
+    assert!(rt; settings().datagram_send_buffer_size == 1_048_576);
+}
+
+#[test]
+fn default_congestion_controller_factory(rt: HostRuntime) {
+    let factory = settings().congestion_controller_factory;
+    let controller = factory.build(Instant::from_nanos(0), 1200);
+    assert!(rt; controller.window() == 12_000);
+}
+
+#[test]
+fn setters_of_streams_and_windows(rt: HostRuntime) {
+    let mut config = settings();
+    config
+        .max_concurrent_bidi_streams(VarInt::from_u32(1))
+        .max_concurrent_uni_streams(VarInt::from_u32(2))
+        .stream_receive_window(VarInt::from_u32(3))
+        .receive_window(VarInt::from_u32(4))
+        .send_window(5)
+        .send_fairness(false);
+    assert!(rt; config.max_concurrent_bidi_streams.into_inner() == 1);
+    assert!(rt; config.max_concurrent_uni_streams.into_inner() == 2);
+    assert!(rt; config.stream_receive_window.into_inner() == 3);
+    assert!(rt; config.receive_window.into_inner() == 4);
+    assert!(rt; config.send_window == 5);
+    assert!(rt; !config.send_fairness);
+}
+
+#[test]
+fn setters_of_buffers_and_silence(rt: HostRuntime) {
+    let mut config = settings();
+    let second = Duration::from_secs(1);
+    config
+        .max_idle_timeout(None)
+        .keep_alive_interval(Some(second))
+        .crypto_buffer_size(1)
+        .allow_spin(false)
+        .datagram_receive_buffer_size(None)
+        .datagram_send_buffer_size(0);
+    assert!(rt; config.max_idle_timeout.is_none());
+    assert!(rt; config.keep_alive_interval == Some(second));
+    assert!(rt; config.crypto_buffer_size == 1);
+    assert!(rt; !config.allow_spin);
+    assert!(rt; config.datagram_receive_buffer_size.is_none());
+    assert!(rt; config.datagram_send_buffer_size == 0);
+    config.max_idle_timeout(Some(IdleTimeout::from(VarInt::from_u32(7))));
+    assert!(rt; config.max_idle_timeout == Some(VarInt::from_u32(7)));
+}
+
+#[test]
+fn setters_of_loss_recovery(rt: HostRuntime) {
+    let mut config = settings();
+    config
+        .packet_threshold(4)
+        .time_threshold(5, 4)
+        .persistent_congestion_threshold(2)
+        .mtu_discovery_config(None)
+        .pad_to_mtu(true)
+        .ack_frequency_config(Some(AckFrequencyConfig::default()));
+    assert!(rt; config.packet_threshold == 4);
+    assert!(rt; config.get_time_threshold() == (5, 4));
+    assert!(rt; config.persistent_congestion_threshold == 2);
+    assert!(rt; config.mtu_discovery_config.is_none());
+    assert!(rt; config.pad_to_mtu);
+    assert!(rt; config.ack_frequency_config.is_some());
+}
 
 /// Asserts the RTT at first, and the MTUs: the one that a path begins with, and the least.
 fn holds<F>(rt: &impl Abort, config: &TransportConfig<F>, millis: u64, mtus: (u16, u16)) {
@@ -18,17 +195,7 @@ fn holds<F>(rt: &impl Abort, config: &TransportConfig<F>, millis: u64, mtus: (u1
 }
 
 #[test]
-fn settings_begin_as_stated(rt: HostRuntime) {
-    let config = TransportConfig::<NewRenoConfig>::default();
-    holds(&rt, &config, 333, (1200, 1200));
-    let controller = config
-        .congestion_controller_factory
-        .build(Instant::from_nanos(0), config.get_initial_mtu());
-    assert!(rt; controller.window() == 12000);
-}
-
-#[test]
-fn setters_set_one_field(rt: HostRuntime) {
+fn setters_of_paths(rt: HostRuntime) {
     let mut config = TransportConfig::with_factory(HalvingConfig::new(1));
     holds(&rt, &config, 333, (1200, 1200));
     config.initial_mtu(1);
@@ -45,4 +212,65 @@ fn setters_set_one_field(rt: HostRuntime) {
         .build(Instant::from_nanos(0), 1500);
     assert!(rt; controller.window() == 7);
     holds(&rt, &config, 1, (1500, 1));
+}
+
+#[test]
+fn first_mtu_is_the_greater_of_two(rt: HostRuntime) {
+    let mut config = settings();
+    config.initial_mtu(1300).min_mtu(1400);
+    assert!(rt; config.get_initial_mtu() == 1400);
+}
+
+/// The idle timeout of a span of this many nanoseconds.
+fn idle_of(nanos: u128) -> Result<IdleTimeout, VarIntBoundsExceeded> {
+    match Duration::checked_from_nanos(nanos) {
+        Some(span) => IdleTimeout::try_from(span),
+        None => Err(VarIntBoundsExceeded),
+    }
+}
+
+/// Asserts in each row which milliseconds a span of nanoseconds gives, or none where it is refused.
+fn idle_rows(rt: &impl Abort, rows: &[(u128, Option<VarInt>)]) {
+    let mut row = 0u64;
+    for (nanos, millis) in rows {
+        let mut config = settings();
+        config.max_idle_timeout(idle_of(*nanos).ok());
+        assert!(rt; config.max_idle_timeout == *millis, "row {row}");
+        row = row.saturating_add(1);
+    }
+}
+
+#[test]
+fn idle_timeouts_are_whole_milliseconds(rt: HostRuntime) {
+    let end = 4_611_686_018_427_387_904u128 * 1_000_000;
+    idle_rows(
+        &rt,
+        &[
+            (0, Some(VarInt::default())),
+            (999_999, Some(VarInt::default())),
+            (1_000_000, Some(VarInt::from_u32(1))),
+            (30_000_999_999, Some(VarInt::from_u32(30_000))),
+            (end - 1_000_000, Some(VarInt::MAX)),
+            (end - 1, Some(VarInt::MAX)),
+            (end, None),
+        ],
+    );
+    assert!(rt; IdleTimeout::try_from(Duration::MAX).is_err());
+}
+
+fn hash_of(timeout: &IdleTimeout) -> u64 {
+    let mut state = DefaultHasher::new();
+    timeout.hash(&mut state);
+    state.finish()
+}
+
+#[test]
+fn idle_timeouts_are_ordered_by_milliseconds(rt: HostRuntime) {
+    idle_timeouts_agree();
+    let none = IdleTimeout::default();
+    let one = IdleTimeout::from(VarInt::from_u32(1));
+    assert!(rt; none < one);
+    assert!(rt; none == IdleTimeout::from(VarInt::from_u32(0)));
+    assert!(rt; none != one);
+    assert!(rt; hash_of(&none) == hash_of(&IdleTimeout::from(VarInt::default())));
 }
