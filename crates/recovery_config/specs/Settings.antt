@@ -26,6 +26,7 @@ settings_with factory = record {
   -- RFC 9000, 14
   initial_mtu = 1200;
   min_mtu = 1200;
+  -- RFC 9000, 14.3
   mtu_discovery_config = Some default_settings;
   pad_to_mtu = false;
   ack_frequency_config = None;

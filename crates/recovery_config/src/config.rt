@@ -129,7 +129,7 @@ pub struct TransportConfig<F> {
     pub initial_rtt: Duration,
     initial_mtu: Mtu,
     min_mtu: Mtu,
-    /// How the MTU of paths is searched for; none turns the search off. Default: that of `MtuDiscoveryConfig`.
+    /// How the MTU of paths is searched for; none turns the search off (RFC 9000, 14.3).
     pub mtu_discovery_config: Option<MtuDiscoveryConfig>,
     /// Whether datagrams of application data are padded to the MTU.
     pub pad_to_mtu: bool,
@@ -241,7 +241,8 @@ impl<F> TransportConfig<F> {
         self
     }
 
-    /// How the MTU of paths is searched for; none turns the search off. Default: that of `MtuDiscoveryConfig` (RFC 9000, 14.3).
+    /// How the MTU of paths is searched for; none turns the search off. Default: that of `MtuDiscoveryConfig` (RFC 9000,
+    /// 14.3).
     pub fn mtu_discovery_config(&mut self, value: Option<MtuDiscoveryConfig>) -> &mut Self
         ensures same { result.ghost_name ≡ self.entry.ghost_name }
         ensures value { result.now ≡ record self.old { mtu_discovery_config = value } }

@@ -5,7 +5,7 @@ use Rattle.std.specs.Option.{option_map}
 use Rattle.recovery_mtud.specs.declared.config.MtuDiscoveryConfig.{MtuDiscoveryConfig}
 use Rattle.recovery_mtud.specs.Search.{MtuSearch, IsSearchSound, search_made, search_polled, search_limited, search_acked, search_lost, search_reported}
 use Rattle.recovery_mtud.specs.Bursts.{AreBurstsSound, bursts_made, bursts_ended}
-use Rattle.recovery_mtud.specs.Discovery.{Discovery, IsDiscoverySound, discovery_made, discovery_disabled, taking, size_in, size_of_probe, reports, discovery_ended, reset_in, discovery_reset}
+use Rattle.recovery_mtud.specs.Discovery.{Discovery, IsDiscoverySound, discovery_made, discovery_disabled, taking, size_in, size_of_probe, reports, discovery_ended, reset_in, discovery_reset, within}
 use Rattle.recovery_mtud.specs.DiscoveryLog.{MtuCall, polls, is_limited, acks, loses_probe, loses, losses_end, resets, discovery_after, discovery_by, IsPositiveMtuCall, ArePositiveMtuCalls, mtu_after}
 use Rattle.recovery_mtud.proofs.SearchLaws.{IsPositive, search_polled_sound, search_acked_sound, search_lost_sound, probed_size_positive}
 use Rattle.recovery_mtud.proofs.BurstLaws.{bursts_probed_sound, bursts_acked_sound, bursts_lost_sound, bursts_ended_sound}
@@ -110,4 +110,8 @@ discovery_after_mtu (losses_end now) old = go (reports old)
     go : (hole : Bool) → (if hole then record rest { mtu = old.bursts.min_mtu; search = option_map (search_reported now) old.search } else rest).mtu ≡ (if hole then old.bursts.min_mtu else old.mtu)
     go true = refl
     go false = refl
-discovery_after_mtu (resets mtu min_mtu) old = refl
+discovery_after_mtu (resets mtu min_mtu) old = go old.search
+  where
+    go : (search : Option MtuSearch) → (reset_in mtu min_mtu search).mtu ≡ within mtu (option_map (λ kept. kept.limit) search)
+    go None = refl
+    go (Some search) = refl

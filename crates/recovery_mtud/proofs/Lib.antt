@@ -1,3 +1,4 @@
 pub mod BurstLaws
 pub mod DiscoveryLaws
+mod DiscoveryRows
 pub mod SearchLaws

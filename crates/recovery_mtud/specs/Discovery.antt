@@ -1,10 +1,10 @@
 -- MTU discovery of a path, call by call (RFC 8899, 4.3 and 5; RFC 9000, 14.3). Sizes are in bytes, moments in nanoseconds.
-use Rattle.std.specs.Prelude.{ℕ, ◌<◌, min, Bool, true, false, if◌then◌else◌, Option, Some, None, is_some, unwrap_or}
+use Rattle.std.specs.Prelude.{ℕ, ◌<◌, min, Bool, true, false, if◌then◌else◌, Option, Some, None, unwrap_or}
 use Rattle.std.specs.Option.{option_map, IfSome}
 use Rattle.recovery_base.specs.declared.below.SpaceId.{SpaceId}
 use Rattle.recovery_base.specs.declared.below.SpaceId.TheVariants.{Initial, Handshake, Data}
 use Rattle.recovery_mtud.specs.declared.config.MtuDiscoveryConfig.{MtuDiscoveryConfig}
-use Rattle.recovery_mtud.specs.Search.{MtuSearch, IsSearchSound, search_made, search_poll, search_polled, search_limited, search_acked, search_lost, search_reported, probed_size, flight_in, is_running}
+use Rattle.recovery_mtud.specs.Search.{MtuSearch, IsSearchSound, search_made, search_poll, search_polled, search_limited, search_acked, search_lost, search_reported, probed_size, flight_in, is_number, is_running}
 use Rattle.recovery_mtud.specs.Bursts.{LossBursts, AreBurstsSound, bursts_made, bursts_probed, bursts_acked, bursts_lost, bursts_closed, bursts_ended, is_black_hole}
 
 pub record Discovery : Type 0 where
@@ -47,6 +47,10 @@ flight_of (Some search) = flight_in search.phase
 abbrev pub probe_of : Discovery → Option ℕ
 probe_of discovery = flight_of discovery.search
 
+-- this is the number of the probe in flight
+abbrev pub is_probe : ℕ → Discovery → Bool
+is_probe number discovery = is_number number (probe_of discovery)
+
 abbrev pub size_in : ℕ → Option MtuSearch → Option ℕ
 size_in number None = None
 size_in number (Some search) = probed_size number search
@@ -54,10 +58,6 @@ size_in number (Some search) = probed_size number search
 -- the size of the probe in flight, where this is its number
 abbrev pub size_of_probe : ℕ → Discovery → Option ℕ
 size_of_probe number discovery = size_in number discovery.search
-
--- this is the number of the probe in flight
-abbrev pub is_probe : ℕ → Discovery → Bool
-is_probe number discovery = is_some (size_of_probe number discovery)
 
 abbrev pub poll_in : ℕ → ℕ → Option MtuSearch → Option ℕ
 poll_in mtu now None = None

@@ -1,6 +1,7 @@
 -- MTU discovery by what was told to it.
-use Rattle.std.specs.Prelude.{ℕ, ◌<◌, min, ⊤, if◌then◌else◌, List, [], ◌∷◌, unwrap_or}
-use Rattle.recovery_mtud.specs.Discovery.{Discovery, discovery_polled, discovery_limited, discovery_acked, discovery_probe_lost, discovery_lost, discovery_ended, discovery_reset, size_of_probe, reports}
+use Rattle.std.specs.Prelude.{ℕ, ◌<◌, min, ⊤, if◌then◌else◌, Option, List, [], ◌∷◌, unwrap_or}
+use Rattle.std.specs.Option.{option_map}
+use Rattle.recovery_mtud.specs.Discovery.{Discovery, discovery_polled, discovery_limited, discovery_acked, discovery_probe_lost, discovery_lost, discovery_ended, discovery_reset, size_of_probe, reports, within}
 
 pub data MtuCall : Type 0 where
   -- may a probe go out? It would be the packet of that number
@@ -47,8 +48,12 @@ abbrev pub ArePositiveMtuCalls : List MtuCall → Type 0
 ArePositiveMtuCalls [] = ⊤
 ArePositiveMtuCalls (call ∷ earlier) = IsPositiveMtuCall call × ArePositiveMtuCalls earlier
 
+-- the peer's limit that a reset keeps; a disabled discovery has none
+abbrev pub kept_limit : Discovery → Option ℕ
+kept_limit discovery = option_map (λ search. search.limit) discovery.search
+
 -- the MTU in use after a call: the size of a probe that was acknowledged, at most a limit that was told, the least MTU after a
--- report, what a reset begins with, within the limit; else what it was
+-- report, or what a reset begins with, at most the limit; else what it was
 abbrev pub mtu_after : MtuCall → Discovery → ℕ
 mtu_after (polls now next) old = old.mtu
 mtu_after (is_limited limit) old = min old.mtu limit
@@ -56,4 +61,4 @@ mtu_after (acks number bytes) old = unwrap_or (size_of_probe number old) old.mtu
 mtu_after loses_probe old = old.mtu
 mtu_after (loses number bytes) old = old.mtu
 mtu_after (losses_end now) old = if reports old then old.bursts.min_mtu else old.mtu
-mtu_after (resets mtu min_mtu) old = (discovery_reset mtu min_mtu old).mtu
+mtu_after (resets mtu min_mtu) old = within mtu (kept_limit old)

@@ -22,11 +22,15 @@ later now span = min (now + span) (2 ^ 64 - 1)
 
 -- ---- a search that runs
 
--- it begins between the MTU in use and the configured bound, both within what the peer takes
+-- the configured bound, neither below the lower one nor above what the peer takes
+abbrev pub upper_from : ℕ → ℕ → ℕ → ℕ
+upper_from mtu limit bound = min (max bound (min mtu limit)) limit
+
+-- it begins between the MTU in use, or what the peer takes, and the upper bound
 abbrev pub begun : ℕ → MtuSearch → Probing
 begun mtu search =
     let lower = min mtu search.limit in
-    let upper = min (max search.settings.upper_bound lower) search.limit in
+    let upper = upper_from mtu search.limit search.settings.upper_bound in
     record { lower = lower; upper = upper; last = lower; in_flight = None; losses = 0 }
 
 -- a size counts as too large once it was lost three times (MAX_PROBES of RFC 8899, 5.1.2)
@@ -143,7 +147,7 @@ search_limited limit search = record search { limit = limit }
 
 -- ---- what holds of every search
 
--- the last size is above zero; it was lost at most three times, and a third time at the earliest after the probe in flight
+-- the last size is above zero, and at most three probes of it were lost, at most two while one is in flight
 abbrev pub IsProbingSound : Probing → Type 0
 IsProbingSound p = (0 < p.last) × (p.losses ≤ (if is_some p.in_flight then 2 else 3))
 

@@ -74,6 +74,11 @@ fn default_min_mtu(rt: HostRuntime) {
 }
 
 #[test]
+fn default_mtu_discovery_config(rt: HostRuntime) {
+    assert!(rt; settings().mtu_discovery_config.is_some());
+}
+
+#[test]
 fn default_pad_to_mtu(rt: HostRuntime) {
     assert!(rt; !settings().pad_to_mtu);
 }
@@ -166,11 +171,13 @@ fn setters_of_loss_recovery(rt: HostRuntime) {
         .packet_threshold(4)
         .time_threshold(5, 4)
         .persistent_congestion_threshold(2)
+        .mtu_discovery_config(None)
         .pad_to_mtu(true)
         .ack_frequency_config(Some(AckFrequencyConfig::default()));
     assert!(rt; config.packet_threshold == 4);
     assert!(rt; config.get_time_threshold() == (5, 4));
     assert!(rt; config.persistent_congestion_threshold == 2);
+    assert!(rt; config.mtu_discovery_config.is_none());
     assert!(rt; config.pad_to_mtu);
     assert!(rt; config.ack_frequency_config.is_some());
 }

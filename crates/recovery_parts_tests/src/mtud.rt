@@ -24,7 +24,7 @@ enum Call {
     Reset(u16, u16),
 }
 
-use Call::{Acked, AckedIn, Limit, Lost, LossesEnd, Polls, ProbeLost, Reset};
+use Call::{Acked, AckedIn, Limit, LossesEnd, Lost, Polls, ProbeLost, Reset};
 
 #[derive(Clone, Copy, PartialEq)]
 enum Answer {
@@ -154,7 +154,10 @@ fn play_searches(rt: &impl Abort, searches: &[Search]) {
             first = first.saturating_add(u64::from(*times));
         }
         let last = discovery.poll_transmit(Instant::from_nanos(0), first);
-        assert!(rt; last.is_none() && !discovery.is_searching(), "end of search {place}");
+        assert!(rt;
+            last.is_none() && !discovery.is_searching(),
+            "end of search {place}"
+        );
         assert!(rt; discovery.current_mtu() == *end, "MTU of search {place}");
         place = place.saturating_add(1);
     }
