@@ -211,6 +211,51 @@ def connection():
         yield f"transmit {late(i)} 1200 1"
 
 
+def probes():
+    """The MTU is searched for, once for each hour: each probe is acknowledged or lost, as a link of 1,400 bytes has it. The
+    search is that of the program: from the MTU in use up to 1452 bytes, halving, three losses for a size."""
+    number = 0
+    mtu, hour = 1200, 0
+    while True:
+        low, high, last, losses = mtu, 1452, mtu, 0
+        now = 10**12 + hour * 3600 * 10**9
+        while True:
+            if losses == 0:
+                low = last
+            elif losses == 3:
+                high, losses = last - 1, 0
+            if losses == 0:
+                size = (low + high) // 2
+                if abs(size - last) < 20:
+                    size = high if high >= last + 20 else 0
+                last = size or last
+            yield f"poll-mtu {now}"
+            if losses == 0 and not size:
+                break
+            if last <= 1400:
+                yield f"acked data {now} {number} 0"
+                mtu, losses = last, 0
+            else:
+                yield f"lost data {number}"
+                losses += 1
+            number += 1
+        hour += 1
+
+
+def black_holes():
+    """Packets of 1,300 bytes go out, every other one is lost, and all losses of seven packets are told: four bursts each time."""
+    number = 0
+    for i in itertools.count():
+        for _ in range(8):
+            yield f"send data {moment(i)} 1300 1 -"
+        for lost in range(0, 8, 2):
+            yield f"lost data {number + lost}"
+        for kept in range(1, 8, 2):
+            yield f"acked data {moment(i)} {number + kept} 0"
+        yield f"losses-done {moment(i)}"
+        number += 8
+
+
 # ---- timers
 
 def timers():
@@ -261,6 +306,8 @@ INPUTS = [
     Input("samples", samples),
     Input("congestion", congestion),
     Input("connection", connection, beginning=1, quick=True),
+    Input("probes", probes, quick=True),
+    Input("black_holes", black_holes),
     Input("timers", timers, quick=True),
     Input("mixed", lambda: in_pairs(received_each(in_blocks, 1), timers())),
 ]
