@@ -1,9 +1,13 @@
 -- The ledger of a path: its generation, and what it has in flight.
-use Rattle.std.specs.Prelude.{ℕ, ◌==◌, Option, None, Some, if◌then◌else◌}
+use Rattle.std.specs.Prelude.{ℕ, ◌≡◌, ◌==◌, Option, None, Some, if◌then◌else◌}
+use Rattle.std.specs.Option.{ForSome}
 use Rattle.recovery_ledger.specs.declared.paths.InFlight.{InFlight}
 use Rattle.recovery_ledger.specs.declared.paths.PathLedger.{PathLedger}
 use Rattle.recovery_ledger.specs.declared.spaces.SentPacket.{SentPacket}
-use Rattle.recovery_ledger.specs.InFlight.{with_packet, without_packet}
+use Rattle.recovery_ledger.specs.declared.spaces.PacketSpace.{PacketSpace}
+use Rattle.recovery_ledger.specs.InFlight.{with_packet, without_packet, IsCounted}
+use Rattle.recovery_ledger.specs.Packets.{AreBelow, IsAboveLast, forgotten_entry}
+use Rattle.recovery_ledger.specs.Spaces.{tracking_of}
 
 abbrev pub generation_of : PathLedger → ℕ
 generation_of path = path.generation
@@ -39,3 +43,17 @@ after_forgetting path (Some entry) = after_leaving path entry.1
 abbrev pub path_after_sending : PathLedger → SentPacket → Option (ℕ × SentPacket) → PathLedger
 path_after_sending path packet forgotten =
     after_forgetting (with_counters (with_packet (counters_of path) packet) path) forgotten
+
+-- ---- what is asked of callers
+
+-- where the packet is the path's, it is among those counted
+abbrev pub IsCountedOn : PathLedger → SentPacket → Type 0
+IsCountedOn path packet = packet.path_generation ≡ generation_of path → IsCounted (counters_of path) packet
+
+-- a packet of the path may be tracked in a space under a number: it is above all numbers of the space, and a packet of the
+-- path that is forgotten for it is among those counted
+pub record CanTrack (path : PathLedger) (number : ℕ) (packet : SentPacket) (space : PacketSpace) : Type 0 where
+  pub above : AreBelow (tracking_of space).packets number
+  pub above_last : IsAboveLast (tracking_of space).last_eliciting number
+  pub own : packet.path_generation ≡ generation_of path
+  pub counted : ForSome (forgotten_entry packet (tracking_of space)) (λ entry. IsCountedOn path entry.1)

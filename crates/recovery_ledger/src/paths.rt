@@ -96,11 +96,7 @@ impl PathLedger {
         packet: SentPacket,
         space: &mut PacketSpace,
     ) -> Result<Option<(u64, SentPacket)>, LedgerError>
-        requires above { AreBelow (tracking_of space.old).packets number }
-        requires above_last { IsAboveLast (tracking_of space.old).last_eliciting number }
-        requires own { packet.path_generation ≡ generation_of self.old }
-        requires counted { ForSome (forgotten_entry packet (tracking_of space.old)) (λ entry.
-            entry.1.path_generation ≡ generation_of self.old → IsCounted (counters_of self.old) entry.1) }
+        requires { CanTrack self.old number packet space.old }
         ensures space { OnOk result
             (space.new ≡ with_tracking (after_sending number packet (tracking_of space.old)) space.old) }
         ensures path { IfOk result (λ gone. self.new ≡ path_after_sending self.old packet gone) }
@@ -125,8 +121,7 @@ impl PathLedger {
 
     /// Counts a packet no more: false, and nothing, for a packet of another path.
     pub fn remove_in_flight(&mut self, packet: &SentPacket) -> bool
-        requires { packet.now.path_generation ≡ generation_of self.old
-            → IsCounted (counters_of self.old) packet.now }
+        requires { IsCountedOn self.old packet.now }
         ensures own { Decides result (packet.now.path_generation ≡ generation_of self.old) }
         ensures after { self.new ≡ after_leaving self.old packet.now }
     {

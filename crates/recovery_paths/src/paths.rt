@@ -157,11 +157,7 @@ impl<C: Controller + Drop> PathData<C> {
         packet: SentPacket,
         space: &mut PacketSpace,
     ) -> Result<Option<(u64, SentPacket)>, LedgerError>
-        requires above { AreBelow (tracking_of space.old).packets number }
-        requires above_last { IsAboveLast (tracking_of space.old).last_eliciting number }
-        requires own { packet.path_generation ≡ generation_of self.old.ledger }
-        requires counted { ForSome (forgotten_entry packet (tracking_of space.old)) (λ entry.
-            entry.1.path_generation ≡ generation_of self.old.ledger → IsCounted (counters_of self.old.ledger) entry.1) }
+        requires { CanTrack self.old.ledger number packet space.old }
         ensures space { OnOk result
             (space.new ≡ with_tracking (after_sending number packet (tracking_of space.old)) space.old) }
         ensures path { IfOk result (λ gone.
@@ -176,8 +172,7 @@ impl<C: Controller + Drop> PathData<C> {
 
     /// Counts a packet no more: false, and nothing, for a packet of another path.
     pub fn remove_in_flight(&mut self, packet: &SentPacket) -> bool
-        requires { packet.now.path_generation ≡ generation_of self.old.ledger
-            → IsCounted (counters_of self.old.ledger) packet.now }
+        requires { IsCountedOn self.old.ledger packet.now }
         ensures own { Decides result (packet.now.path_generation ≡ generation_of self.old.ledger) }
         ensures after { self.new ≡ record self.old { ledger = after_leaving self.old.ledger packet.now } }
     {
@@ -199,7 +194,7 @@ impl<C: Controller + Drop> PathData<C> {
 
     /// A datagram came in on the path, of so many bytes.
     pub fn receive_datagram(&mut self, bytes: u64) -> Result<(), TotalOverflow>
-        ensures ok { OnOk result (self.new ≡ record self.old { state = after_receiving bytes self.old.state }) }
+        ensures ok { OnOk result (self.new ≡ on_state (after_receiving bytes) self.old) }
         ensures overflow { OnErr result (2 ^ 64 ≤ self.old.state.received + bytes) }
         ensures fits { OnOk result (self.old.state.received + bytes < 2 ^ 64) }
         ensures err { OnErr result (self.new ≡ self.old) }
@@ -213,21 +208,21 @@ impl<C: Controller + Drop> PathData<C> {
 
     /// The peer was seen to receive at this address (RFC 9000, 8.2).
     pub fn validate(&mut self)
-        ensures { self.new ≡ record self.old { state = after_validation self.old.state } }
+        ensures { self.new ≡ on_state (after_validation) self.old }
     {
         self.validated = true;
     }
 
     /// An ACK gave a sample of the round-trip time, and how long the peer says that it delayed it (RFC 9002, 5).
     pub fn sample(&mut self, ack_delay: Duration, rtt: Duration)
-        ensures { self.new ≡ record self.old { state = after_sample ack_delay rtt self.old.state } }
+        ensures { self.new ≡ on_state (after_sample ack_delay rtt) self.old }
     {
         self.rtt.update(ack_delay, rtt);
     }
 
     /// The controller is told that a packet of so many bytes went out, under this number.
     pub fn on_sent(&mut self, now: Instant, bytes: u64, number: u64)
-        ensures { self.new ≡ record self.old { state = after_telling C.words (sends now bytes number) self.old.state } }
+        ensures { self.new ≡ on_state (after_telling C.words (sends now bytes number)) self.old }
     {
         self.congestion.on_sent(now, bytes, number);
     }
@@ -243,8 +238,7 @@ impl<C: Controller + Drop> PathData<C> {
         packet: &SentPacket,
         app_limited: bool,
     ) -> bool
-        requires { packet.now.path_generation ≡ generation_of self.old.ledger
-            → IsCounted (counters_of self.old.ledger) packet.now }
+        requires { IsCountedOn self.old.ledger packet.now }
         ensures probe { result ≡ is_path_probe space number self.old.state }
         ensures after { self.new ≡ path_acked C.words space number now app_limited packet.now self.old }
     {
@@ -263,8 +257,7 @@ impl<C: Controller + Drop> PathData<C> {
     /// A packet of a space was lost: whether it was the probe of the MTU in flight. Any other packet of 1-RTT keys counts as the sign
     /// of a black hole (RFC 8899, 4.3). It is counted no more, where it is one of this path's.
     pub fn on_packet_lost(&mut self, space: SpaceId, number: u64, packet: &SentPacket) -> bool
-        requires { packet.now.path_generation ≡ generation_of self.old.ledger
-            → IsCounted (counters_of self.old.ledger) packet.now }
+        requires { IsCountedOn self.old.ledger packet.now }
         ensures probe { result ≡ is_path_probe space number self.old.state }
         ensures after { self.new ≡ path_lost space number packet.now self.old }
     {
@@ -304,7 +297,7 @@ impl<C: Controller + Drop> PathData<C> {
     /// MTU and window (RFC 9002, 7.7).
     pub fn delay(&mut self, now: Instant, bytes_to_send: u64) -> Option<Instant>
         ensures answer { result ≡ path_delay C.words now bytes_to_send self.old.state }
-        ensures asked { self.new ≡ record self.old { state = after_asking C.words now bytes_to_send self.old.state } }
+        ensures asked { self.new ≡ on_state (after_asking C.words now bytes_to_send) self.old }
     {
         let window = self.congestion.window();
         let mtu = self.mtud.current_mtu();
@@ -322,7 +315,7 @@ impl<C: Controller + Drop> PathData<C> {
     /// A datagram of so many bytes is transmitted: the total has them, and the pacer takes its tokens off.
     pub fn transmit(&mut self, bytes: u16)
         requires { self.old.state.sent + bytes < 2 ^ 64 }
-        ensures { self.new ≡ record self.old { state = after_transmitting bytes self.old.state } }
+        ensures { self.new ≡ on_state (after_transmitting bytes) self.old }
     {
         self.total_sent += u64::from(bytes);
         self.pacing.on_transmit(bytes);
@@ -332,7 +325,7 @@ impl<C: Controller + Drop> PathData<C> {
     /// as the sign of a black hole (RFC 8899, 4.3).
     fn on_data_lost(&mut self, number: u64, bytes: u16) -> bool
         ensures probe { result ≡ is_probe number self.old.state.discovery }
-        ensures state { self.new ≡ record self.old { state = after_searching (loss_call number bytes self.old.state.discovery) self.old.state } }
+        ensures state { self.new ≡ on_state (after_searching (loss_call number bytes self.old.state.discovery)) self.old }
     {
         let is_probe = self.mtud.in_flight_mtu_probe() == Some(number);
         if is_probe {
@@ -348,7 +341,7 @@ impl<C: Controller + Drop> PathData<C> {
     pub fn on_losses_done(&mut self, now: Instant) -> bool
         ensures report { result ≡ reports self.old.state.discovery }
         ensures state { let changes = reports self.old.state.discovery in
-            self.new ≡ record self.old { state = after_search C.words changes (losses_end now) self.old.state } }
+            self.new ≡ on_state (after_search C.words changes (losses_end now)) self.old }
     {
         let is_black_hole = self.mtud.black_hole_detected(now);
         if is_black_hole {
@@ -362,7 +355,7 @@ impl<C: Controller + Drop> PathData<C> {
     pub fn limit_by_peer(&mut self, size: u16)
         requires size { 0 < size }
         requires no_search { is_searching_of self.old.state.discovery ≡ false }
-        ensures { self.new ≡ record self.old { state = after_searching (is_limited size) self.old.state } }
+        ensures { self.new ≡ on_state (after_searching (is_limited size)) self.old }
     {
         self.mtud.on_peer_max_udp_payload_size_received(size);
     }

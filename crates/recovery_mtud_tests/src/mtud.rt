@@ -117,30 +117,37 @@ fn play_default(rt: &impl Abort, rows: &[Row]) {
     play(rt, &mut discovery, rows);
 }
 
-/// A search over a link that carries so many bytes: the sizes that it probes, each so often, and the MTU at its end.
-type Search = (Setting, u16, &'static [(u16, u8)], u16);
+/// A search over a link that carries so many bytes: the sizes that it probes, and the MTU at its end. A size that the link
+/// carries is acknowledged, and any other is lost three times.
+type Search = (Setting, u16, &'static [u16], u16);
 
-/// Probes one size so often. Those that the link carries are acknowledged, and the others lost.
-fn probe(
-    rt: &impl Abort,
-    discovery: &mut MtuDiscovery,
-    first: u64,
-    size: u16,
-    times: u8,
-    link: u16,
-) {
-    let mut number = first;
-    for _ in 0..times {
-        let probed = discovery.poll_transmit(Instant::from_nanos(0), number);
-        assert!(rt; probed == Some(size), "{size}");
-        assert!(rt; discovery.in_flight_mtu_probe() == Some(number), "{size}");
-        if size <= link {
-            assert!(rt; discovery.on_acked(SpaceId::Data, number, size), "{size}");
-        } else {
-            discovery.on_probe_lost();
-        }
-        number = number.saturating_add(1);
+/// How often a size is probed over a link.
+fn times(size: u16, link: u16) -> u64 {
+    if size <= link { 1 } else { 3 }
+}
+
+/// Asserts that a probe of this size goes out under this number, and has it acknowledged, or lost.
+fn probe(rt: &impl Abort, discovery: &mut MtuDiscovery, number: u64, size: u16, link: u16) {
+    let probed = discovery.poll_transmit(Instant::from_nanos(0), number);
+    assert!(rt; probed == Some(size), "{size}");
+    assert!(rt; discovery.in_flight_mtu_probe() == Some(number), "{size}");
+    if size <= link {
+        assert!(rt; discovery.on_acked(SpaceId::Data, number, size), "{size}");
+    } else {
+        discovery.on_probe_lost();
     }
+}
+
+/// Probes these sizes over a link: the number behind them.
+fn probe_all(rt: &impl Abort, discovery: &mut MtuDiscovery, sizes: &[u16], link: u16) -> u64 {
+    let mut number = 0u64;
+    for size in sizes {
+        for _ in 0..times(*size, link) {
+            probe(rt, discovery, number, *size, link);
+            number = number.saturating_add(1);
+        }
+    }
+    number
 }
 
 /// Asserts of each search that it takes the probes of its row, and ends with its MTU.
@@ -148,12 +155,8 @@ fn play_searches(rt: &impl Abort, searches: &[Search]) {
     let mut place = 0u64;
     for (setting, link, sizes, end) in searches {
         let mut discovery = made(rt, setting);
-        let mut first = 0u64;
-        for (size, times) in *sizes {
-            probe(rt, &mut discovery, first, *size, *times, *link);
-            first = first.saturating_add(u64::from(*times));
-        }
-        let last = discovery.poll_transmit(Instant::from_nanos(0), first);
+        let next = probe_all(rt, &mut discovery, sizes, *link);
+        let last = discovery.poll_transmit(Instant::from_nanos(0), next);
         assert!(rt;
             last.is_none() && !discovery.is_searching(),
             "end of search {place}"
@@ -168,35 +171,21 @@ fn a_search_halves_its_bounds(rt: HostRuntime) {
     play_searches(
         &rt,
         &[
-            (
-                DEFAULT,
-                1500,
-                &[(1326, 1), (1389, 1), (1420, 1), (1452, 1)],
-                1452,
-            ),
+            (DEFAULT, 1500, &[1326, 1389, 1420, 1452], 1452),
             (
                 (1200, 1200, Some(1300), 1452, 20),
                 1500,
-                &[(1250, 1), (1275, 1), (1300, 1)],
+                &[1250, 1275, 1300],
                 1300,
             ),
             (
                 (1200, 1200, None, 10_000, 20),
                 1500,
-                &[
-                    (5600, 3),
-                    (3399, 3),
-                    (2299, 3),
-                    (1749, 3),
-                    (1474, 1),
-                    (1611, 3),
-                    (1542, 3),
-                    (1507, 3),
-                ],
+                &[5600, 3399, 2299, 1749, 1474, 1611, 1542, 1507],
                 1474,
             ),
-            (DEFAULT, 1400, &[(1326, 1), (1389, 1), (1420, 3)], 1389),
-            (DEFAULT, 1200, &[(1326, 3), (1262, 3), (1230, 3)], 1200),
+            (DEFAULT, 1400, &[1326, 1389, 1420], 1389),
+            (DEFAULT, 1200, &[1326, 1262, 1230], 1200),
         ],
     );
 }
@@ -213,20 +202,7 @@ fn the_widest_searches(rt: HostRuntime) {
                 WIDEST,
                 1,
                 &[
-                    (32_764, 3),
-                    (16_382, 3),
-                    (8191, 3),
-                    (4095, 3),
-                    (2047, 3),
-                    (1023, 3),
-                    (511, 3),
-                    (255, 3),
-                    (127, 3),
-                    (63, 3),
-                    (31, 3),
-                    (15, 3),
-                    (7, 3),
-                    (3, 3),
+                    32_764, 16_382, 8191, 4095, 2047, 1023, 511, 255, 127, 63, 31, 15, 7, 3,
                 ],
                 1,
             ),
@@ -234,21 +210,8 @@ fn the_widest_searches(rt: HostRuntime) {
                 WIDEST,
                 65_527,
                 &[
-                    (32_764, 1),
-                    (49_145, 1),
-                    (57_336, 1),
-                    (61_431, 1),
-                    (63_479, 1),
-                    (64_503, 1),
-                    (65_015, 1),
-                    (65_271, 1),
-                    (65_399, 1),
-                    (65_463, 1),
-                    (65_495, 1),
-                    (65_511, 1),
-                    (65_519, 1),
-                    (65_523, 1),
-                    (65_527, 1),
+                    32_764, 49_145, 57_336, 61_431, 63_479, 64_503, 65_015, 65_271, 65_399, 65_463,
+                    65_495, 65_511, 65_519, 65_523, 65_527,
                 ],
                 65_527,
             ),
@@ -256,22 +219,8 @@ fn the_widest_searches(rt: HostRuntime) {
                 WIDEST,
                 65_526,
                 &[
-                    (32_764, 1),
-                    (49_145, 1),
-                    (57_336, 1),
-                    (61_431, 1),
-                    (63_479, 1),
-                    (64_503, 1),
-                    (65_015, 1),
-                    (65_271, 1),
-                    (65_399, 1),
-                    (65_463, 1),
-                    (65_495, 1),
-                    (65_511, 1),
-                    (65_519, 1),
-                    (65_523, 1),
-                    (65_527, 3),
-                    (65_524, 1),
+                    32_764, 49_145, 57_336, 61_431, 63_479, 64_503, 65_015, 65_271, 65_399, 65_463,
+                    65_495, 65_511, 65_519, 65_523, 65_527, 65_524,
                 ],
                 65_524,
             ),
@@ -284,38 +233,14 @@ fn the_least_changes_probe_the_lower_bound_again(rt: HostRuntime) {
     play_searches(
         &rt,
         &[
-            ((1, 1, None, 2, 1), 0, &[(2, 3), (1, 3)], 1),
-            (
-                (1200, 1200, None, 1201, 1),
-                1,
-                &[(1201, 3), (1200, 3), (1199, 3)],
-                1200,
-            ),
-            (
-                (1200, 1200, None, 1202, 2),
-                1,
-                &[(1202, 3), (1200, 3)],
-                1200,
-            ),
-            (
-                (1200, 1200, None, 1202, 2),
-                1200,
-                &[(1202, 3), (1200, 1)],
-                1200,
-            ),
+            ((1, 1, None, 2, 1), 0, &[2, 1], 1),
+            ((1200, 1200, None, 1201, 1), 1, &[1201, 1200, 1199], 1200),
+            ((1200, 1200, None, 1202, 2), 1, &[1202, 1200], 1200),
+            ((1200, 1200, None, 1202, 2), 1200, &[1202, 1200], 1200),
             (
                 (1200, 1200, None, 1300, 0),
                 1500,
-                &[
-                    (1250, 1),
-                    (1275, 1),
-                    (1287, 1),
-                    (1293, 1),
-                    (1296, 1),
-                    (1298, 1),
-                    (1299, 1),
-                    (1300, 1),
-                ],
+                &[1250, 1275, 1287, 1293, 1296, 1298, 1299, 1300],
                 1300,
             ),
         ],
@@ -327,16 +252,11 @@ fn no_size_above_the_greatest_is_probed(rt: HostRuntime) {
     play_searches(
         &rt,
         &[
-            (
-                (65_500, 1200, None, 65_535, 20),
-                65_535,
-                &[(65_527, 1)],
-                65_527,
-            ),
+            ((65_500, 1200, None, 65_535, 20), 65_535, &[65_527], 65_527),
             (
                 (65_500, 1200, Some(65_535), 65_535, 20),
                 65_535,
-                &[(65_527, 1)],
+                &[65_527],
                 65_527,
             ),
             ((65_535, 1200, None, 65_535, 20), 65_535, &[], 65_535),
