@@ -1,9 +1,9 @@
 //! The ledger of a network path: its generation, and the bytes in flight on it (RFC 9002, B.2).
 ghost use Rattle.std.specs.Prelude.{◌≡◌, Decides, ◌↔◌, ℕ, ◌<◌, IsTrue, IfOk, OnOk, OnErr, IfSome, IsErrOf};
-ghost use Rattle.std.specs.Option.{SomeIff, ForSome};
-ghost use Rattle.recovery_ledger.specs.Packets.{AreBelow, IsAboveLast, forgotten_entry, after_sending};
+ghost use Rattle.std.specs.Option.{SomeIff};
+ghost use Rattle.recovery_ledger.specs.Packets.{forgotten_entry, after_sending};
 ghost use Rattle.recovery_ledger.specs.InFlight.{with_packet, without_packet, IsCounted, IsCountedIn, SumsLeave, Overflows};
-ghost use Rattle.recovery_ledger.specs.Paths.{generation_of, counters_of, fresh_ledger, after_leaving, path_after_sending};
+ghost use Rattle.recovery_ledger.specs.Paths.{generation_of, counters_of, fresh_ledger, after_leaving, path_after_sending, IsCountedOn, CanTrack};
 ghost use Rattle.recovery_ledger.specs.Spaces.{tracking_of, with_tracking, packets_of, space_empties};
 
 use crate::spaces::{PacketSpace, SentPacket};
