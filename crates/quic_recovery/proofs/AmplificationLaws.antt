@@ -1,5 +1,5 @@
 -- Each event keeps the bound on what goes to an address that is not validated.
-use Rattle.std.proofs.Common.{ℕ, ◌≡◌, ◌≤◌, ◌&&◌, Bool, true, false, cond, List, [], ◌∷◌, ◌++◌, Option, None, Some, Result, Ok, Err, refl, arith}
+use Rattle.std.proofs.Common.{ℕ, ◌≡◌, ◌&&◌, Bool, true, false, cond, List, [], ◌∷◌, ◌++◌, Option, None, Some, Ok, Err, refl, arith}
 use Rattle.recovery_base.specs.declared.below.SpaceId.{SpaceId}
 use Rattle.recovery_congestion.specs.Calls.{ControllerCall}
 use Rattle.recovery_congestion.specs.Controllers.{ControllerWords}

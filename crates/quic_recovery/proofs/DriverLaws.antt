@@ -16,8 +16,8 @@ use Rattle.recovery_ledger.specs.declared.spaces.PacketSpaces.{PacketSpaces}
 use Rattle.recovery_ledger.specs.InFlight.{in_flight, Overflows}
 use Rattle.recovery_ledger.specs.Ledger.{tracked_by}
 use Rattle.quic_recovery.specs.Parts.{Parts}
-use Rattle.recovery_paths.specs.PathLog.{PathsEntry, PathEntry, PathKnown, OfPaths, PathsStep, paths_known, on_current, tells}
-use Rattle.recovery_paths.specs.PathStates.{Path, after_telling}
+use Rattle.recovery_paths.specs.PathLog.{PathsEntry, PathEntry, OfPaths, PathsStep, paths_known, on_current, tells}
+use Rattle.recovery_paths.specs.PathStates.{Path}
 use Rattle.recovery_ledger.specs.Packets.{forgotten_number, IsTooLarge}
 use Rattle.recovery_ledger.specs.Tracked.{packet_sent}
 use Rattle.recovery_ledger.specs.Paths.{generation_of}

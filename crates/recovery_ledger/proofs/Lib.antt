@@ -1,6 +1,7 @@
 pub mod AckLaws
 pub mod AmongLaws
 pub mod CountLaws
+pub mod DepartureLaws
 pub mod HeardLaws
 pub mod LedgerLaws
 mod LogRows

@@ -1,5 +1,6 @@
 pub mod Acks
 pub mod Counts
+pub mod Departures
 pub mod Discarded
 pub mod InFlight
 pub mod Kept

@@ -138,14 +138,27 @@ fn probe(rt: &impl Abort, discovery: &mut MtuDiscovery, number: u64, size: u16, 
     }
 }
 
+/// Probes so often as the link takes for this size; answers the next packet number.
+fn probe_size(
+    rt: &impl Abort,
+    discovery: &mut MtuDiscovery,
+    first: u64,
+    size: u16,
+    link: u16,
+) -> u64 {
+    let mut number = first;
+    for _ in 0..times(size, link) {
+        probe(rt, discovery, number, size, link);
+        number = number.saturating_add(1);
+    }
+    number
+}
+
 /// Probes these sizes over a link: the number behind them.
 fn probe_all(rt: &impl Abort, discovery: &mut MtuDiscovery, sizes: &[u16], link: u16) -> u64 {
     let mut number = 0u64;
     for size in sizes {
-        for _ in 0..times(*size, link) {
-            probe(rt, discovery, number, *size, link);
-            number = number.saturating_add(1);
-        }
+        number = probe_size(rt, discovery, number, *size, link);
     }
     number
 }

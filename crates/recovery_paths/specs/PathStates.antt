@@ -34,6 +34,10 @@ pub record Path (K : Type 0) : Type 0 where
   pub ledger : PathLedger
   pub state : PathState K
 
+-- a change of what is kept beside the ledger
+abbrev pub on_state : {K : Type 0} → (PathState K → PathState K) → Path K → Path K
+on_state change path = record path { state = change path.state }
+
 -- how a path is made
 pub record PathMaking (K : Type 0) : Type 0 where
   pub remote : SocketAddr
@@ -79,6 +83,10 @@ module _ {K : Type 0} where
   -- the search for the MTU sees something (RFC 8899, 5; RFC 9000, 14.3)
   abbrev pub after_searching : MtuCall → PathState K → PathState K
   after_searching call path = record path { discovery = discovery_after call path.discovery }
+
+  -- the search goes on from here
+  abbrev pub with_discovery : Discovery → PathState K → PathState K
+  with_discovery discovery path = record path { discovery = discovery }
 
   abbrev pub after_transmitting : ℕ → PathState K → PathState K
   after_transmitting bytes path = record path { sent = path.sent + bytes; pacer = less_tokens bytes path.pacer }

@@ -1,16 +1,16 @@
 //! What is kept for each network path: its round-trip time, its controller and its pacer, what came in and went out, and what
 //! is in flight on it (RFC 9000, 8 and 9; RFC 9002).
 ghost use Rattle.std.specs.Prelude.{◌≡◌, Decides, ◌↔◌, ◌<◌, ◌+◌, ◌^◌, ◌≤◌, false, true, OnOk, OnErr, IfOk, IsErrOf};
-ghost use Rattle.std.specs.Option.{ForSome, IfSome};
+ghost use Rattle.std.specs.Option.{IfSome};
 ghost use Rattle.recovery_congestion.specs.Calls.{sends, ends_acks, congests};
 ghost use Rattle.recovery_config.specs.Settings.{initial_mtu_of};
-ghost use Rattle.recovery_ledger.specs.InFlight.{IsCounted, IsCountedIn, SumsLeave, Overflows};
-ghost use Rattle.recovery_ledger.specs.Packets.{AreBelow, IsAboveLast, forgotten_entry, after_sending};
-ghost use Rattle.recovery_ledger.specs.Paths.{generation_of, counters_of, fresh_ledger, after_leaving, path_after_sending};
+ghost use Rattle.recovery_ledger.specs.InFlight.{IsCountedIn, SumsLeave, Overflows};
+ghost use Rattle.recovery_ledger.specs.Packets.{forgotten_entry, after_sending};
+ghost use Rattle.recovery_ledger.specs.Paths.{generation_of, counters_of, fresh_ledger, after_leaving, path_after_sending, IsCountedOn, CanTrack};
 ghost use Rattle.recovery_ledger.specs.Spaces.{tracking_of, with_tracking, packets_of, space_empties};
 ghost use Rattle.recovery_mtud.specs.Discovery.{is_probe, is_searching_of, reports};
 ghost use Rattle.recovery_mtud.specs.DiscoveryLog.{losses_end, is_limited};
-ghost use Rattle.recovery_paths.specs.PathStates.{Path, is_blocked, after_receiving, after_validation, after_sample, after_searching, after_transmitting, loss_call, first_discovery};
+ghost use Rattle.recovery_paths.specs.PathStates.{Path, on_state, with_discovery, is_blocked, after_receiving, after_validation, after_sample, after_searching, after_transmitting, loss_call, first_discovery};
 ghost use Rattle.recovery_paths.specs.PathStates.{state_made, after_telling, after_search, path_acked, is_path_probe, path_lost, after_asking, path_delay};
 
 use recovery_base::below::SpaceId;
@@ -208,7 +208,7 @@ impl<C: Controller + Drop> PathData<C> {
 
     /// The peer was seen to receive at this address (RFC 9000, 8.2).
     pub fn validate(&mut self)
-        ensures { self.new ≡ on_state (after_validation) self.old }
+        ensures { self.new ≡ on_state after_validation self.old }
     {
         self.validated = true;
     }
@@ -267,10 +267,8 @@ impl<C: Controller + Drop> PathData<C> {
 
     /// The controller is told that an ACK ends, with the bytes still in flight on the path.
     pub fn on_end_acks(&mut self, now: Instant, app_limited: bool, largest: Option<u64>)
-        ensures { self.new ≡ record self.old {
-          state = after_telling C.words
-              (ends_acks now (counters_of self.old.ledger).bytes app_limited largest) self.old.state;
-        } }
+        ensures { let bytes = (counters_of self.old.ledger).bytes in
+            self.new ≡ on_state (after_telling C.words (ends_acks now bytes app_limited largest)) self.old }
     {
         self.congestion
             .on_end_acks(now, self.ledger.in_flight().bytes, app_limited, largest);
@@ -284,10 +282,8 @@ impl<C: Controller + Drop> PathData<C> {
         is_persistent: bool,
         lost_bytes: u64,
     )
-        ensures { self.new ≡ record self.old {
-          state = after_telling C.words
-              (congests now sent is_persistent lost_bytes) self.old.state;
-        } }
+        ensures { self.new
+            ≡ on_state (after_telling C.words (congests now sent is_persistent lost_bytes)) self.old }
     {
         self.congestion
             .on_congestion_event(now, sent, is_persistent, lost_bytes);
@@ -325,7 +321,8 @@ impl<C: Controller + Drop> PathData<C> {
     /// as the sign of a black hole (RFC 8899, 4.3).
     fn on_data_lost(&mut self, number: u64, bytes: u16) -> bool
         ensures probe { result ≡ is_probe number self.old.state.discovery }
-        ensures state { self.new ≡ on_state (after_searching (loss_call number bytes self.old.state.discovery)) self.old }
+        ensures state { let call = loss_call number bytes self.old.state.discovery in
+            self.new ≡ on_state (after_searching call) self.old }
     {
         let is_probe = self.mtud.in_flight_mtu_probe() == Some(number);
         if is_probe {
@@ -362,7 +359,7 @@ impl<C: Controller + Drop> PathData<C> {
 
     /// The search for the MTU goes on from here.
     pub fn search_on(&mut self, mtud: MtuDiscovery)
-        ensures { self.new ≡ record self.old { state = record self.old.state { discovery = mtud } } }
+        ensures { self.new ≡ on_state (with_discovery mtud) self.old }
     {
         self.mtud = mtud;
     }

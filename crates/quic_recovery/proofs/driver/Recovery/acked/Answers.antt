@@ -4,7 +4,6 @@ use Rattle.recovery_ledger.specs.declared.spaces.PacketSpace.{PacketSpace}
 use Rattle.recovery_ledger.specs.Ledger.{IsBalanced}
 use Rattle.recovery_paths.specs.PathStates.{Path}
 use Rattle.recovery_ledger.specs.Packets.{packet_at, after_taking}
-use Rattle.recovery_acks.specs.Acks.{Acks}
 use Rattle.recovery_ledger.specs.Spaces.{with_space, tracking_of, packets_of, next_number_of, acks_of, with_acks, after_acknowledging, SubtractsLargest, HasGreatestCome, space_takes}
 use Rattle.quic_recovery.specs.State.{parts_of}
 use Rattle.quic_recovery.proofs.LeavingLaws.{acked_changes}

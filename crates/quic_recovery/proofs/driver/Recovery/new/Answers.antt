@@ -2,7 +2,6 @@ use Rattle.std.proofs.Common.{rules, ap}
 use Rattle.quic_recovery.specs.History.{begins}
 use Rattle.quic_recovery.specs.Known.{first_ids}
 use Rattle.recovery_ledger.specs.Paths.{counters_of}
-use Rattle.recovery_ledger.specs.declared.paths.PathLedger.{PathLedger}
 use Rattle.recovery_ledger.proofs.LedgerLaws.{fresh_balanced}
 use Rattle.recovery_ids.proofs.LocalLogLaws.{local_ids_first}
 use Rattle.recovery_ledger.proofs.SpaceLaws.{fresh_space}

@@ -23,25 +23,19 @@ use Rattle.quic_recovery.proofs.driver.Recovery.send.Goals as goal
 ok_is_no_err : (forgotten : Option (ℕ × SentPacket)) (error : LedgerError) → Ok forgotten ≡ Err error → ⊥
 ok_is_no_err forgotten error e = cc
 
-pub sent-requires-clause-above : goal.sent-requires-clause-above
-sent-requires-clause-above g c = λ number packet found.
-    let P : PacketSpace → Type 0 = IsCoherent in
-    let numbered : IsCoherent c.index_mut-here.result.now = subst P (sym c.index_mut-here.ensures.value) (c.args.self.now.balanced.coherent c.args.space) in
-    let below : number < next_number_of c.index_mut-here.result.now = numbered.packets number packet found in
-    omega (arith, below, c.next_packet_number-number.ensures)
-
-pub sent-requires-clause-above_last : goal.sent-requires-clause-above_last
-sent-requires-clause-above_last g c = λ m is.
-    let P : PacketSpace → Type 0 = IsCoherent in
-    let numbered : IsCoherent c.index_mut-here.result.now = subst P (sym c.index_mut-here.ensures.value) (c.args.self.now.balanced.coherent c.args.space) in
-    let below : m < next_number_of c.index_mut-here.result.now = numbered.last m is in
-    omega (arith, below, c.next_packet_number-number.ensures)
-
-pub sent-requires-clause-counted : goal.sent-requires-clause-counted
-sent-requires-clause-counted g c = λ entry is own.
+pub sent-requires : goal.sent-requires
+sent-requires g c =
     let packet = packet_sent c.generation.result c.args.now c.args.size c.args.ack_eliciting c.args.largest_acked in
-    let there = ap (λ (s : PacketSpace). entry_at (packets_of s) (forgotten_number (tracking_of s).last_eliciting packet (packets_of s))) (sym c.index_mut-here.ensures.value) ∙ is in
-    forgotten_counted c.args.self.now.spaces c.args.self.now.current.ledger c.args.self.now.balanced c.args.space packet c.generation.ensures _ entry there own
+    let P : PacketSpace → Type 0 = IsCoherent in
+    let numbered : IsCoherent c.index_mut-here.result.now = subst P (sym c.index_mut-here.ensures.value) (c.args.self.now.balanced.coherent c.args.space) in
+    record {
+      above = λ number sent found. let below = numbered.packets number sent found in omega (arith, below, c.next_packet_number-number.ensures);
+      above_last = λ m is. let below = numbered.last m is in omega (arith, below, c.next_packet_number-number.ensures);
+      own = c.generation.ensures;
+      counted = λ entry is own.
+          let there = ap (λ (s : PacketSpace). entry_at (packets_of s) (forgotten_number (tracking_of s).last_eliciting packet (packets_of s))) (sym c.index_mut-here.ensures.value) ∙ is in
+          forgotten_counted c.args.self.now.spaces c.args.self.now.current.ledger c.args.self.now.balanced c.args.space packet c.generation.ensures _ entry there own;
+    }
 
 pub invariant_of-self-2 : goal.invariant_of-self-2
 invariant_of-self-2 g c =

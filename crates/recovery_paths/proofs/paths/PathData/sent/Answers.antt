@@ -1,10 +1,9 @@
-use Rattle.std.proofs.Common.{◌≡◌, sym, subst}
-use Rattle.recovery_ledger.specs.InFlight.{IsCounted}
-use Rattle.recovery_ledger.specs.Paths.{generation_of, counters_of}
+use Rattle.std.proofs.Common.{sym, subst}
+use Rattle.recovery_ledger.specs.Paths.{CanTrack}
 use Rattle.recovery_paths.specs.PathStates.{Path}
 use Rattle.recovery_paths.proofs.paths.PathData.sent.Goals as goal
 
-pub sent-requires-clause-counted : goal.sent-requires-clause-counted
-sent-requires-clause-counted g c = λ entry is.
-    let P : Path _ → Type 0 = λ p. entry.1.path_generation ≡ generation_of p.ledger → IsCounted (counters_of p.ledger) entry.1 in
-    subst P (sym c.self.view_is) (c.requires.counted entry is)
+pub sent-requires : goal.sent-requires
+sent-requires g c =
+    let P : Path _ → Type 0 = λ path. CanTrack path.ledger c.args.number c.args.packet c.args.space.now in
+    subst P (sym c.self.view_is) c.requires
