@@ -1,134 +1,196 @@
 -- What the parts know is what their logs say, and one event more leaves what its entries say.
-use Rattle.std.proofs.Common.{◌≡◌, ℕ, Bool, List, Option, ap, subst, ◌∙◌}
+use Rattle.std.proofs.Common.{◌≡◌, ℕ, Bool, List, Option, None, Some, refl, sym, ap, subst, ◌∙◌}
 use Rattle.std.proofs.Math.Path.{fun_ext}
+use Rattle.std.specs.Option.{ForSome}
 use Rattle.recovery_base.specs.declared.below.SpaceId.{SpaceId}
+use Rattle.recovery_base.specs.declared.below.SpaceId.TheVariants.{Data}
 use Rattle.recovery_base.specs.declared.timer.Timer.{Timer}
+use Rattle.recovery_base.specs.TimerLog.{TimerStep, TimersLeft}
+use Rattle.recovery_base.proofs.TimerLogLaws.{timer_law}
 use Rattle.recovery_acks.specs.AckFrequencies.{Frequency}
+use Rattle.recovery_acks.specs.RequestLog.{RequestStep, FrequencyLeft}
+use Rattle.recovery_acks.proofs.RequestLogLaws.{request_law}
 use Rattle.recovery_ids.specs.LocalIds.{LocalIds}
+use Rattle.recovery_ids.specs.LocalLog.{FirstIds, LocalStep, LocalIdsLeft}
 use Rattle.recovery_ids.specs.RemoteIds.{RemoteIds}
-use Rattle.quic_recovery.specs.declared.event.Event.{Event}
-use Rattle.recovery_ledger.specs.declared.spaces.PacketSpaces.{PacketSpaces}
+use Rattle.recovery_ids.specs.RemoteLog.{RemoteStep, RemoteIdsLeft}
+use Rattle.recovery_ids.proofs.LocalLogLaws.{local_law}
+use Rattle.recovery_ids.proofs.RemoteLogLaws.{remote_law}
 use Rattle.recovery_ledger.specs.Acks.{AckCounts, counts_by}
 use Rattle.recovery_ledger.specs.Discarded.{was_discarded, DiscardedStep, DiscardedLeft}
+use Rattle.recovery_ledger.specs.InFlight.{in_flight}
+use Rattle.recovery_ledger.specs.Ledger.{tracked_by, IsBalancedOn}
+use Rattle.recovery_ledger.specs.Packets.{Packet, Packets}
+use Rattle.recovery_ledger.specs.Paths.{generation_of, counters_of}
+use Rattle.recovery_ledger.specs.Probes.{ProbeFound, pending_stands, moves, nothing_found}
+use Rattle.recovery_ledger.specs.Queued.{Queued, queued_by}
+use Rattle.recovery_ledger.specs.SpaceLog.{SpaceEntry, heard, heard_again, sends, acknowledged, loses, probes, takes_pending, feeds_back, emptied, ack_goes, ack_is_late, asked}
+use Rattle.recovery_ledger.specs.Spaces.{Spaces, space_of, sent_of, acks_of, counts_of, queued_of, next_number_of, SpaceStep, SpaceLeft}
+use Rattle.recovery_ledger.specs.Tracked.{Sent, sent_by, sent_moved}
+use Rattle.recovery_ledger.proofs.SpaceLaws.{space_law}
+use Rattle.recovery_paths.specs.Balance.{AreBalanced}
+use Rattle.recovery_paths.specs.PathLog.{OfPaths, PathKnown, PathsLeft, PathsStep, path_known, paths_known}
+use Rattle.recovery_paths.specs.PathMaking.{PathMaking, PathSettings}
+use Rattle.recovery_paths.specs.PathStates.{Path}
+use Rattle.recovery_paths.proofs.PathLogLaws.{paths_law}
+use Rattle.recovery_skips.specs.Filters.{Skipping, number_by, passed, skipping_at}
+use Rattle.recovery_skips.proofs.SkipLaws.{allocated, number_at, last_at}
+use Rattle.quic_recovery.specs.declared.event.Event.{Event}
 use Rattle.quic_recovery.specs.Entries.{Entries, logs_with}
 use Rattle.quic_recovery.specs.History.{Beginning, Reply}
-use Rattle.recovery_ledger.specs.InFlight.{in_flight}
-use Rattle.recovery_ledger.specs.Ledger.{tracked_by, IsBalanced}
-use Rattle.quic_recovery.specs.Known.{SpaceKnown, Known, Logs, known_by, tracked_known, first_ids, first_path, last_limit}
-use Rattle.recovery_ids.specs.LocalLog.{FirstIds, LocalStep, LocalIdsLeft}
-use Rattle.recovery_ledger.specs.Packets.{Packets}
+use Rattle.quic_recovery.specs.Known.{SpaceKnown, Numbering, Known, Logs, known_by, numbering_by, tracked_known, in_flight_on, first_ids, first_path, settings_of, last_limit}
+use Rattle.quic_recovery.specs.Logs.{onto}
 use Rattle.quic_recovery.specs.Parts.{Parts}
-use Rattle.recovery_ledger.specs.Paths.{generation_of}
-use Rattle.recovery_paths.specs.PathLog.{OfPaths, PathKnown, PathsLeft, paths_known}
-use Rattle.recovery_paths.specs.PathStates.{Path, PathMaking}
-use Rattle.recovery_paths.proofs.PathLogLaws.{paths_law}
-use Rattle.recovery_ids.specs.RemoteLog.{RemoteStep, RemoteIdsLeft}
-use Rattle.recovery_acks.specs.RequestLog.{RequestStep, FrequencyLeft}
-use Rattle.recovery_ledger.specs.Spaces.{space_of, sent_of, acks_of, counts_of, SpaceStep, SpaceLeft}
-use Rattle.quic_recovery.specs.State.{InFlightLeft, LeftBy, LimitStep, Steps, ChangesBy, Changes, known_to}
-use Rattle.recovery_base.specs.TimerLog.{TimerStep, TimersLeft}
-use Rattle.recovery_ledger.specs.Tracked.{Sent, sent_by}
-use Rattle.recovery_ids.proofs.LocalLogLaws.{local_law}
+use Rattle.quic_recovery.specs.State.{InFlightLeft, LeftBy, LimitStep, SkippingStep, Steps, ChangesBy, Changes, known_to, numbering_of}
 use Rattle.quic_recovery.proofs.LogLaws.{left_by}
 use Rattle.quic_recovery.proofs.PartLaws.{discarded_law}
-use Rattle.recovery_base.proofs.TimerLogLaws.{timer_law}
-use Rattle.recovery_acks.proofs.RequestLogLaws.{request_law}
-use Rattle.recovery_ids.proofs.RemoteLogLaws.{remote_law}
-use Rattle.recovery_ledger.proofs.SpaceLaws.{space_law}
 
--- the packets that the spaces track are those of their logs
-tracked_same : (start : ℕ) (logs : Logs) (spaces : PacketSpaces) → ((space : SpaceId) → SpaceLeft start (logs.spaces space) (space_of space spaces)) → tracked_by spaces ≡ (λ space. (sent_by (logs.spaces space)).tracked)
-tracked_same start logs spaces left = fun_ext (λ space. ap (λ (s : Sent). s.tracked) (left space).sent)
+module _ {F K Q S P : Type 0} (beginning : Beginning F K Q S P) where
+  -- ---- what is in flight
 
-pub in_flight_law : {F K : Type 0} (beginning : Beginning F K) (logs : Logs) (spaces : PacketSpaces) (paths : OfPaths (Path K)) → PathsLeft beginning.words (first_path beginning) logs.paths (paths_known paths) → ((space : SpaceId) → SpaceLeft beginning.start (logs.spaces space) (space_of space spaces)) → IsBalanced spaces paths.current.ledger → InFlightLeft (known_by beginning logs) paths
-in_flight_law {F} {K} beginning logs spaces paths same left balanced = record {
-  current = balanced.counters
-      ∙ ap (λ (tracked : SpaceId → Packets). in_flight (generation_of paths.current.ledger) tracked) (tracked_same beginning.start logs spaces left)
-      ∙ ap (λ (known : OfPaths (PathKnown K)). in_flight known.current.generation (tracked_known (known_by beginning logs))) same;
-}
+  -- the packets that the spaces track are those of their logs
+  tracked_same : (logs : Logs P) (spaces : Spaces P) → ((space : SpaceId) → SpaceLeft beginning.queue.words beginning.start (logs.spaces space) (space_of space spaces)) → tracked_by spaces ≡ (λ space. (sent_by beginning.queue.words (logs.spaces space)).tracked)
+  tracked_same logs spaces left = fun_ext (λ space. ap (λ (s : Sent P). s.tracked) (left space).sent)
 
--- ---- what is known
+  pub in_flight_law : (logs : Logs P) (spaces : Spaces P) (paths : OfPaths (Path K)) → ((space : SpaceId) → SpaceLeft beginning.queue.words beginning.start (logs.spaces space) (space_of space spaces)) → AreBalanced spaces paths → InFlightLeft (known_by beginning logs) paths
+  in_flight_law logs spaces paths left balanced = record {
+    current = on_path paths.current balanced.current;
+    previous = λ path is. on_path path (balanced.previous path is);
+  }
+    where
+      on_path : (path : Path K) → IsBalancedOn spaces path.ledger → counters_of path.ledger ≡ in_flight_on (known_by beginning logs) (path_known path)
+      on_path path sums = sums ∙ ap (λ (tracked : SpaceId → Packets P). in_flight (generation_of path.ledger) tracked) (tracked_same logs spaces left)
 
-abbrev space_known : Bool → AckCounts → Sent → SpaceKnown
-space_known discarded counts sent = record { discarded = discarded; counts = counts; sent = sent }
+  -- ---- what is known
 
-pub known_same : {F K : Type 0} (beginning : Beginning F K) (logs : Logs) (state : Parts K) → LeftBy beginning logs state → known_to state ≡ known_by beginning logs
-known_same {F} {K} beginning logs state left =
-    ap (λ (s : SpaceId → SpaceKnown). record old { spaces = s }) (fun_ext spaces)
-    ∙ ap (λ (a : Option ℕ). record k₁ { last_asked = a }) (ap (λ (f : Frequency). f.last) left.frequency)
-    ∙ ap (λ (r : RemoteIds). record k₂ { remote_ids = r }) left.remote_ids.same
-    ∙ ap (λ (l : LocalIds). record k₃ { local_ids = l }) left.local_ids.same
-    ∙ ap (λ (m : Timer → Option ℕ). record k₄ { moment_of = m }) (fun_ext left.timers)
-    ∙ ap (λ (p : OfPaths (PathKnown K)). record k₅ { paths = p }) left.paths
-    ∙ ap (λ (l : Option ℕ). record k₆ { peer_limit = l }) left.limits
-  where
-    old : Known K
-    old = known_to state
+  abbrev space_known : Bool → AckCounts → Sent P → Queued P → SpaceKnown P
+  space_known discarded counts sent queued = record { discarded = discarded; counts = counts; sent = sent; queued = queued }
 
-    new : Known K
-    new = known_by beginning logs
+  abbrev numbered : ℕ → Option ℕ → Numbering
+  numbered next skipped = record { next = next; skipped = skipped }
 
-    k₁ : Known K
-    k₁ = record old { spaces = new.spaces }
+  -- the filter knows the number behind the last one, and the skip before it
+  numbering_same : (logs : Logs P) (state : Parts K P) → LeftBy beginning logs state → numbering_of state ≡ numbering_by beginning (sent_by beginning.queue.words (logs.spaces Data)).next
+  numbering_same logs state left =
+      let skips = beginning.config.skips in
+      let n = (sent_by beginning.queue.words (logs.spaces Data)).next in
+      let there : next_number_of (space_of Data state.spaces) ≡ n = ap (λ (s : Sent P). s.next) (left.spaces Data).sent in
+      ap (λ (m : ℕ). numbered (number_by state.skipping.filter m) state.skipping.filter.last) there
+      ∙ ap (λ (m : ℕ). numbered m state.skipping.filter.last) (number_at skips beginning.random n state.skipping left.skipping)
+      ∙ ap (λ (o : Option ℕ). numbered (numbering_by beginning n).next o) (last_at skips beginning.random n state.skipping left.skipping)
 
-    k₂ : Known K
-    k₂ = record k₁ { last_asked = new.last_asked }
+  pub known_same : (logs : Logs P) (state : Parts K P) → LeftBy beginning logs state → known_to state ≡ known_by beginning logs
+  known_same logs state left =
+      ap (λ (s : SpaceId → SpaceKnown P). record old { spaces = s }) (fun_ext spaces)
+      ∙ ap (λ (n : Numbering). record k₁ { numbers = n }) (numbering_same logs state left)
+      ∙ ap (λ (a : Option ℕ). record k₂ { last_asked = a }) (ap (λ (f : Frequency). f.last) left.frequency)
+      ∙ ap (λ (r : RemoteIds). record k₃ { remote_ids = r }) left.remote_ids.same
+      ∙ ap (λ (l : LocalIds). record k₄ { local_ids = l }) left.local_ids.same
+      ∙ ap (λ (m : Timer → Option ℕ). record k₅ { moment_of = m }) (fun_ext left.timers)
+      ∙ ap (λ (p : OfPaths (PathKnown K)). record k₆ { paths = p }) left.paths
+      ∙ ap (λ (l : Option ℕ). record k₇ { peer_limit = l }) left.limits
+    where
+      old : Known K P
+      old = known_to state
 
-    k₃ : Known K
-    k₃ = record k₂ { remote_ids = new.remote_ids }
+      new : Known K P
+      new = known_by beginning logs
 
-    k₄ : Known K
-    k₄ = record k₃ { local_ids = new.local_ids }
+      k₁ : Known K P
+      k₁ = record old { spaces = new.spaces }
 
-    k₅ : Known K
-    k₅ = record k₄ { moment_of = new.moment_of }
+      k₂ : Known K P
+      k₂ = record k₁ { numbers = new.numbers }
 
-    k₆ : Known K
-    k₆ = record k₅ { paths = new.paths }
+      k₃ : Known K P
+      k₃ = record k₂ { last_asked = new.last_asked }
 
-    spaces : (space : SpaceId) → old.spaces space ≡ new.spaces space
-    spaces space =
-        let there = space_of space state.spaces in
-        let log = logs.spaces space in
-        ap (λ d. space_known d (counts_of (acks_of there)) (sent_of there)) (left.discarded space)
-        ∙ ap (λ (c : AckCounts). space_known (was_discarded space logs.discarded) c (sent_of there)) (left.spaces space).acks.counts
-        ∙ ap (λ (s : Sent). space_known (was_discarded space logs.discarded) (counts_by log) s) (left.spaces space).sent
+      k₄ : Known K P
+      k₄ = record k₃ { remote_ids = new.remote_ids }
+
+      k₅ : Known K P
+      k₅ = record k₄ { local_ids = new.local_ids }
+
+      k₆ : Known K P
+      k₆ = record k₅ { moment_of = new.moment_of }
+
+      k₇ : Known K P
+      k₇ = record k₆ { paths = new.paths }
+
+      spaces : (space : SpaceId) → old.spaces space ≡ new.spaces space
+      spaces space =
+          let there = space_of space state.spaces in
+          let log = logs.spaces space in
+          ap (λ d. space_known d (counts_of (acks_of there)) (sent_of there) (queued_of there)) (left.discarded space)
+          ∙ ap (λ (c : AckCounts). space_known (was_discarded space logs.discarded) c (sent_of there) (queued_of there)) (left.spaces space).acks.counts
+          ∙ ap (λ (s : Sent P). space_known (was_discarded space logs.discarded) (counts_by log) s (queued_of there)) (left.spaces space).sent
+          ∙ ap (λ (u : Queued P). space_known (was_discarded space logs.discarded) (counts_by log) (sent_by beginning.queue.words log) u) (left.spaces space).queued
 
 -- ---- one event more
 
--- the steps, by what the logs know
-pub changes_by_logs : {F K : Type 0} (beginning : Beginning F K) (logs : Logs) (old : Parts K) (event : Event) (reply : Reply) (new : Parts K) → LeftBy beginning logs old → Changes beginning.words old event reply new → ChangesBy beginning.words (known_by beginning logs) old event reply new
-changes_by_logs {F} {K} beginning logs old event reply new left changes =
-    let P : Known K → Type 0 = λ known. ChangesBy beginning.words known old event reply new in
-    subst P (known_same beginning logs old left) changes
+module _ {F K Q S P : Type 0} (beginning : Beginning F K Q S P) where
+  -- the steps, by what the logs know
+  pub changes_by_logs : {M : Type 0} (logs : Logs P) (old : Parts K P) (event : Event Q S M P) (reply : Reply Q) (new : Parts K P) → LeftBy beginning logs old → Changes beginning.queue old event reply new → ChangesBy beginning.queue (known_by beginning logs) old event reply new
+  changes_by_logs logs old event reply new left changes =
+      let Holds : Known K P → Type 0 = λ known. ChangesBy beginning.queue known old event reply new in
+      subst Holds (known_same beginning logs old left) changes
 
-pub left_after : {F K : Type 0} (beginning : Beginning F K) (logs : Logs) (entries : Entries) (old new : Parts K) → LeftBy beginning logs old → Steps beginning.words entries old new → IsBalanced new.spaces new.paths.current.ledger → LeftBy beginning (logs_with entries logs) new
-left_after {F} {K} beginning logs entries old new left steps balanced = record {
-  spaces = spaces;
-  discarded = left_by DiscardedStep DiscardedLeft discarded_law entries.discarded logs.discarded _ _ left.discarded steps.discarded;
-  frequency = left_by RequestStep (FrequencyLeft first) (request_law first) entries.requests logs.requests _ _ left.frequency steps.frequency;
-  timers = left_by TimerStep TimersLeft timer_law entries.timers logs.timers _ _ left.timers steps.timers;
-  remote_ids = left_by RemoteStep (RemoteIdsLeft initial) (remote_law initial) entries.remote_ids logs.remote_ids _ _ left.remote_ids steps.remote_ids;
-  local_ids = left_by LocalStep (LocalIdsLeft ids) (local_law ids) entries.local_ids logs.local_ids _ _ left.local_ids steps.local_ids;
-  paths = paths;
-  limits = left_by LimitStep (λ log limit. limit ≡ last_limit log) (λ size log old_limit new_limit same step. step) entries.limits logs.limits _ _ left.limits steps.limits;
-  in_flight = in_flight_law beginning (logs_with entries logs) new.spaces new.paths paths spaces balanced;
-}
-  where
-    first : ℕ
-    first = beginning.config.max_ack_delay
+-- a queue that is moved leaves the numbers as they are
+moved_next : {P : Type 0} (empty : P) (found : ProbeFound) (sent : Sent P) → (sent_moved empty found sent).next ≡ sent.next
+moved_next empty pending_stands sent = refl
+moved_next empty (moves number) sent = refl
+moved_next empty nothing_found sent = refl
 
-    initial : List ℕ
-    initial = beginning.config.initial_cid
+module _ {F K Q S P : Type 0} (beginning : Beginning F K Q S P) where
+  -- the skips below the next number, with one entry more
+  skipping_law : (entry : Option (SpaceEntry P)) (log : List (SpaceEntry P)) (n : ℕ) (old new : Skipping) → n ≡ (sent_by beginning.queue.words log).next → old ≡ skipping_at beginning.config.skips beginning.random (sent_by beginning.queue.words log).next
+      → SkippingStep entry n old new → new ≡ skipping_at beginning.config.skips beginning.random (sent_by beginning.queue.words (onto entry log)).next
+  skipping_law (Some (sends number packet)) log n old new next left step =
+      (allocated beginning.config.skips beginning.random n number old new (left ∙ ap (skipping_at beginning.config.skips beginning.random) (sym next)) step.0 step.1).1
+  skipping_law None log n old new next left step = step ∙ left
+  skipping_law (Some (heard now number eliciting)) log n old new next left step = step ∙ left
+  skipping_law (Some (heard_again number)) log n old new next left step = step ∙ left
+  skipping_law (Some (acknowledged number)) log n old new next left step = step ∙ left
+  skipping_law (Some (loses number)) log n old new next left step = step ∙ left
+  skipping_law (Some (probes immediate found)) log n old new next left step = step ∙ left ∙ ap (skipping_at beginning.config.skips beginning.random) (sym (moved_next beginning.queue.words.empty found (sent_by beginning.queue.words log)))
+  skipping_law (Some takes_pending) log n old new next left step = step ∙ left
+  skipping_law (Some (feeds_back counts)) log n old new next left step = step ∙ left
+  skipping_law (Some emptied) log n old new next left step = step ∙ left
+  skipping_law (Some ack_goes) log n old new next left step = step ∙ left
+  skipping_law (Some ack_is_late) log n old new next left step = step ∙ left
+  skipping_law (Some (asked frame)) log n old new next left step = step ∙ left
 
-    ids : FirstIds
-    ids = first_ids beginning
+  pub left_after : (logs : Logs P) (entries : Entries P) (old new : Parts K P) → LeftBy beginning logs old → Steps beginning.queue.words entries old new → AreBalanced new.spaces new.paths → LeftBy beginning (logs_with entries logs) new
+  left_after logs entries old new left steps balanced = record {
+    settings = steps.settings ∙ left.settings;
+    spaces = spaces;
+    discarded = left_by DiscardedStep DiscardedLeft discarded_law entries.discarded logs.discarded _ _ left.discarded steps.discarded;
+    skipping = skipping_law (entries.spaces Data) (logs.spaces Data) (next_number_of (space_of Data old.spaces)) old.skipping new.skipping (ap (λ (s : Sent P). s.next) (left.spaces Data).sent) left.skipping steps.skipping;
+    frequency = left_by RequestStep (FrequencyLeft first) (request_law first) entries.requests logs.requests _ _ left.frequency steps.frequency;
+    timers = left_by TimerStep TimersLeft timer_law entries.timers logs.timers _ _ left.timers steps.timers;
+    remote_ids = left_by RemoteStep (RemoteIdsLeft initial) (remote_law initial) entries.remote_ids logs.remote_ids _ _ left.remote_ids steps.remote_ids;
+    local_ids = left_by LocalStep (LocalIdsLeft ids) (local_law ids) entries.local_ids logs.local_ids _ _ left.local_ids steps.local_ids;
+    paths = paths;
+    limits = left_by LimitStep (λ log limit. limit ≡ last_limit log) (λ size log old_limit new_limit same step. step) entries.limits logs.limits _ _ left.limits steps.limits;
+    in_flight = in_flight_law beginning (logs_with entries logs) new.spaces new.paths spaces balanced;
+  }
+    where
+      first : ℕ
+      first = beginning.config.max_ack_delay
 
-    spaces : (space : SpaceId) → SpaceLeft beginning.start ((logs_with entries logs).spaces space) (space_of space new.spaces)
-    spaces space = left_by SpaceStep (SpaceLeft beginning.start) (space_law beginning.start) (entries.spaces space) (logs.spaces space) _ _ (left.spaces space) (steps.spaces space)
+      initial : List ℕ
+      initial = beginning.config.initial_cid
 
-    path : PathMaking K
-    path = first_path beginning
+      ids : FirstIds
+      ids = first_ids beginning
 
-    paths : PathsLeft beginning.words path (logs_with entries logs).paths (paths_known new.paths)
-    paths = paths_law beginning.words path entries.paths logs.paths _ _ left.paths steps.paths
+      spaces : (space : SpaceId) → SpaceLeft beginning.queue.words beginning.start ((logs_with entries logs).spaces space) (space_of space new.spaces)
+      spaces space = left_by (SpaceStep beginning.queue.words) (SpaceLeft beginning.queue.words beginning.start) (space_law beginning.queue.words beginning.start) (entries.spaces space) (logs.spaces space) _ _ (left.spaces space) (steps.spaces space)
+
+      path : PathMaking K
+      path = first_path beginning
+
+      paths : PathsLeft (settings_of beginning) path (logs_with entries logs).paths (paths_known new.paths)
+      paths =
+          let Step : PathSettings K → Type 0 = λ settings. PathsStep settings entries.paths (paths_known old.paths) (paths_known new.paths) in
+          paths_law (settings_of beginning) path entries.paths logs.paths _ _ left.paths (subst Step left.settings steps.paths)

@@ -1,6 +1,6 @@
 -- A worked row of a history, computed: what its events were to the parts, the newest first.
 use Rattle.std.proofs.Common.{◌≡◌, ◌^◌, true, [], ◌∷◌, None, Some, Ok, Err, refl}
-use Rattle.recovery_base.specs.declared.below.SpaceId.TheVariants.{Initial, Data}
+use Rattle.recovery_base.specs.declared.below.SpaceId.TheVariants.{Initial, Handshake, Data}
 use Rattle.recovery_base.specs.declared.timer.Timer.TheVariants.{Idle, Pacing}
 use Rattle.recovery_base.specs.TimerLog.{last_set}
 use Rattle.recovery_ledger.specs.Received.{greatest_new}
@@ -11,29 +11,29 @@ use Rattle.quic_recovery.specs.declared.event.Refusal.TheVariants.{NumberTooLarg
 use Rattle.quic_recovery.specs.Entries.{logs_of}
 use Rattle.quic_recovery.specs.History.{Beginning, History}
 
--- packet 0 came, one too large was refused, one was sent, Idle was set to 50 and Pacing to 20, and Pacing was stopped
-abbrev row : History
-row =
-    (StopTimer Pacing, Ok answer.Done)
-    ∷ (SetTimer Pacing 20, Ok answer.Done)
-    ∷ (SetTimer Idle 50, Ok answer.Done)
-    ∷ (Send Data 7 500 true None, Ok (answer.Sent 0 None))
-    ∷ (Received Data 6 (2 ^ 62) true, Err NumberTooLarge)
-    ∷ (Received Data 5 0 true, Ok (answer.New true))
-    ∷ []
+module _ {F K Q S M P : Type 0} (beginning : Beginning F K Q S P) (queue : Q) (frames : M) where
+  -- packet 0 came, one too large was refused, one was sent, Idle was set to 50 and Pacing to 20, and Pacing was stopped
+  abbrev row : History Q S M P
+  row =
+      (StopTimer Pacing, Ok answer.Done)
+      ∷ (SetTimer Pacing 20, Ok answer.Done)
+      ∷ (SetTimer Idle 50, Ok answer.Done)
+      ∷ (Send Initial 7 500 true None queue frames, Ok (answer.Sent 0 None))
+      ∷ (Received Data 6 (2 ^ 62) true, Err NumberTooLarge)
+      ∷ (Received Data 5 0 true, Ok (answer.New true))
+      ∷ []
 
-module _ {F K : Type 0} (beginning : Beginning F K) where
   idle_is_set : last_set Idle (logs_of beginning row).timers ≡ Some 50
   idle_is_set = refl
 
   pacing_is_stopped : last_set Pacing (logs_of beginning row).timers ≡ None
   pacing_is_stopped = refl
 
-  one_is_tracked : (sent_by ((logs_of beginning row).spaces Data)).tracked ≡ (0, packet_sent 0 7 500 true None) ∷ []
+  one_is_tracked : (sent_by beginning.queue.words ((logs_of beginning row).spaces Initial)).tracked ≡ (0, packet_sent 0 7 500 true None (beginning.queue.contents queue)) ∷ []
   one_is_tracked = refl
 
-  nothing_in_initial : (logs_of beginning row).spaces Initial ≡ []
-  nothing_in_initial = refl
+  nothing_in_handshake : (logs_of beginning row).spaces Handshake ≡ []
+  nothing_in_handshake = refl
 
   refused_is_nothing : greatest_new ((logs_of beginning row).spaces Data) ≡ 0
   refused_is_nothing = refl

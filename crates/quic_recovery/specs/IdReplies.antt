@@ -19,7 +19,7 @@ HasToken held n token = (id : List ℕ) × (held n ≡ Some (id, Some token))
 
 -- a frame that retires the active number is answered the numbers from it up to the least one that is held then, at most
 -- as many as are stored, and that one's token; any other frame retires nothing
-abbrev pub IsFrameAnswer : RemoteIds → NewConnectionId → Answer → Type 0
+abbrev pub IsFrameAnswer : {Q : Type 0} → RemoteIds → NewConnectionId → Answer Q → Type 0
 IsFrameAnswer ids frame (Retire None) = frame.retire_prior_to ≤ ids.active
 IsFrameAnswer ids frame (Retire (Some told)) =
     let held = with_frame frame ids.held in
@@ -29,7 +29,7 @@ IsFrameAnswer ids frame (Retire (Some told)) =
 IsFrameAnswer ids frame answer = ⊥
 
 -- why a frame is refused, and what it is answered (19.15)
-abbrev pub FrameReply : RemoteIds → NewConnectionId → Reply → Type 0
+abbrev pub FrameReply : {Q : Type 0} → RemoteIds → NewConnectionId → Reply Q → Type 0
 FrameReply ids frame =
     Refuses NumberTooLarge (2 ^ 62 ≤ frame.sequence)
     (Refuses BadRetirePriorTo (frame.sequence < frame.retire_prior_to)
@@ -40,7 +40,7 @@ FrameReply ids frame =
 
 -- the next id is the least one held above the active one: the numbers from the active one up to it are retired, and its
 -- token is told; where none is held the active one stays
-abbrev pub IsNextAnswer : RemoteIds → Answer → Type 0
+abbrev pub IsNextAnswer : {Q : Type 0} → RemoteIds → Answer Q → Type 0
 IsNextAnswer ids (Retire None) = (n : ℕ) → ids.active < n → ids.held n ≡ None
 IsNextAnswer ids (Retire (Some told)) =
     (told.0.start ≡ ids.active) × IsLeastHeld ids.held (ids.active + 1) told.0.end
@@ -48,32 +48,32 @@ IsNextAnswer ids (Retire (Some told)) =
 IsNextAnswer ids answer = ⊥
 
 -- the initial id is replaced while it is the active one
-abbrev pub InitialReply : RemoteIds → Reply → Type 0
+abbrev pub InitialReply : {Q : Type 0} → RemoteIds → Reply Q → Type 0
 InitialReply ids = Refuses NotInitialId (ids.active ≢ 0) (AlwaysAnswers (λ answer. answer ≡ Done))
 
 -- ---- ids of this end
 
 -- ids are issued in the order of their numbers, which go on from the count issued and end below 2^62; only where there are
 -- ids is memory taken
-abbrev pub IssueReply : LocalIds → List IssuedCid → Reply → Type 0
+abbrev pub IssueReply : {Q : Type 0} → LocalIds → List IssuedCid → Reply Q → Type 0
 IssueReply ids more =
     Refuses NumberTooLarge (2 ^ 62 < ids.issued + length more)
     (Refuses BadRange (map (λ id. id.sequence) more ≢ range_with_len ids.issued (length more))
     (Answers (more ≢ []) (λ answer. answer ≡ Done)))
 
 -- a timeout is told whether it asks for the retirement of a number that is not retired yet
-abbrev pub timeout_answer : LocalIds → Answer
+abbrev pub timeout_answer : {Q : Type 0} → LocalIds → Answer Q
 timeout_answer ids =
     let later = timed_out ids in
     Flag (holds_unretired ids.retire_prior_to later.retire_prior_to later)
 
 -- a retirement is told whether the limit leaves room for one more id
-abbrev pub IsRoom : LocalIds → ℕ → Answer → Type 0
+abbrev pub IsRoom : {Q : Type 0} → LocalIds → ℕ → Answer Q → Type 0
 IsRoom ids limit (Flag more) = IsTrue more ↔ (length ids.unretired < limit)
 IsRoom ids limit answer = ⊥
 
 -- why a retirement is refused, and what it is answered (19.16)
-abbrev pub RetirementReply : LocalIds → ℕ → ℕ → Reply → Type 0
+abbrev pub RetirementReply : {Q : Type 0} → LocalIds → ℕ → ℕ → Reply Q → Type 0
 RetirementReply ids sequence limit =
     Refuses CidsNotInUse (ids.cid_len ≡ 0)
     (Refuses UnissuedCid (ids.issued ≤ sequence)

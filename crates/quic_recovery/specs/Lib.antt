@@ -5,6 +5,7 @@ pub mod History
 pub mod IdReplies
 pub mod Known
 pub mod Logs
+pub mod Numbers
 pub mod Parts
 pub mod Refusals
 pub mod Replies

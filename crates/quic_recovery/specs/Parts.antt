@@ -7,14 +7,20 @@ use Rattle.recovery_ids.specs.LocalIds.{LocalIds}
 use Rattle.recovery_ledger.specs.declared.discarded.DiscardedSpaces.{DiscardedSpaces}
 use Rattle.recovery_paths.specs.PathLog.{OfPaths}
 use Rattle.recovery_paths.specs.PathStates.{Path}
-use Rattle.recovery_ledger.specs.declared.spaces.PacketSpaces.{PacketSpaces}
+use Rattle.recovery_ledger.specs.Spaces.{Spaces}
+use Rattle.recovery_paths.specs.PathMaking.{PathSettings}
+use Rattle.recovery_skips.specs.Filters.{Skipping}
 
--- K is what contracts see of a controller
-pub record Parts (K : Type 0) : Type 0 where
-  pub spaces : PacketSpaces
+-- K is what contracts see of a controller, and P of a queue of what is sent again
+pub record Parts (K P : Type 0) : Type 0 where
+  -- how its paths are made
+  pub settings : PathSettings K
+  pub spaces : Spaces P
   pub discarded : DiscardedSpaces
   pub paths : OfPaths (Path K)
   pub peer_limit : Option ℕ
+  -- which numbers are skipped, and the words of the generator from now on
+  pub skipping : Skipping
   pub frequency : Frequency
   pub timers : TimerTable
   pub remote_cids : CidQueue

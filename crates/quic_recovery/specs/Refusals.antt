@@ -2,7 +2,7 @@
 use Rattle.std.specs.Prelude.{ℕ, List}
 use lib.Chars.{codes}
 use Rattle.quic_recovery.specs.declared.event.Refusal.{Refusal}
-use Rattle.quic_recovery.specs.declared.event.Refusal.TheVariants.{NoMemory, NumberTooLarge, NumbersExhausted, NotTracked, SpaceDiscarded, NoSuchPath, Searching, ZeroMtu, Overflow, Retired, ExceedsLimit, BadRetirePriorTo, CidsNotInUse, UnissuedCid, DelayTooSmall, NotInitialId, BadRange}
+use Rattle.quic_recovery.specs.declared.event.Refusal.TheVariants.{NoMemory, NumberTooLarge, NumbersExhausted, NotTracked, SpaceDiscarded, NoSuchPath, Searching, ZeroMtu, Overflow, Retired, ExceedsLimit, BadRetirePriorTo, CidsNotInUse, UnissuedCid, DelayTooSmall, SkippedAcked, Ecn, NotInitialId, BadRange}
 
 abbrev pub refusal_number : Refusal → ℕ
 refusal_number NoMemory = 1
@@ -20,6 +20,8 @@ refusal_number BadRetirePriorTo = 12
 refusal_number CidsNotInUse = 13
 refusal_number UnissuedCid = 14
 refusal_number DelayTooSmall = 15
+refusal_number SkippedAcked = 16
+refusal_number (Ecn text) = 17
 refusal_number NotInitialId = 18
 refusal_number BadRange = 19
 
@@ -39,5 +41,7 @@ refusal_name BadRetirePriorTo = codes "BadRetirePriorTo"
 refusal_name CidsNotInUse = codes "CidsNotInUse"
 refusal_name UnissuedCid = codes "UnissuedCid"
 refusal_name DelayTooSmall = codes "DelayTooSmall"
+refusal_name SkippedAcked = codes "SkippedAcked"
+refusal_name (Ecn text) = codes "Ecn"
 refusal_name NotInitialId = codes "NotInitialId"
 refusal_name BadRange = codes "BadRange"

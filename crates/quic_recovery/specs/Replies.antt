@@ -15,28 +15,28 @@ abbrev pub same_refusal : Refusal → Refusal → Bool
 same_refusal refusal other = refusal_number refusal == refusal_number other
 
 -- where the cause holds the event is refused so, and else its reply is one of the others
-abbrev pub Refuses : Refusal → Type 0 → (Reply → Type 0) → Reply → Type 0
+abbrev pub Refuses : {Q : Type 0} → Refusal → Type 0 → (Reply Q → Type 0) → Reply Q → Type 0
 Refuses refusal Cause Otherwise (Ok answer) = (¬ Cause) × Otherwise (Ok answer)
 Refuses refusal Cause Otherwise (Err given) =
     MatchBool (same_refusal given refusal) Cause ((¬ Cause) × Otherwise (Err given))
 
 -- the answer is one of these, or memory is refused to an event that grows something
-abbrev pub Answers : Type 0 → (Answer → Type 0) → Reply → Type 0
+abbrev pub Answers : {Q : Type 0} → Type 0 → (Answer Q → Type 0) → Reply Q → Type 0
 Answers Grows IsAnswer (Ok answer) = IsAnswer answer
 Answers Grows IsAnswer (Err NoMemory) = Grows
 Answers Grows IsAnswer (Err refusal) = ⊥
 
 -- the answer is one of these, and no memory is taken
-abbrev pub AlwaysAnswers : (Answer → Type 0) → Reply → Type 0
+abbrev pub AlwaysAnswers : {Q : Type 0} → (Answer Q → Type 0) → Reply Q → Type 0
 AlwaysAnswers = Answers ⊥
 
 -- ---- what a packet that came in is answered
 
-abbrev pub answer_to : Receipt → Answer
+abbrev pub answer_to : {Q : Type 0} → Receipt → Answer Q
 answer_to (New arm) = answers.New arm
 answer_to Duplicate = answers.Duplicate
 
-abbrev pub reply_to : Result Receipt ReceiveError → Reply
+abbrev pub reply_to : {Q : Type 0} → Result Receipt ReceiveError → Reply Q
 reply_to (Ok receipt) = Ok (answer_to receipt)
 reply_to (Err error.NumberTooLarge) = Err NumberTooLarge
 reply_to (Err error.NoMemory) = Err NoMemory

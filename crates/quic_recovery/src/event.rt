@@ -3,25 +3,20 @@ ghost use Rattle.std.specs.Prelude.{◌≡◌};
 ghost use Rattle.quic_recovery.specs.Refusals.{refusal_number, refusal_name};
 
 use recovery_base::below::{
-    AckFrequency, ConnectionId, IssuedCid, NewConnectionId, ResetToken, SpaceId,
+    AckFrequency, ConnectionId, EcnCounts, IssuedCid, NewConnectionId, ResetToken, SpaceId,
 };
 use recovery_base::time::{Duration, Instant};
 use recovery_base::timer::Timer;
+use recovery_ledger::spaces::SendableFrames;
+pub use recovery_paths::live_paths::PathName;
+use recovery_queue::queue::RetransmitQueue;
+use std::net::SocketAddr;
 use std::ops::Range;
 use thiserror::Error;
 
-/// Which path an event is about.
-#[derive(Clone, Copy)]
-pub enum PathName {
-    /// The path in use.
-    Current,
-    /// The path in use before it.
-    Previous,
-}
-
-/// What happens.
+/// What happens; `Q` is what packets carry that is sent again when they are lost.
 #[derive(Drop)]
-pub enum Event {
+pub enum Event<Q: RetransmitQueue> {
     /// A packet came in (RFC 9000, 12.3). Refused by `SpaceDiscarded`, by `NumberTooLarge` where the number is 2^62 or
     /// more, then by `NoMemory`; a duplicate takes no memory.
     Received {
@@ -49,6 +44,10 @@ pub enum Event {
         ack_eliciting: bool,
         /// The largest packet number that its ACK frame acknowledges, where it holds one.
         largest_acked: Option<u64>,
+        /// What is sent again when it is lost (RFC 9000, 13.3).
+        queue: Q,
+        /// What the layer above keeps of its STREAM frames.
+        stream_frames: Q::Meta,
     },
     /// A packet that was sent is acknowledged (RFC 9002, A.7). Refused by `SpaceDiscarded`, then by `NotTracked`. Cost:
     /// logarithmic in the packets tracked.
@@ -62,8 +61,9 @@ pub enum Event {
         /// Whether the sender had too little to send to fill its window (RFC 9002, 7.8).
         app_limited: bool,
     },
-    /// A packet that was sent is declared lost (RFC 9002, A.10). Refused by `SpaceDiscarded`, then by `NotTracked`. Cost:
-    /// logarithmic in the packets tracked.
+    /// A packet that was sent is declared lost (RFC 9002, A.10): its queue is to be sent again, behind what is so already.
+    /// Refused by `SpaceDiscarded`, by `NotTracked`, then by `NoMemory`, where the queues could not be joined. Cost:
+    /// logarithmic in the packets tracked, beside that of joining.
     Lost {
         /// The packet number space.
         space: SpaceId,
@@ -213,11 +213,65 @@ pub enum Event {
         /// When they were found lost.
         now: Instant,
     },
+    /// The counts of ECN of an ACK frame (RFC 9000, 13.4.2). Refused by `SpaceDiscarded`, then by `Ecn` where the check of
+    /// RFC 9000, 13.4.2.1 fails; the answer is whether more packets were marked as congested.
+    Ecn {
+        /// The packet number space.
+        space: SpaceId,
+        /// How many packets the ACK frame newly acknowledges.
+        newly_acked: u64,
+        /// Its counts.
+        counts: EcnCounts,
+    },
+    /// An ACK frame acknowledges a range of numbers (RFC 9000, 13.1). Refused by `SpaceDiscarded`, by `NumberTooLarge` where
+    /// the last number is 2^62 or more, by `BadRange` where the range ends before it begins, then by `SkippedAcked` where
+    /// it holds the last number of 1-RTT packets that was skipped (RFC 9000, 21.4).
+    CheckAck {
+        /// The packet number space.
+        space: SpaceId,
+        /// The first number.
+        low: u64,
+        /// The last number.
+        high: u64,
+    },
+    /// A probe packet is to be sent (RFC 9002, 6.2.4): where nothing waits to be sent again, the first tracked packet with a
+    /// queue gives it up, and where none has one a PING is marked. Refused by `SpaceDiscarded`, then by `NoMemory` where a
+    /// queue is moved. Cost: linear in the packets tracked before that one.
+    QueueProbe {
+        /// The packet number space.
+        space: SpaceId,
+        /// Whether the peer is to be asked for an ACK at once.
+        immediate_ack: bool,
+        /// What queues are asked with, whether they are empty.
+        streams: Q::Streams,
+    },
+    /// What waits to be sent again is handed out. Refused by `SpaceDiscarded`.
+    TakePending {
+        /// The packet number space.
+        space: SpaceId,
+    },
+    /// Another path is used from now on (RFC 9000, 9.3): the current path becomes the previous one, and an older previous
+    /// one is dropped. Refused by `Overflow` where 2^64 paths were made, then, where the path is not fresh, by `NoMemory`.
+    NewPath {
+        /// When it is made.
+        now: Instant,
+        /// The address of the peer.
+        remote: SocketAddr,
+        /// Whether round-trip times, controller and MTU begin anew, and are not those of the current path (RFC 9000, 9.4).
+        fresh: bool,
+    },
+    /// Round-trip times, controller, pacer and MTU of the current path begin anew (RFC 9000, 9.4). Never refused.
+    ResetPath {
+        /// When that is.
+        now: Instant,
+    },
+    /// The previous path is dropped (RFC 9000, 9.3.3). Its packets stay tracked. Refused by `NoSuchPath`.
+    DropPrevious,
 }
 
 /// What an event that is not refused is answered.
 #[derive(PartialEq, Eq, Drop)]
-pub enum Answer {
+pub enum Answer<Q> {
     /// The packet is new.
     New {
         /// Whether to start the timer for a late ACK (`Timer::MaxAckDelay`).
@@ -276,6 +330,10 @@ pub enum Answer {
     NoProbe,
     /// Whether a black hole was reported.
     BlackHole(bool),
+    /// What can be sent.
+    Sendable(SendableFrames),
+    /// What is to be sent again.
+    Queue(Q),
     /// The event has no other answer.
     Done,
 }
@@ -328,6 +386,12 @@ pub enum Refusal {
     /// An ACK_FREQUENCY frame asks for a delay below 1 ms. The number of the frame is kept.
     #[error("the requested delay is too small")]
     DelayTooSmall,
+    /// A number was acknowledged that was skipped, and never sent (RFC 9000, 21.4).
+    #[error("a skipped packet number is acknowledged")]
+    SkippedAcked,
+    /// The peer's counts of ECN cannot be right (RFC 9000, 13.4.2.1), in these words.
+    #[error("{0}")]
+    Ecn(&'static str),
     /// The initial id is no longer the active one.
     #[error("the initial id is not active")]
     NotInitialId,
@@ -357,6 +421,8 @@ impl Refusal {
             Refusal::CidsNotInUse => 13,
             Refusal::UnissuedCid => 14,
             Refusal::DelayTooSmall => 15,
+            Refusal::SkippedAcked => 16,
+            Refusal::Ecn(_) => 17,
             Refusal::NotInitialId => 18,
             Refusal::BadRange => 19,
         }
@@ -382,6 +448,8 @@ impl Refusal {
             Refusal::CidsNotInUse => "CidsNotInUse",
             Refusal::UnissuedCid => "UnissuedCid",
             Refusal::DelayTooSmall => "DelayTooSmall",
+            Refusal::SkippedAcked => "SkippedAcked",
+            Refusal::Ecn(_) => "Ecn",
             Refusal::NotInitialId => "NotInitialId",
             Refusal::BadRange => "BadRange",
         }

@@ -1,14 +1,19 @@
 //! What the events of a connection are replied, and what they leave.
 ghost use Rattle.std.specs.Prelude.{◌≡◌, ◌<◌};
+ghost use Rattle.recovery_skips.specs.Skips.{IsSkips};
 
+use crate::tally::Tally;
 use quic_recovery::config::TransportConfig;
 use quic_recovery::congestion::{ControllerFactory, NewRenoConfig};
 use quic_recovery::driver::{Recovery, RecoveryConfig};
-use quic_recovery::event::{Answer, Event, PathName, Refusal};
+use quic_recovery::event::{PathName, Refusal};
 use quic_recovery::spaces::PacketSpace;
+use rand_core::{Rng, SeedableRng};
+use rand_pcg::Pcg32;
 use recovery_base::below::{ConnectionId, SpaceId};
 use recovery_base::time::{Duration, Instant};
 use recovery_base::timer::Timer;
+use recovery_skips::Skips;
 use std::alloc::Global;
 use std::net::{IpAddr, Ipv4Addr, SocketAddr};
 use std::process::Abort;
@@ -17,11 +22,19 @@ use std::test::Fail;
 mod acks;
 mod discovery;
 mod ids;
+mod items;
+mod moves;
 mod paths;
+mod probes;
 mod refused_memory;
+mod skips;
 
-/// A recovery whose controllers are NewReno.
-type Reno = Recovery<NewRenoConfig>;
+type Event = quic_recovery::event::Event<Tally>;
+
+type Answer = quic_recovery::event::Answer<Tally>;
+
+/// A recovery whose controllers are NewReno, and whose skips are drawn from the words of `Pcg32`.
+type Reno = Recovery<NewRenoConfig, Tally, Pcg32>;
 
 type Reply = Result<Answer, Refusal>;
 
@@ -89,6 +102,8 @@ fn send(space: SpaceId, size: u16, ack_eliciting: bool) -> Event {
         size,
         ack_eliciting,
         largest_acked: None,
+        queue: Tally { bytes: 0 },
+        stream_frames: 0,
     }
 }
 
@@ -124,16 +139,23 @@ fn timeout(nanos: u64) -> Reply {
     Ok(Answer::Timeout(Some(at(nanos))))
 }
 
-/// The settings of the replay program, but for the bytes of this end's ids.
+/// The settings of the replay program, but for the bytes of this end's ids, and that no number is skipped.
 fn settings(cid_len: usize) -> RecoveryConfig<NewRenoConfig>
-    ensures { result.issued ≡ 1 }
+    ensures issued { result.issued ≡ 1 }
+    ensures skips { IsSkips result.skips }
 {
-    settings_with(TransportConfig::default(), cid_len)
+    settings_with(TransportConfig::default(), cid_len, Skips::Disabled)
 }
 
-/// The same for any settings of paths.
-fn settings_with<F: Drop>(transport: TransportConfig<F>, cid_len: usize) -> RecoveryConfig<F>
-    ensures { result.issued ≡ 1 }
+/// The same for any settings of paths and any skips.
+fn settings_with<F: Drop>(
+    transport: TransportConfig<F>,
+    cid_len: usize,
+    skips: Skips,
+) -> RecoveryConfig<F>
+    requires { IsSkips skips }
+    ensures issued { result.issued ≡ 1 }
+    ensures skips { IsSkips result.skips }
 {
     RecoveryConfig {
         transport,
@@ -145,12 +167,18 @@ fn settings_with<F: Drop>(transport: TransportConfig<F>, cid_len: usize) -> Reco
         cid_len,
         cid_lifetime: Some(Duration::from_secs(10)),
         issued: 1,
+        skips,
     }
+}
+
+/// The words that skips are drawn from, where they are drawn.
+fn words() -> Pcg32 {
+    Pcg32::seed_from_u64(0)
 }
 
 /// A recovery to which nothing has happened yet.
 fn fresh(rt: &impl Abort, alloc: Global) -> Reno {
-    match Recovery::new(alloc, settings(8), at(0)) {
+    match Recovery::new(alloc, settings(8), words(), at(0)) {
         Ok(recovery) => recovery,
         Err(_) => panic!(rt; "NoMemory"),
     }
@@ -158,12 +186,21 @@ fn fresh(rt: &impl Abort, alloc: Global) -> Reno {
 
 /// Asserts that a row was replied what it wants.
 fn same(rt: &impl Abort, row: u64, reply: &Reply, want: &Reply) {
-    assert!(rt; *reply != NO_MEMORY, "row {row}: NoMemory");
+    assert!(rt;
+        *reply != NO_MEMORY || *want == NO_MEMORY,
+        "row {row}: NoMemory"
+    );
     assert!(rt; reply == want, "row {row}");
 }
 
 /// Asserts what one event is replied.
-fn told(rt: &impl Abort, recovery: &mut Reno, row: u64, event: Event, want: Reply) {
+fn told<R: Rng + Drop>(
+    rt: &impl Abort,
+    recovery: &mut Recovery<NewRenoConfig, Tally, R>,
+    row: u64,
+    event: Event,
+    want: Reply,
+) {
     let reply = recovery.apply(event);
     same(rt, row, &reply, &want);
 }
@@ -172,7 +209,7 @@ fn told(rt: &impl Abort, recovery: &mut Reno, row: u64, event: Event, want: Repl
 fn check<const N: usize>(rt: &impl Abort, alloc: Global, rows: [(Event, Reply); N])
     requires { N < 1000 }
 {
-    walk(rt, alloc, settings(8), rows);
+    walk(rt, alloc, settings(8), words(), rows);
 }
 
 /// Asserts what the events of a run are replied, one a row, and something of what they leave.
@@ -185,22 +222,25 @@ fn check_left<const N: usize, F: FnOnce(&Reno) -> bool>(
     requires rows { N < 1000 }
     requires callable { F.IsAlwaysCallable is_left }
 {
-    let recovery = walk(rt, alloc, settings(8), rows);
+    let recovery = walk(rt, alloc, settings(8), words(), rows);
     let is_wanted = is_left(&recovery);
     assert!(rt; is_wanted, "what is left");
 }
 
-fn walk<const N: usize, F>(
+fn walk<const N: usize, F, R>(
     rt: &impl Abort,
     alloc: Global,
     config: RecoveryConfig<F>,
+    rng: R,
     rows: [(Event, Reply); N],
-) -> Recovery<F>
+) -> Recovery<F, Tally, R>
 where
     F: ControllerFactory + Drop,
     F::Controller: Drop,
+    R: Rng + Drop,
     requires rows { N < 1000 }
     requires issued { config.issued ≡ 1 }
+    requires skips { IsSkips config.skips }
 {
     let mut events = Vec::new(alloc);
     let mut wanted = Vec::new(alloc);
@@ -209,7 +249,7 @@ where
             panic!(rt; "NoMemory");
         }
     }
-    match Recovery::run(alloc, config, at(0), events) {
+    match Recovery::run(alloc, config, rng, at(0), events) {
         Ok((recovery, replies)) => {
             compare(rt, replies.as_slice(), wanted.as_slice());
             recovery
@@ -228,7 +268,7 @@ fn compare(rt: &impl Abort, replies: &[Reply], wanted: &[Reply]) {
 }
 
 /// What is kept for a space that is not discarded.
-fn kept<'a>(rt: &impl Abort, recovery: &'a Reno, space: SpaceId) -> &'a PacketSpace {
+fn kept<'a>(rt: &impl Abort, recovery: &'a Reno, space: SpaceId) -> &'a PacketSpace<Tally> {
     match recovery.space(space) {
         Some(here) => here,
         None => panic!(rt; "the space is discarded"),
@@ -357,6 +397,8 @@ fn the_least_of_1001_silent_packets_is_forgotten(rt: HostRuntime) {
         size: 1,
         ack_eliciting: true,
         largest_acked: Some(1 << 62),
+        queue: Tally { bytes: 0 },
+        stream_frames: 0,
     };
     for (row, event, want) in [
         (1001, send(SpaceId::Data, 40, false), sent(1001, Some(0))),
@@ -380,7 +422,7 @@ fn a_refused_event_leaves_no_trace(rt: HostRuntime) {
 }
 
 /// The refusals with their numbers, names and texts.
-const REFUSALS: [(Refusal, u8, &str, &str); 7] = [
+const REFUSALS: [(Refusal, u8, &str, &str); 9] = [
     (Refusal::NoMemory, 1, "NoMemory", "out of memory"),
     (
         Refusal::NumberTooLarge,
@@ -418,6 +460,13 @@ const REFUSALS: [(Refusal, u8, &str, &str); 7] = [
         "Overflow",
         "a counter passes 2^64 - 1",
     ),
+    (
+        Refusal::SkippedAcked,
+        16,
+        "SkippedAcked",
+        "a skipped packet number is acknowledged",
+    ),
+    (Refusal::Ecn("ECN bleaching"), 17, "Ecn", "ECN bleaching"),
 ];
 
 #[test]

@@ -2,12 +2,14 @@
 //! every state that stands there, and not run.
 ghost use Rattle.std.specs.Prelude.{◌≡◌, true};
 
+use crate::tally::Tally;
 use quic_recovery::congestion::{NewReno, NewRenoConfig};
 use quic_recovery::driver::Recovery;
 use quic_recovery::event::{Answer, Event, Refusal};
 use quic_recovery::paths::{LedgerError, PathData};
 use quic_recovery::spaces::{NUMBER_LIMIT, PacketSpace, SentPacket};
-use recovery_base::below::IssuedCid;
+use rand_pcg::Pcg32;
+use recovery_base::below::{EcnCounts, IssuedCid};
 use recovery_base::time::Instant;
 use std::alloc::Global;
 
@@ -17,7 +19,7 @@ fn at(nanos: u64) -> Instant
     Instant::from_nanos(nanos)
 }
 
-fn packet(path_generation: u64, size: u16) -> SentPacket
+fn packet(path_generation: u64, size: u16) -> SentPacket<Tally>
     ensures path { result.path_generation ≡ path_generation }
     ensures counted { (result.size ≡ size) × (result.ack_eliciting ≡ true) }
 {
@@ -27,19 +29,44 @@ fn packet(path_generation: u64, size: u16) -> SentPacket
         size,
         ack_eliciting: true,
         largest_acked: None,
+        retransmits: Tally { bytes: 0 },
+        stream_frames: 0,
     }
 }
 
 #[test]
 fn a_space_begins_at_0(rt: HostRuntime) {
-    let mut space = PacketSpace::new(rt.alloc(), at(0));
+    let mut space = PacketSpace::<Tally>::new(rt.alloc(), at(0));
     assert!(rt; space.get_tx_number() == Some(0));
     assert!(rt; space.sent_with_keys == 1);
     assert!(rt; space.take(0).is_none());
     assert!(rt; space.take_first().is_none());
 }
 
-fn the_numbers_end_at_2_to_62(space: &mut PacketSpace) {
+/// The first cause in order is told, and what is refused keeps the old counts. No run has counts of ECT(1).
+#[test]
+fn counts_of_ecn_fail_in_order(rt: HostRuntime) {
+    let last = EcnCounts {
+        ect0: 1,
+        ect1: 1,
+        ce: 1,
+    };
+    let mut space = PacketSpace::<Tally>::new(rt.alloc(), at(0));
+    space.ecn_feedback = last;
+    for (newly_acked, (ect0, ect1, ce), text) in [
+        (9, (0, 0, 0), "peer ECT(0) count regression"),
+        (9, (1, 0, 0), "peer ECT(1) count regression"),
+        (9, (1, 1, 0), "peer CE count regression"),
+        (9, (1, 9, 1), "ECN bleaching"),
+        (8, (1, 9, 1), "ECN corruption"),
+    ] {
+        let found = space.detect_ecn(newly_acked, EcnCounts { ect0, ect1, ce });
+        let is_wanted = found == Err(text) && space.ecn_feedback == last;
+        assert!(rt; is_wanted, "{text}");
+    }
+}
+
+fn the_numbers_end_at_2_to_62(space: &mut PacketSpace<Tally>) {
     if space.next_packet_number() != NUMBER_LIMIT - 1 || space.sent_with_keys != 1 {
         return;
     }
@@ -57,7 +84,7 @@ fn a_sum_past_the_end_is_refused(path: &mut PathData<NewReno>, alloc: Global) {
     if full.bytes != u64::MAX - 9 || full.ack_eliciting != 0 {
         return;
     }
-    let mut space = PacketSpace::new(alloc, at(0));
+    let mut space = PacketSpace::<Tally>::new(alloc, at(0));
     let packet = packet(path.generation(), 10);
     let is_refused = matches!(path.sent(0, packet, &mut space), Err(LedgerError::Overflow));
     prove!(is_refused);
@@ -71,7 +98,7 @@ fn a_sum_at_the_end_is_not(path: &mut PathData<NewReno>, alloc: Global) {
     if full.bytes != u64::MAX - 9 || full.ack_eliciting != 0 {
         return;
     }
-    let mut space = PacketSpace::new(alloc, at(0));
+    let mut space = PacketSpace::<Tally>::new(alloc, at(0));
     let packet = packet(path.generation(), 9);
     match path.sent(0, packet, &mut space) {
         Ok(_) => {
@@ -84,7 +111,10 @@ fn a_sum_at_the_end_is_not(path: &mut PathData<NewReno>, alloc: Global) {
     }
 }
 
-fn no_id_is_issued_past_2_to_62(recovery: &mut Recovery<NewRenoConfig>, more: Vec<IssuedCid>) {
+fn no_id_is_issued_past_2_to_62(
+    recovery: &mut Recovery<NewRenoConfig, Tally, Pcg32>,
+    more: Vec<IssuedCid>,
+) {
     let issued = recovery.local_ids().issued();
     let count = more.len() as u64;
     let now = at(0);
@@ -101,7 +131,10 @@ fn no_id_is_issued_past_2_to_62(recovery: &mut Recovery<NewRenoConfig>, more: Ve
     }
 }
 
-fn a_total_past_the_end_is_refused(recovery: &mut Recovery<NewRenoConfig>, checked: bool) {
+fn a_total_past_the_end_is_refused(
+    recovery: &mut Recovery<NewRenoConfig, Tally, Pcg32>,
+    checked: bool,
+) {
     let total = recovery.current().total_sent;
     if total < u64::MAX - 9 {
         return;
@@ -119,7 +152,7 @@ fn a_total_past_the_end_is_refused(recovery: &mut Recovery<NewRenoConfig>, check
     prove!(recovery.current().total_sent == total);
 }
 
-fn a_total_at_the_end_is_not(recovery: &mut Recovery<NewRenoConfig>) {
+fn a_total_at_the_end_is_not(recovery: &mut Recovery<NewRenoConfig, Tally, Pcg32>) {
     if recovery.current().total_sent != u64::MAX - 9 {
         return;
     }

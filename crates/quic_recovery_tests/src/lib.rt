@@ -5,3 +5,4 @@
 mod driver;
 #[cfg(test)]
 mod ledger;
+pub mod tally;

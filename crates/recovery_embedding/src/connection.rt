@@ -1,5 +1,6 @@
 //! One end of a connection, as far as its loss recovery sees it.
 ghost use Rattle.std.specs.Prelude.{◌≡◌};
+ghost use Rattle.recovery_skips.specs.Skips.{IsSkips};
 
 use quic_recovery::below::{ConnectionId, SpaceId};
 use quic_recovery::config::TransportConfig;
@@ -7,6 +8,9 @@ use quic_recovery::congestion::NewRenoConfig;
 use quic_recovery::time::{Duration, Instant};
 use quic_recovery::timer::Timer;
 use quic_recovery::{Answer, Event, Recovery, RecoveryConfig, Refusal};
+use rand_pcg::Pcg32;
+use recovery_items::items::ItemQueue;
+use recovery_skips::Skips;
 use std::net::SocketAddr;
 
 /// How late this end's ACKs may be (RFC 9000, 18.2: max_ack_delay).
@@ -14,9 +18,10 @@ const MAX_ACK_DELAY: u64 = 25;
 
 /// What the recovery starts with: the default settings of paths, with NewReno; a client, whose peer's
 /// address needs no validation (RFC 9000, 8.1); ids of eight bytes that last for ten seconds, one of
-/// them issued.
+/// them issued; packet numbers that are skipped here and there (RFC 9000, 21.4).
 pub fn config(remote: SocketAddr) -> RecoveryConfig<NewRenoConfig>
-    ensures { result.issued ≡ 1 }
+    ensures issued { result.issued ≡ 1 }
+    ensures skips { IsSkips result.skips }
 {
     RecoveryConfig {
         transport: TransportConfig::default(),
@@ -28,28 +33,36 @@ pub fn config(remote: SocketAddr) -> RecoveryConfig<NewRenoConfig>
         cid_len: 8,
         cid_lifetime: Some(Duration::from_secs(10)),
         issued: 1,
+        skips: Skips::Drawn,
     }
 }
+
+/// The recovery of this stack: its controllers are NewReno's, its packets carry numbered items, and its skips are drawn
+/// from the words of `Pcg32`.
+pub type StackRecovery = Recovery<NewRenoConfig, ItemQueue, Pcg32>;
 
 /// One end of a connection.
 #[derive(Drop)]
 pub struct Connection {
-    recovery: Recovery<NewRenoConfig>,
+    recovery: StackRecovery,
 }
 
 impl Connection {
-    pub fn new(recovery: Recovery<NewRenoConfig>) -> Self {
+    pub fn new(recovery: StackRecovery) -> Self {
         Connection { recovery }
     }
 
-    /// Sends an ack-eliciting packet. The table of replies says that the answer is its number: no other arm can come.
-    pub fn send(&mut self, now: Instant, size: u16) -> Result<u64, Refusal> {
+    /// Sends an ack-eliciting packet with these items. The table of replies says that the answer is its number: no other
+    /// arm can come.
+    pub fn send(&mut self, now: Instant, size: u16, items: ItemQueue) -> Result<u64, Refusal> {
         let packet = Event::Send {
             space: SpaceId::Data,
             now,
             size,
             ack_eliciting: true,
             largest_acked: None,
+            queue: items,
+            stream_frames: (),
         };
         match self.recovery.apply(packet) {
             Ok(Answer::Sent { number, .. }) => Ok(number),
@@ -90,17 +103,28 @@ impl Connection {
         })
     }
 
-    /// The stack holds a packet for lost, and sends what was in it again, under another number.
-    pub fn lost(&mut self, now: Instant, number: u64) -> Result<u64, Refusal> {
+    /// The stack holds a packet for lost: its items wait behind those that are to be sent again already.
+    pub fn lost(&mut self, number: u64) -> Result<(), Refusal> {
         self.tell(Event::Lost {
             space: SpaceId::Data,
             number,
-        })?;
-        self.send(now, 1200)
+        })
+    }
+
+    /// The items that wait to be sent again.
+    pub fn pending(&mut self) -> Result<ItemQueue, Refusal> {
+        let taken = Event::TakePending {
+            space: SpaceId::Data,
+        };
+        match self.recovery.apply(taken) {
+            Ok(Answer::Queue(items)) => Ok(items),
+            Ok(_) => unreachable!(),
+            Err(refusal) => Err(refusal),
+        }
     }
 
     /// An event whose answer asks for nothing.
-    fn tell(&mut self, event: Event) -> Result<(), Refusal> {
+    fn tell(&mut self, event: Event<ItemQueue>) -> Result<(), Refusal> {
         match self.recovery.apply(event) {
             Ok(_) => Ok(()),
             Err(refusal) => Err(refusal),

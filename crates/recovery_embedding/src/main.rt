@@ -5,8 +5,13 @@
 mod connection;
 
 use connection::Connection;
+use quic_recovery::below::NoMemory;
 use quic_recovery::time::{Duration, Instant};
 use quic_recovery::{Recovery, Refusal};
+use rand_core::SeedableRng;
+use rand_pcg::Pcg32;
+use recovery_items::items::ItemQueue;
+use std::alloc::Global;
 use std::io;
 use std::net::{IpAddr, Ipv4Addr, SocketAddr};
 use thiserror::Error;
@@ -18,26 +23,37 @@ enum Failure {
     Refused(#[from] Refusal),
     #[error("cannot be written: {0}")]
     Io(#[from] io::Error),
-    #[error("out of memory")]
-    NoMemory,
+    #[error("{0}")]
+    NoMemory(#[from] NoMemory),
 }
 
 fn at(millis: u64) -> Instant {
     Instant::from_nanos(0) + Duration::from_millis(millis)
 }
 
+/// A queue of one item.
+fn item(alloc: Global, number: u64) -> Result<ItemQueue, NoMemory> {
+    let mut items = Vec::new(alloc);
+    items.push(number)?;
+    Ok(ItemQueue::from_items(items))
+}
+
 /// Three packets go out, one comes in, two are acknowledged and one is lost.
-fn exchange(rt: &impl Print, connection: &mut Connection) -> Result<(), Failure> {
+fn exchange(rt: &(impl Print + AllocGlobal), connection: &mut Connection) -> Result<(), Failure> {
     for millis in 0..3 {
-        let number = connection.send(at(millis), 1200)?;
+        let items = item(rt.alloc(), 100 + millis)?;
+        let number = connection.send(at(millis), 1200, items)?;
         println!(rt; "sent {number}")?;
     }
     let is_new = connection.hear(at(10), 0)?;
     println!(rt; "heard 0, new: {is_new}")?;
     connection.acknowledged(at(20), 0)?;
     connection.acknowledged(at(20), 2)?;
-    let again = connection.lost(at(20), 1)?;
-    println!(rt; "lost 1, sent again as {again}")?;
+    connection.lost(1)?;
+    let items = connection.pending()?;
+    println!(rt; "lost 1, with the items {:?}", items.items())?;
+    let again = connection.send(at(20), 1200, items)?;
+    println!(rt; "sent again as {again}")?;
     if let Err(refusal) = connection.acknowledged(at(21), 2) {
         println!(rt; "2 is acknowledged again: {refusal}")?;
     }
@@ -55,9 +71,10 @@ fn tell(rt: &impl Print, connection: &Connection) -> io::Result<()> {
 
 fn run(rt: &HostRuntime) -> Result<(), Failure> {
     let peer = SocketAddr::new(IpAddr::V4(Ipv4Addr::new(192, 0, 2, 1)), 4433);
-    let Ok(recovery) = Recovery::new(rt.alloc(), connection::config(peer), at(0)) else {
-        return Err(Failure::NoMemory);
-    };
+    let config = connection::config(peer);
+    // A program that prints the same each time: a stack seeds a generator that its peers cannot guess.
+    let rng = Pcg32::seed_from_u64(0);
+    let recovery = Recovery::new(rt.alloc(), config, rng, at(0))?;
     let mut connection = Connection::new(recovery);
     exchange(rt, &mut connection)
 }

@@ -1,52 +1,88 @@
--- The packets among those that are tracked, when one is sent or taken.
-use Rattle.std.proofs.Common.{◌≡◌, ℕ, ◌⊎◌, inl, inr, Bool, true, false, cond, [], ◌∷◌, ◌++◌, Option, None, Some, subst}
+-- The packets among those that are tracked, when one is sent, taken or has other contents.
+use Rattle.std.proofs.Common.{◌≡◌, ℕ, ◌⊎◌, inl, inr, Bool, true, false, cond, [], ◌∷◌, ◌++◌, Option, None, Some, refl, subst}
+use Rattle.std.specs.Prelude.{option_map}
 use Rattle.std.specs.Ordering.{nat_cmp}
 use Rattle.std.specs.BTreeMap.{is_at}
-use Rattle.recovery_ledger.specs.declared.spaces.SentPacket.{SentPacket}
-use Rattle.recovery_ledger.specs.Packets.{Packets, packet_at, without, without_some, sent_onto, forgotten_number, IsAmong, AreAcknowledging, IsTooLarge}
+use Rattle.recovery_ledger.specs.Packets.{Packet, Packets, packet_at, without, without_some, with_contents, replaced, carrying, sent_onto, forgotten_number, IsAmong, AreAcknowledging, IsTooLarge}
 
-among_found : (packets : Packets) (number : ℕ) (packet : SentPacket) → packet_at packets number ≡ Some packet → IsAmong packets packet
-among_found [] number packet found = none packet found
-  where
-    none : (p : SentPacket) → None ≡ Some p → ⊥
-    none p e = cc
-among_found (entry ∷ packets) number packet found = go (is_at (nat_cmp number) entry.0) found (among_found packets number packet)
-  where
-    some : (p q : SentPacket) → Some p ≡ Some q → p ≡ q
-    some p q e = cc
+module _ {P : Type 0} where
+  pub among_found : (packets : Packets P) (number : ℕ) (packet : Packet P) → packet_at packets number ≡ Some packet → IsAmong packets packet
+  among_found [] number packet found = none packet found
+    where
+      none : (p : Packet P) → None ≡ Some p → ⊥
+      none p e = cc
+  among_found (entry ∷ packets) number packet found = go (is_at (nat_cmp number) entry.0) found (among_found packets number packet)
+    where
+      some : (p q : Packet P) → Some p ≡ Some q → p ≡ q
+      some p q e = cc
 
-    go : (b : Bool) → cond b (Some entry.1) (packet_at packets number) ≡ Some packet → (packet_at packets number ≡ Some packet → IsAmong packets packet) → (entry.1 ≡ packet) ⊎ IsAmong packets packet
-    go true e later = inl (some entry.1 packet e)
-    go false e later = inr (later e)
+      go : (b : Bool) → cond b (Some entry.1) (packet_at packets number) ≡ Some packet → (packet_at packets number ≡ Some packet → IsAmong packets packet) → (entry.1 ≡ packet) ⊎ IsAmong packets packet
+      go true e later = inl (some entry.1 packet e)
+      go false e later = inr (later e)
 
-among_without : (packets : Packets) (number : ℕ) (packet : SentPacket) → IsAmong (without packets number) packet → IsAmong packets packet
-among_without [] number packet among = among
-among_without (entry ∷ packets) number packet among = go (is_at (nat_cmp number) entry.0) among (among_without packets number packet)
-  where
-    go : (b : Bool) → IsAmong (cond b packets (entry ∷ without packets number)) packet → (IsAmong (without packets number) packet → IsAmong packets packet) → (entry.1 ≡ packet) ⊎ IsAmong packets packet
-    go true among later = inr among
-    go false (inl same) later = inl same
-    go false (inr among) later = inr (later among)
+  among_without : (packets : Packets P) (number : ℕ) (packet : Packet P) → IsAmong (without packets number) packet → IsAmong packets packet
+  among_without [] number packet among = among
+  among_without (entry ∷ packets) number packet among = go (is_at (nat_cmp number) entry.0) among (among_without packets number packet)
+    where
+      go : (b : Bool) → IsAmong (cond b packets (entry ∷ without packets number)) packet → (IsAmong (without packets number) packet → IsAmong packets packet) → (entry.1 ≡ packet) ⊎ IsAmong packets packet
+      go true among later = inr among
+      go false (inl same) later = inl same
+      go false (inr among) later = inr (later among)
 
-among_push : (packets : Packets) (number : ℕ) (more packet : SentPacket) → IsAmong (packets ++ (number, more) ∷ []) packet → IsAmong packets packet ⊎ (more ≡ packet)
-among_push [] number more packet (inl same) = inr same
-among_push [] number more packet (inr among) = absurd among
-among_push (entry ∷ packets) number more packet (inl same) = inl (inl same)
-among_push (entry ∷ packets) number more packet (inr among) = elim (among_push packets number more packet among) [ inl there ↦ inl (inr there) | inr same ↦ inr same ]
+  among_push : (packets : Packets P) (number : ℕ) (more packet : Packet P) → IsAmong (packets ++ (number, more) ∷ []) packet → IsAmong packets packet ⊎ (more ≡ packet)
+  among_push [] number more packet (inl same) = inr same
+  among_push [] number more packet (inr among) = absurd among
+  among_push (entry ∷ packets) number more packet (inl same) = inl (inl same)
+  among_push (entry ∷ packets) number more packet (inr among) = elim (among_push packets number more packet among) [ inl there ↦ inl (inr there) | inr same ↦ inr same ]
 
-pub acknowledging_found : (packets : Packets) → AreAcknowledging packets → (number : ℕ) (packet : SentPacket) → packet_at packets number ≡ Some packet → ¬ IsTooLarge packet.largest_acked
-acknowledging_found packets all number packet found = all packet (among_found packets number packet found)
+  among_replaced : (packets : Packets P) (number : ℕ) (other packet : Packet P) → IsAmong (replaced number (Some other) packets) packet → IsAmong packets packet ⊎ (other ≡ packet)
+  among_replaced [] number other packet among = absurd among
+  among_replaced (entry ∷ packets) number other packet among = go (is_at (nat_cmp number) entry.0) among (among_replaced packets number other packet)
+    where
+      go : (b : Bool) → IsAmong (cond b ((entry.0, other) ∷ packets) (entry ∷ replaced number (Some other) packets)) packet → (IsAmong (replaced number (Some other) packets) packet → IsAmong packets packet ⊎ (other ≡ packet))
+          → ((entry.1 ≡ packet) ⊎ IsAmong packets packet) ⊎ (other ≡ packet)
+      go true (inl same) later = inr same
+      go true (inr among) later = inl (inr among)
+      go false (inl same) later = inl (inl same)
+      go false (inr among) later = elim (later among) [ inl there ↦ inl (inr there) | inr same ↦ inr same ]
 
-pub acknowledging_without : (packets : Packets) (number : ℕ) → AreAcknowledging packets → AreAcknowledging (without packets number)
-acknowledging_without packets number all packet among = all packet (among_without packets number packet among)
+-- ---- what holds of every packet
 
-acknowledging_without_some : (packets : Packets) (forgotten : Option ℕ) → AreAcknowledging packets → AreAcknowledging (without_some packets forgotten)
-acknowledging_without_some packets None all = all
-acknowledging_without_some packets (Some number) all = acknowledging_without packets number all
+module _ {P : Type 0} (Holds : Packet P → Type 0) where
+  -- it holds of all packets
+  abbrev pub OfAll : Packets P → Type 0
+  OfAll packets = (packet : Packet P) → IsAmong packets packet → Holds packet
 
-pub acknowledging_sent : (last : Option ℕ) (number : ℕ) (sent : SentPacket) (packets : Packets) → AreAcknowledging packets → (¬ IsTooLarge sent.largest_acked) → AreAcknowledging (sent_onto last number sent packets)
-acknowledging_sent last number sent packets all small packet among = go (among_push (without_some packets (forgotten_number last sent packets)) number sent packet among)
-  where
-    go : IsAmong (without_some packets (forgotten_number last sent packets)) packet ⊎ (sent ≡ packet) → ¬ IsTooLarge packet.largest_acked
-    go (inl there) = acknowledging_without_some packets (forgotten_number last sent packets) all packet there
-    go (inr same) = let P : SentPacket → Type 0 = λ p. ¬ IsTooLarge p.largest_acked in subst P same small
+  pub all_without : (packets : Packets P) (number : ℕ) → OfAll packets → OfAll (without packets number)
+  all_without packets number all packet among = all packet (among_without packets number packet among)
+
+  all_without_some : (packets : Packets P) (forgotten : Option ℕ) → OfAll packets → OfAll (without_some packets forgotten)
+  all_without_some packets None all = all
+  all_without_some packets (Some number) all = all_without packets number all
+
+  pub all_sent : (last : Option ℕ) (number : ℕ) (sent : Packet P) (packets : Packets P) → OfAll packets → Holds sent → OfAll (sent_onto last number sent packets)
+  all_sent last number sent packets all one packet among = go (among_push (without_some packets (forgotten_number last sent packets)) number sent packet among)
+    where
+      go : IsAmong (without_some packets (forgotten_number last sent packets)) packet ⊎ (sent ≡ packet) → Holds packet
+      go (inl there) = all_without_some packets (forgotten_number last sent packets) all packet there
+      go (inr same) = subst Holds same one
+
+  pub all_carrying : (packets : Packets P) (number : ℕ) (contents : P) → ((packet : Packet P) → Holds packet → Holds (with_contents contents packet)) → OfAll packets → OfAll (carrying number contents packets)
+  all_carrying packets number contents alike all = go (packet_at packets number) (λ packet found. all packet (among_found packets number packet found))
+    where
+      go : (found : Option (Packet P)) → ((packet : Packet P) → found ≡ Some packet → Holds packet) → OfAll (replaced number (option_map (with_contents contents) found) packets)
+      go None none packet among = all packet among
+      go (Some old) one packet among = elim (among_replaced packets number (with_contents contents old) packet among) [
+        | inl there ↦ all packet there
+        | inr same ↦ subst Holds same (alike old (one old refl))
+      ]
+
+-- ---- what packets acknowledge
+
+module _ {P : Type 0} where
+  -- it acknowledges numbers of packets
+  abbrev pub Acknowledges : Packet P → Type 0
+  Acknowledges packet = ¬ IsTooLarge packet.largest_acked
+
+  pub acknowledging_found : (packets : Packets P) → AreAcknowledging packets → (number : ℕ) (packet : Packet P) → packet_at packets number ≡ Some packet → ¬ IsTooLarge packet.largest_acked
+  acknowledging_found packets all number packet found = all packet (among_found packets number packet found)

@@ -8,9 +8,9 @@ use Rattle.recovery_acks.specs.Acks.{Acks, IsPending, largest_with, counted, ack
 use Rattle.recovery_acks.specs.Runs.{IsInHighest}
 use Rattle.recovery_acks.proofs.AckLaws.{out_of_order_by}
 use Rattle.recovery_acks.proofs.RunLaws.{highest_alike}
-use Rattle.recovery_ledger.specs.declared.spaces.SentPacket.{SentPacket}
-use Rattle.recovery_ledger.specs.Acks.{AckCounts, ToAcknowledge, IsRequired, AsksAtOnce, Arms, StartedAt, heard_by, acks_by, counts_by, counts_with, counts_acked, counts_asked}
-use Rattle.recovery_ledger.specs.Packets.{packet_at, is_above, largest_acked_by}
+use Rattle.recovery_queue.specs.Queues.{QueueWords}
+use Rattle.recovery_ledger.specs.Acks.{AckCounts, AcksSaid, ToAcknowledge, IsRequired, AsksAtOnce, Arms, StartedAt, heard_by, acks_by, counts_by, counts_with, counts_acked, counts_asked}
+use Rattle.recovery_ledger.specs.Packets.{Packet, packet_at, is_above, largest_acked_by}
 use Rattle.recovery_ledger.specs.Received.{CameIn}
 use Rattle.recovery_ledger.specs.SpaceLog.{SpaceEntry, heard, acknowledged, ack_goes, ack_is_late, asked}
 use Rattle.recovery_ledger.specs.Spaces.{counts_of, heard_with, HearsNew, SubtractsLargest, AcksLeft}
@@ -32,9 +32,9 @@ module _ (Here There : ℕ → Type 0) (greatest : HasGreatest There) (alike : (
       back (inl many) = inl many
       back (inr order) = inr (out_of_order_by (With number There) (With number Here) (least_missing_back There Here greatest alike number) _ _ _ _ _ order)
 
-  pub arms_alike : (required requires started starts : Type 0) → required ↔ requires → started ↔ starts → (counts : AckCounts) (ack_eliciting : Bool)
-      → Arms (record { came = Here; required = required; started = started }) counts number ack_eliciting ↔ Arms (record { came = There; required = requires; started = starts }) counts number ack_eliciting
-  arms_alike required requires started starts same since counts ack_eliciting = (
+  pub arms_alike : (required requires waits wait started starts : Type 0) → required ↔ requires → started ↔ starts → (counts : AckCounts) (ack_eliciting : Bool)
+      → Arms (record { came = Here; required = required; waits = waits; started = started }) counts number ack_eliciting ↔ Arms (record { came = There; required = requires; waits = wait; started = starts }) counts number ack_eliciting
+  arms_alike required requires waits wait started starts same since counts ack_eliciting = (
     λ h. (h.0, λ s. h.1 (since.1 s), λ why. h.2 (elim why [ inl was ↦ inl (same.1 was) | inr asks ↦ inr ((asks_alike counts).1 asks) ])),
     λ h. (h.0, λ s. h.1 (since.0 s), λ why. h.2 (elim why [ inl was ↦ inl (same.0 was) | inr asks ↦ inr ((asks_alike counts).0 asks) ])),
   )
@@ -45,8 +45,12 @@ none_is_some m e = cc
 same_flag : (a b : Bool) → a ≡ b → IsTrue a ↔ IsTrue b
 same_flag a b e = (λ h. sym e ∙ h, λ h. e ∙ h)
 
-module _ (log : List SpaceEntry) (old : Acks) (left : AcksLeft (acks_by log) old) where
-  pub heard_law : (Known : ℕ → Type 0) → ((n : ℕ) → Known n ↔ Recent (CameIn log) n) → (now number : ℕ) (ack_eliciting : Bool) (new : Acks) → HearsNew Known old now number ack_eliciting new → AcksLeft (acks_by (heard now number ack_eliciting ∷ log)) new
+-- some number waits, by the space or by the log
+pub waits_alike : (said : AcksSaid) (acks : Acks) → AcksLeft said acks → ((n : ℕ) × IsPending acks n) ↔ ((n : ℕ) × said.pending n)
+waits_alike said acks left = (λ h. (h.0, (left.pending h.0).0 h.1), λ h. (h.0, (left.pending h.0).1 h.1))
+
+module _ {P S : Type 0} (words : QueueWords P S) (log : List (SpaceEntry P)) (old : Acks) (left : AcksLeft (acks_by words log) old) where
+  pub heard_law : (Known : ℕ → Type 0) → ((n : ℕ) → Known n ↔ Recent (CameIn log) n) → (now number : ℕ) (ack_eliciting : Bool) (new : Acks) → HearsNew Known old now number ack_eliciting new → AcksLeft (acks_by words (heard now number ack_eliciting ∷ log)) new
   heard_law Known known now number ack_eliciting new step = record {
     pending = λ n. iff_trans (step.pending n) (highest n);
     required = (to, from);
@@ -56,22 +60,22 @@ module _ (log : List SpaceEntry) (old : Acks) (left : AcksLeft (acks_by log) old
     largest = step.largest ∙ ap (λ (l : Option (ℕ × ℕ)). largest_with l number now) left.largest;
   }
     where
-      more : (n : ℕ) → With number (IsPending old) n ↔ With number (ToAcknowledge log) n
+      more : (n : ℕ) → With number (IsPending old) n ↔ With number (ToAcknowledge words log) n
       more n = (λ h. elim h [ inl same ↦ inl same | inr there ↦ inr ((left.pending n).0 there) ], λ h. elim h [ inl same ↦ inl same | inr there ↦ inr ((left.pending n).1 there) ])
 
-      highest : (n : ℕ) → IsInHighest 64 (With number (IsPending old)) n ↔ IsInHighest 64 (With number (ToAcknowledge log)) n
+      highest : (n : ℕ) → IsInHighest 64 (With number (IsPending old)) n ↔ IsInHighest 64 (With number (ToAcknowledge words log)) n
       highest n = (highest_alike _ _ more 64 n, highest_alike _ _ (λ m. ((more m).1, (more m).0)) 64 n)
 
       asks : AsksAtOnce Known (counts_of old) number ↔ AsksAtOnce (CameIn log) (counts_by log) number
-      asks = let P : AckCounts → Type 0 = λ c. AsksAtOnce Known (counts_of old) number ↔ AsksAtOnce (CameIn log) c number in
-          subst P left.counts (asks_alike Known (CameIn log) (came_greatest log) known number (counts_of old))
+      asks = let Holds : AckCounts → Type 0 = λ c. AsksAtOnce Known (counts_of old) number ↔ AsksAtOnce (CameIn log) c number in
+          subst Holds left.counts (asks_alike Known (CameIn log) (came_greatest log) known number (counts_of old))
 
-      arms : Arms (heard_with Known old) (counts_of old) number ack_eliciting ↔ Arms (heard_by log) (counts_by log) number ack_eliciting
-      arms = let P : AckCounts → Type 0 = λ c. Arms (heard_with Known old) (counts_of old) number ack_eliciting ↔ Arms (heard_by log) c number ack_eliciting in
-          subst P left.counts (arms_alike Known (CameIn log) (came_greatest log) known number (IsTrue old.required) (IsRequired log) ((m : ℕ) × (old.base ≡ Some m)) ((m : ℕ) × StartedAt log m) left.required
+      arms : Arms (heard_with Known old) (counts_of old) number ack_eliciting ↔ Arms (heard_by words log) (counts_by log) number ack_eliciting
+      arms = let Holds : AckCounts → Type 0 = λ c. Arms (heard_with Known old) (counts_of old) number ack_eliciting ↔ Arms (heard_by words log) c number ack_eliciting in
+          subst Holds left.counts (arms_alike Known (CameIn log) (came_greatest log) known number (IsTrue old.required) (IsRequired log) ((n : ℕ) × IsPending old n) ((n : ℕ) × ToAcknowledge words log n) ((m : ℕ) × (old.base ≡ Some m)) ((m : ℕ) × StartedAt words log m) left.required
           (λ s. (s.0, (left.started s.0).0 s.1), λ s. (s.0, (left.started s.0).1 s.1)) (counts_of old) ack_eliciting)
 
-      since : (m : ℕ) → ((old.base ≡ Some m) ⊎ ((m ≡ now) × Arms (heard_with Known old) (counts_of old) number ack_eliciting)) ↔ StartedAt (heard now number ack_eliciting ∷ log) m
+      since : (m : ℕ) → ((old.base ≡ Some m) ⊎ ((m ≡ now) × Arms (heard_with Known old) (counts_of old) number ack_eliciting)) ↔ StartedAt words (heard now number ack_eliciting ∷ log) m
       since m = (
         λ why. elim why [ inl was ↦ inl ((left.started m).0 was) | inr h ↦ inr (h.0, arms.0 h.1) ],
         λ why. elim why [ inl was ↦ inl ((left.started m).1 was) | inr h ↦ inr (h.0, arms.1 h.1) ],
@@ -84,9 +88,9 @@ module _ (log : List SpaceEntry) (old : Acks) (left : AcksLeft (acks_by log) old
       from (inl was) = step.required.1 (inl (left.required.1 was))
       from (inr why) = step.required.1 (inr (why.0, asks.1 why.1))
 
-  subtracted : (largest : Option ℕ) (new : Acks) → SubtractsLargest largest old new → ((n : ℕ) → IsPending new n ↔ (ToAcknowledge log n × IsTrue (is_above largest n))) × (new.required ≡ old.required) × (new.base ≡ old.base) × (counts_of new ≡ counts_of old) × (new.silent ≡ old.silent) × (new.largest ≡ old.largest)
+  subtracted : (largest : Option ℕ) (new : Acks) → SubtractsLargest largest old new → ((n : ℕ) → IsPending new n ↔ (ToAcknowledge words log n × IsTrue (is_above largest n))) × (new.required ≡ old.required) × (new.base ≡ old.base) × (counts_of new ≡ counts_of old) × (new.silent ≡ old.silent) × (new.largest ≡ old.largest)
   subtracted None new step = (
-    λ n. let P : Acks → Type 0 = λ a. IsPending a n ↔ (ToAcknowledge log n × IsTrue true) in subst P (sym step) (λ h. ((left.pending n).0 h, refl), λ h. (left.pending n).1 h.0),
+    λ n. let Holds : Acks → Type 0 = λ a. IsPending a n ↔ (ToAcknowledge words log n × IsTrue true) in subst Holds (sym step) (λ h. ((left.pending n).0 h, refl), λ h. (left.pending n).1 h.0),
     ap (λ (a : Acks). a.required) step,
     ap (λ (a : Acks). a.base) step,
     ap counts_of step,
@@ -102,32 +106,32 @@ module _ (log : List SpaceEntry) (old : Acks) (left : AcksLeft (acks_by log) old
     step.others.6,
   )
 
-  pub acknowledged_law : (number : ℕ) (new : Acks) (packet : SentPacket) → packet_at (sent_by log).tracked number ≡ Some packet → SubtractsLargest packet.largest_acked old new → AcksLeft (acks_by (acknowledged number ∷ log)) new
+  pub acknowledged_law : (number : ℕ) (new : Acks) (packet : Packet P) → packet_at (sent_by words log).tracked number ≡ Some packet → SubtractsLargest packet.largest_acked old new → AcksLeft (acks_by words (acknowledged number ∷ log)) new
   acknowledged_law number new packet found step =
       let done = subtracted packet.largest_acked new step in
       record {
-        pending = λ n. let P : Option SentPacket → Type 0 = λ p. IsPending new n ↔ (ToAcknowledge log n × IsTrue (is_above (largest_acked_by p) n)) in subst P (sym found) (done.0 n);
+        pending = λ n. let Holds : Option (Packet P) → Type 0 = λ p. IsPending new n ↔ (ToAcknowledge words log n × IsTrue (is_above (largest_acked_by p) n)) in subst Holds (sym found) (done.0 n);
         required = iff_trans (same_flag new.required old.required done.1) left.required;
-        started = λ m. let P : Option ℕ → Type 0 = λ b. (b ≡ Some m) ↔ StartedAt log m in subst P (sym done.2) (left.started m);
+        started = λ m. let Holds : Option ℕ → Type 0 = λ b. (b ≡ Some m) ↔ StartedAt words log m in subst Holds (sym done.2) (left.started m);
         counts = done.3 ∙ left.counts;
         silent = done.4 ∙ left.silent;
         largest = done.5 ∙ left.largest;
       }
 
-  pub ack_goes_law : AcksLeft (acks_by (ack_goes ∷ log)) (acks_sent old)
+  pub ack_goes_law : AcksLeft (acks_by words (ack_goes ∷ log)) (acks_sent old)
   ack_goes_law = record { pending = left.pending; required = (λ h. false_is_not_true h, λ h. absurd h); started = λ m. (none_is_some m, λ h. absurd h); counts = ap counts_acked left.counts; silent = refl; largest = left.largest }
 
-  pub ack_is_late_law : AcksLeft (acks_by (ack_is_late ∷ log)) (with_required (nat_lt 0 old.eliciting) old)
+  pub ack_is_late_law : AcksLeft (acks_by words (ack_is_late ∷ log)) (with_required (nat_lt 0 old.eliciting) old)
   ack_is_late_law = record {
     pending = left.pending;
     required =
-        let P : ℕ → Type 0 = λ n. IsTrue (nat_lt 0 old.eliciting) ↔ (0 < n) in
-        subst P (ap (λ (c : AckCounts). c.eliciting) left.counts) (λ h. ltb-true 0 old.eliciting h, λ h. lt-ltb 0 old.eliciting h);
+        let Holds : ℕ → Type 0 = λ n. IsTrue (nat_lt 0 old.eliciting) ↔ (0 < n) in
+        subst Holds (ap (λ (c : AckCounts). c.eliciting) left.counts) (λ h. ltb-true 0 old.eliciting h, λ h. lt-ltb 0 old.eliciting h);
     started = left.started;
     counts = left.counts;
     silent = left.silent;
     largest = left.largest;
   }
 
-  pub asked_law : (frame : AckFrequency) → AcksLeft (acks_by (asked frame ∷ log)) (with_thresholds frame.ack_eliciting_threshold frame.reordering_threshold old)
+  pub asked_law : (frame : AckFrequency) → AcksLeft (acks_by words (asked frame ∷ log)) (with_thresholds frame.ack_eliciting_threshold frame.reordering_threshold old)
   asked_law frame = record { pending = left.pending; required = left.required; started = left.started; counts = ap (counts_asked frame) left.counts; silent = left.silent; largest = left.largest }

@@ -1,320 +1,334 @@
--- The path's counters stay the sums over the tracked packets.
-use Rattle.std.proofs.Common.{◌≡◌, ℕ, ◌+◌, ◌<◌, ◌≤◌, ◌==◌, Bool, true, false, cond, ◌&&◌, [], Option, None, Some, refl, sym, ap, ap₂, subst, ◌∙◌, arith, eq-eqb}
-use Rattle.std.specs.Prelude.{sum_by}
-use Rattle.std.proofs.lemmas.List.Sums.{sum_by_push}
+-- The counters of each path stay the sums over the tracked packets of its generation.
+use Rattle.std.proofs.Common.{◌≡◌, ◌≢◌, ℕ, ◌+◌, ◌≤◌, ◌<◌, ◌==◌, inl, inr, Bool, true, false, cond, ◌&&◌, [], ◌∷◌, Option, None, Some, refl, sym, ap, ap₂, subst, ◌∙◌, arith, eq-eqb, ne_eqb}
+use Rattle.std.specs.Prelude.{sum_by, option_map}
+use Rattle.std.proofs.lemmas.List.Sums.{sum_by_push, sum_by-cons}
 use Rattle.recovery_base.specs.declared.below.SpaceId.{SpaceId}
 use Rattle.recovery_base.specs.declared.below.SpaceId.TheVariants.{Initial, Handshake, Data}
-use Rattle.recovery_base.specs.Numbers.{Exceeds}
-use Rattle.recovery_base.specs.Received.{Has}
-use Rattle.recovery_acks.specs.Acks.{Acks, new_acks}
+use Rattle.recovery_queue.specs.Queues.{QueueWords}
 use Rattle.recovery_ledger.specs.declared.paths.InFlight.{InFlight}
 use Rattle.recovery_ledger.specs.declared.paths.PathLedger.{PathLedger}
-use Rattle.recovery_ledger.specs.declared.spaces.PacketSpace.{PacketSpace}
-use Rattle.recovery_ledger.specs.declared.spaces.PacketSpaces.{PacketSpaces}
-use Rattle.recovery_ledger.specs.declared.spaces.SentPacket.{SentPacket}
-use Rattle.recovery_ledger.specs.InFlight.{size_in, eliciting_in, over_spaces, in_flight, eliciting_one, with_packet, without_packet, IsCounted, IsCountedIn}
-use Rattle.recovery_ledger.specs.Ledger.{tracked_by, IsBalanced}
-use Rattle.recovery_ledger.specs.Packets.{Packets, Tracking, no_packets, packet_at, without, without_some, forgotten_number, sent_onto, entry_at, numbered, IsTooLarge, AreBelow, AreAcknowledging, after_sending, after_taking}
-use Rattle.recovery_ledger.specs.Paths.{generation_of, counters_of, with_counters, counters_left, after_leaving, path_after_sending}
-use Rattle.recovery_ledger.specs.Spaces.{space_of, with_space, tracking_of, packets_of, acks_of, next_number_of, HasGreatestCome, IsCoherent, space_empties}
-use Rattle.recovery_ledger.proofs.AmongLaws.{acknowledging_without, acknowledging_sent}
-use Rattle.recovery_ledger.proofs.PacketLaws.{sum-without, found-le-sum, AllBelow, all_below, are_below, AllBelow-without, AllBelow-push, without-absent}
+use Rattle.recovery_ledger.specs.InFlight.{size_in, eliciting_in, over_spaces, in_flight, eliciting_one, with_packet, without_packet, IsCounted, IsCountedIn, SumsLeave}
+use Rattle.recovery_ledger.specs.Ledger.{tracked_by, IsBalancedOn, AreUpTo}
+use Rattle.recovery_ledger.specs.Packets.{Packet, Packets, Tracking, no_packets, packet_at, without, with_contents, carrying, without_some, forgotten_number, forgotten_entry, sent_onto, entry_at, numbered, IsAmong, after_sending}
+use Rattle.recovery_ledger.specs.Paths.{generation_of, counters_of, with_counters, counters_left, after_leaving, after_forgetting, path_after_sending, IsCountedOn}
+use Rattle.recovery_ledger.specs.Probes.{ProbeFound, pending_stands, moves, nothing_found}
+use Rattle.recovery_ledger.specs.Spaces.{Space, Spaces, space_of, with_space, tracking_of, packets_of, one_probe_more, space_probes}
+use Rattle.recovery_ledger.proofs.CarryLaws.{sum-carrying, lost_holds}
+use Rattle.recovery_ledger.proofs.PacketLaws.{sum-without, found-le-sum, without-absent}
 
--- ---- one packet
-
-module _ (path : PathLedger) (number : ℕ) (packet : SentPacket) (enough : size_in (generation_of path) (number, packet) ≤ (counters_of path).bytes) (eliciting : eliciting_in (generation_of path) (number, packet) ≤ (counters_of path).ack_eliciting) where
-  -- a packet that leaves takes its part from the counters
-  pub leaves : ((counters_left path packet).bytes + size_in (generation_of path) (number, packet) ≡ (counters_of path).bytes) × ((counters_left path packet).ack_eliciting + eliciting_in (generation_of path) (number, packet) ≡ (counters_of path).ack_eliciting)
-  leaves = go (packet.path_generation == generation_of path) enough eliciting
-    where
-      go : (b : Bool) → cond b packet.size 0 ≤ (counters_of path).bytes → cond (b && packet.ack_eliciting) 1 0 ≤ (counters_of path).ack_eliciting
-          → ((cond b (without_packet (counters_of path) packet) (counters_of path)).bytes + cond b packet.size 0 ≡ (counters_of path).bytes)
-          × ((cond b (without_packet (counters_of path) packet) (counters_of path)).ack_eliciting + cond (b && packet.ack_eliciting) 1 0 ≡ (counters_of path).ack_eliciting)
-      go true h k = (omega (arith, h), omega (arith, k))
-      go false h k = (omega arith, omega arith)
-
-  pub own_counted : packet.path_generation ≡ generation_of path → IsCounted (counters_of path) packet
-  own_counted own =
-      let same : (packet.path_generation == generation_of path) ≡ true = eq-eqb packet.path_generation (generation_of path) own in
-      let size : size_in (generation_of path) (number, packet) ≡ packet.size = ap (λ b. cond b packet.size 0) same in
-      let one : eliciting_in (generation_of path) (number, packet) ≡ eliciting_one packet = ap (λ b. cond (b && packet.ack_eliciting) 1 0) same in
-      (omega (arith, size, enough), omega (arith, one, eliciting))
-
--- ---- one space among three
-
-pub sums_replaced : (f : ℕ × SentPacket → ℕ) (spaces : PacketSpaces) (space : SpaceId) (here : PacketSpace) (a b : ℕ) → sum_by f (packets_of here) + a ≡ sum_by f (tracked_by spaces space) + b
-    → over_spaces (λ s. sum_by f (tracked_by (with_space spaces space here) s)) + a ≡ over_spaces (λ s. sum_by f (tracked_by spaces s)) + b
-sums_replaced f spaces Initial here a b e = omega (arith, e)
-sums_replaced f spaces Handshake here a b e = omega (arith, e)
-sums_replaced f spaces Data here a b e = omega (arith, e)
-
-pub part-le : (f : ℕ × SentPacket → ℕ) (spaces : PacketSpaces) (space : SpaceId) → sum_by f (tracked_by spaces space) ≤ over_spaces (λ s. sum_by f (tracked_by spaces s))
-part-le f spaces Initial = omega arith
-part-le f spaces Handshake = omega arith
-part-le f spaces Data = omega arith
-
-parts_replaced : (spaces : PacketSpaces) (space : SpaceId) (here : PacketSpace) → ((s : SpaceId) → IsCoherent (space_of s spaces)) → IsCoherent here → (s : SpaceId) → IsCoherent (space_of s (with_space spaces space here))
-parts_replaced spaces Initial here all one Initial = one
-parts_replaced spaces Initial here all one Handshake = all Handshake
-parts_replaced spaces Initial here all one Data = all Data
-parts_replaced spaces Handshake here all one Initial = all Initial
-parts_replaced spaces Handshake here all one Handshake = one
-parts_replaced spaces Handshake here all one Data = all Data
-parts_replaced spaces Data here all one Initial = all Initial
-parts_replaced spaces Data here all one Handshake = all Handshake
-parts_replaced spaces Data here all one Data = one
-
-same_counters : (a b : InFlight) → a.bytes ≡ b.bytes → a.ack_eliciting ≡ b.ack_eliciting → a ≡ b
+pub same_counters : (a b : InFlight) → a.bytes ≡ b.bytes → a.ack_eliciting ≡ b.ack_eliciting → a ≡ b
 same_counters a b bytes count = ap₂ (λ (m n : ℕ). let c : InFlight = record { bytes = m; ack_eliciting = n } in c) bytes count
 
-module _ (spaces : PacketSpaces) (path : PathLedger) (balanced : IsBalanced spaces path) where
-  pub counters_bytes : (counters_of path).bytes ≡ over_spaces (λ s. sum_by (size_in (generation_of path)) (tracked_by spaces s))
-  counters_bytes = ap (λ (c : InFlight). c.bytes) balanced.counters
+module _ {P : Type 0} where
+  -- ---- one packet
 
-  pub counters_count : (counters_of path).ack_eliciting ≡ over_spaces (λ s. sum_by (eliciting_in (generation_of path)) (tracked_by spaces s))
-  counters_count = ap (λ (c : InFlight). c.ack_eliciting) balanced.counters
+  module _ (path : PathLedger) (number : ℕ) (packet : Packet P) (enough : size_in (generation_of path) (number, packet) ≤ (counters_of path).bytes) (eliciting : eliciting_in (generation_of path) (number, packet) ≤ (counters_of path).ack_eliciting) where
+    -- a packet that leaves takes its part from the counters
+    pub leaves : ((counters_left path packet).bytes + size_in (generation_of path) (number, packet) ≡ (counters_of path).bytes) × ((counters_left path packet).ack_eliciting + eliciting_in (generation_of path) (number, packet) ≡ (counters_of path).ack_eliciting)
+    leaves = go (packet.path_generation == generation_of path) enough eliciting
+      where
+        go : (b : Bool) → cond b packet.size 0 ≤ (counters_of path).bytes → cond (b && packet.ack_eliciting) 1 0 ≤ (counters_of path).ack_eliciting
+            → ((cond b (without_packet (counters_of path) packet) (counters_of path)).bytes + cond b packet.size 0 ≡ (counters_of path).bytes)
+            × ((cond b (without_packet (counters_of path) packet) (counters_of path)).ack_eliciting + cond (b && packet.ack_eliciting) 1 0 ≡ (counters_of path).ack_eliciting)
+        go true h k = (omega (arith, h), omega (arith, k))
+        go false h k = (omega arith, omega arith)
 
-  -- the packets of a space are among those counted
-  pub space_counted : (space : SpaceId) → IsCountedIn (counters_of path) (generation_of path) (tracked_by spaces space)
-  space_counted space =
-      let sizes = part-le (size_in (generation_of path)) spaces space in
-      let elicitings = part-le (eliciting_in (generation_of path)) spaces space in
-      let bytes = counters_bytes in
-      let count = counters_count in
-      (omega (arith, sizes, bytes), omega (arith, elicitings, count))
+    pub own_counted : packet.path_generation ≡ generation_of path → IsCounted (counters_of path) packet
+    own_counted own =
+        let same : (packet.path_generation == generation_of path) ≡ true = eq-eqb packet.path_generation (generation_of path) own in
+        let size : size_in (generation_of path) (number, packet) ≡ packet.size = ap (λ b. cond b packet.size 0) same in
+        let one : eliciting_in (generation_of path) (number, packet) ≡ eliciting_one packet = ap (λ b. cond (b && packet.ack_eliciting) 1 0) same in
+        (omega (arith, size, enough), omega (arith, one, eliciting))
 
-  pub packet_enough : (space : SpaceId) (number : ℕ) (packet : SentPacket) → packet_at (tracked_by spaces space) number ≡ Some packet
-      → (size_in (generation_of path) (number, packet) ≤ (counters_of path).bytes) × (eliciting_in (generation_of path) (number, packet) ≤ (counters_of path).ack_eliciting)
-  packet_enough space number packet found =
-      let all = space_counted space in
-      let size = found-le-sum (size_in (generation_of path)) (tracked_by spaces space) number packet found in
-      let one = found-le-sum (eliciting_in (generation_of path)) (tracked_by spaces space) number packet found in
-      let h = all.0 in
-      let k = all.1 in
-      (omega (arith, size, h), omega (arith, one, k))
+  -- a packet of another path leaves nothing
+  pub not_leaving : (path : PathLedger) (packet : Packet P) → packet.path_generation ≢ generation_of path → after_leaving path packet ≡ path
+  not_leaving path packet other = ap (λ (b : Bool). with_counters (cond b (without_packet (counters_of path) packet) (counters_of path)) path) (ne_eqb packet.path_generation (generation_of path) other)
 
-  -- a tracked packet is among those counted
-  pub packet_counted : (space : SpaceId) (number : ℕ) (packet : SentPacket) → packet_at (tracked_by spaces space) number ≡ Some packet → packet.path_generation ≡ generation_of path → IsCounted (counters_of path) packet
-  packet_counted space number packet found = let e = packet_enough space number packet found in own_counted path number packet e.0 e.1
+  -- ---- one space among three
 
-  -- one space changes, and the counters by as much
-  pub balanced_by : (space : SpaceId) (here : PacketSpace) (new : PathLedger) (a b c d : ℕ) → generation_of new ≡ generation_of path
-      → sum_by (size_in (generation_of path)) (packets_of here) + a ≡ sum_by (size_in (generation_of path)) (tracked_by spaces space) + b
-      → sum_by (eliciting_in (generation_of path)) (packets_of here) + c ≡ sum_by (eliciting_in (generation_of path)) (tracked_by spaces space) + d
-      → (counters_of new).bytes + a ≡ (counters_of path).bytes + b → (counters_of new).ack_eliciting + c ≡ (counters_of path).ack_eliciting + d
-      → IsCoherent here → IsBalanced (with_space spaces space here) new
-  balanced_by space here new a b c d same sizes elicitings bytes count whole = record {
-    counters =
-        let P : ℕ → Type 0 = λ g. counters_of new ≡ in_flight g (tracked_by (with_space spaces space here)) in
+  pub sums_replaced : (f : ℕ × Packet P → ℕ) (spaces : Spaces P) (space : SpaceId) (here : Space P) (a b : ℕ) → sum_by f (packets_of here) + a ≡ sum_by f (tracked_by spaces space) + b
+      → over_spaces (λ s. sum_by f (tracked_by (with_space spaces space here) s)) + a ≡ over_spaces (λ s. sum_by f (tracked_by spaces s)) + b
+  sums_replaced f spaces Initial here a b e = omega (arith, e)
+  sums_replaced f spaces Handshake here a b e = omega (arith, e)
+  sums_replaced f spaces Data here a b e = omega (arith, e)
+
+  pub part-le : (f : ℕ × Packet P → ℕ) (spaces : Spaces P) (space : SpaceId) → sum_by f (tracked_by spaces space) ≤ over_spaces (λ s. sum_by f (tracked_by spaces s))
+  part-le f spaces Initial = omega arith
+  part-le f spaces Handshake = omega arith
+  part-le f spaces Data = omega arith
+
+  module _ (spaces : Spaces P) (path : PathLedger) (balanced : IsBalancedOn spaces path) where
+    counters_bytes : (counters_of path).bytes ≡ over_spaces (λ s. sum_by (size_in (generation_of path)) (tracked_by spaces s))
+    counters_bytes = ap (λ (c : InFlight). c.bytes) balanced
+
+    counters_count : (counters_of path).ack_eliciting ≡ over_spaces (λ s. sum_by (eliciting_in (generation_of path)) (tracked_by spaces s))
+    counters_count = ap (λ (c : InFlight). c.ack_eliciting) balanced
+
+    -- the packets of a space are among those counted
+    pub space_counted : (space : SpaceId) → IsCountedIn (counters_of path) (generation_of path) (tracked_by spaces space)
+    space_counted space =
+        let sizes = part-le (size_in (generation_of path)) spaces space in
+        let elicitings = part-le (eliciting_in (generation_of path)) spaces space in
+        let bytes = counters_bytes in
+        let count = counters_count in
+        (omega (arith, sizes, bytes), omega (arith, elicitings, count))
+
+    packet_enough : (space : SpaceId) (number : ℕ) (packet : Packet P) → packet_at (tracked_by spaces space) number ≡ Some packet
+        → (size_in (generation_of path) (number, packet) ≤ (counters_of path).bytes) × (eliciting_in (generation_of path) (number, packet) ≤ (counters_of path).ack_eliciting)
+    packet_enough space number packet found =
+        let all = space_counted space in
+        let size = found-le-sum (size_in (generation_of path)) (tracked_by spaces space) number packet found in
+        let one = found-le-sum (eliciting_in (generation_of path)) (tracked_by spaces space) number packet found in
+        let h = all.0 in
+        let k = all.1 in
+        (omega (arith, size, h), omega (arith, one, k))
+
+    -- a tracked packet is among those counted, where it is the path's
+    pub packet_counted : (space : SpaceId) (number : ℕ) (packet : Packet P) → packet_at (tracked_by spaces space) number ≡ Some packet → IsCountedOn path packet
+    packet_counted space number packet found = let e = packet_enough space number packet found in own_counted path number packet e.0 e.1
+
+    -- one space changes, and the counters by as much
+    balanced_by : (space : SpaceId) (here : Space P) (new : PathLedger) (a b c d : ℕ) → generation_of new ≡ generation_of path
+        → sum_by (size_in (generation_of path)) (packets_of here) + a ≡ sum_by (size_in (generation_of path)) (tracked_by spaces space) + b
+        → sum_by (eliciting_in (generation_of path)) (packets_of here) + c ≡ sum_by (eliciting_in (generation_of path)) (tracked_by spaces space) + d
+        → (counters_of new).bytes + a ≡ (counters_of path).bytes + b → (counters_of new).ack_eliciting + c ≡ (counters_of path).ack_eliciting + d
+        → IsBalancedOn (with_space spaces space here) new
+    balanced_by space here new a b c d same sizes elicitings bytes count =
+        let Holds : ℕ → Type 0 = λ g. counters_of new ≡ in_flight g (tracked_by (with_space spaces space here)) in
         let all_sizes = sums_replaced (size_in (generation_of path)) spaces space here a b sizes in
         let all_elicitings = sums_replaced (eliciting_in (generation_of path)) spaces space here c d elicitings in
         let old_bytes = counters_bytes in
         let old_count = counters_count in
-        subst P (sym same) (same_counters (counters_of new) (in_flight (generation_of path) (tracked_by (with_space spaces space here))) (omega (arith, all_sizes, old_bytes, bytes)) (omega (arith, all_elicitings, old_count, count)));
-    coherent = parts_replaced spaces space here balanced.coherent whole;
-  }
+        subst Holds (sym same) (same_counters (counters_of new) (in_flight (generation_of path) (tracked_by (with_space spaces space here))) (omega (arith, all_sizes, old_bytes, bytes)) (omega (arith, all_elicitings, old_count, count)))
 
-  -- nothing that is tracked changes
-  pub balanced_kept : (space : SpaceId) (here : PacketSpace) → tracking_of here ≡ tracking_of (space_of space spaces) → next_number_of here ≡ next_number_of (space_of space spaces) → HasGreatestCome here → IsBalanced (with_space spaces space here) path
-  balanced_kept space here same next received =
-      let packets : packets_of here ≡ tracked_by spaces space = ap (λ (t : Tracking). t.packets) same in
-      let old = balanced.coherent space in
-      balanced_by space here path 0 0 0 0 refl (ap (λ (es : Packets). sum_by (size_in (generation_of path)) es + 0) packets) (ap (λ (es : Packets). sum_by (eliciting_in (generation_of path)) es + 0) packets) refl refl
-      record {
-        packets = let P : ℕ → Type 0 = AreBelow (packets_of here) in let Q : Packets → Type 0 = λ es. AreBelow es (next_number_of (space_of space spaces)) in subst P (sym next) (subst Q (sym packets) old.packets);
-        last = λ m is. let h : m < next_number_of (space_of space spaces) = old.last m (ap (λ (t : Tracking). t.last_eliciting) (sym same) ∙ is) in omega (arith, h, next);
-        acknowledging = let R : Packets → Type 0 = AreAcknowledging in subst R (sym packets) old.acknowledging;
-        received = received;
-      }
+    -- no sum over a space changes
+    balanced_alike : (space : SpaceId) (here : Space P) → sum_by (size_in (generation_of path)) (packets_of here) ≡ sum_by (size_in (generation_of path)) (tracked_by spaces space)
+        → sum_by (eliciting_in (generation_of path)) (packets_of here) ≡ sum_by (eliciting_in (generation_of path)) (tracked_by spaces space) → IsBalancedOn (with_space spaces space here) path
+    balanced_alike space here sizes elicitings = balanced_by space here path 0 0 0 0 refl (ap (λ (n : ℕ). n + 0) sizes) (ap (λ (n : ℕ). n + 0) elicitings) refl refl
 
-  -- a tracked packet leaves
-  pub balanced_taken : (space : SpaceId) (here : PacketSpace) (number : ℕ) (packet : SentPacket) → packet_at (tracked_by spaces space) number ≡ Some packet
-      → tracking_of here ≡ after_taking number (tracking_of (space_of space spaces)) → next_number_of here ≡ next_number_of (space_of space spaces) → HasGreatestCome here → IsBalanced (with_space spaces space here) (after_leaving path packet)
-  balanced_taken space here number packet found same next received =
-      let packets : packets_of here ≡ without (tracked_by spaces space) number = ap (λ (t : Tracking). t.packets) same in
-      let enough = packet_enough space number packet found in
-      let left = leaves path number packet enough.0 enough.1 in
-      let bytes = left.0 in
-      let count = left.1 in
-      let sizes = sum-without (size_in (generation_of path)) (tracked_by spaces space) number packet found in
-      let elicitings = sum-without (eliciting_in (generation_of path)) (tracked_by spaces space) number packet found in
-      let here_sizes = ap (λ (es : Packets). sum_by (size_in (generation_of path)) es) packets in
-      let here_elicitings = ap (λ (es : Packets). sum_by (eliciting_in (generation_of path)) es) packets in
-      let old = balanced.coherent space in
-      balanced_by space here (after_leaving path packet) (size_in (generation_of path) (number, packet)) 0 (eliciting_in (generation_of path) (number, packet)) 0 refl
-      (omega (arith, sizes, here_sizes)) (omega (arith, elicitings, here_elicitings)) (omega (arith, bytes)) (omega (arith, count))
-      record {
-        packets = let P : ℕ → Type 0 = AreBelow (packets_of here) in let Q : Packets → Type 0 = λ es. AreBelow es (next_number_of (space_of space spaces)) in
-            subst P (sym next) (subst Q (sym packets) (are_below _ _ (AllBelow-without (tracked_by spaces space) number (next_number_of (space_of space spaces)) (all_below _ _ old.packets))));
-        last = λ m is. let h : m < next_number_of (space_of space spaces) = old.last m (ap (λ (t : Tracking). t.last_eliciting) (sym same) ∙ is) in omega (arith, h, next);
-        acknowledging = let R : Packets → Type 0 = AreAcknowledging in subst R (sym packets) (acknowledging_without (tracked_by spaces space) number old.acknowledging);
-        received = received;
-      }
+    -- nothing that is tracked changes
+    pub balanced_kept : (space : SpaceId) (here : Space P) → packets_of here ≡ tracked_by spaces space → IsBalancedOn (with_space spaces space here) path
+    balanced_kept space here same = balanced_alike space here (ap (sum_by (size_in (generation_of path))) same) (ap (sum_by (eliciting_in (generation_of path))) same)
 
-  -- a space is emptied
-  pub balanced_emptied : (space : SpaceId) (here : PacketSpace) (new : PathLedger) → generation_of new ≡ generation_of path → packets_of here ≡ [] → IsCoherent here
-      → (counters_of new).bytes + sum_by (size_in (generation_of path)) (tracked_by spaces space) ≡ (counters_of path).bytes
-      → (counters_of new).ack_eliciting + sum_by (eliciting_in (generation_of path)) (tracked_by spaces space) ≡ (counters_of path).ack_eliciting
-      → IsBalanced (with_space spaces space here) new
-  balanced_emptied space here new same packets coherent bytes count =
-      let here_sizes = ap (λ (es : Packets). sum_by (size_in (generation_of path)) es) packets in
-      let here_elicitings = ap (λ (es : Packets). sum_by (eliciting_in (generation_of path)) es) packets in
-      balanced_by space here new (sum_by (size_in (generation_of path)) (tracked_by spaces space)) 0 (sum_by (eliciting_in (generation_of path)) (tracked_by spaces space)) 0 same
-      (omega (arith, here_sizes)) (omega (arith, here_elicitings)) (omega (arith, bytes)) (omega (arith, count)) coherent
+    -- a tracked packet has other contents
+    pub balanced_carrying : (space : SpaceId) (here : Space P) (number : ℕ) (contents : P) → packets_of here ≡ carrying number contents (tracked_by spaces space) → IsBalancedOn (with_space spaces space here) path
+    balanced_carrying space here number contents same =
+        balanced_alike space here
+        (ap (sum_by (size_in (generation_of path))) same ∙ sum-carrying (tracked_by spaces space) number (size_in (generation_of path)) contents (λ n packet. refl))
+        (ap (sum_by (eliciting_in (generation_of path))) same ∙ sum-carrying (tracked_by spaces space) number (eliciting_in (generation_of path)) contents (λ n packet. refl))
 
--- ---- a packet that is sent
+    -- a probe is asked for
+    pub balanced_probed : {S : Type 0} → (words : QueueWords P S) (space : SpaceId) (immediate : Bool) (found : ProbeFound) → IsBalancedOn (with_space spaces space (space_probes words immediate found (one_probe_more (space_of space spaces)))) path
+    balanced_probed words space immediate pending_stands = balanced_kept space (space_probes words immediate pending_stands (one_probe_more (space_of space spaces))) refl
+    balanced_probed words space immediate nothing_found = balanced_kept space (space_probes words immediate nothing_found (one_probe_more (space_of space spaces))) refl
+    balanced_probed words space immediate (moves number) = balanced_carrying space (space_probes words immediate (moves number) (one_probe_more (space_of space spaces))) number words.empty refl
 
--- what a packet that is forgotten takes from a sum
-abbrev pub gone : (ℕ × SentPacket → ℕ) → Option (ℕ × SentPacket) → ℕ
-gone f None = 0
-gone f (Some entry) = f entry
+    -- a tracked packet leaves
+    pub balanced_taken : (space : SpaceId) (here : Space P) (number : ℕ) (packet : Packet P) → packet_at (tracked_by spaces space) number ≡ Some packet
+        → packets_of here ≡ without (tracked_by spaces space) number → IsBalancedOn (with_space spaces space here) (after_leaving path packet)
+    balanced_taken space here number packet found packets =
+        let enough = packet_enough space number packet found in
+        let left = leaves path number packet enough.0 enough.1 in
+        let bytes = left.0 in
+        let count = left.1 in
+        let sizes = sum-without (size_in (generation_of path)) (tracked_by spaces space) number packet found in
+        let elicitings = sum-without (eliciting_in (generation_of path)) (tracked_by spaces space) number packet found in
+        let here_sizes = ap (λ (es : Packets P). sum_by (size_in (generation_of path)) es) packets in
+        let here_elicitings = ap (λ (es : Packets P). sum_by (eliciting_in (generation_of path)) es) packets in
+        balanced_by space here (after_leaving path packet) (size_in (generation_of path) (number, packet)) 0 (eliciting_in (generation_of path) (number, packet)) 0 refl
+        (omega (arith, sizes, here_sizes)) (omega (arith, elicitings, here_elicitings)) (omega (arith, bytes)) (omega (arith, count))
 
-sum-without_some : (f : ℕ × SentPacket → ℕ) (packets : Packets) (forgotten : Option ℕ) → sum_by f (without_some packets forgotten) + gone f (entry_at packets forgotten) ≡ sum_by f packets
-sum-without_some f packets None = omega arith
-sum-without_some f packets (Some number) = go (packet_at packets number) refl
-  where
-    go : (found : Option SentPacket) → packet_at packets number ≡ found → sum_by f (without packets number) + gone f (numbered number found) ≡ sum_by f packets
-    go None absent = let same = ap (λ (es : Packets). sum_by f es) (without-absent packets number absent) in omega (arith, same)
-    go (Some packet) found = sum-without f packets number packet found
+    -- a packet that is lost, as it is handed back, is among those counted, where it is the path's
+    pub lost_counted : (space : SpaceId) (number : ℕ) (contents : P) (packet : Packet P) → option_map (with_contents contents) (packet_at (tracked_by spaces space) number) ≡ Some packet → IsCountedOn path packet
+    lost_counted space number contents packet is = lost_holds (IsCountedOn path) (packet_at (tracked_by spaces space) number) contents packet is (λ old found. packet_counted space number old found)
 
-pub sum-sent_onto : (f : ℕ × SentPacket → ℕ) (last : Option ℕ) (number : ℕ) (packet : SentPacket) (packets : Packets)
-    → sum_by f (sent_onto last number packet packets) + gone f (entry_at packets (forgotten_number last packet packets)) ≡ sum_by f packets + f (number, packet)
-sum-sent_onto f last number packet packets =
-    let push = sum_by_push f (without_some packets (forgotten_number last packet packets)) (number, packet) in
-    let left = sum-without_some f packets (forgotten_number last packet packets) in
-    omega (arith, push, left)
+    -- and leaves
+    pub balanced_lost : (space : SpaceId) (here : Space P) (number : ℕ) (contents : P) (packet : Packet P) → option_map (with_contents contents) (packet_at (tracked_by spaces space) number) ≡ Some packet
+        → packets_of here ≡ without (tracked_by spaces space) number → IsBalancedOn (with_space spaces space here) (after_leaving path packet)
+    balanced_lost space here number contents packet is packets =
+        lost_holds (λ (p : Packet P). IsBalancedOn (with_space spaces space here) (after_leaving path p)) (packet_at (tracked_by spaces space) number) contents packet is (λ old found. balanced_taken space here number old found packets)
 
-AllBelow-without_some : (packets : Packets) (forgotten : Option ℕ) (limit : ℕ) → AllBelow packets limit → AllBelow (without_some packets forgotten) limit
-AllBelow-without_some packets None limit below = below
-AllBelow-without_some packets (Some number) limit below = AllBelow-without packets number limit below
+    -- a space is emptied
+    pub balanced_emptied : (space : SpaceId) (here : Space P) (new : PathLedger) → generation_of new ≡ generation_of path → packets_of here ≡ []
+        → SumsLeave (counters_of path) (generation_of path) (tracked_by spaces space) (counters_of new) → IsBalancedOn (with_space spaces space here) new
+    balanced_emptied space here new same packets leave =
+        let here_sizes = ap (λ (es : Packets P). sum_by (size_in (generation_of path)) es) packets in
+        let here_elicitings = ap (λ (es : Packets P). sum_by (eliciting_in (generation_of path)) es) packets in
+        let bytes = leave.0 in
+        let count = leave.1 in
+        balanced_by space here new (sum_by (size_in (generation_of path)) (tracked_by spaces space)) 0 (sum_by (eliciting_in (generation_of path)) (tracked_by spaces space)) 0 same
+        (omega (arith, here_sizes)) (omega (arith, here_elicitings)) (omega (arith, bytes)) (omega (arith, count))
 
-some_last : (m n : ℕ) → Some m ≡ Some n → m ≡ n
-some_last m n e = cc
+  -- ---- a space that is emptied packet by packet
 
--- the numbers are below the next one when a packet was sent under it
-pub sent_coherent : (old here : PacketSpace) (packet : SentPacket) → IsCoherent old → (¬ IsTooLarge packet.largest_acked) → HasGreatestCome here → tracking_of here ≡ after_sending (next_number_of old) packet (tracking_of old) → next_number_of here ≡ next_number_of old + 1 → IsCoherent here
-sent_coherent old here packet coherent small received tracking next = record {
-  packets =
-      let P : ℕ → Type 0 = AreBelow (packets_of here) in
-      let Q : Packets → Type 0 = λ es. AreBelow es (next_number_of old + 1) in
-      let below = AllBelow-without_some (packets_of old) (forgotten_number (tracking_of old).last_eliciting packet (packets_of old)) (next_number_of old) (all_below _ _ coherent.packets) in
-      subst P (sym next) (subst Q (sym (ap (λ (t : Tracking). t.packets) tracking)) (are_below _ _ (AllBelow-push _ (next_number_of old) packet below)));
-  last = λ m is. let h : m < next_number_of old + 1 = go packet.ack_eliciting m (sym (ap (λ (t : Tracking). t.last_eliciting) tracking) ∙ is) in omega (arith, h, next);
-  acknowledging = let R : Packets → Type 0 = AreAcknowledging in subst R (sym (ap (λ (t : Tracking). t.packets) tracking)) (acknowledging_sent (tracking_of old).last_eliciting (next_number_of old) packet (packets_of old) coherent.acknowledging small);
-  received = received;
-}
-  where
-    go : (b : Bool) (m : ℕ) → cond b (Some (next_number_of old)) (tracking_of old).last_eliciting ≡ Some m → m < next_number_of old + 1
-    go true m e = let h : next_number_of old ≡ m = some_last (next_number_of old) m e in omega arith
-    go false m e = let h : m < next_number_of old = coherent.last m e in omega arith
-
-pub emptied_coherent : (old here : PacketSpace) → IsCoherent old → here ≡ space_empties old → IsCoherent here
-emptied_coherent old here coherent is =
-    let P : PacketSpace → Type 0 = IsCoherent in
-    subst P (sym is) (record { packets = λ number packet found. none_found number packet found; last = coherent.last; acknowledging = λ packet among. absurd among; received = coherent.received })
-  where
-    none_found : (number : ℕ) (packet : SentPacket) → None ≡ Some packet → number < next_number_of old
-    none_found number packet e = cc
-
-module _ (spaces : PacketSpaces) (path : PathLedger) (balanced : IsBalanced spaces path) (space : SpaceId) (packet : SentPacket) (own : packet.path_generation ≡ generation_of path) where
-  -- what the counters are when a packet was sent, and one perhaps forgotten
-  path_sent : (number : ℕ) (forgotten : Option (ℕ × SentPacket)) → ((entry : ℕ × SentPacket) → forgotten ≡ Some entry → (size_in (generation_of path) entry ≤ (counters_of path).bytes) × (eliciting_in (generation_of path) entry ≤ (counters_of path).ack_eliciting))
-      → ((counters_of (path_after_sending path packet forgotten)).bytes + gone (size_in (generation_of path)) forgotten ≡ (counters_of path).bytes + size_in (generation_of path) (number, packet))
-      × ((counters_of (path_after_sending path packet forgotten)).ack_eliciting + gone (eliciting_in (generation_of path)) forgotten ≡ (counters_of path).ack_eliciting + eliciting_in (generation_of path) (number, packet))
-      × (generation_of (path_after_sending path packet forgotten) ≡ generation_of path)
-  path_sent number None enough =
-      let same : (packet.path_generation == generation_of path) ≡ true = eq-eqb packet.path_generation (generation_of path) own in
-      let size : size_in (generation_of path) (number, packet) ≡ packet.size = ap (λ b. cond b packet.size 0) same in
-      let one : eliciting_in (generation_of path) (number, packet) ≡ eliciting_one packet = ap (λ b. cond (b && packet.ack_eliciting) 1 0) same in
-      (omega (arith, size), omega (arith, one), refl)
-  path_sent number (Some entry) enough =
-      let same : (packet.path_generation == generation_of path) ≡ true = eq-eqb packet.path_generation (generation_of path) own in
-      let size : size_in (generation_of path) (number, packet) ≡ packet.size = ap (λ b. cond b packet.size 0) same in
-      let one : eliciting_in (generation_of path) (number, packet) ≡ eliciting_one packet = ap (λ b. cond (b && packet.ack_eliciting) 1 0) same in
-      let counted = enough entry refl in
+  -- the first packet leaves the counters, and the rest of the space is counted still
+  pub first_leaves : (path : PathLedger) (entry : ℕ × Packet P) (rest : Packets P) → IsCountedIn (counters_of path) (generation_of path) (entry ∷ rest)
+      → IsCountedOn path entry.1 × IsCountedIn (counters_of (after_leaving path entry.1)) (generation_of path) rest
+      × ((counters_of (after_leaving path entry.1)).bytes + size_in (generation_of path) entry ≡ (counters_of path).bytes)
+      × ((counters_of (after_leaving path entry.1)).ack_eliciting + eliciting_in (generation_of path) entry ≡ (counters_of path).ack_eliciting)
+  first_leaves path entry rest counted =
+      let sizes = sum_by-cons (size_in (generation_of path)) entry rest in
+      let elicitings = sum_by-cons (eliciting_in (generation_of path)) entry rest in
       let h = counted.0 in
       let k = counted.1 in
-      let left = leaves (with_counters (with_packet (counters_of path) packet) path) entry.0 entry.1 (omega (arith, h)) (omega (arith, k)) in
+      let size : size_in (generation_of path) entry ≤ (counters_of path).bytes = omega (arith, h, sizes) in
+      let one : eliciting_in (generation_of path) entry ≤ (counters_of path).ack_eliciting = omega (arith, k, elicitings) in
+      let left = leaves path entry.0 entry.1 size one in
       let bytes = left.0 in
       let count = left.1 in
-      (omega (arith, size, bytes), omega (arith, one, count), refl)
+      (own_counted path entry.0 entry.1 size one, (omega (arith, h, sizes, bytes), omega (arith, k, elicitings, count)), bytes, count)
 
-  forgotten_enough : (forgotten : Option ℕ) (entry : ℕ × SentPacket) → entry_at (tracked_by spaces space) forgotten ≡ Some entry → (size_in (generation_of path) entry ≤ (counters_of path).bytes) × (eliciting_in (generation_of path) entry ≤ (counters_of path).ack_eliciting)
-  forgotten_enough None entry e = none_is_some entry e
+  -- ---- a packet that is sent
+
+  -- what a packet that is forgotten takes from a sum
+  abbrev pub gone : (ℕ × Packet P → ℕ) → Option (ℕ × Packet P) → ℕ
+  gone f None = 0
+  gone f (Some entry) = f entry
+
+  sum-without_some : (f : ℕ × Packet P → ℕ) (packets : Packets P) (forgotten : Option ℕ) → sum_by f (without_some packets forgotten) + gone f (entry_at packets forgotten) ≡ sum_by f packets
+  sum-without_some f packets None = omega arith
+  sum-without_some f packets (Some number) = go (packet_at packets number) refl
     where
-      none_is_some : (x : ℕ × SentPacket) → None ≡ Some x → (size_in (generation_of path) x ≤ (counters_of path).bytes) × (eliciting_in (generation_of path) x ≤ (counters_of path).ack_eliciting)
-      none_is_some x e = cc
-  forgotten_enough (Some number) entry e = go (packet_at (tracked_by spaces space) number) refl e
+      go : (found : Option (Packet P)) → packet_at packets number ≡ found → sum_by f (without packets number) + gone f (numbered number found) ≡ sum_by f packets
+      go None absent = let same = ap (λ (es : Packets P). sum_by f es) (without-absent packets number absent) in omega (arith, same)
+      go (Some packet) found = sum-without f packets number packet found
+
+  pub sum-sent_onto : (f : ℕ × Packet P → ℕ) (last : Option ℕ) (number : ℕ) (packet : Packet P) (packets : Packets P)
+      → sum_by f (sent_onto last number packet packets) + gone f (entry_at packets (forgotten_number last packet packets)) ≡ sum_by f packets + f (number, packet)
+  sum-sent_onto f last number packet packets =
+      let push = sum_by_push f (without_some packets (forgotten_number last packet packets)) (number, packet) in
+      let left = sum-without_some f packets (forgotten_number last packet packets) in
+      omega (arith, push, left)
+
+  module _ (path : PathLedger) (packet : Packet P) where
+    -- what the counters are when one packet was perhaps forgotten
+    forgotten_leaves : (counters : InFlight) (forgotten : Option (ℕ × Packet P)) → (counters_of path).bytes ≤ counters.bytes → (counters_of path).ack_eliciting ≤ counters.ack_eliciting
+        → ((entry : ℕ × Packet P) → forgotten ≡ Some entry → (size_in (generation_of path) entry ≤ (counters_of path).bytes) × (eliciting_in (generation_of path) entry ≤ (counters_of path).ack_eliciting))
+        → ((counters_of (after_forgetting (with_counters counters path) forgotten)).bytes + gone (size_in (generation_of path)) forgotten ≡ counters.bytes)
+        × ((counters_of (after_forgetting (with_counters counters path) forgotten)).ack_eliciting + gone (eliciting_in (generation_of path)) forgotten ≡ counters.ack_eliciting)
+        × (generation_of (after_forgetting (with_counters counters path) forgotten) ≡ generation_of path)
+    forgotten_leaves counters None bytes count enough = (omega arith, omega arith, refl)
+    forgotten_leaves counters (Some entry) bytes count enough =
+        let counted = enough entry refl in
+        let h = counted.0 in
+        let k = counted.1 in
+        let left = leaves (with_counters counters path) entry.0 entry.1 (omega (arith, h, bytes)) (omega (arith, k, count)) in
+        (left.0, left.1, refl)
+
+    -- a packet of the path adds its part, and one of another path nothing
+    own_adds : (number : ℕ) → packet.path_generation ≡ generation_of path → (size_in (generation_of path) (number, packet) ≡ packet.size) × (eliciting_in (generation_of path) (number, packet) ≡ eliciting_one packet)
+    own_adds number own =
+        let same : (packet.path_generation == generation_of path) ≡ true = eq-eqb packet.path_generation (generation_of path) own in
+        (ap (λ b. cond b packet.size 0) same, ap (λ b. cond (b && packet.ack_eliciting) 1 0) same)
+
+    other_adds : (number : ℕ) → packet.path_generation ≢ generation_of path → (size_in (generation_of path) (number, packet) ≡ 0) × (eliciting_in (generation_of path) (number, packet) ≡ 0)
+    other_adds number other =
+        let same : (packet.path_generation == generation_of path) ≡ false = ne_eqb packet.path_generation (generation_of path) other in
+        (ap (λ b. cond b packet.size 0) same, ap (λ b. cond (b && packet.ack_eliciting) 1 0) same)
+
+  module _ (spaces : Spaces P) (path : PathLedger) (balanced : IsBalancedOn spaces path) (space : SpaceId) where
+    entry_enough : (forgotten : Option ℕ) (entry : ℕ × Packet P) → entry_at (tracked_by spaces space) forgotten ≡ Some entry → (size_in (generation_of path) entry ≤ (counters_of path).bytes) × (eliciting_in (generation_of path) entry ≤ (counters_of path).ack_eliciting)
+    entry_enough None entry e = none_is_some entry e
+      where
+        none_is_some : (x : ℕ × Packet P) → None ≡ Some x → (size_in (generation_of path) x ≤ (counters_of path).bytes) × (eliciting_in (generation_of path) x ≤ (counters_of path).ack_eliciting)
+        none_is_some x e = cc
+    entry_enough (Some number) entry e = go (packet_at (tracked_by spaces space) number) refl e
+      where
+        none_is_some : (x : ℕ × Packet P) → None ≡ Some x → (size_in (generation_of path) x ≤ (counters_of path).bytes) × (eliciting_in (generation_of path) x ≤ (counters_of path).ack_eliciting)
+        none_is_some x e = cc
+
+        same_entry : (x y : ℕ × Packet P) → Some x ≡ Some y → x ≡ y
+        same_entry x y e = cc
+
+        go : (found : Option (Packet P)) → packet_at (tracked_by spaces space) number ≡ found → numbered number found ≡ Some entry → (size_in (generation_of path) entry ≤ (counters_of path).bytes) × (eliciting_in (generation_of path) entry ≤ (counters_of path).ack_eliciting)
+        go None absent f = none_is_some entry f
+        go (Some p) found f =
+            let Holds : ℕ × Packet P → Type 0 = λ x. (size_in (generation_of path) x ≤ (counters_of path).bytes) × (eliciting_in (generation_of path) x ≤ (counters_of path).ack_eliciting) in
+            subst Holds (same_entry (number, p) entry f) (packet_enough spaces path balanced space number p found)
+
+    module _ (packet : Packet P) where
+      -- a packet that is forgotten is among those counted, where it is the path's
+      pub forgotten_counted : (entry : ℕ × Packet P) → forgotten_entry packet (tracking_of (space_of space spaces)) ≡ Some entry → IsCountedOn path entry.1
+      forgotten_counted entry e =
+          let tracking = tracking_of (space_of space spaces) in
+          let enough = entry_enough (forgotten_number tracking.last_eliciting packet tracking.packets) entry e in
+          own_counted path entry.0 entry.1 enough.0 enough.1
+
+      module _ (here : Space P) (number : ℕ) (forgotten : Option (ℕ × Packet P)) (tracking : tracking_of here ≡ after_sending number packet (tracking_of (space_of space spaces))) (is : forgotten ≡ forgotten_entry packet (tracking_of (space_of space spaces))) where
+        -- the counters take in what the packet adds, and let go of what is forgotten
+        sent_by_sums : (counters : InFlight) → counters.bytes ≡ (counters_of path).bytes + size_in (generation_of path) (number, packet) → counters.ack_eliciting ≡ (counters_of path).ack_eliciting + eliciting_in (generation_of path) (number, packet)
+            → IsBalancedOn (with_space spaces space here) (after_forgetting (with_counters counters path) forgotten)
+        sent_by_sums counters more more_count =
+            let old = tracking_of (space_of space spaces) in
+            let last = old.last_eliciting in
+            let packets : packets_of here ≡ sent_onto last number packet (tracked_by spaces space) = ap (λ (t : Tracking P). t.packets) tracking in
+            let left = forgotten_leaves path packet counters forgotten (omega (arith, more)) (omega (arith, more_count)) (λ entry e. entry_enough (forgotten_number last packet (tracked_by spaces space)) entry (sym is ∙ e)) in
+            let bytes = left.0 in
+            let count = left.1 in
+            let sizes = sum-sent_onto (size_in (generation_of path)) last number packet (tracked_by spaces space) in
+            let elicitings = sum-sent_onto (eliciting_in (generation_of path)) last number packet (tracked_by spaces space) in
+            let here_sizes = ap (λ (es : Packets P). sum_by (size_in (generation_of path)) es) packets in
+            let here_elicitings = ap (λ (es : Packets P). sum_by (eliciting_in (generation_of path)) es) packets in
+            let gone_sizes = ap (gone (size_in (generation_of path))) is in
+            let gone_elicitings = ap (gone (eliciting_in (generation_of path))) is in
+            balanced_by spaces path balanced space here (after_forgetting (with_counters counters path) forgotten)
+            (gone (size_in (generation_of path)) forgotten) (size_in (generation_of path) (number, packet)) (gone (eliciting_in (generation_of path)) forgotten) (eliciting_in (generation_of path) (number, packet))
+            left.2 (omega (arith, sizes, here_sizes, gone_sizes)) (omega (arith, elicitings, here_elicitings, gone_elicitings)) (omega (arith, bytes, more)) (omega (arith, count, more_count))
+
+        -- a packet is sent on the path
+        pub balanced_sent : packet.path_generation ≡ generation_of path → IsBalancedOn (with_space spaces space here) (path_after_sending path packet forgotten)
+        balanced_sent own =
+            let adds = own_adds path packet number own in
+            let size = adds.0 in
+            let one = adds.1 in
+            sent_by_sums (with_packet (counters_of path) packet) (omega (arith, size)) (omega (arith, one))
+
+        -- a packet is sent on another path
+        pub balanced_sent_elsewhere : packet.path_generation ≢ generation_of path → IsBalancedOn (with_space spaces space here) (after_forgetting path forgotten)
+        balanced_sent_elsewhere other =
+            let adds = other_adds path packet number other in
+            let size = adds.0 in
+            let one = adds.1 in
+            sent_by_sums (counters_of path) (omega (arith, size)) (omega (arith, one))
+
+  pub generation_after_forgetting : (path : PathLedger) (forgotten : Option (ℕ × Packet P)) → generation_of (after_forgetting path forgotten) ≡ generation_of path
+  generation_after_forgetting path None = refl
+  generation_after_forgetting path (Some entry) = refl
+
+  pub generation_after_sending : (path : PathLedger) (packet : Packet P) (forgotten : Option (ℕ × Packet P)) → generation_of (path_after_sending path packet forgotten) ≡ generation_of path
+  generation_after_sending path packet forgotten = generation_after_forgetting (with_counters (with_packet (counters_of path) packet) path) forgotten
+
+  -- ---- a path on which nothing is in flight
+
+  none_below : (f : ℕ × Packet P → ℕ) (packets : Packets P) → ((n : ℕ) (packet : Packet P) → IsAmong packets packet → f (n, packet) ≡ 0) → sum_by f packets ≡ 0
+  none_below f [] none = refl
+  none_below f (entry ∷ packets) none =
+      let cons = sum_by-cons f entry packets in
+      let first : f entry ≡ 0 = none entry.0 entry.1 (inl refl) in
+      let later = none_below f packets (λ n packet among. none n packet (inr among)) in
+      omega (arith, cons, first, later)
+
+  -- no packet of its generation is tracked yet
+  none_balanced : (spaces : Spaces P) (path : PathLedger) → ((space : SpaceId) (packet : Packet P) → IsAmong (tracked_by spaces space) packet → packet.path_generation ≢ generation_of path)
+      → counters_of path ≡ record { bytes = 0; ack_eliciting = 0 } → IsBalancedOn spaces path
+  none_balanced spaces path none zero =
+      zero ∙ sym (same_counters (in_flight (generation_of path) (tracked_by spaces)) (record { bytes = 0; ack_eliciting = 0 })
+      (no_sum (size_in (generation_of path)) (λ number packet other. (other_adds path packet number other).0))
+      (no_sum (eliciting_in (generation_of path)) (λ number packet other. (other_adds path packet number other).1)))
     where
-      none_is_some : (x : ℕ × SentPacket) → None ≡ Some x → (size_in (generation_of path) x ≤ (counters_of path).bytes) × (eliciting_in (generation_of path) x ≤ (counters_of path).ack_eliciting)
-      none_is_some x e = cc
+      no_sum : (f : ℕ × Packet P → ℕ) → ((number : ℕ) (packet : Packet P) → packet.path_generation ≢ generation_of path → f (number, packet) ≡ 0) → over_spaces (λ s. sum_by f (tracked_by spaces s)) ≡ 0
+      no_sum f adds =
+          let a = none_below f (tracked_by spaces Initial) (λ n packet among. adds n packet (none Initial packet among)) in
+          let b = none_below f (tracked_by spaces Handshake) (λ n packet among. adds n packet (none Handshake packet among)) in
+          let c = none_below f (tracked_by spaces Data) (λ n packet among. adds n packet (none Data packet among)) in
+          omega (arith, a, b, c)
 
-      same_entry : (x y : ℕ × SentPacket) → Some x ≡ Some y → x ≡ y
-      same_entry x y e = cc
+  -- nothing is tracked yet
+  pub fresh_balanced : (spaces : Spaces P) (path : PathLedger) → ((space : SpaceId) → tracking_of (space_of space spaces) ≡ no_packets) → counters_of path ≡ record { bytes = 0; ack_eliciting = 0 } → IsBalancedOn spaces path
+  fresh_balanced spaces path none zero =
+      none_balanced spaces path (λ space packet among. let Among : Tracking P → Type 0 = λ t. IsAmong t.packets packet in absurd (subst Among (none space) among)) zero
 
-      go : (found : Option SentPacket) → packet_at (tracked_by spaces space) number ≡ found → numbered number found ≡ Some entry → (size_in (generation_of path) entry ≤ (counters_of path).bytes) × (eliciting_in (generation_of path) entry ≤ (counters_of path).ack_eliciting)
-      go None absent f = none_is_some entry f
-      go (Some p) found f =
-          let P : ℕ × SentPacket → Type 0 = λ x. (size_in (generation_of path) x ≤ (counters_of path).bytes) × (eliciting_in (generation_of path) x ≤ (counters_of path).ack_eliciting) in
-          subst P (same_entry (number, p) entry f) (packet_enough spaces path balanced space number p found)
-
-  -- what is forgotten is among what is counted
-  pub forgotten_counted : (forgotten : Option ℕ) (entry : ℕ × SentPacket) → entry_at (tracked_by spaces space) forgotten ≡ Some entry → entry.1.path_generation ≡ generation_of path → IsCounted (counters_of path) entry.1
-  forgotten_counted forgotten entry e = let enough = forgotten_enough forgotten entry e in own_counted path entry.0 entry.1 enough.0 enough.1
-
-  pub balanced_sent : (¬ IsTooLarge packet.largest_acked) → (here : PacketSpace) (forgotten : Option (ℕ × SentPacket)) → tracking_of here ≡ after_sending (next_number_of (space_of space spaces)) packet (tracking_of (space_of space spaces))
-      → next_number_of here ≡ next_number_of (space_of space spaces) + 1 → HasGreatestCome here
-      → forgotten ≡ entry_at (tracked_by spaces space) (forgotten_number (tracking_of (space_of space spaces)).last_eliciting packet (tracked_by spaces space))
-      → IsBalanced (with_space spaces space here) (path_after_sending path packet forgotten)
-  balanced_sent small here forgotten tracking next received is =
-      let last = (tracking_of (space_of space spaces)).last_eliciting in
-      let number = next_number_of (space_of space spaces) in
-      let packets : packets_of here ≡ sent_onto last number packet (tracked_by spaces space) = ap (λ (t : Tracking). t.packets) tracking in
-      let sent = path_sent number forgotten (λ entry e. forgotten_enough (forgotten_number last packet (tracked_by spaces space)) entry (sym is ∙ e)) in
-      let sizes = sum-sent_onto (size_in (generation_of path)) last number packet (tracked_by spaces space) in
-      let elicitings = sum-sent_onto (eliciting_in (generation_of path)) last number packet (tracked_by spaces space) in
-      let here_sizes = ap (λ (es : Packets). sum_by (size_in (generation_of path)) es) packets in
-      let here_elicitings = ap (λ (es : Packets). sum_by (eliciting_in (generation_of path)) es) packets in
-      let gone_sizes = ap (gone (size_in (generation_of path))) is in
-      let gone_elicitings = ap (gone (eliciting_in (generation_of path))) is in
-      balanced_by spaces path balanced space here (path_after_sending path packet forgotten)
-      (gone (size_in (generation_of path)) forgotten) (size_in (generation_of path) (number, packet)) (gone (eliciting_in (generation_of path)) forgotten) (eliciting_in (generation_of path) (number, packet))
-      sent.2 (omega (arith, sizes, here_sizes, gone_sizes)) (omega (arith, elicitings, here_elicitings, gone_elicitings)) sent.0 sent.1
-      (sent_coherent (space_of space spaces) here packet (balanced.coherent space) small received tracking next)
-
-pub generation_after_sending : (path : PathLedger) (packet : SentPacket) (forgotten : Option (ℕ × SentPacket)) → generation_of (path_after_sending path packet forgotten) ≡ generation_of path
-generation_after_sending path packet None = refl
-generation_after_sending path packet (Some entry) = refl
-
--- ---- a fresh start
-
-pub fresh_balanced : (spaces : PacketSpaces) (path : PathLedger) → ((space : SpaceId) → tracking_of (space_of space spaces) ≡ no_packets) → ((space : SpaceId) → acks_of (space_of space spaces) ≡ new_acks []) → counters_of path ≡ record { bytes = 0; ack_eliciting = 0 } → IsBalanced spaces path
-fresh_balanced spaces path none no_acks zero = record {
-  counters = zero ∙ sym (same_counters (in_flight (generation_of path) (tracked_by spaces)) (record { bytes = 0; ack_eliciting = 0 }) (no_sum (size_in (generation_of path))) (no_sum (eliciting_in (generation_of path))));
-  coherent = λ space. record { packets = λ number packet found. no_packet_found space number packet found; last = λ m is. no_last space m is; acknowledging = let R : Packets → Type 0 = AreAcknowledging in subst R (sym (empty space)) (λ packet among. absurd among); received = λ number is. no_greatest space number is };
-}
-  where
-    empty : (space : SpaceId) → tracked_by spaces space ≡ []
-    empty space = ap (λ (t : Tracking). t.packets) (none space)
-
-    no_sum : (f : ℕ × SentPacket → ℕ) → over_spaces (λ s. sum_by f (tracked_by spaces s)) ≡ 0
-    no_sum f =
-        let a = ap (λ (es : Packets). sum_by f es) (empty Initial) in
-        let b = ap (λ (es : Packets). sum_by f es) (empty Handshake) in
-        let c = ap (λ (es : Packets). sum_by f es) (empty Data) in
-        omega (arith, a, b, c)
-
-    nothing : {A : Type 0} (packet : SentPacket) → None ≡ Some packet → A
-    nothing packet e = cc
-
-    nothing_last : {A : Type 0} (m : ℕ) → None ≡ Some m → A
-    nothing_last m e = cc
-
-    no_greatest : (space : SpaceId) (number : ℕ) → (acks_of (space_of space spaces)).greatest ≡ Some number → ¬ Exceeds (Has (space_of space spaces).dedup) number
-    no_greatest space number is = nothing_last number (ap (λ (a : Acks). a.greatest) (sym (no_acks space)) ∙ is)
-
-    no_packet_found : (space : SpaceId) (number : ℕ) (packet : SentPacket) → packet_at (tracked_by spaces space) number ≡ Some packet → number < next_number_of (space_of space spaces)
-    no_packet_found space number packet found = nothing packet (ap (λ (es : Packets). packet_at es number) (sym (empty space)) ∙ found)
-
-    no_last : (space : SpaceId) (m : ℕ) → (tracking_of (space_of space spaces)).last_eliciting ≡ Some m → m < next_number_of (space_of space spaces)
-    no_last space m is = nothing_last m (ap (λ (t : Tracking). t.last_eliciting) (sym (none space)) ∙ is)
+  -- a new path has a generation above all that are tracked
+  pub new_path_balanced : (generation : ℕ) (spaces : Spaces P) (path : PathLedger) → AreUpTo generation spaces → generation < generation_of path → counters_of path ≡ record { bytes = 0; ack_eliciting = 0 } → IsBalancedOn spaces path
+  new_path_balanced generation spaces path up_to above zero =
+      none_balanced spaces path (λ space packet among same. let le : packet.path_generation ≤ generation = up_to space packet among in absurd (omega (arith, le, same, above))) zero

@@ -1,10 +1,15 @@
 pub mod AckLaws
 pub mod AmongLaws
+pub mod CarryLaws
+pub mod CoherentLaws
 pub mod CountLaws
 pub mod DepartureLaws
+pub mod EmptyLaws
+pub mod GenerationLaws
 pub mod HeardLaws
 pub mod LedgerLaws
 mod LogRows
 pub mod PacketLaws
+pub mod ProbeLaws
 pub mod ReceivedLaws
 pub mod SpaceLaws

@@ -1,42 +1,88 @@
 -- Worked rows of what happened in a space, each computed: the newest entry comes first.
-use Rattle.std.proofs.Common.{◌≡◌, true, false, List, [], ◌∷◌, None, Some, refl}
+use Rattle.std.proofs.Common.{◌≡◌, ℕ, Bool, true, false, List, [], ◌∷◌, ◌++◌, None, Some, refl}
 use Rattle.recovery_base.specs.declared.below.SpaceId.{SpaceId}
 use Rattle.recovery_base.specs.declared.below.SpaceId.TheVariants.{Initial, Data}
-use Rattle.recovery_ledger.specs.declared.spaces.SentPacket.{SentPacket}
+use Rattle.recovery_queue.specs.Queues.{QueueWords}
 use Rattle.recovery_ledger.specs.Acks.{counts_by, silent_since, largest_new}
 use Rattle.recovery_ledger.specs.Discarded.{was_discarded}
 use Rattle.recovery_ledger.specs.InFlight.{in_flight}
-use Rattle.recovery_ledger.specs.Kept.{kept_by, largest_acknowledged}
-use Rattle.recovery_ledger.specs.Packets.{Packets}
+use Rattle.recovery_ledger.specs.Kept.{kept_by, largest_acknowledged, probes_by}
+use Rattle.recovery_ledger.specs.Packets.{Packet, Packets}
+use Rattle.recovery_ledger.specs.Probes.{pending_stands, moves, nothing_found, probe_found}
+use Rattle.recovery_ledger.specs.Queued.{pending_by, marks_by, has_other, queued_by}
 use Rattle.recovery_ledger.specs.Received.{greatest_new}
-use Rattle.recovery_ledger.specs.SpaceLog.{SpaceEntry, heard, heard_again, sends, acknowledged, loses, ack_goes}
+use Rattle.recovery_ledger.specs.SpaceLog.{SpaceEntry, heard, heard_again, sends, acknowledged, loses, probes, takes_pending, ack_goes}
 use Rattle.recovery_ledger.specs.Tracked.{packet_sent, sent_by}
 
+abbrev is_nil : List ℕ → Bool
+is_nil [] = true
+is_nil (n ∷ rest) = false
+
+-- contents that are lists of numbers, joined end to end
+abbrev words : QueueWords (List ℕ) (Unit {0})
+words = record { empty = []; joined = λ first last. first ++ last; is_empty = λ contents streams. is_nil contents }
+
 -- an ack-eliciting packet of 500 bytes at 7, and a silent one of 40 bytes at 8, on the first path
-abbrev first : SentPacket
-first = packet_sent 0 7 500 true None
+abbrev first : Packet (List ℕ)
+first = packet_sent 0 7 500 true None (1 ∷ 2 ∷ [])
 
-abbrev second : SentPacket
-second = packet_sent 0 8 40 false (Some 3)
+abbrev second : Packet (List ℕ)
+second = packet_sent 0 8 40 false (Some 3) []
 
-abbrev both_sent : List SpaceEntry
-both_sent = sends second ∷ sends first ∷ []
+abbrev both_sent : List (SpaceEntry (List ℕ))
+both_sent = sends 1 second ∷ sends 0 first ∷ []
 
-sent_by-both : (sent_by both_sent).tracked ≡ (0, first) ∷ (1, second) ∷ []
+sent_by-both : (sent_by words both_sent).tracked ≡ (0, first) ∷ (1, second) ∷ []
 sent_by-both = refl
 
-sent_by-one_lost : (sent_by (loses 0 ∷ both_sent)).tracked ≡ (1, second) ∷ []
+sent_by-one_lost : (sent_by words (loses 0 ∷ both_sent)).tracked ≡ (1, second) ∷ []
 sent_by-one_lost = refl
 
-sent_by-next : (sent_by (loses 0 ∷ both_sent)).next ≡ 2
+sent_by-next : (sent_by words (loses 0 ∷ both_sent)).next ≡ 2
 sent_by-next = refl
 
-sent_by-last : (sent_by both_sent).last ≡ Some 0
+sent_by-last : (sent_by words both_sent).last ≡ Some 0
 sent_by-last = refl
 
+-- a number that is skipped counts as given out
+sent_by-skipped : (sent_by words (sends 4 first ∷ both_sent)).next ≡ 5
+sent_by-skipped = refl
+
+-- the first is lost, or a probe finds it
+pending_by-lost : pending_by words (loses 0 ∷ both_sent) ≡ 1 ∷ 2 ∷ []
+pending_by-lost = refl
+
+pending_by-moved : pending_by words (loses 0 ∷ probes false (moves 0) ∷ both_sent) ≡ 1 ∷ 2 ∷ []
+pending_by-moved = refl
+
+pending_by-taken : pending_by words (takes_pending ∷ loses 0 ∷ both_sent) ≡ []
+pending_by-taken = refl
+
+probe_found-first : probe_found words tt (pending_by words both_sent) (sent_by words both_sent).tracked ≡ moves 0
+probe_found-first = refl
+
+probe_found-nothing : probe_found words tt [] (sent_by words (probes false (moves 0) ∷ both_sent)).tracked ≡ nothing_found
+probe_found-nothing = refl
+
+probe_found-pending : probe_found words tt (pending_by words (loses 0 ∷ both_sent)) [] ≡ pending_stands
+probe_found-pending = refl
+
+-- a PING is marked only where no ACK at once is asked for
+marks_by-ping : marks_by (probes false nothing_found ∷ both_sent) ≡ record { ping = true; immediate = false }
+marks_by-ping = refl
+
+marks_by-immediate : marks_by (probes false nothing_found ∷ probes true nothing_found ∷ both_sent) ≡ record { ping = false; immediate = true }
+marks_by-immediate = refl
+
+probes_by-two : probes_by (probes false nothing_found ∷ probes true nothing_found ∷ both_sent) ≡ 2
+probes_by-two = refl
+
+has_other-marked : has_other words tt (queued_by words (probes true (moves 0) ∷ both_sent)) ≡ true
+has_other-marked = refl
+
 -- both are in flight, and one of them elicits an ACK
-in_data : List SpaceEntry → SpaceId → Packets
-in_data log Data = (sent_by log).tracked
+in_data : List (SpaceEntry (List ℕ)) → SpaceId → Packets (List ℕ)
+in_data log Data = (sent_by words log).tracked
 in_data log other = []
 
 in_flight-both : in_flight 0 (in_data both_sent) ≡ record { bytes = 540; ack_eliciting = 1 }
@@ -48,20 +94,20 @@ unfolding in_data
 in_flight-other_path = refl
 
 -- the largest number that was acknowledged, with the moment when its packet was sent
-largest_acknowledged-none : largest_acknowledged 5 both_sent ≡ record { number = None; sent = 5 }
+largest_acknowledged-none : largest_acknowledged words 5 both_sent ≡ record { number = None; sent = 5 }
 largest_acknowledged-none = refl
 
-largest_acknowledged-second : largest_acknowledged 5 (acknowledged 0 ∷ acknowledged 1 ∷ both_sent) ≡ record { number = Some 1; sent = 8 }
+largest_acknowledged-second : largest_acknowledged words 5 (acknowledged 0 ∷ acknowledged 1 ∷ both_sent) ≡ record { number = Some 1; sent = 8 }
 largest_acknowledged-second = refl
 
-kept_by-given_out : (kept_by 5 both_sent).given_out ≡ 2
+kept_by-given_out : (kept_by words 5 both_sent).given_out ≡ 2
 kept_by-given_out = refl
 
-kept_by-last_sent : (kept_by 5 both_sent).last_sent ≡ Some 7
+kept_by-last_sent : (kept_by words 5 both_sent).last_sent ≡ Some 7
 kept_by-last_sent = refl
 
 -- packets 4 and 9 came, then 9 again, and an ACK went out; then 6 came
-abbrev came_in : List SpaceEntry
+abbrev came_in : List (SpaceEntry (List ℕ))
 came_in = heard 3 6 false ∷ ack_goes ∷ heard_again 9 ∷ heard 2 9 true ∷ heard 1 4 true ∷ []
 
 greatest_new-row : greatest_new came_in ≡ 9

@@ -8,6 +8,8 @@ pub mod Ledger
 pub mod Lends
 pub mod Packets
 pub mod Paths
+pub mod Probes
+pub mod Queued
 pub mod Received
 pub mod SpaceLog
 pub mod Spaces

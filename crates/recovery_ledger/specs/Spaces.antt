@@ -3,47 +3,75 @@ use Rattle.std.specs.Prelude.{◌≡◌, ℕ, ◌+◌, ◌-◌, ◌^◌, ◌⊎�
 use Rattle.recovery_base.specs.declared.below.SpaceId.{SpaceId}
 use Rattle.recovery_base.specs.declared.below.SpaceId.TheVariants.{Initial, Handshake, Data}
 use Rattle.recovery_base.specs.declared.below.frames.AckFrequency.{AckFrequency}
+use Rattle.recovery_base.specs.declared.below.frames.EcnCounts.{EcnCounts}
+use Rattle.recovery_base.specs.declared.dedup.Dedup.{Dedup}
 use Rattle.recovery_base.specs.Numbers.{Recent, With, Exceeds, IsNew}
 use Rattle.recovery_base.specs.Received.{Has}
 use Rattle.recovery_acks.specs.Acks.{Acks, IsPending, counted, largest_with, SubtractsBelow, acks_sent, with_required, with_thresholds}
-use Rattle.recovery_ledger.specs.declared.spaces.PacketSpace.{PacketSpace}
-use Rattle.recovery_ledger.specs.declared.spaces.PacketSpaces.{PacketSpaces}
+use Rattle.recovery_queue.specs.Queues.{QueueWords}
 use Rattle.recovery_ledger.specs.declared.spaces.ReceiveError.{ReceiveError}
 use Rattle.recovery_ledger.specs.declared.spaces.ReceiveError.TheVariants.{NumberTooLarge, NoMemory}
 use Rattle.recovery_ledger.specs.declared.spaces.Receipt.{Receipt}
 use Rattle.recovery_ledger.specs.declared.spaces.Receipt.TheVariants.{New, Duplicate}
-use Rattle.recovery_ledger.specs.declared.spaces.SentPacket.{SentPacket}
 use Rattle.recovery_acks.specs.Runs.{IsInHighest}
 use Rattle.recovery_ledger.specs.Acks.{AckCounts, AcksSaid, Heard, AsksAtOnce, Arms, counts_with, acks_by}
-use Rattle.recovery_ledger.specs.Kept.{Kept, kept_by}
-use Rattle.recovery_ledger.specs.SpaceLog.{SpaceEntry, heard, heard_again, sends, acknowledged, loses, emptied, ack_goes, ack_is_late, asked}
+use Rattle.recovery_ledger.specs.Kept.{Kept, kept_by, one_more}
+use Rattle.recovery_ledger.specs.Probes.{ProbeFound, pending_stands, moves, nothing_found}
+use Rattle.recovery_ledger.specs.Queued.{Marks, Queued, marks_with, joined_with, queued_by}
+use Rattle.recovery_ledger.specs.SpaceLog.{SpaceEntry, heard, heard_again, sends, acknowledged, loses, probes, takes_pending, feeds_back, emptied, ack_goes, ack_is_late, asked}
 use Rattle.recovery_ledger.specs.Tracked.{Sent, sent_by}
 use Rattle.recovery_ledger.specs.Received.{CameIn, greatest_new}
-use Rattle.recovery_ledger.specs.Packets.{Packets, Tracking, packet_at, AreBelow, IsAboveLast, AreAcknowledging, after_sending, after_taking, is_above}
+use Rattle.recovery_ledger.specs.Packets.{Packet, Packets, Tracking, packet_at, AreBelow, IsAboveLast, AreAcknowledging, after_sending, after_taking, after_carrying, is_above}
 
-abbrev pub space_of : SpaceId → PacketSpaces → PacketSpace
+-- a space as contracts see it; the contents P are what its queues hold
+pub record Space (P : Type 0) : Type 0 where
+  pub dedup : Dedup
+  pub pending_acks : Acks
+  pub rx_packet : ℕ
+  pub largest_acked_packet : Option ℕ
+  pub largest_acked_packet_sent : ℕ
+  pub time_of_last_ack_eliciting_packet : Option ℕ
+  pub loss_probes : ℕ
+  pub sent_with_keys : ℕ
+  pub next_packet_number : ℕ
+  pub sent_packets : Tracking P
+  -- what is to be sent again
+  pub pending : P
+  pub ping_pending : Bool
+  pub immediate_ack_pending : Bool
+  pub ecn_counters : EcnCounts
+  pub ecn_feedback : EcnCounts
+  pub loss_time : Option ℕ
+  pub crypto_offset : ℕ
+
+pub record Spaces (P : Type 0) : Type 0 where
+  pub initial : Space P
+  pub handshake : Space P
+  pub «data» : Space P
+
+abbrev pub space_of : {P : Type 0} → SpaceId → Spaces P → Space P
 space_of Initial spaces = spaces.initial
 space_of Handshake spaces = spaces.handshake
 space_of Data spaces = spaces.«data»
 
-abbrev pub with_space : PacketSpaces → SpaceId → PacketSpace → PacketSpaces
+abbrev pub with_space : {P : Type 0} → Spaces P → SpaceId → Space P → Spaces P
 with_space spaces Initial space = record spaces { initial = space }
 with_space spaces Handshake space = record spaces { handshake = space }
 with_space spaces Data space = record spaces { «data» = space }
 
 -- ---- one space
 
-abbrev pub tracking_of : PacketSpace → Tracking
+abbrev pub tracking_of : {P : Type 0} → Space P → Tracking P
 tracking_of space = space.sent_packets
 
-abbrev pub with_tracking : Tracking → PacketSpace → PacketSpace
+abbrev pub with_tracking : {P : Type 0} → Tracking P → Space P → Space P
 with_tracking tracking space = record space { sent_packets = tracking }
 
-abbrev pub packets_of : PacketSpace → Packets
+abbrev pub packets_of : {P : Type 0} → Space P → Packets P
 packets_of space = (tracking_of space).packets
 
 -- what is known of the packets sent
-abbrev pub sent_of : PacketSpace → Sent
+abbrev pub sent_of : {P : Type 0} → Space P → Sent P
 sent_of space = record {
   next = space.next_packet_number;
   last = (tracking_of space).last_eliciting;
@@ -51,7 +79,7 @@ sent_of space = record {
 }
 
 -- what is kept of the packets sent
-abbrev pub kept_of : PacketSpace → Kept
+abbrev pub kept_of : {P : Type 0} → Space P → Kept
 kept_of space = record {
   largest = record { number = space.largest_acked_packet; sent = space.largest_acked_packet_sent };
   last_sent = space.time_of_last_ack_eliciting_packet;
@@ -59,10 +87,21 @@ kept_of space = record {
   given_out = space.sent_with_keys;
 }
 
-abbrev pub acks_of : PacketSpace → Acks
+abbrev pub marks_of : {P : Type 0} → Space P → Marks
+marks_of space = record { ping = space.ping_pending; immediate = space.immediate_ack_pending }
+
+-- what is to be sent again, and what probes ask for
+abbrev pub queued_of : {P : Type 0} → Space P → Queued P
+queued_of space = record {
+  pending = space.pending;
+  marks = marks_of space;
+  ecn = space.ecn_feedback;
+}
+
+abbrev pub acks_of : {P : Type 0} → Space P → Acks
 acks_of space = space.pending_acks
 
-abbrev pub with_acks : Acks → PacketSpace → PacketSpace
+abbrev pub with_acks : {P : Type 0} → Acks → Space P → Space P
 with_acks acks space = record space { pending_acks = acks }
 
 -- what decides of the next ACK
@@ -74,37 +113,39 @@ counts_of acks = record {
   acknowledged = acks.acknowledged;
 }
 
-abbrev pub next_number_of : PacketSpace → ℕ
+abbrev pub next_number_of : {P : Type 0} → Space P → ℕ
 next_number_of space = space.next_packet_number
 
 -- the greatest ack-eliciting number was received
-abbrev pub HasGreatestCome : PacketSpace → Type 0
+abbrev pub HasGreatestCome : {P : Type 0} → Space P → Type 0
 HasGreatestCome space =
     (number : ℕ) → (acks_of space).greatest ≡ Some number → ¬ Exceeds (Has space.dedup) number
 
--- all that was sent has a number below the next one, and acknowledges numbers of packets; what asks for an ACK was received
-pub record IsCoherent (space : PacketSpace) : Type 0 where
+-- all that was sent has a number below the next one, and acknowledges numbers of packets; what asks
+-- for an ACK was received
+pub record IsCoherent {P : Type 0} (space : Space P) : Type 0 where
   pub packets : AreBelow (packets_of space) (next_number_of space)
   pub last : IsAboveLast (tracking_of space).last_eliciting (next_number_of space)
   pub acknowledging : AreAcknowledging (packets_of space)
   pub received : HasGreatestCome space
 
--- the next number is given out
-abbrev pub after_number : PacketSpace → PacketSpace
-after_number space = record space {
-  next_packet_number = space.next_packet_number + 1;
-  sent_with_keys = min (space.sent_with_keys + 1) (2 ^ 64 - 1);
+-- a number is given out, and those from the next one up to it are skipped
+abbrev pub after_number : {P : Type 0} → ℕ → Space P → Space P
+after_number number space = record space {
+  next_packet_number = number + 1;
+  sent_with_keys =
+      min (space.sent_with_keys + (number + 1 - space.next_packet_number)) (2 ^ 64 - 1);
 }
 
 -- a packet that elicits an ACK was sent at this moment
-abbrev pub after_eliciting : Bool → ℕ → PacketSpace → PacketSpace
+abbrev pub after_eliciting : {P : Type 0} → Bool → ℕ → Space P → Space P
 after_eliciting eliciting now space = record space {
   time_of_last_ack_eliciting_packet = (if eliciting then Some now else space.time_of_last_ack_eliciting_packet);
   loss_probes = (if eliciting then space.loss_probes - 1 else space.loss_probes);
 }
 
 -- a number is acknowledged, sent at this moment: the greatest is kept
-abbrev pub after_acknowledging : ℕ → ℕ → PacketSpace → PacketSpace
+abbrev pub after_acknowledging : {P : Type 0} → ℕ → ℕ → Space P → Space P
 after_acknowledging number sent space = record space {
   largest_acked_packet = (if is_above space.largest_acked_packet number then Some number else space.largest_acked_packet);
   largest_acked_packet_sent = (if is_above space.largest_acked_packet number then sent else space.largest_acked_packet_sent);
@@ -117,10 +158,11 @@ abbrev pub heard_with : (ℕ → Type 0) → Acks → Heard
 heard_with Numbers acks = record {
   came = Numbers;
   required = IsTrue acks.required;
+  waits = (n : ℕ) × IsPending acks n;
   started = (m : ℕ) × (acks.base ≡ Some m);
 }
 
-abbrev pub heard_of : PacketSpace → Heard
+abbrev pub heard_of : {P : Type 0} → Space P → Heard
 heard_of space = heard_with (Has space.dedup) (acks_of space)
 
 -- a new number came and is to be acknowledged
@@ -134,7 +176,8 @@ pub record HearsNew (Numbers : ℕ → Type 0) (old : Acks) (now number : ℕ) (
   pub silent : new.silent ≡ (if eliciting then old.silent else counted old.silent)
   pub largest : new.largest ≡ largest_with old.largest number now
 
-pub record ReceivesNew (old : PacketSpace) (now number : ℕ) (eliciting : Bool) (new : PacketSpace) : Type 0 where
+pub record ReceivesNew {P : Type 0} (old : Space P) (now number : ℕ) (eliciting : Bool)
+    (new : Space P) : Type 0 where
   pub numbers : (n : ℕ) → Has new.dedup n ↔ Recent (With number (Has old.dedup)) n
   pub hears : HearsNew (Has old.dedup) (acks_of old) now number eliciting (acks_of new)
   pub others : new ≡ record old {
@@ -143,13 +186,13 @@ pub record ReceivesNew (old : PacketSpace) (now number : ℕ) (eliciting : Bool)
     rx_packet = max old.rx_packet number;
   }
 
--- a packet was sent under the next number
-abbrev pub space_sends : SentPacket → PacketSpace → PacketSpace
-space_sends packet space = after_eliciting packet.ack_eliciting packet.time_sent
-    (after_number (with_tracking (after_sending (next_number_of space) packet (tracking_of space)) space))
+-- a packet was sent under a number
+abbrev pub space_sends : {P : Type 0} → ℕ → Packet P → Space P → Space P
+space_sends number packet space = after_eliciting packet.ack_eliciting packet.time_sent
+    (after_number number (with_tracking (after_sending number packet (tracking_of space)) space))
 
 -- the packet of a number is no longer tracked
-abbrev pub space_takes : ℕ → PacketSpace → PacketSpace
+abbrev pub space_takes : {P : Type 0} → ℕ → Space P → Space P
 space_takes number space = with_tracking (after_taking number (tracking_of space)) space
 
 -- the numbers up to the largest that the peer knows of need no acknowledgement any more
@@ -158,35 +201,78 @@ SubtractsLargest None old new = new ≡ old
 SubtractsLargest (Some largest) old new = SubtractsBelow old largest new
 
 -- a tracked packet was acknowledged
-pub record SpaceAcks (number : ℕ) (old new : PacketSpace) : Type 0 where
-  pub packet : SentPacket
+pub record SpaceAcks {P : Type 0} (number : ℕ) (old new : Space P) : Type 0 where
+  pub packet : Packet P
   pub found : packet_at (packets_of old) number ≡ Some packet
   pub subtracts : SubtractsLargest packet.largest_acked (acks_of old) (acks_of new)
   pub others : new ≡ with_acks (acks_of new)
       (after_acknowledging number packet.time_sent (space_takes number old))
 
 -- nothing is tracked any more
-abbrev pub space_empties : PacketSpace → PacketSpace
+abbrev pub space_empties : {P : Type 0} → Space P → Space P
 space_empties space = with_tracking (record (tracking_of space) { packets = [] }) space
 
 -- an ACK was sent
-abbrev pub space_acked : PacketSpace → PacketSpace
+abbrev pub space_acked : {P : Type 0} → Space P → Space P
 space_acked space = with_acks (acks_sent (acks_of space)) space
 
 -- the timer for a late ACK expired
-abbrev pub space_late : PacketSpace → PacketSpace
+abbrev pub space_late : {P : Type 0} → Space P → Space P
 space_late space =
     with_acks (with_required (nat_lt 0 (acks_of space).eliciting) (acks_of space)) space
 
 -- the peer asked for other thresholds
-abbrev pub space_asked : AckFrequency → PacketSpace → PacketSpace
+abbrev pub space_asked : {P : Type 0} → AckFrequency → Space P → Space P
 space_asked frame space =
     with_acks
     (with_thresholds frame.ack_eliciting_threshold frame.reordering_threshold (acks_of space))
     space
 
+-- counts of ECN were kept
+abbrev pub space_fed_back : {P : Type 0} → EcnCounts → Space P → Space P
+space_fed_back counts space = record space { ecn_feedback = counts }
+
+abbrev pub with_marks : {P : Type 0} → Marks → Space P → Space P
+with_marks marks space = record space {
+  ping_pending = marks.ping;
+  immediate_ack_pending = marks.immediate;
+}
+
+-- one probe more is to be sent
+abbrev pub one_probe_more : {P : Type 0} → Space P → Space P
+one_probe_more space = record space { loss_probes = one_more space.loss_probes }
+
+module _ {P S : Type 0} (words : QueueWords P S) where
+  -- the contents of a tracked packet are moved behind the pending ones
+  abbrev pub space_moves : ℕ → Space P → Space P
+  space_moves number space = record space {
+    sent_packets = after_carrying number words.empty (tracking_of space);
+    pending = joined_with words space.pending (packet_at (packets_of space) number);
+  }
+
+  -- a tracked packet was lost: its contents are to be sent again
+  abbrev pub space_loses : ℕ → Space P → Space P
+  space_loses number space = record space {
+    sent_packets = after_taking number (tracking_of space);
+    pending = joined_with words space.pending (packet_at (packets_of space) number);
+  }
+
+  abbrev pub space_finds : ProbeFound → Space P → Space P
+  space_finds (moves number) space = space_moves number space
+  space_finds pending_stands space = space
+  space_finds nothing_found space = space
+
+  -- contents for a probe were looked for
+  abbrev pub space_probes : Bool → ProbeFound → Space P → Space P
+  space_probes immediate found space =
+      with_marks (marks_with immediate found (marks_of space)) (space_finds found space)
+
+  -- the pending contents were handed out
+  abbrev pub space_hands_out : Space P → Space P
+  space_hands_out space = record space { pending = words.empty }
+
 -- a packet came in
-abbrev pub came : ℕ → ℕ → Bool → Receipt → SpaceEntry
+abbrev pub came : {P : Type 0} → ℕ → ℕ → Bool → Receipt → SpaceEntry P
 came now number ack_eliciting (New arm) = heard now number ack_eliciting
 came now number ack_eliciting Duplicate = heard_again number
 
@@ -203,18 +289,6 @@ ReceiveReply known counts number eliciting (Ok receipt) =
 ReceiveReply known counts number eliciting (Err NumberTooLarge) = 2 ^ 62 ≤ number
 ReceiveReply known counts number eliciting (Err NoMemory) = (number < 2 ^ 62) × IsNew known.came number
 
-abbrev pub SpaceStep : SpaceEntry → PacketSpace → PacketSpace → Type 0
-SpaceStep (heard now number ack_eliciting) old new = ReceivesNew old now number ack_eliciting new
-SpaceStep (heard_again number) old new =
-    ((n : ℕ) → Has new.dedup n ↔ Recent (With number (Has old.dedup)) n) × (new ≡ old)
-SpaceStep (sends packet) old new = new ≡ space_sends packet old
-SpaceStep (acknowledged number) old new = SpaceAcks number old new
-SpaceStep (loses number) old new = new ≡ space_takes number old
-SpaceStep emptied old new = new ≡ space_empties old
-SpaceStep ack_goes old new = new ≡ space_acked old
-SpaceStep ack_is_late old new = new ≡ space_late old
-SpaceStep (asked frame) old new = new ≡ space_asked frame old
-
 -- ---- what a log leaves
 
 -- what is to be acknowledged in a space, and what decides when
@@ -226,11 +300,30 @@ pub record AcksLeft (said : AcksSaid) (acks : Acks) : Type 0 where
   pub silent : acks.silent ≡ said.silent
   pub largest : acks.largest ≡ said.largest
 
--- what a log leaves in a space that was made at this moment
-pub record SpaceLeft (start : ℕ) (log : List SpaceEntry) (left : PacketSpace) : Type 0 where
-  -- a space knows the numbers that came in it, at most 128 below the greatest
-  pub numbers : (n : ℕ) → Has left.dedup n ↔ Recent (CameIn log) n
-  pub acks : AcksLeft (acks_by log) (acks_of left)
-  pub greatest : left.rx_packet ≡ greatest_new log
-  pub sent : sent_of left ≡ sent_by log
-  pub kept : kept_of left ≡ kept_by start log
+module _ {P S : Type 0} (words : QueueWords P S) where
+  abbrev pub SpaceStep : SpaceEntry P → Space P → Space P → Type 0
+  SpaceStep (heard now number ack_eliciting) old new = ReceivesNew old now number ack_eliciting new
+  SpaceStep (heard_again number) old new =
+      ((n : ℕ) → Has new.dedup n ↔ Recent (With number (Has old.dedup)) n) × (new ≡ old)
+  SpaceStep (sends number packet) old new =
+      (next_number_of old ≤ number) × (new ≡ space_sends number packet old)
+  SpaceStep (acknowledged number) old new = SpaceAcks number old new
+  SpaceStep (loses number) old new = new ≡ space_loses words number old
+  SpaceStep (probes immediate found) old new =
+      new ≡ space_probes words immediate found (one_probe_more old)
+  SpaceStep takes_pending old new = new ≡ space_hands_out words old
+  SpaceStep (feeds_back counts) old new = new ≡ space_fed_back counts old
+  SpaceStep emptied old new = new ≡ space_empties old
+  SpaceStep ack_goes old new = new ≡ space_acked old
+  SpaceStep ack_is_late old new = new ≡ space_late old
+  SpaceStep (asked frame) old new = new ≡ space_asked frame old
+
+  -- what a log leaves in a space that was made at this moment
+  pub record SpaceLeft (start : ℕ) (log : List (SpaceEntry P)) (left : Space P) : Type 0 where
+    -- a space knows the numbers that came in it, at most 128 below the greatest
+    pub numbers : (n : ℕ) → Has left.dedup n ↔ Recent (CameIn log) n
+    pub acks : AcksLeft (acks_by words log) (acks_of left)
+    pub greatest : left.rx_packet ≡ greatest_new log
+    pub sent : sent_of left ≡ sent_by words log
+    pub kept : kept_of left ≡ kept_by words start log
+    pub queued : queued_of left ≡ queued_by words log

@@ -1,46 +1,56 @@
 -- Packets sent in a space, and those still tracked (RFC 9002, A.1).
 use Rattle.std.specs.Prelude.{ℕ, ◌+◌, List, [], ◌∷◌, Bool, Option, None, Some, if◌then◌else◌}
-use Rattle.recovery_ledger.specs.declared.spaces.SentPacket.{SentPacket}
-use Rattle.recovery_ledger.specs.Packets.{Packets, without, forgotten_number, sent_onto}
-use Rattle.recovery_ledger.specs.SpaceLog.{SpaceEntry, sends, acknowledged, loses, emptied}
+use Rattle.recovery_queue.specs.Queues.{QueueWords}
+use Rattle.recovery_ledger.specs.Packets.{Packet, Packets, without, carrying, forgotten_number, sent_onto}
+use Rattle.recovery_ledger.specs.Probes.{ProbeFound, pending_stands, moves, nothing_found}
+use Rattle.recovery_ledger.specs.SpaceLog.{SpaceEntry, sends, acknowledged, loses, probes, emptied}
 
 -- a packet as it is sent
-abbrev pub packet_sent : ℕ → ℕ → ℕ → Bool → Option ℕ → SentPacket
-packet_sent generation now size ack_eliciting largest_acked = record {
+abbrev pub packet_sent : {P : Type 0} → ℕ → ℕ → ℕ → Bool → Option ℕ → P → Packet P
+packet_sent generation now size ack_eliciting largest_acked retransmits = record {
   path_generation = generation;
   time_sent = now;
   size = size;
   ack_eliciting = ack_eliciting;
   largest_acked = largest_acked;
+  retransmits = retransmits;
 }
 
-pub record Sent : Type 0 where
-  -- how many packets were sent: the next number
+pub record Sent (P : Type 0) : Type 0 where
+  -- one above the last number given out
   pub next : ℕ
   -- the number of the last packet sent that elicits an ACK
   pub last : Option ℕ
   -- the packets sent, and since then not acknowledged, lost, forgotten or discarded
-  pub tracked : Packets
+  pub tracked : Packets P
 
 -- the number that is forgotten when a packet is sent
-abbrev pub forgotten_by : Sent → SentPacket → Option ℕ
+abbrev pub forgotten_by : {P : Type 0} → Sent P → Packet P → Option ℕ
 forgotten_by sent packet = forgotten_number sent.last packet sent.tracked
 
-abbrev pub sent_more : SentPacket → Sent → Sent
-sent_more packet sent = record {
-  next = sent.next + 1;
-  last = (if packet.ack_eliciting then Some sent.next else sent.last);
-  tracked = sent_onto sent.last sent.next packet sent.tracked;
+abbrev pub sent_more : {P : Type 0} → ℕ → Packet P → Sent P → Sent P
+sent_more number packet sent = record {
+  next = number + 1;
+  last = (if packet.ack_eliciting then Some number else sent.last);
+  tracked = sent_onto sent.last number packet sent.tracked;
 }
 
 -- a packet is tracked no more
-abbrev pub sent_less : ℕ → Sent → Sent
+abbrev pub sent_less : {P : Type 0} → ℕ → Sent P → Sent P
 sent_less number sent = record sent { tracked = without sent.tracked number }
 
-abbrev pub sent_by : List SpaceEntry → Sent
-sent_by [] = record { next = 0; last = None; tracked = [] }
-sent_by (sends packet ∷ earlier) = sent_more packet (sent_by earlier)
-sent_by (acknowledged number ∷ earlier) = sent_less number (sent_by earlier)
-sent_by (loses number ∷ earlier) = sent_less number (sent_by earlier)
-sent_by (emptied ∷ earlier) = record (sent_by earlier) { tracked = [] }
-sent_by (entry ∷ earlier) = sent_by earlier
+-- a packet's contents are moved out, where a probe finds them
+abbrev pub sent_moved : {P : Type 0} → P → ProbeFound → Sent P → Sent P
+sent_moved empty (moves number) sent = record sent { tracked = carrying number empty sent.tracked }
+sent_moved empty pending_stands sent = sent
+sent_moved empty nothing_found sent = sent
+
+module _ {P S : Type 0} (words : QueueWords P S) where
+  abbrev pub sent_by : List (SpaceEntry P) → Sent P
+  sent_by [] = record { next = 0; last = None; tracked = [] }
+  sent_by (sends number packet ∷ earlier) = sent_more number packet (sent_by earlier)
+  sent_by (acknowledged number ∷ earlier) = sent_less number (sent_by earlier)
+  sent_by (loses number ∷ earlier) = sent_less number (sent_by earlier)
+  sent_by (probes immediate found ∷ earlier) = sent_moved words.empty found (sent_by earlier)
+  sent_by (emptied ∷ earlier) = record (sent_by earlier) { tracked = [] }
+  sent_by (entry ∷ earlier) = sent_by earlier

@@ -1,13 +1,14 @@
 //! The ledger of a network path: its generation, and the bytes in flight on it (RFC 9002, B.2).
-ghost use Rattle.std.specs.Prelude.{◌≡◌, Decides, ◌↔◌, ℕ, ◌<◌, IsTrue, IfOk, OnOk, OnErr, IfSome, IsErrOf};
+ghost use Rattle.std.specs.Prelude.{◌≡◌, Decides, ◌↔◌, IfOk, OnOk, OnErr, IsErrOf};
 ghost use Rattle.std.specs.Option.{SomeIff};
 ghost use Rattle.recovery_ledger.specs.Packets.{forgotten_entry, after_sending};
-ghost use Rattle.recovery_ledger.specs.InFlight.{with_packet, without_packet, IsCounted, IsCountedIn, SumsLeave, Overflows};
+ghost use Rattle.recovery_ledger.specs.InFlight.{with_packet, without_packet, IsCounted, Overflows};
 ghost use Rattle.recovery_ledger.specs.Paths.{generation_of, counters_of, fresh_ledger, after_leaving, path_after_sending, IsCountedOn, CanTrack};
-ghost use Rattle.recovery_ledger.specs.Spaces.{tracking_of, with_tracking, packets_of, space_empties};
+ghost use Rattle.recovery_ledger.specs.Spaces.{tracking_of, with_tracking};
 
 use crate::spaces::{PacketSpace, SentPacket};
 use recovery_base::below::NoMemory;
+use recovery_queue::queue::RetransmitQueue;
 use thiserror::Error;
 
 /// What is in flight on a path: packets that were sent on it and are tracked.
@@ -21,7 +22,7 @@ pub struct InFlight {
 
 impl InFlight {
     /// The counters with one packet more, or `None` where one would pass `u64::MAX`.
-    fn checked_insert(self, packet: &SentPacket) -> Option<InFlight>
+    fn checked_insert<Q: RetransmitQueue>(self, packet: &SentPacket<Q>) -> Option<InFlight>
         ensures { SomeIff result (¬ Overflows self packet.now) (with_packet self packet.now) }
     {
         Some(InFlight {
@@ -33,7 +34,7 @@ impl InFlight {
     }
 
     /// The counters without a packet that is counted.
-    fn remove(self, packet: &SentPacket) -> InFlight
+    fn remove<Q: RetransmitQueue>(self, packet: &SentPacket<Q>) -> InFlight
         requires { IsCounted self packet.now }
         ensures { result ≡ without_packet self packet.now }
     {
@@ -87,15 +88,18 @@ impl PathLedger {
         self.in_flight
     }
 
-    /// Tracks a packet of this path in a space, and counts it. A packet that the space forgets for it is handed back with
-    /// its number, and is no longer counted where it is one of this path's. `Overflow` is tested before anything is
-    /// forgotten. Cost: logarithmic in the packets tracked.
-    pub fn sent(
+    /// Tracks a packet of this path in a space, and counts it. A packet that the space forgets for it is handed back
+    /// with its number, and is no longer counted where it is one of this path's. `Overflow` is tested before anything
+    /// is forgotten. Cost: logarithmic in the packets tracked.
+    pub fn sent<Q>(
         &mut self,
         number: u64,
-        packet: SentPacket,
-        space: &mut PacketSpace,
-    ) -> Result<Option<(u64, SentPacket)>, LedgerError>
+        packet: SentPacket<Q>,
+        space: &mut PacketSpace<Q>,
+    ) -> Result<Option<(u64, SentPacket<Q>)>, LedgerError>
+    where
+        Q: RetransmitQueue + Drop,
+        Q::Meta: Drop,
         requires { CanTrack self.old number packet space.old }
         ensures space { OnOk result
             (space.new ≡ with_tracking (after_sending number packet (tracking_of space.old)) space.old) }
@@ -120,7 +124,7 @@ impl PathLedger {
     }
 
     /// Counts a packet no more: false, and nothing, for a packet of another path.
-    pub fn remove_in_flight(&mut self, packet: &SentPacket) -> bool
+    pub fn remove_in_flight<Q: RetransmitQueue>(&mut self, packet: &SentPacket<Q>) -> bool
         requires { IsCountedOn self.old packet.now }
         ensures own { Decides result (packet.now.path_generation ≡ generation_of self.old) }
         ensures after { self.new ≡ after_leaving self.old packet.now }
@@ -130,19 +134,5 @@ impl PathLedger {
         }
         self.in_flight = self.in_flight.remove(packet);
         true
-    }
-
-    /// Takes every packet of a space out, and counts those of this path no more. Cost: linear in the packets that the space
-    /// tracks.
-    pub fn forget_all(&mut self, space: &mut PacketSpace)
-        requires { IsCountedIn (counters_of self.old) (generation_of self.old) (packets_of space.old) }
-        ensures space { space.new ≡ space_empties space.old }
-        ensures generation { generation_of self.new ≡ generation_of self.old }
-        ensures counters { SumsLeave (counters_of self.old) (generation_of self.old)
-            (packets_of space.old) (counters_of self.new) }
-    {
-        while let Some((_, packet)) = space.take_first() {
-            self.remove_in_flight(&packet);
-        }
     }
 }

@@ -1,41 +1,49 @@
 //! The packets that a packet number space tracks (RFC 9002, A.1), by number.
-ghost use Rattle.std.specs.Prelude.{◌≡◌, Decides, ℕ, ◌<◌, ◌≤◌, ◌↔◌, [], ◌∷◌, IfOk, OnOk, OnErr, IsTrue, IfSome, IfNone, MatchOption, length, filter};
-ghost use Rattle.recovery_ledger.specs.Packets.{Packets, Tracking, no_packets, packet_at, AreBelow, IsAboveLast, HasSize, is_above, least_number, silent_in, forgotten_number, forgotten_entry, after_sending, after_taking};
+ghost use Rattle.std.specs.Prelude.{◌≡◌, Decides, ◌≤◌, [], ◌∷◌, IfOk, OnOk, OnErr, IfNone, MatchOption, length, filter};
+ghost use Rattle.std.specs.Option.{is_some};
+ghost use Rattle.recovery_ledger.specs.Packets.{Tracking, no_packets, packet_at, AreBelow, IsAboveLast, HasSize, is_above, least_number, silent_in, forgotten_number, forgotten_entry, after_sending, after_taking, after_carrying, contents_or};
+ghost use Rattle.recovery_ledger.specs.Probes.{first_filled};
 ghost use Rattle.recovery_ledger.specs.Counts.{silent_count, size_count};
 
 use crate::spaces::SentPacket;
 use recovery_base::below::NoMemory;
+use recovery_queue::queue::RetransmitQueue;
 use std::alloc::Global;
 use std::collections::BTreeMap;
 use std::marker::Model;
+use std::mem;
 use std::ops::Bound;
 
-/// How many silent packets (RFC 9002, 2: not ack-eliciting) are tracked above the last ack-eliciting one: a peer need not
-/// acknowledge them (RFC 9000, 13.2.1), so that without a limit they would be kept for good. quinn-proto keeps 1000
+/// How many silent packets (RFC 9002, 2: not ack-eliciting) are tracked above the last ack-eliciting one: a peer need
+/// not acknowledge them (RFC 9000, 13.2.1), so that without a limit they would be kept for good. quinn-proto keeps 1000
 /// beside the newest.
 pub const MAX_SILENT: u64 = 1001;
 
 /// Tracked packets in the order of their numbers, with what is known of them all.
 #[derive(Drop)]
-pub struct SentPackets {
-    packets: BTreeMap<u64, SentPacket>,
+pub struct SentPackets<Q: RetransmitQueue> {
+    packets: BTreeMap<u64, SentPacket<Q>>,
     last_eliciting: Option<u64>,
     silent: u64,
     sized: u64,
 }
 
-impl Model for SentPackets {
+impl<Q: RetransmitQueue> Model for SentPackets<Q> {
     ghost use Rattle.recovery_ledger.specs.Packets.{Tracking};
     ghost use Rattle.recovery_ledger.specs.Counts.{AreCounted};
 
-    ghost Value = { Tracking };
+    ghost Value = { Tracking Q.Contents };
 
     ghost view = { λ a. record { packets = a.packets.entries; last_eliciting = a.last_eliciting } };
 
     ghost invariant = { λ a. AreCounted a.packets.entries a.last_eliciting a.silent a.sized };
 }
 
-impl SentPackets {
+impl<Q> SentPackets<Q>
+where
+    Q: RetransmitQueue + Drop,
+    Q::Meta: Drop,
+{
     pub fn new(alloc: Global) -> Self
         ensures { result ≡ no_packets }
     {
@@ -55,7 +63,7 @@ impl SentPackets {
     }
 
     /// The number that is forgotten when a packet is sent.
-    fn forgotten(&self, packet: &SentPacket) -> Option<u64>
+    fn forgotten(&self, packet: &SentPacket<Q>) -> Option<u64>
         ensures { result ≡ forgotten_number self.now.last_eliciting packet.now self.now.packets }
     {
         if packet.ack_eliciting || self.silent < MAX_SILENT {
@@ -69,8 +77,8 @@ impl SentPackets {
     pub fn insert(
         &mut self,
         number: u64,
-        packet: SentPacket,
-    ) -> Result<Option<(u64, SentPacket)>, NoMemory>
+        packet: SentPacket<Q>,
+    ) -> Result<Option<(u64, SentPacket<Q>)>, NoMemory>
         requires above { AreBelow self.old.packets number }
         requires above_last { IsAboveLast self.old.last_eliciting number }
         ensures ok { OnOk result (self.new ≡ after_sending number packet self.old) }
@@ -102,7 +110,7 @@ impl SentPackets {
     }
 
     /// Takes the packet of a number out.
-    pub fn remove(&mut self, number: u64) -> Option<SentPacket>
+    pub fn remove(&mut self, number: u64) -> Option<SentPacket<Q>>
         ensures value { result ≡ packet_at self.old.packets number }
         ensures after { self.new ≡ after_taking number self.old }
         ensures none { IfNone result (self.new ≡ self.old) }
@@ -114,7 +122,7 @@ impl SentPackets {
     }
 
     /// Takes the packet with the least number out.
-    pub fn pop_first(&mut self) -> Option<(u64, SentPacket)>
+    pub fn pop_first(&mut self) -> Option<(u64, SentPacket<Q>)>
         ensures packets { MatchOption result (self.old.packets ≡ [])
             (λ entry. self.old.packets ≡ entry ∷ self.new.packets) }
         ensures none { IfNone result (self.new ≡ self.old) }
@@ -126,6 +134,29 @@ impl SentPackets {
         Some((number, packet))
     }
 
+    /// Exchanges the queue of a tracked packet for another: false, and nothing, where the packet is not tracked.
+    pub fn swap_queue(&mut self, number: u64, queue: &mut Q) -> bool
+        ensures found { result ≡ is_some (packet_at self.old.packets number) }
+        ensures after { self.new ≡ after_carrying number (Q.contents queue.old) self.old }
+        ensures queue { Q.contents queue.new
+            ≡ contents_or (Q.contents queue.old) (packet_at self.old.packets number) }
+    {
+        match self.packets.get_mut(&number) {
+            Some(packet) => {
+                mem::swap(&mut packet.retransmits, queue);
+                true
+            }
+            None => false,
+        }
+    }
+
+    /// The least number of a packet whose queue has something to be sent. Cost: linear in the packets tracked.
+    pub fn first_filled(&self, streams: &Q::Streams) -> Option<u64>
+        ensures { result ≡ first_filled Q.words streams.now self.now.packets }
+    {
+        first_filled(&self.packets, streams)
+    }
+
     /// Whether some packet has a size. Constant cost.
     pub fn has_size(&self) -> bool
         ensures { Decides result (HasSize self.now.packets) }
@@ -135,14 +166,14 @@ impl SentPackets {
 }
 
 /// One for a packet with a size.
-fn size_count(packet: &SentPacket) -> u64
+fn size_count<Q: RetransmitQueue>(packet: &SentPacket<Q>) -> u64
     ensures { result ≡ size_count packet.now }
 {
     if packet.size == 0 { 0 } else { 1 }
 }
 
 /// One for a silent packet with a number above another, where there is one.
-fn silent_count(last: Option<u64>, number: u64, packet: &SentPacket) -> u64
+fn silent_count<Q: RetransmitQueue>(last: Option<u64>, number: u64, packet: &SentPacket<Q>) -> u64
     ensures { result ≡ silent_count last (number, packet.now) }
 {
     let is_above = match last {
@@ -157,7 +188,10 @@ fn silent_count(last: Option<u64>, number: u64, packet: &SentPacket) -> u64
 }
 
 /// The least number above another, or of all where there is no other.
-fn first_above(packets: &BTreeMap<u64, SentPacket>, last: Option<u64>) -> Option<u64>
+fn first_above<Q: RetransmitQueue>(
+    packets: &BTreeMap<u64, SentPacket<Q>>,
+    last: Option<u64>,
+) -> Option<u64>
     ensures { result ≡ least_number (filter (λ entry. is_above last entry.0) packets.now.entries) }
 {
     let least = match last {
@@ -168,4 +202,19 @@ fn first_above(packets: &BTreeMap<u64, SentPacket>, last: Option<u64>) -> Option
         Some((number, _)) => Some(*number),
         None => None,
     }
+}
+
+/// The least number of a packet whose queue has something to be sent.
+fn first_filled<Q: RetransmitQueue>(
+    packets: &BTreeMap<u64, SentPacket<Q>>,
+    streams: &Q::Streams,
+) -> Option<u64>
+    ensures { result ≡ first_filled Q.words streams.now packets.now.entries }
+{
+    for (number, packet) in packets.iter() {
+        if !packet.retransmits.is_empty(streams) {
+            return Some(*number);
+        }
+    }
+    None
 }

@@ -1,19 +1,27 @@
-//! What is kept for each packet number space (RFC 9000, 12.3): received numbers, sent numbers and tracked packets.
-ghost use Rattle.std.specs.Prelude.{◌≡◌, Decides, ◌≢◌, ◌<◌, ◌≤◌, ◌^◌, ◌∷◌, [], ℕ, ◌↔◌, IsTrue, IfOk, OnOk, OnErr, IfSome, IfNone, None, Some, MatchOption, length};
+//! What is kept for each packet number space (RFC 9000, 12.3): received numbers, sent numbers, tracked packets, what is
+//! to be sent again, and what probes ask for.
+ghost use Rattle.std.specs.Prelude.{◌≡◌, Decides, ◌<◌, ◌≤◌, ◌^◌, ◌∷◌, [], ℕ, IfOk, OnOk, OnErr, IfSome, IfNone, None, Some, MatchOption, MatchResult, false, not, ◌||◌, length, nat_lt, option_map};
+ghost use Rattle.std.specs.Option.{is_some};
 ghost use Rattle.recovery_base.specs.declared.below.SpaceId.{SpaceId};
-ghost use Rattle.recovery_base.specs.Numbers.{IsNew};
+ghost use Rattle.recovery_base.specs.Ecn.{ecn_fault};
 ghost use Rattle.recovery_base.specs.Received.{Has};
 ghost use Rattle.recovery_acks.specs.Acks.{new_acks};
 ghost use Rattle.recovery_ledger.specs.Kept.{kept_by};
-ghost use Rattle.recovery_ledger.specs.Packets.{AreBelow, IsAboveLast, HasSize, IsTooLarge, silent_in, no_packets, packet_at, forgotten_entry, after_sending};
-ghost use Rattle.recovery_ledger.specs.Spaces.{space_of, tracking_of, with_tracking, packets_of, kept_of, acks_of, with_acks, counts_of, next_number_of, after_number, after_eliciting, after_acknowledging, space_takes, HasGreatestCome, SpaceStep, ReceiveReply, heard_of, came, SubtractsLargest};
+ghost use Rattle.recovery_ledger.specs.Packets.{AreBelow, IsAboveLast, HasSize, IsTooLarge, silent_in, no_packets, packet_at, with_contents, forgotten_entry, after_sending};
+ghost use Rattle.recovery_ledger.specs.Probes.{probe_found};
+ghost use Rattle.recovery_ledger.specs.Queued.{IsSendable, queued_by, no_ecn};
+ghost use Rattle.recovery_ledger.specs.SpaceLog.{loses, probes, takes_pending, feeds_back};
+ghost use Rattle.recovery_ledger.specs.Spaces.{space_of, tracking_of, with_tracking, packets_of, kept_of, acks_of, queued_of, with_acks, counts_of, next_number_of, after_number, after_eliciting, after_acknowledging, space_takes, space_moves, space_probes, HasGreatestCome, SpaceStep, ReceiveReply, heard_of, came, SubtractsLargest};
 
 use crate::sent_packets::SentPackets;
 use recovery_acks::PendingAcks;
-use recovery_base::below::{NoMemory, SpaceId};
+use recovery_base::below::{EcnCounts, NoMemory, SpaceId};
 use recovery_base::dedup::Dedup;
 use recovery_base::time::Instant;
+use recovery_queue::queue::RetransmitQueue;
 use std::alloc::Global;
+use std::marker::Model;
+use std::mem;
 use std::ops::{Index, IndexMut};
 use thiserror::Error;
 
@@ -22,7 +30,7 @@ pub const NUMBER_LIMIT: u64 = 1 << 62;
 
 /// A packet that was sent and is tracked: not yet acknowledged, lost, forgotten or discarded (RFC 9002, A.1.1).
 #[derive(Drop)]
-pub struct SentPacket {
+pub struct SentPacket<Q: RetransmitQueue> {
     /// The generation of the path that it went by.
     pub path_generation: u64,
     /// When it was sent.
@@ -33,6 +41,25 @@ pub struct SentPacket {
     pub ack_eliciting: bool,
     /// The largest packet number that its ACK frame acknowledges, where it holds one.
     pub largest_acked: Option<u64>,
+    /// What is sent again when it is lost (RFC 9000, 13.3).
+    pub retransmits: Q,
+    /// What else an application keeps of it.
+    pub stream_frames: Q::Meta,
+}
+
+impl<Q: RetransmitQueue> Model for SentPacket<Q> {
+    ghost use Rattle.recovery_ledger.specs.Packets.{Packet};
+
+    ghost Value = { Packet Q.Contents };
+
+    ghost view = { λ packet. record {
+      path_generation = packet.path_generation;
+      time_sent = packet.time_sent;
+      size = packet.size;
+      ack_eliciting = packet.ack_eliciting;
+      largest_acked = packet.largest_acked;
+      retransmits = Q.contents packet.retransmits;
+    } };
 }
 
 /// What a packet that came in is to its space.
@@ -58,9 +85,37 @@ pub enum ReceiveError {
     NoMemory,
 }
 
+/// What a space has to send.
+#[derive(Clone, Copy, PartialEq, Eq)]
+pub struct SendableFrames {
+    /// An ACK is required, and some number is to be acknowledged (RFC 9000, 13.2).
+    pub acks: bool,
+    /// There is something else: contents to be sent again, a PING, or a demand for an ACK at once.
+    pub other: bool,
+}
+
+impl SendableFrames {
+    /// There is nothing to send.
+    pub fn empty() -> Self
+        ensures { result ≡ record { acks = false; other = false } }
+    {
+        SendableFrames {
+            acks: false,
+            other: false,
+        }
+    }
+
+    /// Whether there is nothing to send.
+    pub fn is_empty(&self) -> bool
+        ensures { result ≡ not (self.now.acks || self.now.other) }
+    {
+        !self.acks && !self.other
+    }
+}
+
 /// What is kept for one packet number space.
 #[derive(Drop)]
-pub struct PacketSpace {
+pub struct PacketSpace<Q: RetransmitQueue> {
     /// The packet numbers received.
     pub dedup: Dedup,
     /// What is to be acknowledged, and when.
@@ -73,15 +128,60 @@ pub struct PacketSpace {
     pub largest_acked_packet_sent: Instant,
     /// When the last packet that elicits an ACK was sent.
     pub time_of_last_ack_eliciting_packet: Option<Instant>,
-    /// How many probe packets are still to be sent (RFC 9002, 6.2.4).
+    /// How many probe packets are still to be sent (RFC 9002, 6.2.4); stops at `u32::MAX`.
     pub loss_probes: u32,
-    /// How many packet numbers were given out; stops at `u64::MAX`.
+    /// How many packet numbers were given out or skipped; stops at `u64::MAX`.
     pub sent_with_keys: u64,
+    /// What is to be sent again, of packets that were lost or that a probe found (RFC 9000, 13.3).
+    pub pending: Q,
+    /// Whether a PING is to be sent, since a probe found nothing else (RFC 9002, 6.2.4).
+    pub ping_pending: bool,
+    /// Whether the peer is to be asked for an ACK at once (draft-ietf-quic-ack-frequency-04, section 5).
+    pub immediate_ack_pending: bool,
+    /// How many packets came with each ECN codepoint (RFC 9000, 13.4.1).
+    pub ecn_counters: EcnCounts,
+    /// The counts of the peer's last ACK frame that passed the check (RFC 9000, 13.4.2).
+    pub ecn_feedback: EcnCounts,
+    /// When a packet is to be called lost, where one may be (RFC 9002, 6.1.2).
+    pub loss_time: Option<Instant>,
+    /// How many bytes of CRYPTO frames were sent: the offset of the next one (RFC 9000, 19.6).
+    pub crypto_offset: u64,
     next_packet_number: u64,
-    sent_packets: SentPackets,
+    sent_packets: SentPackets<Q>,
+    alloc: Global,
 }
 
-impl PacketSpace {
+impl<Q: RetransmitQueue> Model for PacketSpace<Q> {
+    ghost use Rattle.recovery_ledger.specs.Spaces.{Space};
+
+    ghost Value = { Space Q.Contents };
+
+    ghost view = { λ space. record {
+      dedup = space.dedup;
+      pending_acks = space.pending_acks;
+      rx_packet = space.rx_packet;
+      largest_acked_packet = space.largest_acked_packet;
+      largest_acked_packet_sent = space.largest_acked_packet_sent;
+      time_of_last_ack_eliciting_packet = space.time_of_last_ack_eliciting_packet;
+      loss_probes = space.loss_probes;
+      sent_with_keys = space.sent_with_keys;
+      next_packet_number = space.next_packet_number;
+      sent_packets = space.sent_packets;
+      pending = Q.contents space.pending;
+      ping_pending = space.ping_pending;
+      immediate_ack_pending = space.immediate_ack_pending;
+      ecn_counters = space.ecn_counters;
+      ecn_feedback = space.ecn_feedback;
+      loss_time = space.loss_time;
+      crypto_offset = space.crypto_offset;
+    } };
+}
+
+impl<Q> PacketSpace<Q>
+where
+    Q: RetransmitQueue + Drop,
+    Q::Meta: Drop,
+{
     /// A space in which nothing was received or sent yet.
     pub fn new(alloc: Global, now: Instant) -> Self
         ensures numbers { (n : ℕ) → ¬ Has result.dedup n }
@@ -89,7 +189,9 @@ impl PacketSpace {
         ensures received { result.rx_packet ≡ 0 }
         ensures packets { tracking_of result ≡ no_packets }
         ensures next { next_number_of result ≡ 0 }
-        ensures kept { kept_of result ≡ kept_by now [] }
+        ensures kept { kept_of result ≡ kept_by Q.words now [] }
+        ensures queued { queued_of result ≡ queued_by Q.words [] }
+        ensures others { (result.ecn_counters ≡ no_ecn) × (result.loss_time ≡ None) × (result.crypto_offset ≡ 0) }
     {
         PacketSpace {
             dedup: Dedup::new(),
@@ -100,8 +202,16 @@ impl PacketSpace {
             time_of_last_ack_eliciting_packet: None,
             loss_probes: 0,
             sent_with_keys: 0,
+            pending: Q::empty(alloc),
+            ping_pending: false,
+            immediate_ack_pending: false,
+            ecn_counters: EcnCounts::ZERO,
+            ecn_feedback: EcnCounts::ZERO,
+            loss_time: None,
+            crypto_offset: 0,
             next_packet_number: 0,
             sent_packets: SentPackets::new(alloc),
+            alloc,
         }
     }
 
@@ -122,7 +232,7 @@ impl PacketSpace {
     /// Gives out the next packet number. `None`, and nothing changed, where it would be 2^62.
     pub fn get_tx_number(&mut self) -> Option<u64>
         ensures number { IfSome result (λ number. number ≡ next_number_of self.old) }
-        ensures some { IfSome result (λ number. (number < 2 ^ 62) × (self.new ≡ after_number self.old)) }
+        ensures some { IfSome result (λ number. (number < 2 ^ 62) × (self.new ≡ after_number number self.old)) }
         ensures none { IfNone result (2 ^ 62 ≤ next_number_of self.old) }
         ensures unchanged { IfNone result (self.new ≡ self.old) }
     {
@@ -130,13 +240,24 @@ impl PacketSpace {
         if number >= NUMBER_LIMIT {
             return None;
         }
-        self.next_packet_number += 1;
-        self.sent_with_keys = self.sent_with_keys.saturating_add(1);
+        self.give_out(number);
         Some(number)
     }
 
+    /// The numbers from the next one to this one are given out or skipped.
+    fn give_out(&mut self, number: u64)
+        requires above { next_number_of self.old ≤ number }
+        requires small { number < 2 ^ 62 }
+        ensures { self.new ≡ after_number number self.old }
+    {
+        let count = number + 1 - self.next_packet_number;
+        self.sent_with_keys = self.sent_with_keys.saturating_add(count);
+        self.next_packet_number = number + 1;
+    }
+
     /// A packet came in: whether it is new, and whether to start the timer for a late ACK (RFC 9000, 13.2). Refused by
-    /// `NumberTooLarge`, then by `NoMemory`, which is never the answer to a duplicate; a refusal leaves the space as it was.
+    /// `NumberTooLarge`, then by `NoMemory`, which is never the answer to a duplicate; a refusal leaves the space as it
+    /// was.
     pub fn receive(
         &mut self,
         now: Instant,
@@ -147,7 +268,7 @@ impl PacketSpace {
         ensures reply { ReceiveReply
             (heard_of self.old) (counts_of (acks_of self.old)) number ack_eliciting result }
         ensures step { IfOk result
-            (λ receipt. SpaceStep (came now number ack_eliciting receipt) self.old self.new) }
+            (λ receipt. SpaceStep Q.words (came now number ack_eliciting receipt) self.old self.new) }
         ensures refused { OnErr result (self.new ≡ self.old) }
     {
         if number >= NUMBER_LIMIT {
@@ -172,14 +293,14 @@ impl PacketSpace {
     }
 
     /// Tracks a packet under a number above all that were sent. A silent one (RFC 9002, 2: it elicits no ACK) makes the
-    /// space forget the least of 1001 silent packets that are tracked above the last one that elicits an ACK: that one is
-    /// handed back with its number. After `NoMemory` the space is as it was, and the packet dropped. Cost: logarithmic in
-    /// the packets tracked.
+    /// space forget the least of 1001 silent packets that are tracked above the last one that elicits an ACK: that one
+    /// is handed back with its number. After `NoMemory` the space is as it was, and the packet dropped. Cost:
+    /// logarithmic in the packets tracked.
     pub fn sent(
         &mut self,
         number: u64,
-        packet: SentPacket,
-    ) -> Result<Option<(u64, SentPacket)>, NoMemory>
+        packet: SentPacket<Q>,
+    ) -> Result<Option<(u64, SentPacket<Q>)>, NoMemory>
         requires above { AreBelow (packets_of self.old) number }
         requires above_last { IsAboveLast (tracking_of self.old).last_eliciting number }
         ensures ok { OnOk result
@@ -192,7 +313,7 @@ impl PacketSpace {
     }
 
     /// Takes out the packet of a number, if it is tracked. Cost: logarithmic in the packets tracked.
-    pub fn take(&mut self, number: u64) -> Option<SentPacket>
+    pub fn take(&mut self, number: u64) -> Option<SentPacket<Q>>
         ensures packet { result ≡ packet_at (packets_of self.old) number }
         ensures after { self.new ≡ space_takes number self.old }
         ensures none { IfNone result (self.new ≡ self.old) }
@@ -201,7 +322,7 @@ impl PacketSpace {
     }
 
     /// Takes out the packet with the least number, if any is tracked. Cost: logarithmic in the packets tracked.
-    pub fn take_first(&mut self) -> Option<(u64, SentPacket)>
+    pub fn take_first(&mut self) -> Option<(u64, SentPacket<Q>)>
         ensures first { MatchOption result (packets_of self.old ≡ [])
             (λ entry. packets_of self.old ≡ entry ∷ packets_of self.new) }
         ensures last { (tracking_of self.new).last_eliciting ≡ (tracking_of self.old).last_eliciting }
@@ -218,22 +339,24 @@ impl PacketSpace {
         self.sent_packets.has_size()
     }
 
-    /// A packet was tracked under the next number, and sent at this moment: the number is given out. One that elicits an
-    /// ACK is the last of its kind, and takes one from the probes that are still to be sent.
-    pub fn on_sent(&mut self, ack_eliciting: bool, now: Instant)
-        requires { next_number_of self.old < 2 ^ 62 }
-        ensures { self.new ≡ after_eliciting ack_eliciting now (after_number self.old) }
+    /// A packet was tracked under a number, and sent at this moment: the number is given out, and those from the next
+    /// one up to it are skipped (RFC 9000, 21.4). One that elicits an ACK is the last of its kind, and takes one from
+    /// the probes that are still to be sent.
+    pub fn on_sent(&mut self, number: u64, ack_eliciting: bool, now: Instant)
+        requires above { next_number_of self.old ≤ number }
+        requires small { number < 2 ^ 62 }
+        ensures { self.new ≡ after_eliciting ack_eliciting now (after_number number self.old) }
     {
-        self.get_tx_number();
+        self.give_out(number);
         if ack_eliciting {
             self.time_of_last_ack_eliciting_packet = Some(now);
             self.loss_probes = self.loss_probes.saturating_sub(1);
         }
     }
 
-    /// A packet is acknowledged: the largest number is kept, and what the packet acknowledged itself needs no ACK any more
-    /// (RFC 9000, 13.2.4).
-    pub fn on_acked(&mut self, number: u64, packet: &SentPacket)
+    /// A packet is acknowledged: the largest number is kept, and what the packet acknowledged itself needs no ACK any
+    /// more (RFC 9000, 13.2.4).
+    pub fn on_acked(&mut self, number: u64, packet: &SentPacket<Q>)
         requires { ¬ IsTooLarge packet.now.largest_acked }
         ensures subtracts { SubtractsLargest packet.now.largest_acked (acks_of self.old) (acks_of self.new) }
         ensures others { self.new
@@ -251,26 +374,167 @@ impl PacketSpace {
             self.largest_acked_packet_sent = packet.time_sent;
         }
     }
+
+    /// Moves the contents of a tracked packet behind the pending ones, to be sent again (RFC 9000, 13.3); the packet is
+    /// left with an empty queue. False, and nothing changed, where it is not tracked. `NoMemory` changes nothing. Cost:
+    /// logarithmic in the packets tracked, and that of the queue's `append`.
+    pub fn queue_lost(&mut self, number: u64) -> Result<bool, NoMemory>
+        ensures found { IfOk result (λ found. found ≡ is_some (packet_at (packets_of self.old) number)) }
+        ensures after { OnOk result (self.new ≡ space_moves Q.words number self.old) }
+        ensures err { OnErr result (self.new ≡ self.old) }
+    {
+        let mut queue = Q::empty(self.alloc);
+        if !self.sent_packets.swap_queue(number, &mut queue) {
+            return Ok(false);
+        }
+        match self.pending.append(queue) {
+            Ok(()) => Ok(true),
+            Err(mut queue) => {
+                self.sent_packets.swap_queue(number, &mut queue);
+                Err(NoMemory)
+            }
+        }
+    }
+
+    /// A packet is lost: its contents are moved behind the pending ones, and it is tracked no more. It is handed back
+    /// with an empty queue. `None`, and nothing changed, where it is not tracked. `NoMemory` changes nothing. Cost as
+    /// of `queue_lost`.
+    pub fn lose(&mut self, number: u64) -> Result<Option<SentPacket<Q>>, NoMemory>
+        ensures packet { IfOk result (λ packet. packet
+            ≡ option_map (with_contents Q.words.empty) (packet_at (packets_of self.old) number)) }
+        ensures step { OnOk result (SpaceStep Q.words (loses number) self.old self.new) }
+        ensures none { IfOk result (λ packet. IfNone packet (self.new ≡ self.old)) }
+        ensures err { OnErr result (self.new ≡ self.old) }
+    {
+        self.queue_lost(number)?;
+        Ok(self.take(number))
+    }
+
+    /// Looks for contents to be sent with a probe, where one is to be sent (RFC 9002, 6.2.4): what is pending serves;
+    /// else the contents of the first packet by number that has some are moved to the pending ones; else a PING is
+    /// marked, unless the peer is to be asked for an ACK at once. `request_immediate_ack` marks that it is. `NoMemory`
+    /// changes nothing. Cost: linear in the packets tracked.
+    pub fn maybe_queue_probe(
+        &mut self,
+        request_immediate_ack: bool,
+        streams: &Q::Streams,
+    ) -> Result<(), NoMemory>
+        ensures none { self.old.loss_probes ≡ 0 → self.new ≡ self.old }
+        ensures some { OnOk result (0 < self.old.loss_probes → self.new
+            ≡ space_probes Q.words request_immediate_ack
+            (probe_found Q.words streams.now self.old.pending (packets_of self.old)) self.old) }
+        ensures err { OnErr result (self.new ≡ self.old) }
+    {
+        if self.loss_probes == 0 {
+            return Ok(());
+        }
+        let mut is_nothing = false;
+        if self.pending.is_empty(streams) {
+            match self.sent_packets.first_filled(streams) {
+                Some(number) => {
+                    self.queue_lost(number)?;
+                }
+                None => is_nothing = true,
+            }
+        }
+        self.immediate_ack_pending = request_immediate_ack || self.immediate_ack_pending;
+        self.ping_pending = self.ping_pending || (is_nothing && !self.immediate_ack_pending);
+        Ok(())
+    }
+
+    /// A probe is asked for (RFC 9002, 6.2.4), and perhaps an ACK at once with it: one more is to be sent, up to
+    /// `u32::MAX`, and contents for it are looked for as `maybe_queue_probe` does. Answers what there is to send then.
+    /// `NoMemory` changes nothing.
+    pub fn queue_probe(
+        &mut self,
+        immediate: bool,
+        streams: &Q::Streams,
+    ) -> Result<SendableFrames, NoMemory>
+        ensures step { OnOk result (SpaceStep Q.words
+            (probes immediate (probe_found Q.words streams.now self.old.pending (packets_of self.old)))
+            self.old self.new) }
+        ensures frames { IfOk result (λ frames.
+            IsSendable Q.words streams.now (heard_of self.new) (queued_of self.new) frames) }
+        ensures err { OnErr result (self.new ≡ self.old) }
+    {
+        let before = self.loss_probes;
+        self.loss_probes = before.saturating_add(1);
+        match self.maybe_queue_probe(immediate, streams) {
+            Ok(()) => Ok(self.can_send(streams)),
+            Err(NoMemory) => {
+                self.loss_probes = before;
+                Err(NoMemory)
+            }
+        }
+    }
+
+    /// What there is to send: an ACK, where one is required and some number is to be acknowledged (RFC 9000, 13.2), and
+    /// something else, where contents are pending or a PING or a demand for an ACK at once is.
+    pub fn can_send(&self, streams: &Q::Streams) -> SendableFrames
+        ensures { IsSendable Q.words streams.now (heard_of self.now) (queued_of self.now) result }
+    {
+        SendableFrames {
+            acks: self.pending_acks.can_send(),
+            other: !self.pending.is_empty(streams)
+                || self.ping_pending
+                || self.immediate_ack_pending,
+        }
+    }
+
+    /// Hands out what is to be sent again, and leaves an empty queue. It takes no memory.
+    pub fn take_pending(&mut self, alloc: Global) -> Q
+        ensures pending { Q.contents result ≡ self.old.pending }
+        ensures step { SpaceStep Q.words takes_pending self.old self.new }
+    {
+        mem::replace(&mut self.pending, Q::empty(alloc))
+    }
+
+    /// Checks the counts of ECN of an ACK frame against those of the last one that passed (RFC 9000, 13.4.2), where it
+    /// is the first to acknowledge as many packets that were sent with ECT(0). `Ok` keeps them, and says whether CE
+    /// rose; `Err` keeps the old ones, and says the cause in words, as `EcnCounts::detect` does.
+    pub fn detect_ecn(&mut self, newly_acked: u64, counts: EcnCounts) -> Result<bool, &'static str>
+        ensures result { MatchResult result
+            (λ marked. (ecn_fault self.old.ecn_feedback newly_acked counts ≡ None)
+            × (marked ≡ nat_lt self.old.ecn_feedback.ce counts.ce))
+            (λ text. ecn_fault self.old.ecn_feedback newly_acked counts ≡ Some text.now) }
+        ensures step { OnOk result (SpaceStep Q.words (feeds_back counts) self.old self.new) }
+        ensures err { OnErr result (self.new ≡ self.old) }
+    {
+        self.ecn_feedback.detect(newly_acked, counts)
+    }
 }
 
 /// The three packet number spaces.
 #[derive(Drop)]
-pub struct PacketSpaces {
+pub struct PacketSpaces<Q: RetransmitQueue> {
     /// The space of Initial packets.
-    pub initial: PacketSpace,
+    pub initial: PacketSpace<Q>,
     /// The space of Handshake packets.
-    pub handshake: PacketSpace,
+    pub handshake: PacketSpace<Q>,
     /// The space of 0-RTT and 1-RTT packets.
-    pub data: PacketSpace,
+    pub data: PacketSpace<Q>,
 }
 
-impl PacketSpaces {
+impl<Q: RetransmitQueue> Model for PacketSpaces<Q> {
+    ghost use Rattle.recovery_ledger.specs.Spaces.{Spaces};
+
+    ghost Value = { Spaces Q.Contents };
+
+    ghost view = { λ spaces. record { initial = spaces.initial; handshake = spaces.handshake; «data» = spaces.data } };
+}
+
+impl<Q> PacketSpaces<Q>
+where
+    Q: RetransmitQueue + Drop,
+    Q::Meta: Drop,
+{
     /// Three spaces in which nothing was received or sent yet.
     pub fn new(alloc: Global, now: Instant) -> Self
         ensures numbers { (space : SpaceId) (n : ℕ) → ¬ Has (space_of space result).dedup n }
         ensures acks { (space : SpaceId) → acks_of (space_of space result) ≡ new_acks [] }
         ensures received { (space : SpaceId) → (space_of space result).rx_packet ≡ 0 }
-        ensures kept { (space : SpaceId) → kept_of (space_of space result) ≡ kept_by now [] }
+        ensures kept { (space : SpaceId) → kept_of (space_of space result) ≡ kept_by Q.words now [] }
+        ensures queued { (space : SpaceId) → queued_of (space_of space result) ≡ queued_by Q.words [] }
         ensures packets { (space : SpaceId) → tracking_of (space_of space result) ≡ no_packets }
         ensures next { (space : SpaceId) → next_number_of (space_of space result) ≡ 0 }
     {
@@ -282,12 +546,12 @@ impl PacketSpaces {
     }
 }
 
-impl Index<SpaceId> for PacketSpaces {
-    type Output = PacketSpace;
+impl<Q: RetransmitQueue> Index<SpaceId> for PacketSpaces<Q> {
+    type Output = PacketSpace<Q>;
 
     ghost index_gives = { λ spaces space value. value ≡ space_of space spaces };
 
-    fn index(&self, space: SpaceId) -> &PacketSpace {
+    fn index(&self, space: SpaceId) -> &PacketSpace<Q> {
         match space {
             SpaceId::Initial => &self.initial,
             SpaceId::Handshake => &self.handshake,
@@ -296,14 +560,15 @@ impl Index<SpaceId> for PacketSpaces {
     }
 }
 
-impl IndexMut<SpaceId> for PacketSpaces {
+impl<Q: RetransmitQueue> IndexMut<SpaceId> for PacketSpaces<Q> {
     ghost use Rattle.std.specs.Prelude.{◌≡◌};
     ghost use Rattle.std.specs.Borrow.{sem};
     ghost use Rattle.recovery_ledger.specs.Lends.{LendsSpace};
     ghost use Rattle.recovery_ledger.specs.Spaces.{space_of};
 
-    fn index_mut(&mut self, space: SpaceId) -> &mut PacketSpace
-        ensures* writes_back { sem 𝓛 (LendsSpace self.entry space result) }
+    fn index_mut(&mut self, space: SpaceId) -> &mut PacketSpace<Q>
+        ensures* writes_back { sem 𝓛 (LendsSpace Q.row Q.Streams.row Q.Meta.row Q.Contents.row
+            Q.RetransmitQueue Q.Meta.Default self.entry space result) }
         ensures value { result.now ≡ space_of space self.old }
     {
         match space {

@@ -1,6 +1,8 @@
+pub mod AddressLaws
 pub mod FieldLaws
 pub mod FormLaws
 pub mod IdLaws
+pub mod ItemLaws
 pub mod LineLaws
 mod NameLaws
 pub mod NumberLaws

@@ -1,14 +1,16 @@
 -- What is read from a line is what it spells, and what a line spells is read from it.
-use Rattle.std.proofs.Common.{IfSome, IfOk, OnErr, IsSome, IsSomeAnd, ◌≡◌, ◌≢◌, ℕ, ◌<◌, ◌≤◌, ◌==◌, Bool, true, false, cond, List, [], ◌∷◌, length, Option, Some, None, Result, Ok, Err, inl, inr, refl, sym, ap, ap₂, subst, ◌∙◌, arith, eqb-true}
+use Rattle.std.proofs.Common.{IfSome, IfOk, OnErr, IsSome, IsSomeAnd, ◌≡◌, ◌≢◌, ℕ, ◌<◌, ◌≤◌, ◌==◌, Bool, true, false, cond, List, [], ◌∷◌, length, Option, Some, None, Result, Ok, Err, inl, inr, refl, sym, ap, ap₂, subst, ◌∙◌, arith, eqb-true, bytes_eq}
+use lib.Chars.{codes}
 use Rattle.std.specs.List.{AllByRecursion, All, join_with_byte}
 use Rattle.std.proofs.lemmas.List.{append-nil}
-use Rattle.quic_recovery.specs.declared.event.Event.{Event}
-use Rattle.quic_recovery.specs.declared.event.Event.TheVariants.{IssueIds}
+use Rattle.std.specs.declared.net.socket_addr.SocketAddr.{SocketAddr}
+use Rattle.quic_recovery.specs.declared.event.Event.TheVariants.{Send, IssueIds, NewPath}
 use Rattle.recovery_lines.specs.declared.lines.Line.{Line}
-use Rattle.recovery_lines.specs.declared.lines.Line.TheVariants.{Said, Ids}
+use Rattle.recovery_lines.specs.declared.lines.Line.TheVariants.{Said, Ids, Path}
 use Rattle.recovery_lines.specs.Words.{words_of}
-use Rattle.recovery_lines.specs.Lines.{Means, spelling, IsWithinTypes, Spells, IsSame, IssuesIds}
-use Rattle.recovery_lines.specs.Reading.{line_at, line_of, TakesMemory}
+use Rattle.recovery_lines.specs.Lines.{ItemEvent, Means, spelling, IsWithinTypes, Spells, IsSame, SendsItems, HoldsList, forms_without_items}
+use Rattle.recovery_lines.specs.Reading.{◌>>=◌, first_word, line_behind, line_at, line_of, TakesMemory, TookMemory, TookAll}
+use Rattle.recovery_lines.proofs.AddressLaws.{one_address}
 use Rattle.recovery_lines.proofs.FieldLaws.{bind_some, some_is}
 use Rattle.recovery_lines.proofs.PlainLaws.{IsPlain, plain_no_feed, words_joined}
 use Rattle.recovery_lines.proofs.FormLaws.{line_takes, line_words, line_again}
@@ -33,37 +35,39 @@ all_words line said e =
     b.1 ∙ ap₂ (λ (l : Line) (r : List (List ℕ)). Some (l, r)) w.1 (empty_is b.0.1 w.0)
 
 -- what a line that is not too long says, it spells
-line_found : (line : List ℕ) (said : Line) (event : Event) → line_of line ≡ Some said → length line ≤ 4096 → Means said event → Spells line event
+line_found : (line : List ℕ) (said : Line) (event : ItemEvent) → line_of line ≡ Some said → length line ≤ 4096 → Means said event → Spells line event
 line_found line said event e short means =
     let t = line_takes (words_of line) said [] (all_words line said e) event means in
     record { unkept = t.unkept; words = t.is ∙ append-nil (spelling t.unkept event); within = t.within; short = short }
 
 -- what a line spells, it says
-line_only : (line : List ℕ) (event : Event) → Spells line event → (said : Line) × (line_of line ≡ Some said) × Means said event
+line_only : (line : List ℕ) (event : ItemEvent) → Spells line event → (said : Line) × (line_of line ≡ Some said) × Means said event
 unfolding line_of
 line_only line event spells =
-    let again = line_again spells.unkept event [] spells.within in
-    let read : line_at (words_of line) ≡ Some (again.said, []) = ap line_at (spells.words ∙ sym (append-nil (spelling spells.unkept event))) ∙ again.is in
+    let again = line_again spells.unkept event spells.within in
+    let read : line_at (words_of line) ≡ Some (again.said, []) = ap line_at spells.words ∙ again.is in
     (again.said, rw read refl, again.means)
 
-one_meant : (said : Line) (first second : Event) → Means said first → Means said second → IsSame first second
+one_meant : (said : Line) (first second : ItemEvent) → Means said first → Means said second → IsSame first second
 one_meant (Said event) first second m n = inl (m ∙ sym n)
 one_meant (Ids now number count) first second m n =
-    subst (λ (v : Event). IsSame v second) (sym m.1) (subst (λ (v : Event). IsSame (IssueIds now m.0) v) (sym n.1) (inr (refl, m.2 ∙ sym n.2)))
+    subst (λ (v : ItemEvent). IsSame v second) (sym m.1) (subst (λ (v : ItemEvent). IsSame (IssueIds now m.0) v) (sym n.1) (inr (refl, m.2 ∙ sym n.2)))
+one_meant (Path now port fresh) first second m n =
+    inl (m.1 ∙ ap (λ (remote : SocketAddr). NewPath now remote fresh) (one_address port m.0 n.0 m.2 n.2) ∙ sym n.1)
 
 -- ---- what is read
 
-pub read_found : {E : Type 0} (line : List ℕ) (said : Line) (read : Result (Option Event) E) → line_of line ≡ Some said → length line ≤ 4096 → IfOk read (λ r. IfSome r (λ event. Means said event))
+pub read_found : {E : Type 0} (line : List ℕ) (said : Line) (read : Result (Option ItemEvent) E) → line_of line ≡ Some said → length line ≤ 4096 → IfOk read (λ r. IfSome r (λ event. Means said event))
     → IfOk read (λ r. IfSome r (λ event. Spells line event))
 read_found line said (Ok (Some event)) e short means = line_found line said event e short means
 read_found line said (Ok None) e short means = tt
 read_found line said (Err error) e short means = tt
 
-none_is_none : {A : Type 0} → IsSome {T = Event} None → A
+none_is_none : {A : Type 0} → IsSome {T = ItemEvent} None → A
 none_is_none e = absurd cc
 
-pub read_only : {E : Type 0} (line : List ℕ) (said : Line) (read : Result (Option Event) E) → line_of line ≡ Some said → IfOk read (λ r. IfSome r (λ event. Means said event))
-    → ((event : Event) → Means said event → IfOk read IsSome) → (event : Event) → Spells line event → IfOk read (λ r. IsSomeAnd r (IsSame event))
+pub read_only : {E : Type 0} (line : List ℕ) (said : Line) (read : Result (Option ItemEvent) E) → line_of line ≡ Some said → IfOk read (λ r. IfSome r (λ event. Means said event))
+    → ((event : ItemEvent) → Means said event → IfOk read IsSome) → (event : ItemEvent) → Spells line event → IfOk read (λ r. IsSomeAnd r (IsSame event))
 read_only line said (Ok (Some first)) e found only event spells =
     let s = line_only line event spells in
     one_meant said event first (subst (λ (l : Line). Means l event) (some_is s.0 said (sym s.1 ∙ e)) s.2) found
@@ -72,18 +76,52 @@ read_only line said (Ok None) e found only event spells =
     none_is_none (only event (subst (λ (l : Line). Means l event) (some_is s.0 said (sym s.1 ∙ e)) s.2))
 read_only line said (Err error) e found only event spells = tt
 
-refused : {E : Type 0} (line : List ℕ) (said : Line) (read : Result (Option Event) E) → line_at (words_of line) ≡ Some (said, []) → length line ≤ 4096 → OnErr read (TakesMemory said) → OnErr read (IssuesIds line)
+refused : {E : Type 0} (line : List ℕ) (said : Line) (read : Result (Option ItemEvent) E) → line_at (words_of line) ≡ Some (said, []) → length line ≤ 4096 → OnErr read (TakesMemory said) → OnErr read (HoldsList line)
 refused line said (Ok event) e short memory = tt
 refused line (Said event) (Err error) e short memory = absurd memory
+refused line (Path now port fresh) (Err error) e short memory = absurd memory
 refused line (Ids now first count) (Err error) e short memory =
     let t = line_words (words_of line) [] now first count e in
-    record { now = now; first = first; count = count; words = t.0 ∙ append-nil _; time = t.1; some = memory.0; few = omega (arith, t.2); bound = memory.1; short = short }
+    inl (record { now = now; first = first; count = count; words = t.0 ∙ append-nil _; time = t.1; some = memory.0; few = omega (arith, t.2); bound = memory.1; short = short })
 
--- memory is refused to lines that issue ids alone
-pub read_refused : {E : Type 0} (line : List ℕ) (said : Line) (read : Result (Option Event) E) → line_of line ≡ Some said → length line ≤ 4096 → OnErr read (TakesMemory said) → OnErr read (IssuesIds line)
+-- memory for ids is refused to lines that issue them alone
+pub read_refused : {E : Type 0} (line : List ℕ) (said : Line) (read : Result (Option ItemEvent) E) → line_of line ≡ Some said → length line ≤ 4096 → OnErr read (TakesMemory said) → OnErr read (HoldsList line)
 read_refused line said read e short memory = refused line said read (all_words line said e) short memory
 
-pub none_spelled : (line : List ℕ) (event : Event) → line_of line ≡ None → Spells line event → ⊥
+sends : (line : List ℕ) (said : Line) → line_at (words_of line) ≡ Some (said, []) → length line ≤ 4096 → TookMemory said → SendsItems line
+sends line (Said (Send space now size ack_eliciting largest items none)) e short some =
+    let event : ItemEvent = Send space now size ack_eliciting largest items none in
+    let t = line_takes (words_of line) (Said event) [] e event refl in
+    record {
+      values = (space, (now, (size, (ack_eliciting, (largest, items)))));
+      words = t.is ∙ append-nil _;
+      fit = t.within.0;
+      some = some;
+      short = short;
+    }
+sends line said e short some = absurd some
+
+-- memory for items is refused to lines that have them alone
+pub items_refused : (line : List ℕ) → length line ≤ 4096 → IsSomeAnd (line_of line) TookMemory → HoldsList line
+items_refused line short took = go (line_of line) refl took where
+  go : (said : Option Line) → line_of line ≡ said → IsSomeAnd said TookMemory → HoldsList line
+  go (Some said) e some = inr (sends line said (all_words line said e) short some)
+  go None e some = absurd some
+
+-- a line of another name than that of packets with items
+pub other_line : (words rest : List (List ℕ)) (name : List ℕ) → first_word words ≡ Some (name, rest) → bytes_eq name (codes "send") ≡ false → line_at words ≡ line_behind forms_without_items name rest
+unfolding line_at line_behind
+other_line words rest name first other = rw (first, other) refl
+
+-- a line of which all words are read, and memory was taken for them
+pub took_line : (line : List ℕ) (words : List (List ℕ)) → words ≡ words_of line → IsSomeAnd (line_at words) TookAll → IsSomeAnd (line_of line) TookMemory
+unfolding line_of
+took_line line words is took = rw (← is) (go (line_at words) took) where
+  go : (read : Option (Line × List (List ℕ))) → IsSomeAnd read TookAll → IsSomeAnd (read >>= λ said. cond (length said.1 == 0) (Some said.0) None) TookMemory
+  go (Some (said, rest)) h = rw h.1 h.0
+  go None h = absurd h
+
+pub none_spelled : (line : List ℕ) (event : ItemEvent) → line_of line ≡ None → Spells line event → ⊥
 none_spelled line event none spells = let s = line_only line event spells in some_or_none s.0 (sym s.1 ∙ none) where
   some_or_none : (said : Line) → Some said ≡ None → ⊥
   some_or_none said e = absurd cc
@@ -91,21 +129,21 @@ none_spelled line event none spells = let s = line_only line event spells in som
 -- ---- the words are plain
 
 -- the words that spell an event are plain
-spelling_plain : (unkept : ℕ) (event : Event) → IsWithinTypes unkept event → AllByRecursion IsPlain (spelling unkept event)
+spelling_plain : (unkept : ℕ) (event : ItemEvent) → IsWithinTypes unkept event → AllByRecursion IsPlain (spelling unkept event)
 spelling_plain unkept event within =
-    let again = line_again unkept event [] within in
-    let t = line_takes (spelling unkept event) again.said [] (ap line_at (sym (append-nil (spelling unkept event))) ∙ again.is) event again.means in
+    let again = line_again unkept event within in
+    let t = line_takes (spelling unkept event) again.said [] again.is event again.means in
     subst (AllByRecursion IsPlain) (sym (t.is ∙ append-nil (spelling t.unkept event))) t.plain
 
-spelled_plain : (line : List ℕ) (event : Event) → Spells line event → AllByRecursion IsPlain (words_of line)
+spelled_plain : (line : List ℕ) (event : ItemEvent) → Spells line event → AllByRecursion IsPlain (words_of line)
 spelled_plain line event spells = subst (AllByRecursion IsPlain) (sym spells.words) (spelling_plain spells.unkept event spells.within)
 
-pub spelled_no_feed : (line : List ℕ) (event : Event) → Spells line event → All (λ byte. byte ≢ 10) line
+pub spelled_no_feed : (line : List ℕ) (event : ItemEvent) → Spells line event → All (λ byte. byte ≢ 10) line
 spelled_no_feed line event spells = plain_no_feed line (spelled_plain line event spells)
 
 -- ---- laws
 
-pub one_event : (line : List ℕ) (first second : Event) → Spells line first → Spells line second → IsSame first second
+pub one_event : (line : List ℕ) (first second : ItemEvent) → Spells line first → Spells line second → IsSame first second
 one_event line first second s t =
     let a = line_only line first s in
     let b = line_only line second t in
@@ -120,8 +158,8 @@ unfolding line_at
 some_word [] said e = absurd cc
 some_word (word ∷ words) said e = omega arith
 
-pub one_line : (unkept : ℕ) (event : Event) → IsWithinTypes unkept event → length (join_with_byte 32 (spelling unkept event)) ≤ 4096 → Spells (join_with_byte 32 (spelling unkept event)) event
+pub one_line : (unkept : ℕ) (event : ItemEvent) → IsWithinTypes unkept event → length (join_with_byte 32 (spelling unkept event)) ≤ 4096 → Spells (join_with_byte 32 (spelling unkept event)) event
 one_line unkept event within short =
-    let again = line_again unkept event [] within in
-    let some = some_word (spelling unkept event) again.said (ap line_at (sym (append-nil (spelling unkept event))) ∙ again.is) in
+    let again = line_again unkept event within in
+    let some = some_word (spelling unkept event) again.said again.is in
     record { unkept = unkept; words = joined (spelling unkept event) some (spelling_plain unkept event within); within = within; short = short }

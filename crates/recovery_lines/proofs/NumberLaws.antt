@@ -194,19 +194,6 @@ large_narrower limit small word n most le some large = no_number small word (λ 
     one_number n m (sym some ∙ ap (λ (w : List ℕ). number_of limit w) same ∙ read) in
     omega (arith, is, lt, large))
 
-pub number_narrow_none : (small : ℕ) (word : List ℕ) → small ≤ 2 ^ 64
-    → number_of (2 ^ 64) word ≡ None → number_of small word ≡ None
-number_narrow_none small word le none = none_narrower (2 ^ 64) small word (lit≤ tt) le none
-
-pub number_narrow_some : (small : ℕ) (word : List ℕ) (n : ℕ) → small ≤ 2 ^ 64
-    → number_of (2 ^ 64) word ≡ Some n → n < small → number_of small word ≡ Some n
-number_narrow_some small word n le some lt = other_limit (2 ^ 64) small word n (omega arith) some lt
-
-pub number_narrow_large : (small : ℕ) (word : List ℕ) (n : ℕ) → small ≤ 2 ^ 64
-    → number_of (2 ^ 64) word ≡ Some n → small ≤ n → number_of small word ≡ None
-number_narrow_large small word n le some large =
-    large_narrower (2 ^ 64) small word n (lit≤ tt) le some large
-
 not_below : (a b : ℕ) → ¬ (a < b) → b ≤ a
 not_below a b no_less = go (cases_lt a b)
   where
@@ -215,12 +202,12 @@ not_below a b no_less = go (cases_lt a b)
     go (inr more) = more
 
 -- what `try_from` makes of a number that was read
-pub narrowed : {E : Type 0} (small : ℕ) (word : List ℕ) (n : ℕ) (r : Result ℕ E) → small ≤ 2 ^ 64
-    → number_of (2 ^ 64) word ≡ Some n → OkIff r (n < small) n → result_ok r ≡ number_of small word
-narrowed small word n (Ok m) le some h =
-    ap (λ (k : ℕ). Some k) h.1 ∙ sym (number_narrow_some small word n le some h.0)
-narrowed small word n (Err e) le some h =
-    sym (number_narrow_large small word n le some (not_below n small h))
+pub narrowed : {E : Type 0} (limit small : ℕ) (word : List ℕ) (n : ℕ) (r : Result ℕ E) → limit ≤ 10 ^ 64 → small ≤ limit
+    → number_of limit word ≡ Some n → OkIff r (n < small) n → result_ok r ≡ number_of small word
+narrowed limit small word n (Ok m) most le some h =
+    ap (λ (k : ℕ). Some k) h.1 ∙ sym (other_limit limit small word n (omega (arith, most, le)) some h.0)
+narrowed limit small word n (Err e) most le some h =
+    sym (large_narrower limit small word n most le some (not_below n small h))
 
 -- the same of a test that gives an option
 pub kept_below : (limit small : ℕ) (word : List ℕ) (n : ℕ) (r : Option ℕ) → limit ≤ 10 ^ 64

@@ -1,5 +1,7 @@
--- What stands behind the name of a line: fields, each of one word.
-use Rattle.std.specs.Prelude.{ℕ, ◌*◌, ◌<◌, ◌^◌, Bool, List, [], ◌∷◌, Option, IfSome, decimal}
+-- What stands behind the name of a line: fields, each of one word, and behind them nothing or
+-- items.
+use Rattle.std.specs.Prelude.{ℕ, ◌*◌, ◌<◌, ◌^◌, Bool, List, [], ◌∷◌, map, Option, IfSome, decimal}
+use Rattle.std.specs.List.{AllByRecursion}
 use Rattle.recovery_base.specs.declared.below.SpaceId.{SpaceId}
 use Rattle.recovery_base.specs.declared.timer.Timer.{Timer}
 use Rattle.quic_recovery.specs.declared.event.PathName.{PathName}
@@ -63,16 +65,37 @@ Fits a_var_int = λ n. n < 2 ^ 62
 Fits a_byte = λ n. n < 2 ^ 8
 Fits a_count = λ n. n < 65
 
--- ---- several fields
+-- ---- the end of a line
 
-abbrev pub Values : List Field → Type 0
-Values [] = Unit {0}
-Values (field ∷ fields) = Value field × Values fields
+-- what stands behind the fields: nothing, or items up to the line's end, each of one word
+pub data Tail : Type 0 where
+  no_tail : Tail
+  an_item_tail : Tail
 
-abbrev pub words_for : (fields : List Field) → Values fields → List (List ℕ)
-words_for [] values = []
-words_for (field ∷ fields) values = word_for field values.0 ∷ words_for fields values.1
+abbrev pub TailValue : Tail → Type 0
+TailValue no_tail = Unit {0}
+TailValue an_item_tail = List ℕ
 
-abbrev pub AllFit : (fields : List Field) → Values fields → Type 0
-AllFit [] values = Unit {0}
-AllFit (field ∷ fields) values = Fits field values.0 × AllFit fields values.1
+abbrev pub tail_words : (tail : Tail) → TailValue tail → List (List ℕ)
+tail_words no_tail value = []
+tail_words an_item_tail items = map decimal items
+
+-- each item is a u64
+abbrev pub TailFits : (tail : Tail) → TailValue tail → Type 0
+TailFits no_tail value = Unit {0}
+TailFits an_item_tail items = AllByRecursion (λ item. item < 2 ^ 64) items
+
+-- ---- several fields, and what stands behind them
+
+module _ (tail : Tail) where
+  abbrev pub Values : List Field → Type 0
+  Values [] = TailValue tail
+  Values (field ∷ fields) = Value field × Values fields
+
+  abbrev pub words_for : (fields : List Field) → Values fields → List (List ℕ)
+  words_for [] value = tail_words tail value
+  words_for (field ∷ fields) values = word_for field values.0 ∷ words_for fields values.1
+
+  abbrev pub AllFit : (fields : List Field) → Values fields → Type 0
+  AllFit [] value = TailFits tail value
+  AllFit (field ∷ fields) values = Fits field values.0 × AllFit fields values.1

@@ -2,6 +2,11 @@
 use Rattle.std.specs.Prelude.{◌≡◌, ℕ, ◌+◌, ◌<◌, ◌≤◌, ◌^◌, ◌⊎◌, List, [], ◌∷◌, length, map, get_or, replicate, decimal, refl}
 use Rattle.std.specs.List.{range_with_len}
 use Rattle.std.specs.Global.{Vec}
+use Rattle.std.specs.declared.net.ip_addr.IpAddr.TheVariants.{V4}
+use Rattle.std.specs.declared.net.ipv4_addr.Ipv4Addr.{Ipv4Addr}
+use Rattle.std.specs.declared.net.socket_addr.SocketAddr.{SocketAddr}
+use Rattle.std.specs.Net.Addr.{ipv4_octets}
+use Rattle.std.specs.Net.Socket.{socket_ip, socket_port}
 use lib.Chars.{codes}
 use Rattle.recovery_base.specs.declared.below.ids.IssuedCid.{IssuedCid}
 use Rattle.quic_recovery.specs.declared.event.Event.{Event}
@@ -16,13 +21,21 @@ use Rattle.quic_recovery.specs.declared.event.Event.TheVariants.{Sample, Datagra
 use Rattle.quic_recovery.specs.declared.event.Event.TheVariants.{Transmit, PacerCheck}
 use Rattle.quic_recovery.specs.declared.event.Event.TheVariants.{Congestion, EndAcks}
 use Rattle.quic_recovery.specs.declared.event.Event.TheVariants.{PollMtu, PeerLimit, LossesDone}
+use Rattle.quic_recovery.specs.declared.event.Event.TheVariants.{Ecn, CheckAck}
+use Rattle.quic_recovery.specs.declared.event.Event.TheVariants.{QueueProbe, TakePending}
+use Rattle.quic_recovery.specs.declared.event.Event.TheVariants.{NewPath, ResetPath, DropPrevious}
 use Rattle.recovery_base.specs.declared.timer.Timer.TheVariants.{Idle}
 use Rattle.recovery_lines.specs.declared.lines.Line.{Line}
-use Rattle.recovery_lines.specs.declared.lines.Line.TheVariants.{Said, Ids}
+use Rattle.recovery_lines.specs.declared.lines.Line.TheVariants.{Said, Ids, Path}
 use Rattle.recovery_lines.specs.Fields.{Field, Values, words_for, AllFit}
+use Rattle.recovery_lines.specs.Fields.{Tail, no_tail, an_item_tail}
 use Rattle.recovery_lines.specs.Fields.{a_space, a_timer, a_path, a_flag, a_largest}
 use Rattle.recovery_lines.specs.Fields.{a_u64, a_span, a_u16, a_var_int, a_byte, a_count}
 use Rattle.recovery_lines.specs.Words.{words_of}
+
+-- the events of a script: what a packet carries is a list of items
+abbrev pub ItemEvent : Type 0
+ItemEvent = Event (List ℕ) (Unit {0}) (Unit {0}) (List ℕ)
 
 -- ---- ids
 
@@ -49,31 +62,58 @@ abbrev pub first_number : ℕ → List IssuedCid → ℕ
 first_number unkept [] = unkept
 first_number unkept (id ∷ ids) = id.sequence
 
+-- ---- addresses
+
+-- the address is 192.0.2.1, one of those for documentation (RFC 5737, 3), with this port
+pub record IsAt (port : ℕ) (remote : SocketAddr) : Type 0 where
+  pub ip : Ipv4Addr
+  pub octets : ipv4_octets ip ≡ 192 ∷ 0 ∷ 2 ∷ 1 ∷ []
+  pub address : socket_ip remote ≡ V4 ip
+  pub at : socket_port remote ≡ port
+
 -- ---- lines
 
--- What a line means: the event that it says, or one that holds ids, of which the last has a number.
-abbrev pub Means : Line → Event → Type 0
+-- What a line means: the event that it says, one that holds ids, of which the last has a number, or
+-- one of a path to a port.
+abbrev pub Means : Line → ItemEvent → Type 0
 Means (Said said) event = event ≡ said
 Means (Ids now first count) event =
     (ids : Vec IssuedCid) × (event ≡ IssueIds now ids) × (ids.items ≡ zero_ids first count) × (first + count ≤ 2 ^ 64)
+Means (Path now port fresh) event =
+    (remote : SocketAddr) × (event ≡ NewPath now remote fresh) × IsAt port remote
 
--- a line's name, the fields behind it, and what it says with their values
+-- a line's name, the fields behind it and what may follow them, and what it says with their values
 pub record Form : Type 0 where
   pub name : List ℕ
   pub fields : List Field
-  pub line : Values fields → Line
+  pub tail : Tail
+  pub line : Values tail fields → Line
 
--- fields that make an event that holds no list, behind a name
-abbrev pub form_of : List ℕ → (fields : List Field) → (Values fields → Event) → Form
-form_of name fields event = record { name = name; fields = fields; line = λ x. Said (event x) }
+-- a line's fields with their values
+abbrev pub FormValues : Form → Type 0
+FormValues form = Values form.tail form.fields
+
+-- fields that make an event, behind a name
+abbrev pub form_of : List ℕ → (fields : List Field) → (Values no_tail fields → ItemEvent) → Form
+form_of name fields event = record {
+  name = name;
+  fields = fields;
+  tail = no_tail;
+  line = λ x. Said (event x);
+}
 
 abbrev pub received : Form
 received = form_of (codes "received") (a_space ∷ a_u64 ∷ a_u64 ∷ a_flag ∷ [])
     (λ x. Received x.0 x.1.0 x.1.1.0 x.1.1.1.0)
 
+-- behind its fields stand the items of the packet's queue, in their order
 abbrev pub send : Form
-send = form_of (codes "send") (a_space ∷ a_u64 ∷ a_u16 ∷ a_flag ∷ a_largest ∷ [])
-    (λ x. Send x.0 x.1.0 x.1.1.0 x.1.1.1.0 x.1.1.1.1.0)
+send = record {
+  name = codes "send";
+  fields = a_space ∷ a_u64 ∷ a_u16 ∷ a_flag ∷ a_largest ∷ [];
+  tail = an_item_tail;
+  line = λ x. Said (Send x.0 x.1.0 x.1.1.0 x.1.1.1.0 x.1.1.1.1.0 x.1.1.1.1.1 tt);
+}
 
 abbrev pub acked : Form
 acked = form_of (codes "acked") (a_space ∷ a_u64 ∷ a_u64 ∷ a_flag ∷ []) (λ x. Acked x.0 x.1.0 x.1.1.0 x.1.1.1.0)
@@ -97,7 +137,12 @@ abbrev pub initial_id : Form
 initial_id = form_of (codes "initial-id") (a_byte ∷ []) (λ x. InitialId (id_of x.0))
 
 abbrev pub issue_ids : Form
-issue_ids = record { name = codes "issue-ids"; fields = a_u64 ∷ a_u64 ∷ a_count ∷ []; line = λ x. Ids x.0 x.1.0 x.1.1.0 }
+issue_ids = record {
+  name = codes "issue-ids";
+  fields = a_u64 ∷ a_u64 ∷ a_count ∷ [];
+  tail = no_tail;
+  line = λ x. Ids x.0 x.1.0 x.1.1.0;
+}
 
 abbrev pub id_timeout : Form
 id_timeout = form_of (codes "id-timeout") [] (λ x. IdTimeout)
@@ -168,21 +213,55 @@ peer_limit = form_of (codes "peer-limit") (a_u16 ∷ []) (λ x. PeerLimit x.0)
 abbrev pub losses_done : Form
 losses_done = form_of (codes "losses-done") (a_u64 ∷ []) (λ x. LossesDone x.0)
 
-abbrev pub forms : List Form
-forms = received ∷ send ∷ acked ∷ lost
+abbrev pub ecn : Form
+ecn = form_of (codes "ecn") (a_space ∷ a_u64 ∷ a_u64 ∷ a_u64 ∷ a_u64 ∷ [])
+    (λ x. Ecn x.0 x.1.0 (record { ect0 = x.1.1.0; ect1 = x.1.1.1.0; ce = x.1.1.1.1.0 }))
+
+abbrev pub check_ack : Form
+check_ack = form_of (codes "check-ack") (a_space ∷ a_u64 ∷ a_u64 ∷ [])
+    (λ x. CheckAck x.0 x.1.0 x.1.1.0)
+
+abbrev pub queue_probe : Form
+queue_probe = form_of (codes "queue-probe") (a_space ∷ a_flag ∷ []) (λ x. QueueProbe x.0 x.1.0 tt)
+
+abbrev pub take_pending : Form
+take_pending = form_of (codes "take-pending") (a_space ∷ []) (λ x. TakePending x.0)
+
+abbrev pub new_path : Form
+new_path = record {
+  name = codes "new-path";
+  fields = a_u64 ∷ a_u16 ∷ a_flag ∷ [];
+  tail = no_tail;
+  line = λ x. Path x.0 x.1.0 x.1.1.0;
+}
+
+abbrev pub reset_path : Form
+reset_path = form_of (codes "reset-path") (a_u64 ∷ []) (λ x. ResetPath x.0)
+
+abbrev pub drop_previous : Form
+drop_previous = form_of (codes "drop-previous") [] (λ x. DropPrevious)
+
+-- those that have no items
+abbrev pub forms_without_items : List Form
+forms_without_items = received ∷ acked ∷ lost
     ∷ new_id ∷ next_id ∷ initial_id ∷ issue_ids ∷ id_timeout ∷ peer_retired
     ∷ ack_frequency ∷ acks_sent ∷ ack_delay_timeout
     ∷ set_timer ∷ stop_timer ∷ next_timeout
     ∷ discard ∷ in_flight
     ∷ sample ∷ datagram_in ∷ validated ∷ transmit ∷ pacer_check ∷ congestion ∷ end_acks
-    ∷ poll_mtu ∷ peer_limit ∷ losses_done ∷ []
+    ∷ poll_mtu ∷ peer_limit ∷ losses_done
+    ∷ ecn ∷ check_ack ∷ queue_probe ∷ take_pending ∷ new_path ∷ reset_path ∷ drop_previous ∷ []
+
+abbrev pub forms : List Form
+forms = send ∷ forms_without_items
 
 -- ---- how an event is said
 
 -- the form of an event's line and the values of its fields, with a number for what an event does not keep
-abbrev pub saying : ℕ → Event → (form : Form) × Values form.fields
+abbrev pub saying : ℕ → ItemEvent → (form : Form) × FormValues form
 saying unkept (Received space now number ack_eliciting) = (received, (space, (now, (number, (ack_eliciting, tt)))))
-saying unkept (Send space now size ack_eliciting largest_acked) = (send, (space, (now, (size, (ack_eliciting, (largest_acked, tt))))))
+saying unkept (Send space now size ack_eliciting largest_acked items none) =
+    (send, (space, (now, (size, (ack_eliciting, (largest_acked, items))))))
 saying unkept (Acked space now number app_limited) = (acked, (space, (now, (number, (app_limited, tt)))))
 saying unkept (Lost space number) = (lost, (space, (number, tt)))
 saying unkept (NewId frame) = (new_id, (frame.sequence, (frame.retire_prior_to, (byte_of frame.id, tt))))
@@ -213,13 +292,21 @@ saying unkept (EndAcks now app_limited largest) =
 saying unkept (PollMtu now) = (poll_mtu, (now, tt))
 saying unkept (PeerLimit size) = (peer_limit, (size, tt))
 saying unkept (LossesDone now) = (losses_done, (now, tt))
+saying unkept (Ecn space newly_acked counts) =
+    (ecn, (space, (newly_acked, (counts.ect0, (counts.ect1, (counts.ce, tt))))))
+saying unkept (CheckAck space low high) = (check_ack, (space, (low, (high, tt))))
+saying unkept (QueueProbe space immediate_ack none) = (queue_probe, (space, (immediate_ack, tt)))
+saying unkept (TakePending space) = (take_pending, (space, tt))
+saying unkept (NewPath now remote fresh) = (new_path, (now, (socket_port remote, (fresh, tt))))
+saying unkept (ResetPath now) = (reset_path, (now, tt))
+saying unkept DropPrevious = (drop_previous, tt)
 
 -- the words that a form says with values
-abbrev pub words_said : (form : Form) × Values form.fields → List (List ℕ)
-words_said said = said.0.name ∷ words_for said.0.fields said.1
+abbrev pub words_said : (form : Form) × FormValues form → List (List ℕ)
+words_said said = said.0.name ∷ words_for said.0.tail said.0.fields said.1
 
 -- the words that spell an event
-abbrev pub spelling : ℕ → Event → List (List ℕ)
+abbrev pub spelling : ℕ → ItemEvent → List (List ℕ)
 spelling unkept event = words_said (saying unkept event)
 
 -- as in 'set-timer idle 50'
@@ -227,14 +314,15 @@ set_timer-spelling : spelling 0 (SetTimer Idle 50) ≡ codes "set-timer" ∷ cod
 set_timer-spelling = refl
 
 -- The values of an event's line are within the types of their fields, and the line with these values means the event: one
--- byte fills an id and its token, and ids that are issued are of zero bytes, with numbers that go on.
-abbrev pub IsWithinTypes : ℕ → Event → Type 0
+-- byte fills an id and its token, ids that are issued are of zero bytes, with numbers that go on, and
+-- a path is to 192.0.2.1.
+abbrev pub IsWithinTypes : ℕ → ItemEvent → Type 0
 IsWithinTypes unkept event =
     let said = saying unkept event in
-    AllFit said.0.fields said.1 × Means (said.0.line said.1) event
+    AllFit said.0.tail said.0.fields said.1 × Means (said.0.line said.1) event
 
 -- a line spells an event
-pub record Spells (line : List ℕ) (event : Event) : Type 0 where
+pub record Spells (line : List ℕ) (event : ItemEvent) : Type 0 where
   pub unkept : ℕ
   pub words : words_of line ≡ spelling unkept event
   pub within : IsWithinTypes unkept event
@@ -252,11 +340,24 @@ pub record IssuesIds (line : List ℕ) : Type 0 where
   pub bound : first + count ≤ 2 ^ 64
   pub short : length line ≤ 4096
 
+-- the line sends a packet that carries items, one at least
+pub record SendsItems (line : List ℕ) : Type 0 where
+  pub values : FormValues send
+  pub words : words_of line ≡ words_said (send, values)
+  pub fit : AllFit send.tail send.fields values
+  pub some : 0 < length values.1.1.1.1.1
+  pub short : length line ≤ 4096
+
+-- the line's event holds a list, of one id or item at least
+abbrev pub HoldsList : List ℕ → Type 0
+HoldsList line = IssuesIds line ⊎ SendsItems line
+
 -- the same ids are issued at the same moment, wherever their list lies in memory
-abbrev pub IssueAlike : Event → Event → Type 0
+abbrev pub IssueAlike : ItemEvent → ItemEvent → Type 0
 IssueAlike (IssueIds now ids) (IssueIds then others) = (now ≡ then) × (ids.items ≡ others.items)
 IssueAlike first second = ⊥
 
--- two values of the same event
-abbrev pub IsSame : Event → Event → Type 0
+-- Two values of the same event. Of a queue the items alone are seen, so that packets with the same
+-- items are equal.
+abbrev pub IsSame : ItemEvent → ItemEvent → Type 0
 IsSame first second = (first ≡ second) ⊎ IssueAlike first second

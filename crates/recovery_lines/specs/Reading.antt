@@ -2,6 +2,7 @@
 use Rattle.std.specs.Prelude.{◌≡◌, ℕ, ◌+◌, ◌*◌, ◌<◌, ◌≤◌, ◌^◌, ◌==◌, nat_lt, ◌&&◌, Bool, true}
 use Rattle.std.specs.Prelude.{false, List, [], ◌∷◌, length, Option, Some, None, option_and_then}
 use Rattle.std.specs.Prelude.{if◌then◌else◌, bytes_eq, decimal, slice_index}
+use Rattle.std.specs.Global.{Vec}
 use Rattle.std.specs.Int.{IsInRange}
 use Rattle.std.specs.List.{before_first, position_or_len}
 use Rattle.std.specs.Str.Parse.{digits_value}
@@ -10,12 +11,14 @@ use Rattle.recovery_base.specs.declared.below.SpaceId.{SpaceId}
 use Rattle.recovery_base.specs.declared.below.SpaceId.TheVariants.{Initial, Handshake, Data}
 use Rattle.recovery_base.specs.declared.timer.Timer.{Timer}
 use Rattle.recovery_base.specs.declared.timer.Timer.TheVariants.{LossDetection, Idle, Close, KeyDiscard, PathValidation, KeepAlive, Pacing, PushNewCid, MaxAckDelay}
+use Rattle.quic_recovery.specs.declared.event.Event.TheVariants.{Send}
 use Rattle.quic_recovery.specs.declared.event.PathName.{PathName}
 use Rattle.quic_recovery.specs.declared.event.PathName.TheVariants.{Current, Previous}
 use Rattle.recovery_lines.specs.declared.lines.Line.{Line}
-use Rattle.recovery_lines.specs.declared.lines.Line.TheVariants.{Said, Ids}
+use Rattle.recovery_lines.specs.declared.lines.Line.TheVariants.{Said, Ids, Path}
 use Rattle.recovery_lines.specs.declared.words.Words.{Words}
 use Rattle.recovery_lines.specs.Fields.{Field, Value, Values}
+use Rattle.recovery_lines.specs.Fields.{Tail, TailValue, no_tail, an_item_tail}
 use Rattle.recovery_lines.specs.Fields.{a_space, a_timer, a_path, a_flag, a_largest}
 use Rattle.recovery_lines.specs.Fields.{a_u64, a_span, a_u16, a_var_int, a_byte, a_count}
 use Rattle.recovery_lines.specs.Lines.{Form, forms}
@@ -120,21 +123,47 @@ value_of a_var_int = number_of (2 ^ 62)
 value_of a_byte = number_of (2 ^ 8)
 value_of a_count = number_of 65
 
+-- ---- items
+
+-- items up to the end of the words
+abbrev pub items_read : List (List ℕ) → Option (List ℕ)
+items_read [] = Some []
+items_read (word ∷ words) = do
+  item ← number_of (2 ^ 64) word
+  items ← items_read words
+  Some (item ∷ items)
+
+-- what stands behind the fields
+abbrev pub tail_read : {A : Type 0} (tail : Tail) → (TailValue tail → A) → List (List ℕ)
+    → Option (A × List (List ℕ))
+tail_read no_tail make words = Some (make tt, words)
+tail_read an_item_tail make words = items_read words >>= λ items. Some (make items, [])
+
+-- all words that are left were read as these items, or they are none
+abbrev pub AreItemsRead : Words → Words → Option (Vec ℕ) → Type 0
+AreItemsRead old new result =
+    Reads (λ items. items.items) result (words_left new)
+    (tail_read an_item_tail (λ items. items) (words_left old))
+
 -- ---- a line
 
--- fields that are read one after the other, and what is made of their values
-unfoldable pub fields_read : {A : Type 0} (fields : List Field) → (Values fields → A) → List (List ℕ) → Option (A × List (List ℕ))
-fields_read [] make words = Some (make tt, words)
-fields_read (f ∷ fields) make words = field (value_of f) words >>= λ x. fields_read fields (λ y. make (x.0, y)) x.1
+module _ {A : Type 0} (tail : Tail) where
+  -- fields that are read one after the other, and what is made of their values
+  unfoldable pub fields_read : (fields : List Field) → (Values tail fields → A) → List (List ℕ)
+      → Option (A × List (List ℕ))
+  fields_read [] make words = tail_read tail make words
+  fields_read (f ∷ fields) make words =
+      field (value_of f) words >>= λ x. fields_read fields (λ y. make (x.0, y)) x.1
 
--- the same; where there is no field, it is seen at once
-abbrev pub all_read : {A : Type 0} (fields : List Field) → (Values fields → A) → List (List ℕ) → Option (A × List (List ℕ))
-all_read [] make words = Some (make tt, words)
-all_read (f ∷ fields) make words = fields_read (f ∷ fields) make words
+  -- the same; where there is no field, it is seen at once
+  abbrev pub all_read : (fields : List Field) → (Values tail fields → A) → List (List ℕ)
+      → Option (A × List (List ℕ))
+  all_read [] make words = tail_read tail make words
+  all_read (f ∷ fields) make words = fields_read (f ∷ fields) make words
 
 -- what is read behind a form's name
 abbrev pub reading : Form → List (List ℕ) → Option (Line × List (List ℕ))
-reading form = all_read form.fields form.line
+reading form = all_read form.tail form.fields form.line
 
 -- the form of this name
 abbrev pub form_named : List Form → List ℕ → Option Form
@@ -142,15 +171,15 @@ form_named [] word = None
 form_named (form ∷ forms) word = if bytes_eq word form.name then Some form else form_named forms word
 
 -- what stands behind a name
-unfoldable pub line_behind : List ℕ → List (List ℕ) → Option (Line × List (List ℕ))
-line_behind name words = do
+unfoldable pub line_behind : List Form → List ℕ → List (List ℕ) → Option (Line × List (List ℕ))
+line_behind forms name words = do
   form ← form_named forms name
   reading form words
 
 unfoldable pub line_at : List (List ℕ) → Option (Line × List (List ℕ))
 line_at words = do
   name ← first_word words
-  line_behind name.0 name.1
+  line_behind forms name.0 name.1
 
 -- all of the words
 unfoldable pub line_of : List ℕ → Option Line
@@ -158,7 +187,19 @@ line_of line = do
   said ← line_at (words_of line)
   if length said.1 == 0 then Some said.0 else None
 
+-- ---- memory
+
 -- ids are made of what was read, so memory is taken
 abbrev pub TakesMemory : Line → Type 0
 TakesMemory (Said said) = ⊥
 TakesMemory (Ids now first count) = (0 < count) × (first + count ≤ 2 ^ 64)
+TakesMemory (Path now port fresh) = ⊥
+
+-- items were read, one at least, for which memory was taken
+abbrev pub TookMemory : Line → Type 0
+TookMemory (Said (Send space now size ack_eliciting largest items none)) = 0 < length items
+TookMemory line = ⊥
+
+-- the same of all that is left to read
+abbrev pub TookAll : Line × List (List ℕ) → Type 0
+TookAll read = TookMemory read.0 × (read.1 ≡ [])

@@ -3,12 +3,15 @@ ghost use Rattle.std.specs.Prelude.{◌≡◌, IfOk, OnOk, string_bytes};
 ghost use Rattle.recovery_lines.specs.Answers.{Writes, new_text, sent_text, done_with_text};
 ghost use Rattle.recovery_lines.specs.Answers.{retire_text, flag_text, timeout_text};
 ghost use Rattle.recovery_lines.specs.Answers.{in_flight_text, delayed_text, probe_text};
-ghost use Rattle.recovery_lines.specs.Answers.{black_hole_text, refusal_text};
+ghost use Rattle.recovery_lines.specs.Answers.{black_hole_text, sendable_text, queue_text};
+ghost use Rattle.recovery_lines.specs.Answers.{refusal_text};
 ghost use Rattle.recovery_lines.specs.Answers.{answer_text, answer_lines};
 
 use quic_recovery::event::{Answer, Refusal};
 use recovery_base::below::{NoMemory, ResetToken};
 use recovery_base::time::Instant;
+use recovery_items::items::ItemQueue;
+use recovery_ledger::spaces::SendableFrames;
 use std::alloc::{AllocError, Global};
 use std::ops::Range;
 
@@ -62,14 +65,16 @@ fn write_retire(
     }
 }
 
+fn flag_word(flag: bool) -> &'static str
+    ensures { result.now ≡ flag_text flag }
+{
+    if flag { "yes" } else { "no" }
+}
+
 fn write_flag(text: &mut String, flag: bool) -> Result<(), AllocError>
     ensures { OnOk result (Writes text.old (flag_text flag) text.new) }
 {
-    if flag {
-        writeln!(text, "yes")
-    } else {
-        writeln!(text, "no")
-    }
+    write_word(text, flag_word(flag))
 }
 
 fn write_timeout(text: &mut String, time: Option<Instant>) -> Result<(), AllocError>
@@ -109,14 +114,43 @@ fn write_black_hole(text: &mut String, reported: bool) -> Result<(), AllocError>
     }
 }
 
+fn write_sendable(text: &mut String, frames: SendableFrames) -> Result<(), AllocError>
+    ensures { OnOk result (Writes text.old (sendable_text frames) text.new) }
+{
+    writeln!(
+        text,
+        "sendable {} {}",
+        flag_word(frames.acks),
+        flag_word(frames.other)
+    )
+}
+
+fn write_queue(text: &mut String, queue: &ItemQueue) -> Result<(), AllocError>
+    ensures { OnOk result (Writes text.old (queue_text queue.now) text.new) }
+{
+    text.push_str("queue")?;
+    for item in queue.items() {
+        write!(text, " {item}")?;
+    }
+    text.push_str("\n")
+}
+
 fn write_refusal(text: &mut String, refusal: Refusal) -> Result<(), AllocError>
     ensures { OnOk result (Writes text.old (refusal_text refusal) text.new) }
 {
-    writeln!(text, "refused {} {}", refusal.number(), refusal.name())
+    let number = refusal.number();
+    let name = refusal.name();
+    match refusal {
+        Refusal::Ecn(reason) => writeln!(text, "refused {number} {name} {reason}"),
+        _ => writeln!(text, "refused {number} {name}"),
+    }
 }
 
 /// Appends the line of what an event came to. The one refusal is want of memory; nothing is then promised of the text.
-pub fn write_reply(text: &mut String, reply: &Result<Answer, Refusal>) -> Result<(), AllocError>
+pub fn write_reply(
+    text: &mut String,
+    reply: &Result<Answer<ItemQueue>, Refusal>,
+) -> Result<(), AllocError>
     ensures { OnOk result (Writes text.old (answer_text reply.now) text.new) }
 {
     match reply {
@@ -141,13 +175,18 @@ pub fn write_reply(text: &mut String, reply: &Result<Answer, Refusal>) -> Result
         Ok(Answer::Probe { number, size }) => write_probe(text, *number, *size),
         Ok(Answer::NoProbe) => write_word(text, "no probe"),
         Ok(Answer::BlackHole(reported)) => write_black_hole(text, *reported),
+        Ok(Answer::Sendable(frames)) => write_sendable(text, *frames),
+        Ok(Answer::Queue(queue)) => write_queue(text, queue),
         Ok(Answer::Done) => write_word(text, "done"),
         Err(refusal) => write_refusal(text, *refusal),
     }
 }
 
 /// The lines of all replies, in order. The one refusal is `NoMemory`.
-pub fn render(alloc: Global, replies: &[Result<Answer, Refusal>]) -> Result<String, NoMemory>
+pub fn render(
+    alloc: Global,
+    replies: &[Result<Answer<ItemQueue>, Refusal>],
+) -> Result<String, NoMemory>
     ensures { IfOk result (λ text. string_bytes text ≡ answer_lines replies.now) }
 {
     let mut text = String::new(alloc);

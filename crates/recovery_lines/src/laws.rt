@@ -1,18 +1,17 @@
 //! Laws of lines, which no call states: what is spelled is spelled in one way.
 ghost use Rattle.std.specs.Prelude.{◌≤◌, ℕ, List, length};
 ghost use Rattle.std.specs.List.{join_with_byte};
-ghost use Rattle.quic_recovery.specs.declared.event.Event.{Event};
-ghost use Rattle.recovery_lines.specs.Lines.{spelling, IsWithinTypes, Spells, IsSame};
+ghost use Rattle.recovery_lines.specs.Lines.{ItemEvent, spelling, IsWithinTypes, Spells, IsSame};
 
 /// A line spells at most one event.
 pub fn one_event()
-    ensures { (line : List ℕ) (first second : Event)
+    ensures { (line : List ℕ) (first second : ItemEvent)
         → Spells line first → Spells line second → IsSame first second }
 {}
 
 /// The words that spell an event, with one space between two, are a line that spells it.
 pub fn one_line()
-    ensures { (unkept : ℕ) (event : Event) →
+    ensures { (unkept : ℕ) (event : ItemEvent) →
         let line = join_with_byte 32 (spelling unkept event) in
         IsWithinTypes unkept event → length line ≤ 4096 → Spells line event }
 {}

@@ -1,36 +1,47 @@
 //! The event that a line of a script spells.
 ghost use Rattle.std.specs.Prelude.{◌≡◌, ◌+◌, ◌<◌, ◌≤◌, ◌^◌, IfSome, IfOk, OnErr, IsSome, IsSomeAnd, bytes_eq};
-ghost use Rattle.quic_recovery.specs.declared.event.Event.{Event};
-ghost use Rattle.recovery_lines.specs.Lines.{id_of, token_of, zero_ids, Means, Spells};
-ghost use Rattle.recovery_lines.specs.Lines.{IsSame, IssuesIds, received, send, acked, lost};
+ghost use Rattle.recovery_lines.specs.Lines.{ItemEvent, id_of, token_of, zero_ids, IsAt, Means, Spells};
+ghost use Rattle.recovery_lines.specs.Lines.{IsSame, HoldsList, forms_without_items};
+ghost use Rattle.recovery_lines.specs.Lines.{received, send, acked, lost};
 ghost use Rattle.recovery_lines.specs.Lines.{new_id, initial_id, issue_ids, peer_retired};
 ghost use Rattle.recovery_lines.specs.Lines.{ack_frequency, acks_sent, ack_delay_timeout};
 ghost use Rattle.recovery_lines.specs.Lines.{set_timer, stop_timer, discard, in_flight, sample};
 ghost use Rattle.recovery_lines.specs.Lines.{datagram_in, validated, transmit, pacer_check};
 ghost use Rattle.recovery_lines.specs.Lines.{congestion, end_acks, poll_mtu, peer_limit, losses_done};
-ghost use Rattle.recovery_lines.specs.Reading.{ReadsBy, reading, line_behind, line_at, line_of, TakesMemory};
+ghost use Rattle.recovery_lines.specs.Lines.{ecn, check_ack, queue_probe, take_pending};
+ghost use Rattle.recovery_lines.specs.Lines.{new_path, reset_path};
+ghost use Rattle.recovery_lines.specs.Reading.{ReadsBy, reading, line_behind, line_at, line_of};
+ghost use Rattle.recovery_lines.specs.Reading.{words_left, TakesMemory, TookMemory, TookAll};
 
 use crate::words::Words;
 use quic_recovery::event::Event;
 use recovery_base::below::{
-    AckFrequency, ConnectionId, IssuedCid, NewConnectionId, NoMemory, ResetToken,
+    AckFrequency, ConnectionId, EcnCounts, IssuedCid, NewConnectionId, NoMemory, ResetToken,
 };
 use recovery_base::time::Instant;
+use recovery_items::items::ItemQueue;
 use std::alloc::Global;
+use std::net::{IpAddr, Ipv4Addr, SocketAddr};
 
 /// The most bytes of a line, without its line feed.
 pub const LINE_LIMIT: usize = 4096;
 
-/// What a line says, before any memory is taken for it.
+/// What a line says, before memory is taken for ids.
 #[derive(Drop)]
 enum Line {
-    /// An event that holds no list.
-    Said(Event),
+    /// An event.
+    Said(Event<ItemQueue>),
     /// This end issues so many ids from a number on, at a moment.
     Ids {
         now: Instant,
         first: u64,
         count: u64,
+    },
+    /// Another path is used from now on, to a port of the peer's address.
+    Path {
+        now: Instant,
+        port: u16,
+        fresh: bool,
     },
 }
 
@@ -48,6 +59,13 @@ fn token_of(byte: u8) -> ResetToken
     ResetToken::from([byte; 16])
 }
 
+/// The address of the peer, 192.0.2.1, with this port (RFC 5737, 3).
+pub fn peer_at(port: u16) -> SocketAddr
+    ensures { IsAt port result }
+{
+    SocketAddr::new(IpAddr::V4(Ipv4Addr::new(192, 0, 2, 1)), port)
+}
+
 #[tactic(auto, unfolding(crate::specs::Reading::fields_read))]
 fn received(words: &mut Words<'_>) -> Option<Line>
     ensures { ReadsBy (reading received) words.old words.new result }
@@ -60,17 +78,39 @@ fn received(words: &mut Words<'_>) -> Option<Line>
     }))
 }
 
+/// The one line whose fields have items behind them. Memory is refused to a line that has one at least.
 #[tactic(auto, unfolding(crate::specs::Reading::fields_read))]
-fn send(words: &mut Words<'_>) -> Option<Line>
-    ensures { ReadsBy (reading send) words.old words.new result }
+fn send(alloc: Global, words: &mut Words<'_>) -> Result<Option<Line>, NoMemory>
+    ensures found { IfOk result (ReadsBy (reading send) words.old words.new) }
+    ensures memory { OnErr result (IsSomeAnd (reading send (words_left words.old)) TookAll) }
 {
-    Some(Line::Said(Event::Send {
-        space: words.space()?,
-        now: words.moment()?,
-        size: words.size()?,
-        ack_eliciting: words.flag()?,
-        largest_acked: words.largest()?,
-    }))
+    let Some(space) = words.space() else {
+        return Ok(None);
+    };
+    let Some(now) = words.moment() else {
+        return Ok(None);
+    };
+    let Some(size) = words.short() else {
+        return Ok(None);
+    };
+    let Some(ack_eliciting) = words.flag() else {
+        return Ok(None);
+    };
+    let Some(largest_acked) = words.largest() else {
+        return Ok(None);
+    };
+    let Some(items) = words.items(alloc)? else {
+        return Ok(None);
+    };
+    Ok(Some(Line::Said(Event::Send {
+        space,
+        now,
+        size,
+        ack_eliciting,
+        largest_acked,
+        queue: ItemQueue::from_items(items),
+        stream_frames: (),
+    })))
 }
 
 #[tactic(auto, unfolding(crate::specs::Reading::fields_read))]
@@ -229,7 +269,7 @@ fn transmit(words: &mut Words<'_>) -> Option<Line>
 {
     Some(Line::Said(Event::Transmit {
         now: words.moment()?,
-        bytes: words.size()?,
+        bytes: words.short()?,
         checked: words.flag()?,
     }))
 }
@@ -281,7 +321,7 @@ fn peer_limit(words: &mut Words<'_>) -> Option<Line>
     ensures { ReadsBy (reading peer_limit) words.old words.new result }
 {
     Some(Line::Said(Event::PeerLimit {
-        size: words.size()?,
+        size: words.short()?,
     }))
 }
 
@@ -290,6 +330,72 @@ fn losses_done(words: &mut Words<'_>) -> Option<Line>
     ensures { ReadsBy (reading losses_done) words.old words.new result }
 {
     Some(Line::Said(Event::LossesDone {
+        now: words.moment()?,
+    }))
+}
+
+#[tactic(auto, unfolding(crate::specs::Reading::fields_read))]
+fn ecn(words: &mut Words<'_>) -> Option<Line>
+    ensures { ReadsBy (reading ecn) words.old words.new result }
+{
+    Some(Line::Said(Event::Ecn {
+        space: words.space()?,
+        newly_acked: words.number()?,
+        counts: EcnCounts {
+            ect0: words.number()?,
+            ect1: words.number()?,
+            ce: words.number()?,
+        },
+    }))
+}
+
+#[tactic(auto, unfolding(crate::specs::Reading::fields_read))]
+fn check_ack(words: &mut Words<'_>) -> Option<Line>
+    ensures { ReadsBy (reading check_ack) words.old words.new result }
+{
+    Some(Line::Said(Event::CheckAck {
+        space: words.space()?,
+        low: words.number()?,
+        high: words.number()?,
+    }))
+}
+
+#[tactic(auto, unfolding(crate::specs::Reading::fields_read))]
+fn queue_probe(words: &mut Words<'_>) -> Option<Line>
+    ensures { ReadsBy (reading queue_probe) words.old words.new result }
+{
+    Some(Line::Said(Event::QueueProbe {
+        space: words.space()?,
+        immediate_ack: words.flag()?,
+        streams: (),
+    }))
+}
+
+#[tactic(auto, unfolding(crate::specs::Reading::fields_read))]
+fn take_pending(words: &mut Words<'_>) -> Option<Line>
+    ensures { ReadsBy (reading take_pending) words.old words.new result }
+{
+    Some(Line::Said(Event::TakePending {
+        space: words.space()?,
+    }))
+}
+
+#[tactic(auto, unfolding(crate::specs::Reading::fields_read))]
+fn new_path(words: &mut Words<'_>) -> Option<Line>
+    ensures { ReadsBy (reading new_path) words.old words.new result }
+{
+    Some(Line::Path {
+        now: words.moment()?,
+        port: words.short()?,
+        fresh: words.flag()?,
+    })
+}
+
+#[tactic(auto, unfolding(crate::specs::Reading::fields_read))]
+fn reset_path(words: &mut Words<'_>) -> Option<Line>
+    ensures { ReadsBy (reading reset_path) words.old words.new result }
+{
+    Some(Line::Said(Event::ResetPath {
         now: words.moment()?,
     }))
 }
@@ -312,13 +418,13 @@ fn is_name(word: &[u8], name: &str) -> bool
     word == name.as_bytes()
 }
 
-/// What a line says behind its name. Names of other lengths are not compared with it.
+/// What a line without items says behind its name. Names of other lengths are not compared with it.
 #[tactic(auto, unfolding(crate::specs::Reading::line_behind))]
 fn line_behind(name: &[u8], words: &mut Words<'_>) -> Option<Line>
-    ensures { ReadsBy (line_behind name.now) words.old words.new result }
+    ensures { ReadsBy (line_behind forms_without_items name.now) words.old words.new result }
 {
     match name.len() {
-        4 if is_name(name, "send") => send(words),
+        3 if is_name(name, "ecn") => ecn(words),
         4 if is_name(name, "lost") => lost(words),
         5 if is_name(name, "acked") => acked(words),
         6 if is_name(name, "new-id") => new_id(words),
@@ -329,45 +435,60 @@ fn line_behind(name: &[u8], words: &mut Words<'_>) -> Option<Line>
         8 if is_name(name, "transmit") => transmit(words),
         8 if is_name(name, "end-acks") => end_acks(words),
         8 if is_name(name, "poll-mtu") => poll_mtu(words),
+        8 if is_name(name, "new-path") => new_path(words),
         9 if is_name(name, "issue-ids") => issue_ids(words),
         9 if is_name(name, "acks-sent") => acks_sent(words),
         9 if is_name(name, "set-timer") => set_timer(words),
         9 if is_name(name, "in-flight") => in_flight(words),
         9 if is_name(name, "validated") => validated(words),
+        9 if is_name(name, "check-ack") => check_ack(words),
         10 if is_name(name, "initial-id") => initial_id(words),
         10 if is_name(name, "id-timeout") => Some(Line::Said(Event::IdTimeout)),
         10 if is_name(name, "stop-timer") => stop_timer(words),
         10 if is_name(name, "congestion") => congestion(words),
         10 if is_name(name, "peer-limit") => peer_limit(words),
+        10 if is_name(name, "reset-path") => reset_path(words),
         11 if is_name(name, "datagram-in") => datagram_in(words),
         11 if is_name(name, "pacer-check") => pacer_check(words),
         11 if is_name(name, "losses-done") => losses_done(words),
+        11 if is_name(name, "queue-probe") => queue_probe(words),
         12 if is_name(name, "peer-retired") => peer_retired(words),
         12 if is_name(name, "next-timeout") => Some(Line::Said(Event::NextTimeout)),
+        12 if is_name(name, "take-pending") => take_pending(words),
         13 if is_name(name, "ack-frequency") => ack_frequency(words),
+        13 if is_name(name, "drop-previous") => Some(Line::Said(Event::DropPrevious)),
         17 if is_name(name, "ack-delay-timeout") => ack_delay_timeout(words),
         _ => None,
     }
 }
 
-#[tactic(auto, unfolding(crate::specs::Reading::line_at))]
-fn line_in(words: &mut Words<'_>) -> Option<Line>
-    ensures { ReadsBy line_at words.old words.new result }
+/// What the words that are left say: a name, and what stands behind it.
+#[tactic(auto, unfolding(crate::specs::Reading::line_at, crate::specs::Reading::line_behind))]
+fn line_in(alloc: Global, words: &mut Words<'_>) -> Result<Option<Line>, NoMemory>
+    ensures found { IfOk result (ReadsBy line_at words.old words.new) }
+    ensures memory { OnErr result (IsSomeAnd (line_at (words_left words.old)) TookAll) }
 {
-    line_behind(words.next()?, words)
+    let Some(name) = words.next() else {
+        return Ok(None);
+    };
+    if is_name(name, "send") {
+        return send(alloc, words);
+    }
+    Ok(line_behind(name, words))
 }
 
 /// What the words of a line say, all of them.
 #[tactic(auto, unfolding(crate::specs::Reading::line_of))]
-fn said(line: &[u8]) -> Option<Line>
-    ensures { result ≡ line_of line.now }
+fn said(alloc: Global, line: &[u8]) -> Result<Option<Line>, NoMemory>
+    ensures found { IfOk result (λ read. read ≡ line_of line.now) }
+    ensures memory { OnErr result (IsSomeAnd (line_of line.now) TookMemory) }
 {
     let mut words = Words::new(line);
-    let said = line_in(&mut words)?;
+    let said = line_in(alloc, &mut words)?;
     if words.next().is_some() {
-        return None;
+        return Ok(None);
     }
-    Some(said)
+    Ok(said)
 }
 
 /// The ids of a line that issues them, each of zero bytes.
@@ -388,9 +509,9 @@ fn zero_ids(alloc: Global, first: u64, count: u64) -> Result<Vec<IssuedCid>, NoM
 }
 
 /// The event of what a line says; `None` where a number of an id would pass `u64::MAX`.
-fn meant(alloc: Global, line: Line) -> Result<Option<Event>, NoMemory>
+fn meant(alloc: Global, line: Line) -> Result<Option<Event<ItemQueue>>, NoMemory>
     ensures found { IfOk result (λ read. IfSome read (λ event. Means line event)) }
-    ensures only { (event : Event) → Means line event → IfOk result IsSome }
+    ensures only { (event : ItemEvent) → Means line event → IfOk result IsSome }
     ensures memory { OnErr result (TakesMemory line) }
 {
     match line {
@@ -402,24 +523,29 @@ fn meant(alloc: Global, line: Line) -> Result<Option<Event>, NoMemory>
             let ids = zero_ids(alloc, first, count)?;
             Ok(Some(Event::IssueIds { now, ids }))
         }
+        Line::Path { now, port, fresh } => Ok(Some(Event::NewPath {
+            now,
+            remote: peer_at(port),
+            fresh,
+        })),
     }
 }
 
 /// The event that a line, given without its line feed, spells; `None` where it spells none. The one refusal is
 /// `NoMemory`.
-pub fn read_event(alloc: Global, line: &[u8]) -> Result<Option<Event>, NoMemory>
+pub fn read_event(alloc: Global, line: &[u8]) -> Result<Option<Event<ItemQueue>>, NoMemory>
     // What is read is spelled so.
     ensures found { IfOk result (λ read. IfSome read (λ event. Spells line.now event)) }
     // What is spelled so is read: a line spells at most one event.
-    ensures only { (event : Event) → Spells line.now event
+    ensures only { (event : ItemEvent) → Spells line.now event
         → IfOk result (λ read. IsSomeAnd read (IsSame event)) }
-    // Memory is refused to a line that issues ids, and to no other.
-    ensures memory { OnErr result (IssuesIds line.now) }
+    // Memory is refused to a line that issues ids or has items, and to no other.
+    ensures memory { OnErr result (HoldsList line.now) }
 {
     if line.len() > LINE_LIMIT {
         return Ok(None);
     }
-    match said(line) {
+    match said(alloc, line)? {
         Some(line) => meant(alloc, line),
         None => Ok(None),
     }

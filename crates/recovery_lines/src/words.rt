@@ -1,37 +1,22 @@
 //! The words of a line, read one after the other.
-ghost use Rattle.std.specs.Prelude.{◌≡◌, ◌*◌, ◌<◌, ◌≤◌, ◌^◌, ◌==◌, Some, length, take};
+ghost use Rattle.std.specs.Prelude.{◌≡◌, ◌*◌, ◌<◌, ◌≤◌, ◌^◌, ◌==◌, [], Some, length, take};
+ghost use Rattle.std.specs.Prelude.{Decides, IfOk, OnErr, IsSome, IsSomeAnd};
 ghost use Rattle.std.specs.List.{position_or_len};
 ghost use Rattle.std.specs.Str.Parse.{digits_value};
 ghost use Rattle.recovery_lines.specs.Words.{words_of};
 ghost use Rattle.recovery_lines.specs.Reading.{AreDigits, IsFirstNumber, Reads, ReadsBy, words_left, first_word, field, flag_of, space_of, timer_of, path_of, largest_of, number_of};
+ghost use Rattle.recovery_lines.specs.Reading.{items_read, AreItemsRead};
 
 use quic_recovery::event::PathName;
-use recovery_base::below::{SpaceId, VarInt};
+use recovery_base::below::{NoMemory, SpaceId, VarInt};
 use recovery_base::time::{Duration, Instant};
 use recovery_base::timer::Timer;
+use std::alloc::Global;
 
 /// The most ids that a line issues.
 const MOST_IDS: u64 = 64;
 
-/// The number that a word spells, 0 to `u64::MAX`: digits without a sign and without leading zeros.
-pub fn number_in(word: &[u8]) -> Option<u64>
-    ensures { result ≡ number_of (2 ^ 64) word.now }
-{
-    if word.is_empty() || (word.len() > 1 && word[0] == b'0') {
-        return None;
-    }
-    let mut value = 0u64;
-    for byte in word {
-        let digit = byte.wrapping_sub(b'0');
-        if digit > 9 {
-            return None;
-        }
-        value = value.checked_mul(10)?.checked_add(u64::from(digit))?;
-    }
-    Some(value)
-}
-
-/// The number that digits spell, 0 to `u128::MAX`, as a number is spelled.
+/// The number that digits spell, 0 to `u128::MAX`: without a sign and without leading zeros.
 fn long_number_in(digits: &[u8]) -> Option<u128>
     ensures { result ≡ number_of (2 ^ 128) digits.now }
 {
@@ -49,53 +34,22 @@ fn long_number_in(digits: &[u8]) -> Option<u128>
     Some(value)
 }
 
+/// The number that a word spells, 0 to `u64::MAX`: digits without a sign and without leading zeros.
+pub fn number_in(word: &[u8]) -> Option<u64>
+    ensures { result ≡ number_of (2 ^ 64) word.now }
+{
+    match long_number_in(word) {
+        Some(number) => u64::try_from(number).ok(),
+        None => None,
+    }
+}
+
 /// The span that a word spells: nanoseconds, 0 to 2^64 · 10^9 - 1, as a number is spelled.
 fn span_in(word: &[u8]) -> Option<Duration>
     ensures { result ≡ number_of (2 ^ 64 * 10 ^ 9) word.now }
 {
     match long_number_in(word) {
         Some(nanos) => Duration::checked_from_nanos(nanos),
-        None => None,
-    }
-}
-
-/// The size that a word spells, 0 to `u16::MAX`, as a number is spelled.
-fn size_in(word: &[u8]) -> Option<u16>
-    ensures { result ≡ number_of (2 ^ 16) word.now }
-{
-    match number_in(word) {
-        Some(number) => u16::try_from(number).ok(),
-        None => None,
-    }
-}
-
-/// The byte that a word spells, 0 to 255, as a number is spelled.
-fn byte_in(word: &[u8]) -> Option<u8>
-    ensures { result ≡ number_of (2 ^ 8) word.now }
-{
-    match number_in(word) {
-        Some(number) => u8::try_from(number).ok(),
-        None => None,
-    }
-}
-
-/// The count of ids that a word spells, 0 to 64, as a number is spelled.
-fn count_in(word: &[u8]) -> Option<u64>
-    ensures { result ≡ number_of 65 word.now }
-{
-    let number = number_in(word)?;
-    if number > MOST_IDS {
-        return None;
-    }
-    Some(number)
-}
-
-/// The number below 2^62 that a word spells, as a number is spelled.
-fn var_int_in(word: &[u8]) -> Option<VarInt>
-    ensures { result ≡ number_of (2 ^ 62) word.now }
-{
-    match number_in(word) {
-        Some(number) => VarInt::from_u64(number).ok(),
         None => None,
     }
 }
@@ -297,12 +251,13 @@ impl<'a> Words<'a> {
         Some(span)
     }
 
-    /// The next word as a size in bytes, 0 to `u16::MAX`.
+    /// The next word as a number, 0 to `u16::MAX`: a size in bytes, or a port.
     #[tactic(auto, unfolding(crate::specs::Reading::field))]
-    pub fn size(&mut self) -> Option<u16>
+    pub fn short(&mut self) -> Option<u16>
         ensures { ReadsBy (field (number_of (2 ^ 16))) self.old self.new result }
     {
-        size_in(self.next()?)
+        let number = self.number()?;
+        u16::try_from(number).ok()
     }
 
     /// The next word as a byte, 0 to 255.
@@ -310,7 +265,8 @@ impl<'a> Words<'a> {
     pub fn byte(&mut self) -> Option<u8>
         ensures { ReadsBy (field (number_of (2 ^ 8))) self.old self.new result }
     {
-        byte_in(self.next()?)
+        let number = self.number()?;
+        u8::try_from(number).ok()
     }
 
     /// The next word as a count of ids, 0 to 64.
@@ -318,7 +274,11 @@ impl<'a> Words<'a> {
     pub fn count(&mut self) -> Option<u64>
         ensures { ReadsBy (field (number_of 65)) self.old self.new result }
     {
-        count_in(self.next()?)
+        let number = self.number()?;
+        if number > MOST_IDS {
+            return None;
+        }
+        Some(number)
     }
 
     /// The next word as a number below 2^62.
@@ -326,7 +286,8 @@ impl<'a> Words<'a> {
     pub fn var_int(&mut self) -> Option<VarInt>
         ensures { ReadsBy (field (number_of (2 ^ 62))) self.old self.new result }
     {
-        var_int_in(self.next()?)
+        let number = self.number()?;
+        VarInt::from_u64(number).ok()
     }
 
     /// The next word as a packet number, 0 to `u64::MAX`, or as none, which is spelled `-`.
@@ -367,5 +328,43 @@ impl<'a> Words<'a> {
         ensures { ReadsBy (field timer_of) self.old self.new result }
     {
         timer_in(self.next()?)
+    }
+    /// Whether no word is left.
+    fn is_empty(&self) -> bool
+        ensures { Decides result (words_left self.now ≡ []) }
+    {
+        self.rest.is_none()
+    }
+
+    /// Whether the words that are left are items, each of them. It reads none.
+    fn are_items(&self) -> bool
+        ensures { Decides result (IsSome (items_read (words_left self.now))) }
+    {
+        let mut words = Words { rest: self.rest };
+        while !words.is_empty() {
+            let Some(_) = words.number() else {
+                return false;
+            };
+        }
+        true
+    }
+
+    /// All words that are left as items, 0 to `u64::MAX` each. No memory is taken unless they all are, and there is one.
+    pub fn items(&mut self, alloc: Global) -> Result<Option<Vec<u64>>, NoMemory>
+        ensures found { IfOk result (AreItemsRead self.old self.new) }
+        ensures memory { OnErr result
+            (IsSomeAnd (items_read (words_left self.old)) (λ items. 0 < length items)) }
+    {
+        if !self.are_items() {
+            return Ok(None);
+        }
+        let mut items = Vec::new(alloc);
+        while !self.is_empty() {
+            let Some(item) = self.number() else {
+                return Ok(None);
+            };
+            items.push(item)?;
+        }
+        Ok(Some(items))
     }
 }

@@ -1,2 +1,4 @@
+pub mod BalanceLaws
+pub mod LivePathsLaws
 pub mod PathLogLaws
 pub mod ThreefoldLaws

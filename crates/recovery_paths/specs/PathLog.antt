@@ -1,38 +1,39 @@
 -- What happened on the paths. A path's own part knows of no other path.
-use Rattle.std.specs.Prelude.{ℕ, ◌≡◌, ◌+◌, Bool, true, false, List, [], ◌∷◌}
+use Rattle.std.specs.Prelude.{ℕ, ◌≡◌, ◌+◌, Bool, true, false, List, [], ◌∷◌, Option, None, Some, option_map}
 use Rattle.std.specs.declared.net.socket_addr.SocketAddr.{SocketAddr}
 use Rattle.recovery_congestion.specs.Calls.{ControllerCall, content_by}
-use Rattle.recovery_congestion.specs.Controllers.{ControllerWords}
 use Rattle.recovery_mtud.specs.DiscoveryLog.{MtuCall, discovery_by}
 use Rattle.recovery_pacing.specs.Pacing.{Bucket, PacerCall, paced, less_tokens}
 use Rattle.recovery_rtt.specs.Rtt.{rtt_by}
-use Rattle.recovery_paths.specs.PathStates.{PathState, Path, PathMaking, first_bucket, pacer_call, after_asking, after_transmitting, after_receiving, after_sample, after_searching, after_telling, after_validation}
+use Rattle.recovery_paths.specs.declared.live_paths.PathName.{PathName}
+use Rattle.recovery_paths.specs.declared.live_paths.PathName.TheVariants.{Current, Previous}
+use Rattle.recovery_paths.specs.PathMaking.{PathMaking, PathSettings, bucket_of, making_fresh, pacer_at_first, pacer_going_on, reset_call, state_made, state_going_on, state_reset}
+use Rattle.recovery_paths.specs.PathStates.{PathState, Path, pacer_call, after_asking, after_transmitting, after_receiving, after_sample, after_searching, after_telling, after_validation}
 
 -- ---- the paths, whatever is kept for each
 
-pub data PathsEntry (E : Type 0) : Type 0 where
-  -- something happens on the path in use
-  on_current : (entry : E) → PathsEntry E
-
+-- at most two live: the one in use, and the one that was in use before it, until that is dropped (RFC 9000, 9.3)
 pub record OfPaths (P : Type 0) : Type 0 where
-  -- of the path in use
   pub current : P
+  pub previous : Option P
 
-abbrev pub paths_with : {E P : Type 0} → (E → P → P) → PathsEntry E → OfPaths P → OfPaths P
-paths_with change (on_current entry) old = record old { current = change entry old.current }
+-- what is kept for the path of a name, where it lives
+abbrev pub path_of : {P : Type 0} → PathName → OfPaths P → Option P
+path_of Current paths = Some paths.current
+path_of Previous paths = paths.previous
 
--- entries, the newest first, change the paths one after another
-abbrev pub paths_after : {E P : Type 0} → (E → P → P) → List (PathsEntry E) → OfPaths P → OfPaths P
-paths_after change [] old = old
-paths_after change (entry ∷ earlier) old = paths_with change entry (paths_after change earlier old)
+abbrev pub on_path_of : {P : Type 0} → PathName → (P → P) → OfPaths P → OfPaths P
+on_path_of Current change paths = record paths { current = change paths.current }
+on_path_of Previous change paths = record paths { previous = option_map change paths.previous }
 
-abbrev pub paths_by : {E P : Type 0} → P → (E → P → P) → List (PathsEntry E) → OfPaths P
-paths_by first change log = paths_after change log (record { current = first })
+-- another path is in use, and the one that was is the previous one
+abbrev pub moved_to : {P : Type 0} → P → OfPaths P → OfPaths P
+moved_to path paths = record { current = path; previous = Some paths.current }
 
 abbrev pub each_path : {P Q : Type 0} → (P → Q) → OfPaths P → OfPaths Q
-each_path f paths = record { current = f paths.current }
+each_path f paths = record { current = f paths.current; previous = option_map f paths.previous }
 
--- ---- one path
+-- ---- what happens on one path
 
 pub data PathEntry : Type 0 where
   -- a datagram came in
@@ -51,19 +52,40 @@ pub data PathEntry : Type 0 where
   transmits : (bytes : ℕ) → PathEntry
   -- a datagram is transmitted that was checked: the pacer was asked for it first
   passes : (now bytes : ℕ) → PathEntry
+  -- RTT, controller, search and pacer begin anew
+  is_reset : (now : ℕ) → PathEntry
 
--- what it changes of what is kept
-abbrev pub state_with : {K : Type 0} → ControllerWords K → PathEntry → PathState K → PathState K
-state_with words (receives bytes) old = after_receiving bytes old
-state_with words is_validated old = after_validation old
-state_with words (samples delay rtt) old = after_sample delay rtt old
-state_with words (tells call) old = after_telling words call old
-state_with words (searches call) old = after_searching call old
-state_with words (asks now bytes) old = after_asking words now bytes old
-state_with words (transmits bytes) old = after_transmitting bytes old
-state_with words (passes now bytes) old = after_transmitting bytes (after_asking words now bytes old)
+-- how a path follows on another one: fresh, where the peer takes datagrams of at most so many bytes, or going on with RTT,
+-- controller and search
+pub data Following : Type 0 where
+  fresh : (remote : SocketAddr) (limit : Option ℕ) (now : ℕ) → Following
+  goes_on : (remote : SocketAddr) (now : ℕ) → Following
 
--- ---- all that happened on one path since it was made, each kind of it the newest first
+pub data PathsEntry : Type 0 where
+  -- something happens on a path that lives
+  on : (name : PathName) (entry : PathEntry) → PathsEntry
+  -- another path is used
+  moves : (following : Following) → PathsEntry
+  -- the previous path is dropped
+  drops_previous : PathsEntry
+
+abbrev pub on_current : PathEntry → PathsEntry
+on_current entry = on Current entry
+
+-- the paths after an entry, by what is kept for one after what happens on it, and for one that follows on it
+abbrev pub paths_with : {P : Type 0} → (PathEntry → P → P) → (Following → P → P) → PathsEntry → OfPaths P → OfPaths P
+paths_with change follow (on name entry) old = on_path_of name (change entry) old
+paths_with change follow (moves following) old = moved_to (follow following old.current) old
+paths_with change follow drops_previous old = record old { previous = None }
+
+-- entries, the newest first, change the paths one after another
+abbrev pub paths_after : {P : Type 0} → (PathEntry → P → P) → (Following → P → P) → List PathsEntry → OfPaths P → OfPaths P
+paths_after change follow [] old = old
+paths_after change follow (entry ∷ earlier) old =
+    paths_with change follow entry (paths_after change follow earlier old)
+
+-- ---- all that happened on one path since it was made, each kind of it the newest first; a path that goes on from another one
+-- has what was sampled, told and seen there
 
 pub record Transmission : Type 0 where
   pub bytes : ℕ
@@ -74,6 +96,7 @@ pub data PacerEntry : Type 0 where
   took : (bytes : ℕ) → PacerEntry
 
 pub record PathPast (K : Type 0) : Type 0 where
+  -- how many paths were made before it
   pub generation : ℕ
   pub making : PathMaking K
   pub validated : Bool
@@ -121,7 +144,7 @@ past_transmitting bytes checked past = record past {
   pacing = took bytes ∷ past.pacing;
 }
 
-module _ {K : Type 0} (words : ControllerWords K) where
+module _ {K : Type 0} (settings : PathSettings K) where
   -- what is kept after all that
   abbrev pub state_of : PathPast K → PathState K
   state_of past = record {
@@ -131,14 +154,30 @@ module _ {K : Type 0} (words : ControllerWords K) where
     sent = total_transmitted past.transmissions;
     discovery = discovery_by past.making.discovery past.searched;
     rtt = rtt_by past.making.rtt past.samples_taken;
-    controller = content_by words past.making.controller past.calls;
-    pacer = bucket_by (first_bucket words past.making) past.pacing;
+    controller = content_by settings.words past.making.controller past.calls;
+    pacer = bucket_by (bucket_of past.making.pacer) past.pacing;
   }
 
   -- the pacer is asked with the RTT, MTU and window that all this gives
   abbrev pub past_asking : ℕ → ℕ → PathPast K → PathPast K
   past_asking now bytes past =
-      record past { pacing = asked (pacer_call words (state_of past) now bytes) ∷ past.pacing }
+      record past { pacing = asked (pacer_call settings.words (state_of past) now bytes) ∷ past.pacing }
+
+  -- RTT, controller and pacer begin anew, and the search goes on by beginning anew itself
+  abbrev pub past_reset : ℕ → PathPast K → PathPast K
+  past_reset now past =
+      let searched = reset_call settings ∷ past.searched in
+      record past {
+        making = record past.making {
+          rtt = settings.rtt;
+          controller = settings.built now;
+          pacer = pacer_at_first settings (discovery_by past.making.discovery searched).mtu now;
+        };
+        samples_taken = [];
+        calls = [];
+        searched = searched;
+        pacing = [];
+      }
 
   abbrev pub past_with : PathEntry → PathPast K → PathPast K
   past_with (receives bytes) past = record past { datagrams = bytes ∷ past.datagrams }
@@ -149,6 +188,41 @@ module _ {K : Type 0} (words : ControllerWords K) where
   past_with (asks now bytes) past = past_asking now bytes past
   past_with (transmits bytes) past = past_transmitting bytes false past
   past_with (passes now bytes) past = past_transmitting bytes true (past_asking now bytes past)
+  past_with (is_reset now) past = past_reset now past
+
+  -- the past of a path that follows on another one
+  abbrev pub past_following : Following → PathPast K → PathPast K
+  past_following (fresh remote limit now) past =
+      past_made (past.generation + 1) (making_fresh settings remote false limit now)
+  past_following (goes_on remote now) past = record past {
+    generation = past.generation + 1;
+    making = record past.making {
+      remote = remote;
+      validated = false;
+      pacer = pacer_going_on settings.words now (state_of past);
+    };
+    validated = false;
+    datagrams = [];
+    transmissions = [];
+    pacing = [];
+  }
+
+  -- ---- what an entry changes of what is kept
+
+  abbrev pub state_with : PathEntry → PathState K → PathState K
+  state_with (receives bytes) old = after_receiving bytes old
+  state_with is_validated old = after_validation old
+  state_with (samples delay rtt) old = after_sample delay rtt old
+  state_with (tells call) old = after_telling settings.words call old
+  state_with (searches call) old = after_searching call old
+  state_with (asks now bytes) old = after_asking settings.words now bytes old
+  state_with (transmits bytes) old = after_transmitting bytes old
+  state_with (passes now bytes) old = after_transmitting bytes (after_asking settings.words now bytes old)
+  state_with (is_reset now) old = state_reset settings now old
+
+  abbrev pub state_following : Following → PathState K → PathState K
+  state_following (fresh remote limit now) old = state_made (making_fresh settings remote false limit now)
+  state_following (goes_on remote now) old = state_going_on settings.words remote now old
 
 -- ---- what is known of the paths
 
@@ -157,28 +231,35 @@ pub record PathKnown (K : Type 0) : Type 0 where
   pub generation : ℕ
   pub state : PathState K
 
-module _ {K : Type 0} (words : ControllerWords K) where
+module _ {K : Type 0} (settings : PathSettings K) where
   abbrev pub known_of : PathPast K → PathKnown K
-  known_of past = record { generation = past.generation; state = state_of words past }
+  known_of past = record { generation = past.generation; state = state_of settings past }
 
   abbrev pub known_with : PathEntry → PathKnown K → PathKnown K
-  known_with entry old = record old { state = state_with words entry old.state }
+  known_with entry old = record old { state = state_with settings entry old.state }
+
+  abbrev pub known_following : Following → PathKnown K → PathKnown K
+  known_following following old = record {
+    generation = old.generation + 1;
+    state = state_following settings following old.state;
+  }
 
   -- the past of each path, where the first is made so
-  abbrev pub pasts_by : PathMaking K → List (PathsEntry PathEntry) → OfPaths (PathPast K)
-  pasts_by first log = paths_by (past_made 0 first) (past_with words) log
+  abbrev pub pasts_by : PathMaking K → List PathsEntry → OfPaths (PathPast K)
+  pasts_by first log =
+      paths_after (past_with settings) (past_following settings) log (record { current = past_made 0 first; previous = None })
 
-  abbrev pub paths_known_by : PathMaking K → List (PathsEntry PathEntry) → OfPaths (PathKnown K)
+  abbrev pub paths_known_by : PathMaking K → List PathsEntry → OfPaths (PathKnown K)
   paths_known_by first log = each_path known_of (pasts_by first log)
 
   -- an event may be several entries to the paths, the newest first
-  abbrev pub PathsStep : List (PathsEntry PathEntry) → OfPaths (PathKnown K) → OfPaths (PathKnown K) → Type 0
-  PathsStep entries old new = new ≡ paths_after known_with entries old
+  abbrev pub PathsStep : List PathsEntry → OfPaths (PathKnown K) → OfPaths (PathKnown K) → Type 0
+  PathsStep entries old new = new ≡ paths_after known_with known_following entries old
 
-  abbrev pub PathsLeft : PathMaking K → List (PathsEntry PathEntry) → OfPaths (PathKnown K) → Type 0
+  abbrev pub PathsLeft : PathMaking K → List PathsEntry → OfPaths (PathKnown K) → Type 0
   PathsLeft first log paths = paths ≡ paths_known_by first log
 
--- ---- what a path holds, and what is known of it
+-- ---- what the paths hold, and what is known of them
 
 abbrev pub path_known : {K : Type 0} → Path K → PathKnown K
 path_known path = record { generation = path.ledger.generation; state = path.state }

@@ -1,19 +1,17 @@
 -- What is kept for a network path (RFC 9000, 8 and 9; RFC 9002, 5 to 7).
-use Rattle.std.specs.Prelude.{ℕ, ◌+◌, ◌*◌, ◌&&◌, ◌==◌, not, nat_lt, Bool, true, Option, None, Some, if◌then◌else◌}
+use Rattle.std.specs.Prelude.{ℕ, ◌+◌, ◌*◌, ◌&&◌, ◌==◌, not, nat_lt, Bool, true, Option, List, if◌then◌else◌}
 use Rattle.std.specs.declared.net.socket_addr.SocketAddr.{SocketAddr}
 use Rattle.recovery_base.specs.declared.below.SpaceId.{SpaceId}
 use Rattle.recovery_congestion.specs.Calls.{ControllerCall, acks, takes_mtu, told}
 use Rattle.recovery_congestion.specs.Controllers.{ControllerWords}
 use Rattle.recovery_ledger.specs.declared.paths.PathLedger.{PathLedger}
-use Rattle.recovery_ledger.specs.declared.spaces.SentPacket.{SentPacket}
+use Rattle.recovery_ledger.specs.Packets.{Packet}
 use Rattle.recovery_ledger.specs.Paths.{generation_of, after_leaving}
-use Rattle.recovery_config.specs.declared.config.TransportConfig.{TransportConfig}
-use Rattle.recovery_config.specs.Settings.{initial_mtu_of}
-use Rattle.recovery_mtud.specs.declared.config.MtuDiscoveryConfig.{MtuDiscoveryConfig}
-use Rattle.recovery_mtud.specs.Discovery.{Discovery, discovery_made, discovery_disabled, is_data, is_probe}
+use Rattle.recovery_mtud.specs.Discovery.{Discovery, is_data, is_probe}
 use Rattle.recovery_mtud.specs.DiscoveryLog.{MtuCall, acks as acks_packet, loses_probe, loses, discovery_after}
-use Rattle.recovery_pacing.specs.Pacing.{Bucket, PacerCall, bucket_made, paced, delay_of, less_tokens}
-use Rattle.recovery_rtt.specs.Rtt.{Rtt, rtt_made, rtt_updated, rtt_get}
+use Rattle.recovery_pacing.specs.Pacing.{Bucket, PacerCall, paced, delay_of, less_tokens}
+use Rattle.recovery_responses.specs.declared.responses.PathResponse.{PathResponse}
+use Rattle.recovery_rtt.specs.Rtt.{Rtt, rtt_updated, rtt_get}
 
 -- what is kept beside a path's generation and what it has in flight; K is what contracts see of its controller
 pub record PathState (K : Type 0) : Type 0 where
@@ -29,34 +27,26 @@ pub record PathState (K : Type 0) : Type 0 where
   pub controller : K
   pub pacer : Bucket
 
+-- what the layer above keeps with a path (RFC 9000, 8.2 and 13.4; RFC 9002, 7.6)
+pub record PathMarks : Type 0 where
+  -- what its challenge says, where one was sent, and whether one is to be sent
+  pub challenge : Option ℕ
+  pub challenge_pending : Bool
+  pub responses : List PathResponse
+  -- packets on it are marked
+  pub sending_ecn : Bool
+  -- the first packet that was sent after a sample of the RTT
+  pub first_after_sample : Option (SpaceId × ℕ)
+
 pub record Path (K : Type 0) : Type 0 where
   -- its generation, and what it has in flight
   pub ledger : PathLedger
   pub state : PathState K
+  pub marks : PathMarks
 
 -- a change of what is kept beside the ledger
 abbrev pub on_state : {K : Type 0} → (PathState K → PathState K) → Path K → Path K
 on_state change path = record path { state = change path.state }
-
--- how a path is made
-pub record PathMaking (K : Type 0) : Type 0 where
-  pub remote : SocketAddr
-  pub validated : Bool
-  -- the bytes of a datagram, for the controller and the pacer
-  pub mtu : ℕ
-  pub discovery : Discovery
-  pub rtt : ℕ
-  pub controller : K
-  pub now : ℕ
-
--- the MTU of a path that is made, and the search for it, where it is allowed and the settings say how
-abbrev pub discovery_with : {F : Type 0} → Option ℕ → TransportConfig F → Option MtuDiscoveryConfig → Discovery
-discovery_with limit config None = discovery_disabled (initial_mtu_of config) config.min_mtu
-discovery_with limit config (Some settings) = discovery_made (initial_mtu_of config) config.min_mtu limit settings
-
-abbrev pub first_discovery : {F : Type 0} → Bool → Option ℕ → TransportConfig F → Discovery
-first_discovery allowed limit config =
-    discovery_with limit config (if allowed then config.mtu_discovery_config else None)
 
 -- the probe in flight is lost, or another packet
 abbrev pub loss_call : ℕ → ℕ → Discovery → MtuCall
@@ -96,30 +86,13 @@ module _ {K : Type 0} where
   abbrev pub is_path_probe : SpaceId → ℕ → PathState K → Bool
   is_path_probe space number path = is_data space && is_probe number path.discovery
 
-  abbrev pub path_lost : SpaceId → ℕ → SentPacket → Path K → Path K
-  path_lost space number packet path = record {
+  abbrev pub path_lost : {P : Type 0} → SpaceId → ℕ → Packet P → Path K → Path K
+  path_lost space number packet path = record path {
     ledger = after_leaving path.ledger packet;
     state = (if is_data space then after_searching (loss_call number packet.size path.state.discovery) path.state else path.state);
   }
 
 module _ {K : Type 0} (words : ControllerWords K) where
-  -- the pacer is made full, for the initial RTT and the initial window
-  abbrev pub first_bucket : PathMaking K → Bucket
-  first_bucket making = bucket_made making.rtt (words.initial making.controller) making.mtu making.now
-
-  -- a path to which nothing has happened
-  abbrev pub state_made : PathMaking K → PathState K
-  state_made making = record {
-    remote = making.remote;
-    validated = making.validated;
-    received = 0;
-    sent = 0;
-    discovery = making.discovery;
-    rtt = rtt_made making.rtt;
-    controller = making.controller;
-    pacer = first_bucket making;
-  }
-
   -- the controller is told of something (RFC 9002, 7)
   abbrev pub after_telling : ControllerCall → PathState K → PathState K
   after_telling call path = record path { controller = told words call path.controller }
@@ -136,13 +109,13 @@ module _ {K : Type 0} (words : ControllerWords K) where
       if is_data space then after_search (is_path_probe space number path) (acks_packet number bytes) path else path
 
   -- an acknowledged packet of the path that elicits an ACK is told
-  abbrev pub acked_by_controller : ℕ → Bool → SentPacket → PathLedger → PathState K → PathState K
+  abbrev pub acked_by_controller : {P : Type 0} → ℕ → Bool → Packet P → PathLedger → PathState K → PathState K
   acked_by_controller now app_limited packet ledger path =
       let call = acks now packet.time_sent packet.size app_limited path.rtt in
       if packet.path_generation == generation_of ledger && packet.ack_eliciting then after_telling call path else path
 
-  abbrev pub path_acked : SpaceId → ℕ → ℕ → Bool → SentPacket → Path K → Path K
-  path_acked space number now app_limited packet path = record {
+  abbrev pub path_acked : {P : Type 0} → SpaceId → ℕ → ℕ → Bool → Packet P → Path K → Path K
+  path_acked space number now app_limited packet path = record path {
     ledger = after_leaving path.ledger packet;
     state = acked_by_controller now app_limited packet path.ledger (acked_by_search space number packet.size path.state);
   }

@@ -1,19 +1,19 @@
 //! What is kept for each network path: its round-trip time, its controller and its pacer, what came in and went out, and what
 //! is in flight on it (RFC 9000, 8 and 9; RFC 9002).
-ghost use Rattle.std.specs.Prelude.{◌≡◌, Decides, ◌↔◌, ◌<◌, ◌+◌, ◌^◌, ◌≤◌, false, true, OnOk, OnErr, IfOk, IsErrOf};
+ghost use Rattle.std.specs.Prelude.{◌≡◌, Decides, ◌↔◌, ◌<◌, ◌+◌, ◌^◌, ◌≤◌, Bool, None, false, OnOk, OnErr, IfOk, IsErrOf};
 ghost use Rattle.std.specs.Option.{IfSome};
 ghost use Rattle.recovery_congestion.specs.Calls.{sends, ends_acks, congests};
-ghost use Rattle.recovery_config.specs.Settings.{initial_mtu_of};
-ghost use Rattle.recovery_ledger.specs.InFlight.{IsCountedIn, SumsLeave, Overflows};
+ghost use Rattle.recovery_ledger.specs.InFlight.{Overflows};
 ghost use Rattle.recovery_ledger.specs.Packets.{forgotten_entry, after_sending};
 ghost use Rattle.recovery_ledger.specs.Paths.{generation_of, counters_of, fresh_ledger, after_leaving, path_after_sending, IsCountedOn, CanTrack};
-ghost use Rattle.recovery_ledger.specs.Spaces.{tracking_of, with_tracking, packets_of, space_empties};
+ghost use Rattle.recovery_ledger.specs.Spaces.{tracking_of, with_tracking};
 ghost use Rattle.recovery_mtud.specs.Discovery.{is_probe, is_searching_of, reports};
 ghost use Rattle.recovery_mtud.specs.DiscoveryLog.{losses_end, is_limited};
-ghost use Rattle.recovery_paths.specs.PathStates.{Path, on_state, with_discovery, is_blocked, after_receiving, after_validation, after_sample, after_searching, after_transmitting, loss_call, first_discovery};
-ghost use Rattle.recovery_paths.specs.PathStates.{state_made, after_telling, after_search, path_acked, is_path_probe, path_lost, after_asking, path_delay};
+ghost use Rattle.recovery_paths.specs.PathMaking.{marks_made, path_settings, making_fresh, state_made, state_going_on, state_reset, first_discovery};
+ghost use Rattle.recovery_paths.specs.PathStates.{Path, on_state, with_discovery, is_blocked, after_receiving, after_validation, after_sample, after_searching, after_transmitting, loss_call};
+ghost use Rattle.recovery_paths.specs.PathStates.{after_telling, after_search, path_acked, is_path_probe, path_lost, after_asking, path_delay};
 
-use recovery_base::below::SpaceId;
+use recovery_base::below::{NoMemory, SpaceId};
 use recovery_base::time::{Duration, Instant};
 use recovery_config::config::TransportConfig;
 use recovery_congestion::congestion::{Controller, ControllerFactory};
@@ -22,6 +22,8 @@ pub use recovery_ledger::paths::{InFlight, LedgerError};
 use recovery_ledger::spaces::{PacketSpace, SentPacket};
 use recovery_mtud::mtud::MtuDiscovery;
 use recovery_pacing::pacing::Pacer;
+use recovery_queue::queue::RetransmitQueue;
+use recovery_responses::responses::PathResponses;
 use recovery_rtt::rtt::RttEstimator;
 use std::marker::Model;
 use std::net::SocketAddr;
@@ -53,6 +55,16 @@ pub struct PathData<C: Controller> {
     pub total_recvd: u64,
     /// The MTU in use, and the search for it (RFC 9000, 14.3).
     pub mtud: MtuDiscovery,
+    /// Whether packets are marked on the path (RFC 9000, 13.4). This and the four fields below are the layer's above.
+    pub sending_ecn: bool,
+    /// What its PATH_CHALLENGE frame says, where one was sent (RFC 9000, 8.2.1).
+    pub challenge: Option<u64>,
+    /// Whether a PATH_CHALLENGE frame is to be sent.
+    pub challenge_pending: bool,
+    /// The PATH_RESPONSE frames that are to be sent (RFC 9000, 8.2.2).
+    pub path_responses: PathResponses,
+    /// Space and number of the first packet that was sent after a sample of the round-trip time (RFC 9002, 7.6.2).
+    pub first_packet_after_rtt_sample: Option<(SpaceId, u64)>,
     ledger: PathLedger,
 }
 
@@ -73,6 +85,13 @@ impl<C: Controller> Model for PathData<C> {
         controller = C.content path.congestion;
         pacer = path.pacing;
       };
+      marks = record {
+        challenge = path.challenge;
+        challenge_pending = path.challenge_pending;
+        responses = path.path_responses;
+        sending_ecn = path.sending_ecn;
+        first_after_sample = path.first_packet_after_rtt_sample;
+      };
     } };
 
     ghost invariant = { λ path. C.is_sound (C.content path.congestion) };
@@ -92,15 +111,9 @@ impl<C: Controller + Drop> PathData<C> {
     ) -> Self
         requires limit { IfSome peer_max_udp_payload_size (λ limit. 0 < limit) }
         ensures ledger { result.ledger ≡ fresh_ledger generation }
-        ensures state { result.state ≡ state_made C.words (record {
-          remote = remote;
-          validated = false;
-          mtu = initial_mtu_of config.now;
-          discovery = first_discovery allow_mtud peer_max_udp_payload_size config.now;
-          rtt = config.now.initial_rtt;
-          controller = F.built config.now.congestion_controller_factory now (initial_mtu_of config.now);
-          now = now;
-        }) }
+        ensures state { let settings = path_settings F.built C.words allow_mtud config.now in
+            result.state ≡ state_made (making_fresh settings remote false peer_max_udp_payload_size now) }
+        ensures marks { result.marks ≡ marks_made None }
     {
         let mtu = config.get_initial_mtu();
         let congestion = config.congestion_controller_factory.build(now, mtu);
@@ -113,8 +126,70 @@ impl<C: Controller + Drop> PathData<C> {
             total_sent: 0,
             total_recvd: 0,
             mtud: discovery_for(allow_mtud, peer_max_udp_payload_size, config),
+            sending_ecn: true,
+            challenge: None,
+            challenge_pending: false,
+            path_responses: PathResponses::new(),
+            first_packet_after_rtt_sample: None,
             ledger: PathLedger::new(generation),
         }
+    }
+
+    /// A path to another address that goes on with another path's round-trip times, controller and search for the MTU
+    /// (RFC 9000, 9.4). All else is as of a new path; its pacer is full, for the RTT, window and MTU of the other one.
+    /// `NoMemory` where the controller finds no memory for a second one.
+    pub fn from_previous(
+        remote: SocketAddr,
+        previous: &Self,
+        generation: u64,
+        now: Instant,
+    ) -> Result<Self, NoMemory>
+        ensures ledger { IfOk result (λ path. path.ledger ≡ fresh_ledger generation) }
+        ensures state { IfOk result (λ path.
+            path.state ≡ state_going_on C.words remote now previous.now.state) }
+        ensures marks { IfOk result (λ path.
+            path.marks ≡ marks_made previous.now.marks.first_after_sample) }
+    {
+        let congestion = previous.congestion.try_clone()?;
+        let mtu = previous.current_mtu();
+        Ok(PathData {
+            remote,
+            rtt: previous.rtt,
+            pacing: Pacer::new(previous.rtt.get(), congestion.window(), mtu, now),
+            congestion,
+            validated: false,
+            total_sent: 0,
+            total_recvd: 0,
+            mtud: previous.mtud,
+            sending_ecn: true,
+            challenge: None,
+            challenge_pending: false,
+            path_responses: PathResponses::new(),
+            first_packet_after_rtt_sample: previous.first_packet_after_rtt_sample,
+            ledger: PathLedger::new(generation),
+        })
+    }
+
+    /// Round-trip times, controller, search for the MTU and pacer begin anew by the settings, the search with the peer's
+    /// limit kept, and the pacer for the MTU then in use. All else stays.
+    pub fn reset<F: ControllerFactory<Controller = C>>(
+        &mut self,
+        now: Instant,
+        config: &TransportConfig<F>,
+    )
+        ensures { (allowed : Bool) → let settings = path_settings F.built C.words allowed config.now in
+            self.new ≡ on_state (state_reset settings now) self.old }
+    {
+        let mtu = config.get_initial_mtu();
+        self.rtt = RttEstimator::new(config.initial_rtt);
+        self.congestion = config.congestion_controller_factory.build(now, mtu);
+        self.mtud.reset(mtu, config.get_min_mtu());
+        self.pacing = Pacer::new(
+            config.initial_rtt,
+            self.congestion.initial_window(),
+            self.mtud.current_mtu(),
+            now,
+        );
     }
 
     /// Which of the connection's paths this is, counted from 0.
@@ -151,12 +226,15 @@ impl<C: Controller + Drop> PathData<C> {
     /// Tracks a packet of this path in a space, and counts it. A packet that the space forgets for it is handed back with
     /// its number, and is no longer counted where it is one of this path's. `Overflow` is tested before anything is
     /// forgotten. Cost: logarithmic in the packets tracked.
-    pub fn sent(
+    pub fn sent<Q>(
         &mut self,
         number: u64,
-        packet: SentPacket,
-        space: &mut PacketSpace,
-    ) -> Result<Option<(u64, SentPacket)>, LedgerError>
+        packet: SentPacket<Q>,
+        space: &mut PacketSpace<Q>,
+    ) -> Result<Option<(u64, SentPacket<Q>)>, LedgerError>
+    where
+        Q: RetransmitQueue + Drop,
+        Q::Meta: Drop,
         requires { CanTrack self.old.ledger number packet space.old }
         ensures space { OnOk result
             (space.new ≡ with_tracking (after_sending number packet (tracking_of space.old)) space.old) }
@@ -171,25 +249,12 @@ impl<C: Controller + Drop> PathData<C> {
     }
 
     /// Counts a packet no more: false, and nothing, for a packet of another path.
-    pub fn remove_in_flight(&mut self, packet: &SentPacket) -> bool
+    pub fn remove_in_flight<Q: RetransmitQueue>(&mut self, packet: &SentPacket<Q>) -> bool
         requires { IsCountedOn self.old.ledger packet.now }
         ensures own { Decides result (packet.now.path_generation ≡ generation_of self.old.ledger) }
         ensures after { self.new ≡ record self.old { ledger = after_leaving self.old.ledger packet.now } }
     {
         self.ledger.remove_in_flight(packet)
-    }
-
-    /// Takes every packet of a space out, and counts those of this path no more. Cost: linear in the packets that the space
-    /// tracks.
-    pub fn forget_all(&mut self, space: &mut PacketSpace)
-        requires { IsCountedIn (counters_of self.old.ledger) (generation_of self.old.ledger) (packets_of space.old) }
-        ensures space { space.new ≡ space_empties space.old }
-        ensures generation { generation_of self.new.ledger ≡ generation_of self.old.ledger }
-        ensures counters { SumsLeave (counters_of self.old.ledger) (generation_of self.old.ledger)
-            (packets_of space.old) (counters_of self.new.ledger) }
-        ensures state { self.new.state ≡ self.old.state }
-    {
-        self.ledger.forget_all(space);
     }
 
     /// A datagram came in on the path, of so many bytes.
@@ -230,12 +295,12 @@ impl<C: Controller + Drop> PathData<C> {
     /// A packet of a space was acknowledged: whether it was the probe of the MTU in flight, whose size is the MTU in use then
     /// (RFC 8899, 5). It is counted no more, where it is one of this path's, and the controller is told of it, where it elicits an
     /// ACK too, last of all: of a new MTU before.
-    pub fn on_packet_acked(
+    pub fn on_packet_acked<Q: RetransmitQueue>(
         &mut self,
         space: SpaceId,
         number: u64,
         now: Instant,
-        packet: &SentPacket,
+        packet: &SentPacket<Q>,
         app_limited: bool,
     ) -> bool
         requires { IsCountedOn self.old.ledger packet.now }
@@ -256,7 +321,12 @@ impl<C: Controller + Drop> PathData<C> {
 
     /// A packet of a space was lost: whether it was the probe of the MTU in flight. Any other packet of 1-RTT keys counts as the sign
     /// of a black hole (RFC 8899, 4.3). It is counted no more, where it is one of this path's.
-    pub fn on_packet_lost(&mut self, space: SpaceId, number: u64, packet: &SentPacket) -> bool
+    pub fn on_packet_lost<Q: RetransmitQueue>(
+        &mut self,
+        space: SpaceId,
+        number: u64,
+        packet: &SentPacket<Q>,
+    ) -> bool
         requires { IsCountedOn self.old.ledger packet.now }
         ensures probe { result ≡ is_path_probe space number self.old.state }
         ensures after { self.new ≡ path_lost space number packet.now self.old }

@@ -1,9 +1,9 @@
 //! Events in, answers out.
-ghost use Rattle.std.specs.Prelude.{◌≡◌, IfOk, OnOk, OnErr, Decides, string_bytes};
+ghost use Rattle.std.specs.Prelude.{◌≡◌, IfOk, OnOk, OnErr, string_bytes};
 ghost use Rattle.std.specs.Io.KnownBytes.{Appends};
 ghost use Rattle.recovery_replay.specs.Script.{Hears};
-ghost use Rattle.recovery_replay.specs.Replay.{status_of, error_text, IsRemote, beginning};
-ghost use Rattle.recovery_replay.specs.Replay.{AreArguments, Session, PlaysBytes, Plays};
+ghost use Rattle.recovery_replay.specs.Replay.{status_of, error_text, settings, skips_with};
+ghost use Rattle.recovery_replay.specs.Replay.{AreArguments, AreRead, Session, PlaysBytes, Plays};
 ghost use Rattle.recovery_replay.specs.Replay.{Tells, EndsSo};
 
 use crate::script::{Ending, read_bytes, read_script};
@@ -14,14 +14,22 @@ use quic_recovery::config::TransportConfig;
 use quic_recovery::congestion::NewRenoConfig;
 use quic_recovery::driver::{Recovery, RecoveryConfig};
 use quic_recovery::event::Event;
+use rand_core::SeedableRng;
+use rand_pcg::Pcg32;
 use recovery_base::below::{ConnectionId, NoMemory};
 use recovery_base::time::{Duration, Instant};
+use recovery_items::items::ItemQueue;
 use recovery_lines::answers::render;
+use recovery_lines::lines::peer_at;
 use recovery_lines::number_in;
+use recovery_skips::Skips;
 use std::alloc::Global;
 use std::io;
 use std::io::{Read, Write};
-use std::net::{IpAddr, Ipv4Addr, SocketAddr};
+use std::net::SocketAddr;
+
+/// The port of the peer's first address.
+const FIRST_PORT: u16 = 4433;
 
 /// How the program ends.
 #[derive(Clone, Copy)]
@@ -79,16 +87,9 @@ impl Outcome {
     }
 }
 
-/// The peer's address, one of those for documentation (RFC 5737, 3).
-fn remote() -> SocketAddr
-    ensures { IsRemote result }
-{
-    SocketAddr::new(IpAddr::V4(Ipv4Addr::new(192, 0, 2, 1)), 4433)
-}
-
 /// What a run with the peer at an address starts with.
-fn config(remote: SocketAddr) -> RecoveryConfig<NewRenoConfig>
-    ensures { result ≡ (beginning remote).config }
+fn config(remote: SocketAddr, skips: Skips) -> RecoveryConfig<NewRenoConfig>
+    ensures { result ≡ settings remote skips }
 {
     RecoveryConfig {
         transport: TransportConfig::default(),
@@ -100,27 +101,43 @@ fn config(remote: SocketAddr) -> RecoveryConfig<NewRenoConfig>
         cid_len: 8,
         cid_lifetime: Some(Duration::from_secs(10)),
         issued: 1,
+        skips,
     }
 }
 
-/// The lines that are written for events.
-fn answers(alloc: Global, events: Vec<Event>) -> Result<String, NoMemory>
-    ensures { IfOk result (λ text.
-        Session (λ said. said ≡ events.items) (λ lines. string_bytes text ≡ lines)) }
+/// How packet numbers are skipped: as they are drawn with a seed, and not at all without one.
+fn skips(seed: Option<u64>) -> Skips
+    ensures { result ≡ skips_with seed }
 {
-    let start = Instant::from_nanos(0);
-    let (_, replies) = Recovery::run(alloc, config(remote()), start, events)?;
+    match seed {
+        Some(_) => Skips::Drawn,
+        None => Skips::Disabled,
+    }
+}
+
+/// The lines that are written for events, where the run begins with a seed or with none.
+fn answers(
+    alloc: Global,
+    seed: Option<u64>,
+    events: Vec<Event<ItemQueue>>,
+) -> Result<String, NoMemory>
+    ensures { IfOk result (λ text.
+        Session seed (λ said. said ≡ events.items) (λ lines. string_bytes text ≡ lines)) }
+{
+    let config = config(peer_at(FIRST_PORT), skips(seed));
+    let rng = Pcg32::seed_from_u64(seed.unwrap_or(0));
+    let (_, replies) = Recovery::run(alloc, config, rng, Instant::from_nanos(0), events)?;
     render(alloc, &replies)
 }
 
-/// Are these the arguments of a run: nothing, or a number?
-fn are_arguments(words: &[String]) -> bool
-    ensures { Decides result (AreArguments words.now) }
+/// The seed that the arguments of a run give, if they are such: nothing, or a number.
+fn seed_in(words: &[String]) -> Option<Option<u64>>
+    ensures { AreRead words.now result }
 {
     match words {
-        [] => true,
-        [seed] => number_in(seed.as_bytes()).is_some(),
-        _ => false,
+        [] => Some(None),
+        [seed] => Some(Some(number_in(seed.as_bytes())?)),
+        _ => None,
     }
 }
 
@@ -128,7 +145,7 @@ fn are_arguments(words: &[String]) -> bool
 /// the answers. The one refusal is `NoMemory`.
 ///
 /// `words` are the arguments behind the program's name: nothing, or a seed (0 to `u64::MAX`, without sign or leading
-/// zeros), which has no effect yet.
+/// zeros). With a seed numbers of 1-RTT packets are skipped, as `Pcg32::seed_from_u64` draws them; without one none is.
 pub fn play_bytes(
     alloc: Global,
     words: &[String],
@@ -138,21 +155,25 @@ pub fn play_bytes(
         PlaysBytes words.now input.now played.0 (string_bytes played.1)) }
     ensures memory { OnErr result (AreArguments words.now) }
 {
-    if !are_arguments(words) {
+    let Some(seed) = seed_in(words) else {
         return Ok((Outcome::WrongArguments, String::new(alloc)));
-    }
+    };
     let (events, ending) = read_bytes(alloc, input)?;
-    Ok((Outcome::Ended(ending), answers(alloc, events)?))
+    Ok((Outcome::Ended(ending), answers(alloc, seed, events)?))
 }
 
 /// The answers to an input that is read as it comes, and how it ended.
-fn answer_all<R: Read>(alloc: Global, input: &mut R) -> Result<(Ending, String), NoMemory>
-    ensures { IfOk result (λ all. Session
+fn answer_all<R: Read>(
+    alloc: Global,
+    seed: Option<u64>,
+    input: &mut R,
+) -> Result<(Ending, String), NoMemory>
+    ensures { IfOk result (λ all. Session seed
         (λ events. Hears (R.remaining input.old) (R.remaining input.new) events all.0)
         (λ lines. string_bytes all.1 ≡ lines)) }
 {
     let (events, ending) = read_script(alloc, input)?;
-    Ok((ending, answers(alloc, events)?))
+    Ok((ending, answers(alloc, seed, events)?))
 }
 
 /// Reads events and writes their answers.
@@ -165,10 +186,10 @@ fn play<R: Read, W: Write>(
     ensures { Plays words.now (R.remaining input.old) (R.remaining input.new)
         (W.contents output.old) (W.contents output.new) result }
 {
-    if !are_arguments(words) {
+    let Some(seed) = seed_in(words) else {
         return Outcome::WrongArguments;
-    }
-    let Ok((ending, text)) = answer_all(alloc, input) else {
+    };
+    let Ok((ending, text)) = answer_all(alloc, seed, input) else {
         return Outcome::OutOfMemory;
     };
     match deliver(output, text.as_bytes()) {

@@ -2,19 +2,25 @@
 
 use crate::driver::Recovery;
 use crate::event::{Answer, Refusal};
+use rand_core::Rng;
 use recovery_base::below::{AckFrequency, SpaceId};
 use recovery_congestion::congestion::ControllerFactory;
+use recovery_queue::queue::RetransmitQueue;
 
-impl<F> Recovery<F>
+impl<F, Q, R> Recovery<F, Q, R>
 where
     F: ControllerFactory + Drop,
     F::Controller: Drop,
+    Q: RetransmitQueue + Drop,
+    Q::Meta: Drop,
+    Q::Streams: Drop,
+    R: Rng + Drop,
 {
     ghost use Rattle.quic_recovery.specs.declared.event.Event.TheVariants.{AckFrequencyIn, AcksSent, AckDelayTimeout};
     ghost use Rattle.quic_recovery.specs.State.{Does};
 
     /// The peer asks for fewer ACKs.
-    pub(super) fn ack_frequency_in(&mut self, frame: AckFrequency) -> Result<Answer, Refusal>
+    pub(super) fn ack_frequency_in(&mut self, frame: AckFrequency) -> Result<Answer<Q>, Refusal>
         ensures { Does (AckFrequencyIn frame) self.old result self.new }
     {
         if self.discarded.contains(SpaceId::Data) {
@@ -31,7 +37,7 @@ where
     }
 
     /// An ACK is sent (RFC 9000, 13.2).
-    pub(super) fn acks_sent(&mut self, space: SpaceId) -> Result<Answer, Refusal>
+    pub(super) fn acks_sent(&mut self, space: SpaceId) -> Result<Answer<Q>, Refusal>
         ensures { Does (AcksSent space) self.old result self.new }
     {
         if self.discarded.contains(space) {
@@ -42,7 +48,7 @@ where
     }
 
     /// The timer for a late ACK expired (RFC 9000, 13.2.1).
-    pub(super) fn ack_delay_timeout(&mut self, space: SpaceId) -> Result<Answer, Refusal>
+    pub(super) fn ack_delay_timeout(&mut self, space: SpaceId) -> Result<Answer<Q>, Refusal>
         ensures { Does (AckDelayTimeout space) self.old result self.new }
     {
         if self.discarded.contains(space) {

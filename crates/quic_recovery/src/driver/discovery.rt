@@ -2,38 +2,46 @@
 
 use crate::driver::Recovery;
 use crate::event::{Answer, Refusal};
+use rand_core::Rng;
 use recovery_base::below::SpaceId;
 use recovery_base::time::Instant;
 use recovery_congestion::congestion::ControllerFactory;
 use recovery_ledger::spaces::NUMBER_LIMIT;
+use recovery_queue::queue::RetransmitQueue;
 
-impl<F> Recovery<F>
+impl<F, Q, R> Recovery<F, Q, R>
 where
     F: ControllerFactory + Drop,
     F::Controller: Drop,
+    Q: RetransmitQueue + Drop,
+    Q::Meta: Drop,
+    Q::Streams: Drop,
+    R: Rng + Drop,
 {
     ghost use Rattle.quic_recovery.specs.declared.event.Event.TheVariants.{PollMtu, PeerLimit, LossesDone};
     ghost use Rattle.quic_recovery.specs.State.{Does};
 
     /// Is a probe of the MTU due? The discovery is kept once the probe is tracked, so that a refusal leaves it as it was.
-    pub(super) fn poll_mtu(&mut self, now: Instant) -> Result<Answer, Refusal>
+    pub(super) fn poll_mtu(&mut self, now: Instant) -> Result<Answer<Q>, Refusal>
         ensures { Does (PollMtu now) self.old result self.new }
     {
         if self.discarded.contains(SpaceId::Data) {
             return Err(Refusal::SpaceDiscarded);
         }
-        let number = self.spaces[SpaceId::Data].next_packet_number();
+        let number = self.number_in(SpaceId::Data);
         if number >= NUMBER_LIMIT {
             return Err(Refusal::NumbersExhausted);
         }
-        let mut discovery = self.current.mtud;
+        let mut discovery = self.paths.current.mtud;
         let Some(size) = discovery.poll_transmit(now, number) else {
-            self.current.search_on(discovery);
+            self.paths.current.search_on(discovery);
             return Ok(Answer::NoProbe);
         };
-        match self.send(SpaceId::Data, now, size, true, None) {
+        let queue = Q::empty(self.alloc);
+        let frames = Q::Meta::default();
+        match self.send(SpaceId::Data, now, size, true, None, queue, frames) {
             Ok(_) => {
-                self.current.search_on(discovery);
+                self.paths.current.search_on(discovery);
                 Ok(Answer::Probe { number, size })
             }
             Err(refusal) => Err(refusal),
@@ -41,24 +49,24 @@ where
     }
 
     /// The peer takes datagrams of at most so many bytes.
-    pub(super) fn limit_by_peer(&mut self, size: u16) -> Result<Answer, Refusal>
+    pub(super) fn limit_by_peer(&mut self, size: u16) -> Result<Answer<Q>, Refusal>
         ensures { Does (PeerLimit size) self.old result self.new }
     {
         if size == 0 {
             return Err(Refusal::ZeroMtu);
         }
-        if self.current.mtud.is_searching() {
+        if self.paths.current.mtud.is_searching() {
             return Err(Refusal::Searching);
         }
-        self.current.limit_by_peer(size);
+        self.paths.current.limit_by_peer(size);
         self.peer_limit = Some(size);
         Ok(Answer::Done)
     }
 
     /// All losses were told: was there a black hole?
-    pub(super) fn losses_done(&mut self, now: Instant) -> Result<Answer, Refusal>
+    pub(super) fn losses_done(&mut self, now: Instant) -> Result<Answer<Q>, Refusal>
         ensures { Does (LossesDone now) self.old result self.new }
     {
-        Ok(Answer::BlackHole(self.current.on_losses_done(now)))
+        Ok(Answer::BlackHole(self.paths.current.on_losses_done(now)))
     }
 }

@@ -1,23 +1,32 @@
 //! The events of packets and spaces (RFC 9000, 12.3 and 13; RFC 9002, A).
-ghost use Rattle.std.specs.Prelude.{◌≡◌, Decides};
+ghost use Rattle.std.specs.Prelude.{◌≡◌, ◌<◌, ◌^◌, Decides};
 ghost use Rattle.recovery_ledger.specs.Packets.{entry_number, IsTooLarge};
+ghost use Rattle.quic_recovery.specs.Numbers.{number_behind, skipping_behind};
 ghost use Rattle.quic_recovery.specs.Replies.{reply_to};
 
 use crate::driver::Recovery;
 use crate::event::{Answer, Refusal};
-use recovery_base::below::SpaceId;
+use rand_core::Rng;
+use recovery_base::below::{NoMemory, SpaceId};
 use recovery_base::time::Instant;
 use recovery_congestion::congestion::ControllerFactory;
 use recovery_ledger::spaces::{NUMBER_LIMIT, Receipt, ReceiveError, SentPacket};
 use recovery_paths::paths::LedgerError;
+use recovery_queue::queue::RetransmitQueue;
+use recovery_skips::PacketNumberFilter;
 
-impl<F> Recovery<F>
+impl<F, Q, R> Recovery<F, Q, R>
 where
     F: ControllerFactory + Drop,
     F::Controller: Drop,
+    Q: RetransmitQueue + Drop,
+    Q::Meta: Drop,
+    Q::Streams: Drop,
+    R: Rng + Drop,
 {
     ghost use Rattle.quic_recovery.specs.declared.event.Event.TheVariants.{Received, Send, Acked, Lost, DiscardSpace};
-    ghost use Rattle.quic_recovery.specs.State.{Does};
+    ghost use Rattle.quic_recovery.specs.Known.{number_in};
+    ghost use Rattle.quic_recovery.specs.State.{Does, known_to, parts_of};
 
     /// A packet comes in (RFC 9000, 12.3).
     pub(super) fn received(
@@ -26,7 +35,7 @@ where
         now: Instant,
         number: u64,
         ack_eliciting: bool,
-    ) -> Result<Answer, Refusal>
+    ) -> Result<Answer<Q>, Refusal>
         ensures { Does (Received space now number ack_eliciting) self.old result self.new }
     {
         if self.discarded.contains(space) {
@@ -43,8 +52,11 @@ where
         size: u16,
         ack_eliciting: bool,
         largest_acked: Option<u64>,
-    ) -> Result<Answer, Refusal>
-        ensures { Does (Send space now size ack_eliciting largest_acked) self.old result self.new }
+        queue: Q,
+        stream_frames: Q::Meta,
+    ) -> Result<Answer<Q>, Refusal>
+        ensures { Does (Send space now size ack_eliciting largest_acked queue stream_frames)
+            self.old result self.new }
     {
         if self.discarded.contains(space) {
             return Err(Refusal::SpaceDiscarded);
@@ -53,24 +65,28 @@ where
             return Err(Refusal::NumberTooLarge);
         }
         let packet = SentPacket {
-            path_generation: self.current.generation(),
+            path_generation: self.paths.current.generation(),
             time_sent: now,
             size,
             ack_eliciting,
             largest_acked,
+            retransmits: queue,
+            stream_frames,
         };
         let here = &mut self.spaces[space];
-        let number = here.next_packet_number();
+        let next = here.next_packet_number();
+        let number = number_behind(&self.filter, space, next);
         if number >= NUMBER_LIMIT {
             return Err(Refusal::NumbersExhausted);
         }
-        let forgotten = match self.current.sent(number, packet, here) {
+        let forgotten = match self.paths.sent(number, packet, here) {
             Ok(forgotten) => forgotten,
             Err(LedgerError::NoMemory) => return Err(Refusal::NoMemory),
             Err(LedgerError::Overflow) => return Err(Refusal::Overflow),
         };
-        here.on_sent(ack_eliciting, now);
-        self.current.on_sent(now, u64::from(size), number);
+        here.on_sent(number, ack_eliciting, now);
+        give_out(&mut self.filter, &mut self.rng, space, next);
+        self.paths.current.on_sent(now, u64::from(size), number);
         Ok(Answer::Sent {
             number,
             forgotten: number_of(&forgotten),
@@ -84,7 +100,7 @@ where
         now: Instant,
         number: u64,
         app_limited: bool,
-    ) -> Result<Answer, Refusal>
+    ) -> Result<Answer<Q>, Refusal>
         ensures { Does (Acked space now number app_limited) self.old result self.new }
     {
         if self.discarded.contains(space) {
@@ -96,40 +112,72 @@ where
         };
         here.on_acked(number, &packet);
         let probe = self
-            .current
+            .paths
             .on_packet_acked(space, number, now, &packet, app_limited);
         Ok(Answer::Acked { probe })
     }
 
     /// A packet is lost (RFC 9002, A.10).
-    pub(super) fn lost(&mut self, space: SpaceId, number: u64) -> Result<Answer, Refusal>
+    pub(super) fn lost(&mut self, space: SpaceId, number: u64) -> Result<Answer<Q>, Refusal>
         ensures { Does (Lost space number) self.old result self.new }
     {
         if self.discarded.contains(space) {
             return Err(Refusal::SpaceDiscarded);
         }
-        let Some(packet) = self.spaces[space].take(number) else {
-            return Err(Refusal::NotTracked);
-        };
-        let probe = self.current.on_packet_lost(space, number, &packet);
-        Ok(Answer::Lost { probe })
+        match self.spaces[space].lose(number) {
+            Ok(Some(packet)) => {
+                let probe = self.paths.on_packet_lost(space, number, &packet);
+                Ok(Answer::Lost { probe })
+            }
+            Ok(None) => Err(Refusal::NotTracked),
+            Err(NoMemory) => Err(Refusal::NoMemory),
+        }
     }
 
     /// The keys of a space are dropped (RFC 9001, 4.9).
-    pub(super) fn discard(&mut self, space: SpaceId) -> Result<Answer, Refusal>
+    pub(super) fn discard(&mut self, space: SpaceId) -> Result<Answer<Q>, Refusal>
         ensures { Does (DiscardSpace space) self.old result self.new }
     {
         if self.discarded.contains(space) {
             return Err(Refusal::SpaceDiscarded);
         }
-        self.current.forget_all(&mut self.spaces[space]);
+        self.paths.forget_all(&mut self.spaces[space]);
         self.discarded.insert(space);
         Ok(Answer::Done)
+    }
+
+    /// The number that is given out next in a space.
+    pub(super) fn number_in(&self, space: SpaceId) -> u64
+        ensures { result ≡ number_in (known_to (parts_of self.now)) space }
+    {
+        number_behind(&self.filter, space, self.spaces[space].next_packet_number())
+    }
+}
+
+/// The number that is given out next in a space, where `next` is one above the last one: numbers of 1-RTT packets are skipped
+/// at times (RFC 9000, 21.4).
+fn number_behind(filter: &PacketNumberFilter, space: SpaceId, next: u64) -> u64
+    ensures { result ≡ number_behind filter.now space next }
+{
+    match space {
+        SpaceId::Data => filter.peek(next),
+        _ => next,
+    }
+}
+
+/// That number is given out, below 2^62: where a 1-RTT number was skipped for it, the next skip is drawn.
+fn give_out<R: Rng>(filter: &mut PacketNumberFilter, rng: &mut R, space: SpaceId, next: u64)
+    requires { number_behind filter.old space next < 2 ^ 62 }
+    ensures { record { filter = filter.new; words = R.stream rng.new }
+        ≡ skipping_behind space next (record { filter = filter.old; words = R.stream rng.old }) }
+{
+    if let SpaceId::Data = space {
+        filter.allocate(rng, next);
     }
 }
 
 /// What a packet that came in is answered.
-fn reply_to(receipt: Result<Receipt, ReceiveError>) -> Result<Answer, Refusal>
+fn reply_to<Q>(receipt: Result<Receipt, ReceiveError>) -> Result<Answer<Q>, Refusal>
     ensures { result ≡ reply_to receipt }
 {
     match receipt {
@@ -151,7 +199,7 @@ fn is_too_large(number: Option<u64>) -> bool
 }
 
 /// The number of a packet that was handed back with it.
-fn number_of(forgotten: &Option<(u64, SentPacket)>) -> Option<u64>
+fn number_of<Q: RetransmitQueue>(forgotten: &Option<(u64, SentPacket<Q>)>) -> Option<u64>
     ensures { result ≡ entry_number forgotten.now }
 {
     match forgotten {

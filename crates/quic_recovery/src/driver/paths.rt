@@ -2,65 +2,118 @@
 
 use crate::driver::Recovery;
 use crate::event::{Answer, PathName, Refusal};
+use rand_core::Rng;
+use recovery_base::below::NoMemory;
 use recovery_base::time::{Duration, Instant};
 use recovery_congestion::congestion::ControllerFactory;
-use recovery_paths::paths::TotalOverflow;
+use recovery_paths::live_paths::DatagramError;
+use recovery_paths::paths::PathData;
+use recovery_queue::queue::RetransmitQueue;
+use std::net::SocketAddr;
 
-impl<F> Recovery<F>
+impl<F, Q, R> Recovery<F, Q, R>
 where
     F: ControllerFactory + Drop,
     F::Controller: Drop,
+    Q: RetransmitQueue + Drop,
+    Q::Meta: Drop,
+    Q::Streams: Drop,
+    R: Rng + Drop,
 {
-    ghost use Rattle.quic_recovery.specs.declared.event.Event.TheVariants.{InFlight, Sample, DatagramIn, Validated, Transmit, PacerCheck, Congestion, EndAcks};
+    ghost use Rattle.quic_recovery.specs.declared.event.Event.TheVariants.{InFlight, Sample, DatagramIn, Validated, Transmit, PacerCheck, Congestion, EndAcks, NewPath, ResetPath, DropPrevious};
     ghost use Rattle.quic_recovery.specs.State.{Does, Tells};
 
     /// What is in flight on a path? (RFC 9002, B.2)
-    pub(super) fn in_flight(&self, path: PathName) -> Result<Answer, Refusal>
+    pub(super) fn in_flight(&self, path: PathName) -> Result<Answer<Q>, Refusal>
         ensures { Tells (InFlight path) self.now result }
     {
-        match path {
-            PathName::Current => {
-                let counters = self.current.in_flight();
-                Ok(Answer::InFlight {
-                    bytes: counters.bytes,
-                    ack_eliciting: counters.ack_eliciting,
-                })
-            }
-            PathName::Previous => Err(Refusal::NoSuchPath),
+        match self.paths.in_flight(path) {
+            Some(counters) => Ok(Answer::InFlight {
+                bytes: counters.bytes,
+                ack_eliciting: counters.ack_eliciting,
+            }),
+            None => Err(Refusal::NoSuchPath),
         }
     }
 
     /// A sample of the round-trip time (RFC 9002, 5).
-    pub(super) fn sample(&mut self, delay: Duration, rtt: Duration) -> Result<Answer, Refusal>
+    pub(super) fn sample(&mut self, delay: Duration, rtt: Duration) -> Result<Answer<Q>, Refusal>
         ensures { Does (Sample delay rtt) self.old result self.new }
     {
-        self.current.sample(delay, rtt);
+        self.paths.current.sample(delay, rtt);
         Ok(Answer::Done)
     }
 
     /// A datagram came in (RFC 9000, 8.1).
-    pub(super) fn datagram_in(&mut self, path: PathName, bytes: u64) -> Result<Answer, Refusal>
+    pub(super) fn datagram_in(&mut self, path: PathName, bytes: u64) -> Result<Answer<Q>, Refusal>
         ensures { Does (DatagramIn path bytes) self.old result self.new }
     {
-        match path {
-            PathName::Current => match self.current.receive_datagram(bytes) {
-                Ok(()) => Ok(Answer::Done),
-                Err(TotalOverflow) => Err(Refusal::Overflow),
-            },
-            PathName::Previous => Err(Refusal::NoSuchPath),
+        match self.paths.receive_datagram(path, bytes) {
+            Ok(()) => Ok(Answer::Done),
+            Err(DatagramError::NoSuchPath) => Err(Refusal::NoSuchPath),
+            Err(DatagramError::Overflow) => Err(Refusal::Overflow),
         }
     }
 
     /// The peer was seen to receive at an address (RFC 9000, 8).
-    pub(super) fn validated(&mut self, path: PathName) -> Result<Answer, Refusal>
+    pub(super) fn validated(&mut self, path: PathName) -> Result<Answer<Q>, Refusal>
         ensures { Does (Validated path) self.old result self.new }
     {
-        match path {
-            PathName::Current => {
-                self.current.validate();
-                Ok(Answer::Done)
+        if self.paths.validate(path) {
+            Ok(Answer::Done)
+        } else {
+            Err(Refusal::NoSuchPath)
+        }
+    }
+
+    /// Another path is used from now on (RFC 9000, 9.3).
+    pub(super) fn new_path(
+        &mut self,
+        now: Instant,
+        remote: SocketAddr,
+        fresh: bool,
+    ) -> Result<Answer<Q>, Refusal>
+        ensures { Does (NewPath now remote fresh) self.old result self.new }
+    {
+        let Some(generation) = self.paths.current.generation().checked_add(1) else {
+            return Err(Refusal::Overflow);
+        };
+        let path = if fresh {
+            let limit = self.peer_limit;
+            PathData::new(
+                remote,
+                self.allow_mtud,
+                limit,
+                generation,
+                now,
+                &self.transport,
+            )
+        } else {
+            match PathData::from_previous(remote, &self.paths.current, generation, now) {
+                Ok(path) => path,
+                Err(NoMemory) => return Err(Refusal::NoMemory),
             }
-            PathName::Previous => Err(Refusal::NoSuchPath),
+        };
+        self.paths.move_to(path);
+        Ok(Answer::Done)
+    }
+
+    /// The path in use begins anew (RFC 9000, 9.4).
+    pub(super) fn reset_path(&mut self, now: Instant) -> Result<Answer<Q>, Refusal>
+        ensures { Does (ResetPath now) self.old result self.new }
+    {
+        self.paths.current.reset(now, &self.transport);
+        Ok(Answer::Done)
+    }
+
+    /// The previous path is dropped (RFC 9000, 9.3.3).
+    pub(super) fn drop_previous(&mut self) -> Result<Answer<Q>, Refusal>
+        ensures { Does DropPrevious self.old result self.new }
+    {
+        if self.paths.drop_previous() {
+            Ok(Answer::Done)
+        } else {
+            Err(Refusal::NoSuchPath)
         }
     }
 
@@ -70,30 +123,30 @@ where
         now: Instant,
         bytes: u16,
         checked: bool,
-    ) -> Result<Answer, Refusal>
+    ) -> Result<Answer<Q>, Refusal>
         ensures { Does (Transmit now bytes checked) self.old result self.new }
     {
-        if !self.current.has_room(bytes) {
+        if !self.paths.current.has_room(bytes) {
             return Err(Refusal::Overflow);
         }
         if checked {
             let asked = u64::from(bytes);
-            if self.current.anti_amplification_blocked(asked) {
+            if self.paths.current.anti_amplification_blocked(asked) {
                 return Ok(Answer::Blocked);
             }
-            if let Some(until) = self.current.delay(now, asked) {
+            if let Some(until) = self.paths.current.delay(now, asked) {
                 return Ok(Answer::Delayed(until));
             }
         }
-        self.current.transmit(bytes);
+        self.paths.current.transmit(bytes);
         Ok(Answer::Transmitted)
     }
 
     /// May so many bytes be transmitted now, as far as the pacer goes (RFC 9002, 7.7)?
-    pub(super) fn pacer_check(&mut self, now: Instant, bytes: u64) -> Result<Answer, Refusal>
+    pub(super) fn pacer_check(&mut self, now: Instant, bytes: u64) -> Result<Answer<Q>, Refusal>
         ensures { Does (PacerCheck now bytes) self.old result self.new }
     {
-        match self.current.delay(now, bytes) {
+        match self.paths.current.delay(now, bytes) {
             None => Ok(Answer::Ready),
             Some(until) => Ok(Answer::Delayed(until)),
         }
@@ -106,10 +159,11 @@ where
         sent: Instant,
         persistent: bool,
         bytes: u64,
-    ) -> Result<Answer, Refusal>
+    ) -> Result<Answer<Q>, Refusal>
         ensures { Does (Congestion now sent persistent bytes) self.old result self.new }
     {
-        self.current
+        self.paths
+            .current
             .on_congestion_event(now, sent, persistent, bytes);
         Ok(Answer::Done)
     }
@@ -120,10 +174,10 @@ where
         now: Instant,
         app_limited: bool,
         largest: Option<u64>,
-    ) -> Result<Answer, Refusal>
+    ) -> Result<Answer<Q>, Refusal>
         ensures { Does (EndAcks now app_limited largest) self.old result self.new }
     {
-        self.current.on_end_acks(now, app_limited, largest);
+        self.paths.current.on_end_acks(now, app_limited, largest);
         Ok(Answer::Done)
     }
 }

@@ -2,20 +2,26 @@
 
 use crate::driver::Recovery;
 use crate::event::{Answer, Refusal};
+use rand_core::Rng;
 use recovery_base::time::Instant;
 use recovery_base::timer::Timer;
 use recovery_congestion::congestion::ControllerFactory;
+use recovery_queue::queue::RetransmitQueue;
 
-impl<F> Recovery<F>
+impl<F, Q, R> Recovery<F, Q, R>
 where
     F: ControllerFactory + Drop,
     F::Controller: Drop,
+    Q: RetransmitQueue + Drop,
+    Q::Meta: Drop,
+    Q::Streams: Drop,
+    R: Rng + Drop,
 {
     ghost use Rattle.quic_recovery.specs.declared.event.Event.TheVariants.{SetTimer, StopTimer, NextTimeout};
     ghost use Rattle.quic_recovery.specs.State.{Does, Tells};
 
     /// A timer is set, or set anew.
-    pub(super) fn set_timer(&mut self, timer: Timer, time: Instant) -> Result<Answer, Refusal>
+    pub(super) fn set_timer(&mut self, timer: Timer, time: Instant) -> Result<Answer<Q>, Refusal>
         ensures { Does (SetTimer timer time) self.old result self.new }
     {
         self.timers.set(timer, time);
@@ -23,7 +29,7 @@ where
     }
 
     /// A timer is stopped.
-    pub(super) fn stop_timer(&mut self, timer: Timer) -> Result<Answer, Refusal>
+    pub(super) fn stop_timer(&mut self, timer: Timer) -> Result<Answer<Q>, Refusal>
         ensures { Does (StopTimer timer) self.old result self.new }
     {
         self.timers.stop(timer);
@@ -31,7 +37,7 @@ where
     }
 
     /// When does the next timer expire?
-    pub(super) fn next_timeout(&self) -> Result<Answer, Refusal>
+    pub(super) fn next_timeout(&self) -> Result<Answer<Q>, Refusal>
         ensures { Tells NextTimeout self.now result }
     {
         Ok(Answer::Timeout(self.timers.next_timeout()))

@@ -120,6 +120,8 @@ fn an_acknowledged_ack_empties_its_own_space(rt: HostRuntime) {
         size: 1,
         ack_eliciting: true,
         largest_acked: Some(0),
+        queue: Tally { bytes: 0 },
+        stream_frames: 0,
     };
     check_left(
         &rt,

@@ -167,7 +167,7 @@ fn no_search(rt: HostRuntime) {
         (losses_done(0), NO_BLACK_HOLE),
         (send(SpaceId::Data, 1200, true), sent(0, None)),
     ];
-    let recovery = walk(&rt, rt.alloc(), config, rows);
+    let recovery = walk(&rt, rt.alloc(), config, words(), rows);
     assert!(rt; recovery.current().current_mtu() == 1000, "the MTU");
     assert!(rt; recovery.peer_limit() == Some(1000), "the limit");
 }

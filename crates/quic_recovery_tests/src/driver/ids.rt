@@ -187,6 +187,7 @@ fn ids_of_no_bytes_are_not_retired(rt: HostRuntime) {
         &rt,
         rt.alloc(),
         settings(0),
+        words(),
         [
             (peer_retired(0, 5), CIDS_NOT_IN_USE),
             (peer_retired(9, 5), CIDS_NOT_IN_USE),

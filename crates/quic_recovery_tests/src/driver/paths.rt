@@ -1,5 +1,6 @@
 //! Samples, datagrams, transmissions, the pacer and the controllers.
 use super::*;
+use rand_pcg::Pcg64;
 use recovery_halving::HalvingConfig;
 
 const TRANSMITTED: Reply = Ok(Answer::Transmitted);
@@ -146,5 +147,6 @@ fn a_controller_that_halves(rt: HostRuntime) {
         (congestion(2, 1), DONE),
         (pacer_check(0, 12001), delayed(44_400)),
     ];
-    walk(&rt, rt.alloc(), settings_with(transport, 8), rows);
+    let config = settings_with(transport, 8, Skips::Drawn);
+    walk(&rt, rt.alloc(), config, Pcg64::seed_from_u64(1), rows);
 }

@@ -56,7 +56,7 @@ fn send_anyway(rt: &impl Abort, recovery: &mut Reno, space: SpaceId, number: u64
 
 #[test]
 fn a_refused_send_leaves_no_trace(rt: HostRuntime) -> Result<(), Fail> {
-    let Ok(mut recovery) = Recovery::new(rt.alloc(), settings(8), at(0)) else {
+    let Ok(mut recovery) = Recovery::new(rt.alloc(), settings(8), words(), at(0)) else {
         return end(true);
     };
     let mut is_refused = false;
@@ -84,7 +84,7 @@ fn poll() -> Event {
 /// A search that memory was refused to begin is begun by the same question with memory.
 #[test]
 fn a_refused_probe_leaves_no_trace(rt: HostRuntime) -> Result<(), Fail> {
-    let Ok(mut recovery) = Recovery::new(rt.alloc(), settings(8), at(0)) else {
+    let Ok(mut recovery) = Recovery::new(rt.alloc(), settings(8), words(), at(0)) else {
         return end(true);
     };
     let want = Ok(Answer::Probe {
@@ -131,7 +131,8 @@ fn a_run_goes_on_after_refused_memory(rt: HostRuntime) -> Result<(), Fail> {
     let Ok(events) = twenty_sends(rt.alloc()) else {
         return end(true);
     };
-    let Ok((mut recovery, replies)) = Recovery::run(rt.alloc(), settings(8), at(0), events) else {
+    let run = Recovery::run(rt.alloc(), settings(8), words(), at(0), events);
+    let Ok((mut recovery, replies)) = run else {
         return end(true);
     };
     let next = count_sent(&rt, replies.as_slice());
@@ -141,13 +142,15 @@ fn a_run_goes_on_after_refused_memory(rt: HostRuntime) -> Result<(), Fail> {
     end(next != 20)
 }
 
-fn packet() -> SentPacket {
+fn packet() -> SentPacket<Tally> {
     SentPacket {
         path_generation: 0,
         time_sent: at(7),
         size: 500,
         ack_eliciting: true,
         largest_acked: None,
+        retransmits: Tally { bytes: 0 },
+        stream_frames: 0,
     }
 }
 
@@ -165,7 +168,7 @@ fn receive_anyway(rt: &impl Abort, recovery: &mut Reno, number: u64, arm: bool) 
 
 #[test]
 fn a_refused_packet_is_still_new(rt: HostRuntime) -> Result<(), Fail> {
-    let Ok(mut recovery) = Recovery::new(rt.alloc(), settings(8), at(0)) else {
+    let Ok(mut recovery) = Recovery::new(rt.alloc(), settings(8), words(), at(0)) else {
         return end(true);
     };
     let mut is_refused = receive_anyway(&rt, &mut recovery, 0, true);

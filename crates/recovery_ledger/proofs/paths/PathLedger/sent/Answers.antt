@@ -3,7 +3,7 @@ use Rattle.recovery_ledger.specs.declared.paths.InFlight.{InFlight}
 use Rattle.recovery_ledger.proofs.paths.PathLedger.sent.Goals as goal
 
 pub remove_in_flight-requires : goal.remove_in_flight-requires
-remove_in_flight-requires c = λ own.
+remove_in_flight-requires g c = λ own.
     let with_one = c.in-Some.ensures in
     let bytes = ap (λ (f : InFlight). f.bytes) with_one.1 in
     let count = ap (λ (f : InFlight). f.ack_eliciting) with_one.1 in

@@ -1,19 +1,28 @@
-use Rattle.std.proofs.Common.{refl, arith}
+use Rattle.std.proofs.Common.{refl, sym, subst, arith}
 use Rattle.recovery_base.proofs.MissingLaws.{has_greatest}
 use Rattle.recovery_base.specs.Received.{Has}
+use Rattle.recovery_ledger.specs.Spaces.{Space, HasGreatestCome}
 use Rattle.recovery_ledger.proofs.AckLaws.{arms, hears, still_reached}
 use Rattle.recovery_ledger.proofs.spaces.PacketSpace.receive.Goals as goal
 
 pub packet_received-arm-requires-clause-earlier : goal.packet_received-arm-requires-clause-earlier
-packet_received-arm-requires-clause-earlier c =
-    still_reached (Has c.args.self.now.dedup) (Has c.insert.new.self) c.args.number (has_greatest c.args.self.now.dedup) c.insert.ensures.inserts.numbers _ _ c.in-Ok.ensures.inserts.others.6 c.requires.received
+packet_received-arm-requires-clause-earlier g c =
+    still_reached (Has c.self.inside.dedup) (Has c.insert.new.self) c.args.number (has_greatest c.self.inside.dedup) c.insert.ensures.inserts.numbers _ _ c.in-Ok.ensures.inserts.others.6
+    (subst (λ (s : Space g.row.Q-Contents.Denot). HasGreatestCome s) (sym c.self.view_is) c.requires.received)
 
 pub returns-clause-step : goal.returns-clause-step
-returns-clause-step c = record {
+returns-clause-step g c = rw (← c.self.view_is) (record {
   numbers = c.insert.ensures.inserts.numbers;
-  hears = hears (Has c.args.self.now.dedup) (Has c.insert.new.self) c.args.number (has_greatest c.args.self.now.dedup) c.insert.ensures.inserts.numbers _ _ _ c.args.now c.packet_received-arm.result c.in-Ok.ensures.inserts c.args.ack_eliciting c.packet_received-arm.ensures.receives;
-  others = rw c.max-self.ensures refl;
-}
+  hears = hears (Has c.self.inside.dedup) (Has c.insert.new.self) c.args.number (has_greatest c.self.inside.dedup) c.insert.ensures.inserts.numbers _ _ _ c.args.now c.packet_received-arm.result c.in-Ok.ensures.inserts c.args.ack_eliciting c.packet_received-arm.ensures.receives;
+  others = rw c.max-self-inside.ensures refl;
+})
 
 pub returns-clause-reply : goal.returns-clause-reply
-returns-clause-reply c = (omega arith, (c.if-insert.ensures.inserts.answer, arms (Has c.args.self.now.dedup) (Has c.insert.new.self) c.args.number (has_greatest c.args.self.now.dedup) c.insert.ensures.inserts.numbers _ _ _ c.args.now c.packet_received-arm.result c.in-Ok.ensures.inserts c.args.ack_eliciting c.packet_received-arm.ensures.receives))
+returns-clause-reply g c = rw (← c.self.view_is) (omega arith, (c.if-insert.ensures.inserts.answer, arms (Has c.self.inside.dedup) (Has c.insert.new.self) c.args.number (has_greatest c.self.inside.dedup) c.insert.ensures.inserts.numbers _ _ _ c.args.now c.packet_received-arm.result c.in-Ok.ensures.inserts c.args.ack_eliciting c.packet_received-arm.ensures.receives))
+
+pub returns-then-insert-clause-reply : goal.returns-then-insert-clause-reply
+returns-then-insert-clause-reply g c = rw (← c.self.view_is) (c.if-number-ge-NUMBER_LIMIT.false, c.if-insert.ensures.inserts.answer)
+
+pub returns-then-insert-clause-step : goal.returns-then-insert-clause-step
+returns-then-insert-clause-step g c =
+    rw (← c.self.view_is) (c.insert.ensures.inserts.numbers, rw (c.insert.ensures.duplicate_changes_nothing c.if-insert.true) refl)

@@ -1,0 +1,38 @@
+-- Numbers that are given out, and the skips behind them.
+use Rattle.std.proofs.Common.{◌≡◌, ℕ, ◌+◌, ◌≤◌, Bool, true, false, cond, refl, arith}
+use Rattle.recovery_base.specs.declared.below.SpaceId.{SpaceId}
+use Rattle.recovery_base.specs.declared.below.SpaceId.TheVariants.{Initial, Handshake, Data}
+use Rattle.recovery_ledger.specs.Packets.{Packet}
+use Rattle.recovery_ledger.specs.SpaceLog.{sends}
+use Rattle.recovery_ledger.specs.Spaces.{Spaces, space_of, next_number_of}
+use Rattle.recovery_skips.specs.Filters.{Filter, Skipping, number_by}
+use Rattle.recovery_skips.specs.Skips.{is_at}
+use Rattle.quic_recovery.specs.Entries.{here}
+use Rattle.quic_recovery.specs.Known.{number_in}
+use Rattle.quic_recovery.specs.Numbers.{number_behind, skipping_behind}
+use Rattle.quic_recovery.specs.Parts.{Parts}
+use Rattle.quic_recovery.specs.State.{SkippingStep, known_to}
+
+-- no number is given out twice
+pub number_above : (filter : Filter) (space : SpaceId) (n : ℕ) → n ≤ number_behind filter space n
+number_above filter Initial n = omega arith
+number_above filter Handshake n = omega arith
+number_above filter Data n = go (is_at n filter.skip)
+  where
+    go : (skipped : Bool) → n ≤ cond skipped (n + 1) n
+    go true = omega arith
+    go false = omega arith
+
+-- the number behind the last one is the one that is known
+pub number_known : {K P : Type 0} (state : Parts K P) (space : SpaceId) → number_behind state.skipping.filter space (next_number_of (space_of space state.spaces)) ≡ number_in (known_to state) space
+number_known state Initial = refl
+number_known state Handshake = refl
+number_known state Data = refl
+
+-- a number is given out: of 1-RTT packets, the skips go on behind it
+pub number_skips : {P : Type 0} (spaces : Spaces P) (space : SpaceId) (number : ℕ) (packet : Packet P) (old new : Skipping)
+    → number ≡ number_behind old.filter space (next_number_of (space_of space spaces)) → new ≡ skipping_behind space (next_number_of (space_of space spaces)) old
+    → SkippingStep (here space Data (sends number packet)) (next_number_of (space_of Data spaces)) old new
+number_skips spaces Initial number packet old new is then = then
+number_skips spaces Handshake number packet old new is then = then
+number_skips spaces Data number packet old new is then = (is, then)

@@ -1,0 +1,92 @@
+//! The events of probes, of what is sent again, of ECN and of skipped numbers (RFC 9000, 13 and 21.4; RFC 9002, 6.2.4).
+
+use crate::driver::Recovery;
+use crate::event::{Answer, Refusal};
+use rand_core::Rng;
+use recovery_base::below::{EcnCounts, NoMemory, SpaceId};
+use recovery_congestion::congestion::ControllerFactory;
+use recovery_ledger::spaces::NUMBER_LIMIT;
+use recovery_queue::queue::RetransmitQueue;
+
+impl<F, Q, R> Recovery<F, Q, R>
+where
+    F: ControllerFactory + Drop,
+    F::Controller: Drop,
+    Q: RetransmitQueue + Drop,
+    Q::Meta: Drop,
+    Q::Streams: Drop,
+    R: Rng + Drop,
+{
+    ghost use Rattle.quic_recovery.specs.declared.event.Event.TheVariants.{Ecn, CheckAck, QueueProbe, TakePending};
+    ghost use Rattle.quic_recovery.specs.State.{Does, Tells};
+
+    /// The counts of ECN of an ACK frame (RFC 9000, 13.4.2).
+    pub(super) fn ecn(
+        &mut self,
+        space: SpaceId,
+        newly_acked: u64,
+        counts: EcnCounts,
+    ) -> Result<Answer<Q>, Refusal>
+        ensures { Does (Ecn space newly_acked counts) self.old result self.new }
+    {
+        if self.discarded.contains(space) {
+            return Err(Refusal::SpaceDiscarded);
+        }
+        match self.spaces[space].detect_ecn(newly_acked, counts) {
+            Ok(is_marked) => Ok(Answer::Flag(is_marked)),
+            Err(text) => Err(Refusal::Ecn(text)),
+        }
+    }
+
+    /// A range of numbers is acknowledged (RFC 9000, 13.1 and 21.4).
+    pub(super) fn check_ack(
+        &self,
+        space: SpaceId,
+        low: u64,
+        high: u64,
+    ) -> Result<Answer<Q>, Refusal>
+        ensures { Tells (CheckAck space low high) self.now result }
+    {
+        if self.discarded.contains(space) {
+            return Err(Refusal::SpaceDiscarded);
+        }
+        if high >= NUMBER_LIMIT {
+            return Err(Refusal::NumberTooLarge);
+        }
+        if low > high {
+            return Err(Refusal::BadRange);
+        }
+        match self.filter.check_ack(space, low..=high) {
+            Ok(()) => Ok(Answer::Done),
+            Err(_) => Err(Refusal::SkippedAcked),
+        }
+    }
+
+    /// A probe packet is to be sent (RFC 9002, 6.2.4).
+    pub(super) fn queue_probe(
+        &mut self,
+        space: SpaceId,
+        immediate_ack: bool,
+        streams: Q::Streams,
+    ) -> Result<Answer<Q>, Refusal>
+        ensures { Does (QueueProbe space immediate_ack streams) self.old result self.new }
+    {
+        if self.discarded.contains(space) {
+            return Err(Refusal::SpaceDiscarded);
+        }
+        match self.spaces[space].queue_probe(immediate_ack, &streams) {
+            Ok(frames) => Ok(Answer::Sendable(frames)),
+            Err(NoMemory) => Err(Refusal::NoMemory),
+        }
+    }
+
+    /// What is to be sent again is handed out (RFC 9000, 13.3).
+    pub(super) fn take_pending(&mut self, space: SpaceId) -> Result<Answer<Q>, Refusal>
+        ensures { Does (TakePending space) self.old result self.new }
+    {
+        if self.discarded.contains(space) {
+            return Err(Refusal::SpaceDiscarded);
+        }
+        Ok(Answer::Queue(self.spaces[space].take_pending(self.alloc)))
+    }
+}

@@ -1,0 +1,107 @@
+//! The program's queue: items, in the order in which they are sent again.
+use super::*;
+use recovery_items::items::ItemQueue;
+use recovery_queue::queue::RetransmitQueue;
+
+type ItemEvent = quic_recovery::event::Event<ItemQueue>;
+
+/// What happens in Data, and which items wait then.
+#[derive(Clone, Copy)]
+enum Step {
+    Sends(&'static [u64]),
+    IsLost(u64),
+    Probes,
+    IsTaken,
+}
+
+use Step::{IsLost, IsTaken, Probes, Sends};
+
+fn queue_of(rt: &impl Abort, alloc: Global, items: &[u64]) -> ItemQueue {
+    if items.is_empty() {
+        return ItemQueue::empty(alloc);
+    }
+    let mut list = Vec::new(alloc);
+    match list.extend_from_slice(items) {
+        Ok(()) => ItemQueue::from_items(list),
+        Err(_) => panic!(rt; "NoMemory"),
+    }
+}
+
+fn event_of(rt: &impl Abort, alloc: Global, step: Step) -> ItemEvent {
+    let space = SpaceId::Data;
+    match step {
+        Sends(items) => ItemEvent::Send {
+            space,
+            now: at(0),
+            size: 100,
+            ack_eliciting: true,
+            largest_acked: None,
+            queue: queue_of(rt, alloc, items),
+            stream_frames: (),
+        },
+        IsLost(number) => ItemEvent::Lost { space, number },
+        Probes => ItemEvent::QueueProbe {
+            space,
+            immediate_ack: false,
+            streams: (),
+        },
+        IsTaken => ItemEvent::TakePending { space },
+    }
+}
+
+/// Asserts which items each step leaves waiting, and that what is taken is what waited before.
+fn play(rt: &impl Abort, alloc: Global, rows: &[(Step, &[u64])]) {
+    let config = settings_with(TransportConfig::default(), 8, Skips::Drawn);
+    let Ok(mut recovery) = Recovery::new(alloc, config, words(), at(0)) else {
+        panic!(rt; "NoMemory");
+    };
+    let mut row = 0u64;
+    let mut before: &[u64] = &[];
+    for (step, items) in rows {
+        match recovery.apply(event_of(rt, alloc, *step)) {
+            Ok(quic_recovery::event::Answer::Queue(queue)) => {
+                assert!(rt; queue.items() == before, "row {row}: what is taken");
+            }
+            Ok(_) => {}
+            Err(refusal) => panic!(rt; "row {row}: {}", refusal.name()),
+        }
+        match recovery.space(SpaceId::Data) {
+            Some(space) => assert!(rt; space.pending.items() == *items, "row {row}"),
+            None => panic!(rt; "row {row}"),
+        }
+        before = items;
+        row = row.saturating_add(1);
+    }
+}
+
+#[test]
+fn lost_items_go_behind(rt: HostRuntime) {
+    play(
+        &rt,
+        rt.alloc(),
+        &[
+            (Sends(&[1]), &[]),
+            (Sends(&[2, 3]), &[]),
+            (Sends(&[4]), &[]),
+            (IsLost(1), &[2, 3]),
+            (IsLost(0), &[2, 3, 1]),
+            (Probes, &[2, 3, 1]),
+            (IsTaken, &[]),
+            (IsTaken, &[]),
+            (Probes, &[4]),
+            (IsLost(2), &[4]),
+        ],
+    );
+    play(
+        &rt,
+        rt.alloc(),
+        &[
+            (Sends(&[]), &[]),
+            (Sends(&[7, 8]), &[]),
+            (Probes, &[7, 8]),
+            (IsTaken, &[]),
+            (IsLost(1), &[]),
+            (IsTaken, &[]),
+        ],
+    );
+}

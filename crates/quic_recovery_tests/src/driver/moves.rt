@@ -1,0 +1,407 @@
+//! A second path, a path that begins anew, and what the packets of each have in flight (RFC 9000, 9).
+use super::*;
+use quic_recovery::congestion::NewReno;
+use quic_recovery::paths::PathData;
+
+const DROP: Event = Event::DropPrevious;
+
+const NO_PROBE: Reply = Ok(Answer::NoProbe);
+
+const PROBE_ACKED: Reply = Ok(Answer::Acked { probe: true });
+
+const READY: Reply = Ok(Answer::Ready);
+
+const TRANSMITTED: Reply = Ok(Answer::Transmitted);
+
+const BLOCKED: Reply = Ok(Answer::Blocked);
+
+const SEARCHING: Reply = Err(Refusal::Searching);
+
+const VALIDATED: Event = Event::Validated {
+    path: PathName::Current,
+};
+
+const VALIDATED_BEFORE: Event = Event::Validated {
+    path: PathName::Previous,
+};
+
+const NO_BLACK_HOLE: Reply = Ok(Answer::BlackHole(false));
+
+const DISCARD_DATA: Event = Event::DiscardSpace {
+    space: SpaceId::Data,
+};
+
+fn reset() -> Event {
+    Event::ResetPath { now: at(0) }
+}
+
+/// An address of the peer: the first path has port 4433.
+fn address(port: u16) -> SocketAddr {
+    SocketAddr::new(IpAddr::V4(Ipv4Addr::new(192, 0, 2, 1)), port)
+}
+
+fn move_to(port: u16, fresh: bool) -> (Event, Reply) {
+    let event = Event::NewPath {
+        now: at(0),
+        remote: address(port),
+        fresh,
+    };
+    (event, DONE)
+}
+
+fn goes_out(number: u64, size: u16) -> (Event, Reply) {
+    (send(SpaceId::Data, size, true), sent(number, None))
+}
+
+fn has_come(number: u64) -> (Event, Reply) {
+    (acked(SpaceId::Data, number), ACKED)
+}
+
+fn lost(number: u64) -> (Event, Reply) {
+    let event = Event::Lost {
+        space: SpaceId::Data,
+        number,
+    };
+    (event, LOST)
+}
+
+fn poll() -> Event {
+    Event::PollMtu { now: at(0) }
+}
+
+fn probe(number: u64, size: u16) -> Reply {
+    Ok(Answer::Probe { number, size })
+}
+
+fn limit(size: u16) -> Event {
+    Event::PeerLimit { size }
+}
+
+fn transmit(bytes: u16, checked: bool) -> Event {
+    Event::Transmit {
+        now: at(0),
+        bytes,
+        checked,
+    }
+}
+
+fn datagram_in(path: PathName, bytes: u64) -> Event {
+    Event::DatagramIn { path, bytes }
+}
+
+fn sample(rtt: u64) -> Event {
+    Event::Sample {
+        delay: Duration::from_nanos(0),
+        rtt: Duration::from_millis(rtt),
+    }
+}
+
+fn pacer_check(bytes: u64) -> Event {
+    Event::PacerCheck { now: at(0), bytes }
+}
+
+fn delayed(nanos: u64) -> Reply {
+    Ok(Answer::Delayed(at(nanos)))
+}
+
+fn congestion() -> Event {
+    Event::Congestion {
+        now: at(2),
+        sent: at(1),
+        persistent: false,
+        bytes: 1200,
+    }
+}
+
+/// Each path has its own packets in flight.
+#[test]
+fn two_paths(rt: HostRuntime) {
+    check_left(
+        &rt,
+        rt.alloc(),
+        [
+            (PREVIOUS, NO_SUCH_PATH),
+            (DROP, NO_SUCH_PATH),
+            goes_out(0, 500),
+            move_to(4434, true),
+            goes_out(1, 700),
+            (PREVIOUS, in_flight(500, 1)),
+            (CURRENT, in_flight(700, 1)),
+            has_come(0),
+            (PREVIOUS, in_flight(0, 0)),
+            (CURRENT, in_flight(700, 1)),
+        ],
+        |left| match left.previous() {
+            Some(path) => path.generation() == 0 && left.current().generation() == 1,
+            None => false,
+        },
+    );
+    check_left(
+        &rt,
+        rt.alloc(),
+        [
+            goes_out(0, 500),
+            move_to(4434, true),
+            goes_out(1, 700),
+            (DISCARD_DATA, DONE),
+            (PREVIOUS, in_flight(0, 0)),
+            (CURRENT, in_flight(0, 0)),
+            (DROP, DONE),
+            (PREVIOUS, NO_SUCH_PATH),
+            (DROP, NO_SUCH_PATH),
+            (CURRENT, in_flight(0, 0)),
+        ],
+        |left| left.previous().is_none(),
+    );
+}
+
+/// The packets of a path that was dropped are tracked, and count nowhere.
+#[test]
+fn a_path_that_is_dropped(rt: HostRuntime) {
+    check(
+        &rt,
+        rt.alloc(),
+        [
+            goes_out(0, 500),
+            goes_out(1, 600),
+            move_to(4434, true),
+            goes_out(2, 700),
+            move_to(4435, false),
+            (PREVIOUS, in_flight(700, 1)),
+            (CURRENT, in_flight(0, 0)),
+            has_come(0),
+            lost(1),
+            (PREVIOUS, in_flight(700, 1)),
+            (CURRENT, in_flight(0, 0)),
+            (acked(SpaceId::Data, 0), NOT_TRACKED),
+            (DROP, DONE),
+            has_come(2),
+            (PREVIOUS, NO_SUCH_PATH),
+            (CURRENT, in_flight(0, 0)),
+        ],
+    );
+    check(
+        &rt,
+        rt.alloc(),
+        [
+            goes_out(0, 500),
+            move_to(4434, true),
+            move_to(4435, false),
+            (PREVIOUS, in_flight(0, 0)),
+            has_come(0),
+            (PREVIOUS, in_flight(0, 0)),
+            (DROP, DONE),
+            (DROP, NO_SUCH_PATH),
+        ],
+    );
+}
+
+/// A packet of the previous path that is forgotten for one of the current path is no longer in flight there.
+#[test]
+fn a_packet_of_another_path_is_forgotten(rt: HostRuntime) {
+    let mut recovery = fresh(&rt, rt.alloc());
+    for number in 0..1001u64 {
+        let silent = send(SpaceId::Data, 40, false);
+        told(&rt, &mut recovery, number, silent, sent(number, None));
+    }
+    let (moves, moved) = move_to(4434, true);
+    for (row, event, want) in [
+        (1001, moves, moved),
+        (1002, send(SpaceId::Data, 40, false), sent(1001, Some(0))),
+        (1003, PREVIOUS, in_flight(40_000, 0)),
+        (1004, CURRENT, in_flight(40, 0)),
+    ] {
+        told(&rt, &mut recovery, row, event, want);
+    }
+}
+
+/// What a path was sampled, whether it is validated, and its totals, generation and MTU.
+#[derive(PartialEq, Drop)]
+struct Kept {
+    port: u16,
+    rtt: Duration,
+    validated: bool,
+    total_sent: u64,
+    total_recvd: u64,
+    generation: u64,
+    mtu: u16,
+}
+
+fn kept_of(path: &PathData<NewReno>) -> Kept {
+    Kept {
+        port: path.remote.port(),
+        rtt: path.rtt.get(),
+        validated: path.validated,
+        total_sent: path.total_sent,
+        total_recvd: path.total_recvd,
+        generation: path.generation(),
+        mtu: path.current_mtu(),
+    }
+}
+
+fn leaves_kept(left: &Reno, previous: Option<Kept>, current: Kept) -> bool {
+    left.previous().map(kept_of) == previous && kept_of(left.current()) == current
+}
+
+/// A path that was sampled and used, and whose MTU was found.
+fn kept_used() -> Kept {
+    Kept {
+        port: 4433,
+        rtt: Duration::from_millis(400),
+        validated: true,
+        total_sent: 100,
+        total_recvd: 400,
+        generation: 0,
+        mtu: 1326,
+    }
+}
+
+/// What brings the first path there, and then one event more.
+fn used(last: (Event, Reply)) -> [(Event, Reply); 7] {
+    [
+        (sample(400), DONE),
+        (VALIDATED, DONE),
+        (datagram_in(PathName::Current, 400), DONE),
+        (transmit(100, false), TRANSMITTED),
+        (poll(), probe(0, 1326)),
+        (acked(SpaceId::Data, 0), PROBE_ACKED),
+        last,
+    ]
+}
+
+/// A path to another address goes on with RTT and MTU, unless it is fresh.
+#[test]
+fn what_another_path_goes_on_with(rt: HostRuntime) {
+    check_left(
+        &rt,
+        rt.alloc(),
+        used((Event::NextTimeout, NO_TIMEOUT)),
+        |left| leaves_kept(left, None, kept_used()),
+    );
+    check_left(&rt, rt.alloc(), used(move_to(4434, false)), |left| {
+        let other = Kept {
+            port: 4434,
+            validated: false,
+            total_sent: 0,
+            total_recvd: 0,
+            generation: 1,
+            ..kept_used()
+        };
+        leaves_kept(left, Some(kept_used()), other)
+    });
+    check_left(&rt, rt.alloc(), used(move_to(4434, true)), |left| {
+        let other = Kept {
+            port: 4434,
+            rtt: Duration::from_millis(333),
+            validated: false,
+            total_sent: 0,
+            total_recvd: 0,
+            generation: 1,
+            mtu: 1200,
+        };
+        leaves_kept(left, Some(kept_used()), other)
+    });
+}
+
+/// A path that begins anew keeps what came in and went out there.
+#[test]
+fn a_path_begins_anew(rt: HostRuntime) {
+    check_left(&rt, rt.alloc(), used((reset(), DONE)), |left| {
+        let anew = Kept {
+            rtt: Duration::from_millis(333),
+            mtu: 1200,
+            ..kept_used()
+        };
+        leaves_kept(left, None, anew)
+    });
+    check(
+        &rt,
+        rt.alloc(),
+        [
+            goes_out(0, 500),
+            (congestion(), DONE),
+            (pacer_check(12001), delayed(44_400)),
+            (reset(), DONE),
+            (pacer_check(12001), delayed(22_200)),
+            (pacer_check(12000), READY),
+            (CURRENT, in_flight(500, 1)),
+        ],
+    );
+    check(
+        &rt,
+        rt.alloc(),
+        [
+            (poll(), probe(0, 1326)),
+            (DISCARD_DATA, DONE),
+            (limit(1300), SEARCHING),
+            (poll(), DISCARDED),
+            (Event::LossesDone { now: at(0) }, NO_BLACK_HOLE),
+            (reset(), DONE),
+            (limit(1300), DONE),
+            (poll(), DISCARDED),
+        ],
+    );
+}
+
+/// The search goes on over a path that is not fresh; on a fresh one the old probe is a packet like any other.
+#[test]
+fn a_probe_over_paths(rt: HostRuntime) {
+    check(
+        &rt,
+        rt.alloc(),
+        [
+            (poll(), probe(0, 1326)),
+            move_to(1, false),
+            (acked(SpaceId::Data, 0), PROBE_ACKED),
+            (poll(), probe(1, 1389)),
+            move_to(2, true),
+            has_come(1),
+            (poll(), probe(2, 1326)),
+            (poll(), NO_PROBE),
+        ],
+    );
+    check_left(
+        &rt,
+        rt.alloc(),
+        [
+            (limit(600), DONE),
+            move_to(1, true),
+            (pacer_check(6000), READY),
+            (pacer_check(6001), delayed(22_200)),
+        ],
+        |left| left.current().current_mtu() == 600 && left.peer_limit() == Some(600),
+    );
+}
+
+/// Each path has its own limit on what goes out before it is validated.
+#[test]
+fn each_path_is_validated(rt: HostRuntime) {
+    check_left(
+        &rt,
+        rt.alloc(),
+        [
+            (VALIDATED_BEFORE, NO_SUCH_PATH),
+            (datagram_in(PathName::Previous, 1), NO_SUCH_PATH),
+            (VALIDATED, DONE),
+            move_to(4434, true),
+            (transmit(1, true), BLOCKED),
+            (datagram_in(PathName::Previous, 400), DONE),
+            (transmit(1, true), BLOCKED),
+            (datagram_in(PathName::Current, 1), DONE),
+            (transmit(4, true), BLOCKED),
+            (transmit(3, true), TRANSMITTED),
+            move_to(4435, true),
+            (VALIDATED_BEFORE, DONE),
+            (transmit(1, true), BLOCKED),
+        ],
+        |left| match left.previous() {
+            Some(path) => {
+                path.validated
+                    && path.total_sent == 3
+                    && path.total_recvd == 1
+                    && !left.current().validated
+            }
+            None => false,
+        },
+    );
+}

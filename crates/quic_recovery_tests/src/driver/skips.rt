@@ -1,0 +1,165 @@
+//! Packet numbers that are skipped (RFC 9000, 21.4).
+use super::*;
+use rand_pcg::Pcg64;
+
+const SKIPPED: Reply = Err(Refusal::SkippedAcked);
+
+const BAD_RANGE: Reply = Err(Refusal::BadRange);
+
+const DISCARD_DATA: Event = Event::DiscardSpace {
+    space: SpaceId::Data,
+};
+
+const PROBE_ACKED: Reply = Ok(Answer::Acked { probe: true });
+
+fn check_ack(space: SpaceId, low: u64, high: u64) -> Event {
+    Event::CheckAck { space, low, high }
+}
+
+fn poll() -> Event {
+    Event::PollMtu { now: at(0) }
+}
+
+fn probe(number: u64) -> Reply {
+    Ok(Answer::Probe { number, size: 1326 })
+}
+
+/// The settings of the tests, with these skips.
+fn skipping(skips: Skips) -> RecoveryConfig<NewRenoConfig>
+    requires { IsSkips skips }
+    ensures issued { result.issued ≡ 1 }
+    ensures skips { IsSkips result.skips }
+{
+    settings_with(TransportConfig::default(), 8, skips)
+}
+
+/// Asserts how many numbers a space has given out or skipped, and which comes next.
+fn count(rt: &impl Abort, space: Option<&PacketSpace<Tally>>, given_out: u64, next: u64) {
+    match space {
+        Some(space) => {
+            let (count, number) = (space.sent_with_keys, space.next_packet_number());
+            assert!(rt; count == given_out && number == next, "{count}, {number}");
+        }
+        None => panic!(rt; "the space is discarded"),
+    }
+}
+
+/// Numbers of Data alone are skipped.
+#[test]
+fn number_0_is_skipped(rt: HostRuntime) {
+    let (initial, data) = (SpaceId::Initial, SpaceId::Data);
+    let rows = [
+        (check_ack(data, 0, 0), DONE),
+        (check_ack(initial, 0, 0), DONE),
+        (send(initial, 1, true), sent(0, None)),
+        (send(data, 1, true), sent(1, None)),
+        (check_ack(data, 0, 0), SKIPPED),
+        (check_ack(data, 0, 9), SKIPPED),
+        (check_ack(data, 1, 9), DONE),
+        (check_ack(initial, 0, 0), DONE),
+        (acked(data, 0), NOT_TRACKED),
+        (acked(data, 1), ACKED),
+    ];
+    let recovery = walk(&rt, rt.alloc(), skipping(Skips::Starting(0)), words(), rows);
+    count(&rt, recovery.space(data), 2, 2);
+    count(&rt, recovery.space(initial), 1, 1);
+}
+
+#[test]
+fn ranges_have_bounds(rt: HostRuntime) {
+    let data = SpaceId::Data;
+    check(
+        &rt,
+        rt.alloc(),
+        [
+            (check_ack(data, 0, 9), DONE),
+            (check_ack(data, 9, 8), BAD_RANGE),
+            (check_ack(data, 9, 9), DONE),
+            (check_ack(data, 0, (1 << 62) - 1), DONE),
+            (check_ack(data, 0, 1 << 62), TOO_LARGE),
+            (check_ack(data, u64::MAX, 1 << 62), TOO_LARGE),
+            (check_ack(data, 1 << 62, 0), BAD_RANGE),
+            (DISCARD_DATA, DONE),
+            (check_ack(data, 9, 1 << 62), DISCARDED),
+        ],
+    );
+}
+
+/// The last number below 64 is skipped, and refused from then on that the one behind it is given out.
+#[test]
+fn number_63_is_skipped(rt: HostRuntime) {
+    let data = SpaceId::Data;
+    let config = skipping(Skips::Starting(63));
+    let Ok(mut recovery) = Recovery::new(rt.alloc(), config, words(), at(0)) else {
+        panic!(&rt; "NoMemory");
+    };
+    for number in 0..63u64 {
+        let event = send(data, 1, true);
+        told(&rt, &mut recovery, number, event, sent(number, None));
+    }
+    for (row, event, want) in [
+        (63, check_ack(data, 60, 63), DONE),
+        (64, send(data, 1, true), sent(64, None)),
+        (65, check_ack(data, 60, 63), SKIPPED),
+        (66, check_ack(data, 64, 70), DONE),
+        (67, check_ack(data, 60, 62), DONE),
+        (68, check_ack(data, 0, 70), SKIPPED),
+    ] {
+        told(&rt, &mut recovery, row, event, want);
+    }
+    count(&rt, recovery.space(data), 65, 65);
+}
+
+/// A probe of the MTU passes a skip too.
+#[test]
+fn a_probe_passes_a_skip(rt: HostRuntime) {
+    let data = SpaceId::Data;
+    let rows = [
+        (send(data, 1, true), sent(0, None)),
+        (poll(), probe(2)),
+        (check_ack(data, 1, 1), SKIPPED),
+        (acked(data, 1), NOT_TRACKED),
+        (acked(data, 2), PROBE_ACKED),
+        (send(data, 1, true), sent(3, None)),
+    ];
+    let config = skipping(Skips::Starting(1));
+    let recovery = walk(&rt, rt.alloc(), config, words(), rows);
+    count(&rt, recovery.space(data), 4, 4);
+}
+
+/// Asserts that of the numbers below the third of three skips the first two are not given out, and that the first is
+/// refused from the number behind it up to the one behind the second.
+fn play_drawn<R: Rng + Drop>(rt: &impl Abort, alloc: Global, rng: R, skips: (u64, u64, u64)) {
+    let (first, second, end) = skips;
+    let Ok(mut recovery) = Recovery::new(alloc, skipping(Skips::Drawn), rng, at(0)) else {
+        panic!(rt; "NoMemory");
+    };
+    for number in 0..end {
+        if number != first && number != second {
+            let event = send(SpaceId::Data, 1, true);
+            told(rt, &mut recovery, number, event, sent(number, None));
+            let is_last = first < number && number < second;
+            let want = if is_last { SKIPPED } else { DONE };
+            let event = check_ack(SpaceId::Data, first, first);
+            told(rt, &mut recovery, number, event, want);
+        }
+    }
+    let want = sent(end.saturating_add(1), None);
+    told(rt, &mut recovery, end, send(SpaceId::Data, 1, true), want);
+}
+
+/// The skips are those of the table of known words, by either generator.
+#[test]
+fn skips_are_drawn(rt: HostRuntime) {
+    for (seed, skips) in [
+        (0, (63, 80, 176)),
+        (1, (31, 68, 148)),
+        (7, (6, 116, 168)),
+        (u64::MAX, (20, 114, 159)),
+    ] {
+        play_drawn(&rt, rt.alloc(), Pcg32::seed_from_u64(seed), skips);
+    }
+    for (seed, skips) in [(0, (8, 86, 218)), (1, (53, 65, 142)), (7, (0, 78, 243))] {
+        play_drawn(&rt, rt.alloc(), Pcg64::seed_from_u64(seed), skips);
+    }
+}

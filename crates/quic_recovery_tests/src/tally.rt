@@ -1,0 +1,54 @@
+//! A queue for tests: what is generic in the queue is seen at work on one that is not the program's.
+ghost use Rattle.quic_recovery_tests.specs.Tallies.{tally_words};
+
+use recovery_queue::queue::RetransmitQueue;
+use std::alloc::Global;
+
+/// How many bytes of one stream wait to be sent again. Tallies are joined by the exact sum, and where that passes
+/// `u64::MAX` they are not: so a refusal for want of memory is seen while there is memory.
+#[derive(PartialEq, Eq, Drop)]
+pub struct Tally {
+    /// The bytes.
+    pub bytes: u64,
+}
+
+impl RetransmitQueue for Tally {
+    ghost use Rattle.std.specs.Prelude.{refl};
+    ghost use Rattle.std.proofs.Math.Nat.{zero-add, add-zero};
+
+    /// Whether the stream is open.
+    type Streams = bool;
+
+    /// The offset of the bytes in their stream.
+    type Meta = u64;
+
+    type Contents = u64;
+
+    ghost contents = { λ tally. tally.bytes };
+
+    ghost words = { tally_words };
+
+    fn empty(_alloc: Global) -> Self {
+        Tally { bytes: 0 }
+    }
+
+    fn is_empty(&self, streams: &bool) -> bool {
+        self.bytes == 0 || !*streams
+    }
+
+    fn append(&mut self, other: Self) -> Result<(), Self> {
+        match self.bytes.checked_add(other.bytes) {
+            Some(sum) => {
+                self.bytes = sum;
+                Ok(())
+            }
+            None => Err(other),
+        }
+    }
+
+    ghost laws = { record {
+      unit_left = zero-add;
+      unit_right = add-zero;
+      empty_is_empty = λ is_open. refl;
+    } };
+}

@@ -1,0 +1,118 @@
+-- A tracked packet whose contents are exchanged.
+use Rattle.std.proofs.Common.{◌≡◌, ℕ, Bool, true, false, cond, [], ◌∷◌, Option, None, Some, refl, sym, ap, subst, ◌∙◌}
+use Rattle.std.specs.Prelude.{IfNone, option_map, sum_by}
+use Rattle.std.specs.Ordering.{nat_cmp}
+use Rattle.std.specs.BTreeMap.{is_at}
+use Rattle.recovery_queue.specs.Queues.{QueueWords}
+use Rattle.recovery_ledger.specs.Packets.{Packet, Packets, Tracking, packet_at, without, with_contents, replaced, carrying, contents_or, after_carrying, after_taking}
+use Rattle.recovery_ledger.specs.Queued.{joined_with}
+use Rattle.recovery_ledger.specs.Spaces.{Space, packets_of, tracking_of, space_moves, space_loses, space_takes}
+use Rattle.recovery_ledger.proofs.PacketLaws.{some_packet, no_packet, sum-replaced, without-absent}
+
+module _ {P : Type 0} where
+  -- a packet in its own place
+  replaced_same : (packets : Packets P) (number : ℕ) (packet : Packet P) → packet_at packets number ≡ Some packet → replaced number (Some packet) packets ≡ packets
+  replaced_same [] number packet found = refl
+  replaced_same (entry ∷ packets) number packet found = go (is_at (nat_cmp number) entry.0) found (replaced_same packets number packet)
+    where
+      go : (b : Bool) → cond b (Some entry.1) (packet_at packets number) ≡ Some packet → (packet_at packets number ≡ Some packet → replaced number (Some packet) packets ≡ packets)
+          → cond b ((entry.0, packet) ∷ packets) (entry ∷ replaced number (Some packet) packets) ≡ entry ∷ packets
+      go true e later = ap (λ (p : Packet P). let es : Packets P = (entry.0, p) ∷ packets in es) (sym (some_packet entry.1 packet e))
+      go false e later = ap (λ (es : Packets P). entry ∷ es) (later e)
+
+  -- the packet put last stays
+  replaced_again : (packets : Packets P) (number : ℕ) (first last : Packet P) → replaced number (Some last) (replaced number (Some first) packets) ≡ replaced number (Some last) packets
+  replaced_again [] number first last = refl
+  replaced_again (entry ∷ packets) number first last = go (is_at (nat_cmp number) entry.0) refl (replaced_again packets number first last)
+    where
+      go : (b : Bool) → is_at (nat_cmp number) entry.0 ≡ b → replaced number (Some last) (replaced number (Some first) packets) ≡ replaced number (Some last) packets → replaced number (Some last) (cond b ((entry.0, first) ∷ packets) (entry ∷ replaced number (Some first) packets)) ≡ cond b ((entry.0, last) ∷ packets) (entry ∷ replaced number (Some last) packets)
+      go true at later = ap (λ (b : Bool). cond b ((entry.0, last) ∷ packets) ((entry.0, first) ∷ replaced number (Some last) packets)) at
+      go false at later =
+          ap (λ (b : Bool). cond b ((entry.0, last) ∷ replaced number (Some first) packets) (entry ∷ replaced number (Some last) (replaced number (Some first) packets))) at
+          ∙ ap (λ (es : Packets P). entry ∷ es) later
+
+  replaced_found : (packets : Packets P) (number : ℕ) (packet other : Packet P) → packet_at packets number ≡ Some packet → packet_at (replaced number (Some other) packets) number ≡ Some other
+  replaced_found [] number packet other found = no_packet packet found
+  replaced_found (entry ∷ packets) number packet other found = go (is_at (nat_cmp number) entry.0) refl found (replaced_found packets number packet other)
+    where
+      go : (b : Bool) → is_at (nat_cmp number) entry.0 ≡ b → cond b (Some entry.1) (packet_at packets number) ≡ Some packet → (packet_at packets number ≡ Some packet → packet_at (replaced number (Some other) packets) number ≡ Some other)
+          → packet_at (cond b ((entry.0, other) ∷ packets) (entry ∷ replaced number (Some other) packets)) number ≡ Some other
+      go true at e later = ap (λ (b : Bool). cond b (Some other) (packet_at packets number)) at
+      go false at e later = ap (λ (b : Bool). cond b (Some entry.1) (packet_at (replaced number (Some other) packets) number)) at ∙ later e
+
+  replaced_gone : (packets : Packets P) (number : ℕ) (packet : Packet P) → without (replaced number (Some packet) packets) number ≡ without packets number
+  replaced_gone [] number packet = refl
+  replaced_gone (entry ∷ packets) number packet = go (is_at (nat_cmp number) entry.0) refl (replaced_gone packets number packet)
+    where
+      go : (b : Bool) → is_at (nat_cmp number) entry.0 ≡ b → without (replaced number (Some packet) packets) number ≡ without packets number → without (cond b ((entry.0, packet) ∷ packets) (entry ∷ replaced number (Some packet) packets)) number ≡ cond b packets (entry ∷ without packets number)
+      go true at later = ap (λ (b : Bool). cond b packets ((entry.0, packet) ∷ without packets number)) at
+      go false at later =
+          ap (λ (b : Bool). cond b (replaced number (Some packet) packets) (entry ∷ without (replaced number (Some packet) packets) number)) at
+          ∙ ap (λ (es : Packets P). entry ∷ es) later
+
+  module _ (packets : Packets P) (number : ℕ) where
+    -- the packet of the number has the other contents
+    pub carrying_found : (contents : P) → packet_at (carrying number contents packets) number ≡ option_map (with_contents contents) (packet_at packets number)
+    carrying_found contents = go (packet_at packets number) refl
+      where
+        go : (found : Option (Packet P)) → packet_at packets number ≡ found → packet_at (replaced number (option_map (with_contents contents) found) packets) number ≡ option_map (with_contents contents) found
+        go None absent = absent
+        go (Some packet) e = replaced_found packets number packet (with_contents contents packet) e
+
+    -- without the packet of the number nothing has changed
+    pub carrying_gone : (contents : P) → without (carrying number contents packets) number ≡ without packets number
+    carrying_gone contents = go (packet_at packets number)
+      where
+        go : (found : Option (Packet P)) → without (replaced number (option_map (with_contents contents) found) packets) number ≡ without packets number
+        go None = refl
+        go (Some packet) = replaced_gone packets number (with_contents contents packet)
+
+    -- contents that are put back
+    pub carrying_back : (contents other : P) → carrying number (contents_or other (packet_at packets number)) (carrying number contents packets) ≡ packets
+    carrying_back contents other =
+        ap (λ (found : Option (Packet P)). replaced number (option_map (with_contents (contents_or other (packet_at packets number))) found) (carrying number contents packets)) (carrying_found contents)
+        ∙ go (packet_at packets number) refl
+      where
+        go : (found : Option (Packet P)) → packet_at packets number ≡ found
+            → replaced number (option_map (with_contents (contents_or other found)) (option_map (with_contents contents) found)) (replaced number (option_map (with_contents contents) found) packets) ≡ packets
+        go None absent = refl
+        go (Some packet) e = replaced_again packets number (with_contents contents packet) packet ∙ replaced_same packets number packet e
+
+    -- a sum that does not look at the contents
+    pub sum-carrying : (f : ℕ × Packet P → ℕ) (contents : P) → ((n : ℕ) (packet : Packet P) → f (n, with_contents contents packet) ≡ f (n, packet)) → sum_by f (carrying number contents packets) ≡ sum_by f packets
+    sum-carrying f contents alike = go (packet_at packets number) refl
+      where
+        go : (found : Option (Packet P)) → packet_at packets number ≡ found → sum_by f (replaced number (option_map (with_contents contents) found) packets) ≡ sum_by f packets
+        go None absent = refl
+        go (Some packet) e = sum-replaced f packets number packet (with_contents contents packet) e (λ n. alike n packet)
+
+  -- what holds of a tracked packet, whatever its contents, holds of it as it is handed back when it is lost
+  pub lost_holds : (Holds : Packet P → Type 0) (found : Option (Packet P)) (contents : P) (packet : Packet P) → option_map (with_contents contents) found ≡ Some packet → ((old : Packet P) → found ≡ Some old → Holds (with_contents contents old)) → Holds packet
+  lost_holds Holds None contents packet is holds = no_packet packet is
+  lost_holds Holds (Some old) contents packet is holds = subst Holds (some_packet (with_contents contents old) packet is) (holds old refl)
+
+  pub tracking_back : (tracking : Tracking P) (number : ℕ) (contents other : P) → after_carrying number (contents_or other (packet_at tracking.packets number)) (after_carrying number contents tracking) ≡ tracking
+  tracking_back tracking number contents other = ap (λ (es : Packets P). let t : Tracking P = record tracking { packets = es } in t) (carrying_back tracking.packets number contents other)
+
+module _ {P S : Type 0} (words : QueueWords P S) where
+  -- a packet whose contents were moved, and that is taken, was lost
+  pub moved_taken : (number : ℕ) (space : Space P) → space_takes number (space_moves words number space) ≡ space_loses words number space
+  moved_taken number space =
+      ap (λ (es : Packets P). let s : Space P = record (space_loses words number space) { sent_packets = record (tracking_of space) { packets = es } } in s) (carrying_gone (packets_of space) number words.empty)
+
+  -- a packet that is not tracked is not lost
+  pub lost_absent : (number : ℕ) (space : Space P) → option_map (with_contents words.empty) (packet_at (packets_of space) number) ≡ None → space_loses words number space ≡ space
+  lost_absent number space absent = go (packet_at (packets_of space) number) refl absent
+    where
+      some_is_none : (p : Packet P) → Some p ≡ None → ⊥
+      some_is_none p e = cc
+
+      go : (found : Option (Packet P)) → packet_at (packets_of space) number ≡ found → option_map (with_contents words.empty) found ≡ None
+          → (let s : Space P = record space { sent_packets = after_taking number (tracking_of space); pending = joined_with words space.pending found } in s) ≡ space
+      go None is e = ap (λ (es : Packets P). let s : Space P = record space { sent_packets = record (tracking_of space) { packets = es } } in s) (without-absent (packets_of space) number is)
+      go (Some packet) is e = absurd (some_is_none (with_contents words.empty packet) e)
+
+  -- and nothing changes then
+  pub lost_none : (number : ℕ) (old : Space P) (lost : Option (Packet P)) (new : Space P) → lost ≡ option_map (with_contents words.empty) (packet_at (packets_of old) number) → new ≡ space_loses words number old → IfNone lost (new ≡ old)
+  lost_none number old None new is step = step ∙ lost_absent number old (sym is)
+  lost_none number old (Some packet) new is step = tt

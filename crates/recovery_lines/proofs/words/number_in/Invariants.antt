@@ -1,7 +1,0 @@
-use Rattle.std.proofs.Common.{◌≡◌, ◌<◌, ◌^◌, take}
-use Rattle.std.specs.Str.Parse.{digits_value}
-use Rattle.recovery_lines.specs.Reading.{AreDigits}
-use Rattle.recovery_lines.proofs.words.number_in.Given as goal
-
-abbrev pub invariant-loop-byte : goal.invariant-loop-byte
-invariant-loop-byte l = AreDigits l.word l.byte-index × (l.value ≡ digits_value 10 (take l.byte-index l.word)) × (l.value < 2 ^ 64)

@@ -1,9 +1,0 @@
-use Rattle.std.proofs.Common.{lit≤, sym, ◌∙◌, ◌^◌}
-use Rattle.recovery_lines.proofs.NumberLaws.{number_narrow_none, narrowed}
-use Rattle.recovery_lines.proofs.words.size_in.Goals as goal
-
-pub returns-in-Some : goal.returns-in-Some
-returns-in-Some c = c.ok.ensures.value ∙ narrowed (2 ^ 16) c.args.word.now c.in-Some.number c.try_from.result (lit≤ tt) (sym c.number_in.ensures ∙ c.in-Some.is) c.try_from.ensures
-
-pub returns-in-None : goal.returns-in-None
-returns-in-None c = sym (number_narrow_none (2 ^ 16) c.args.word.now (lit≤ tt) (sym c.number_in.ensures ∙ c.in-None.is))

@@ -1,0 +1,247 @@
+//! The paths of a connection that live: the one in use, and the one that was in use before it (RFC 9000, 9).
+ghost use Rattle.std.specs.Prelude.{◌≡◌, ◌↔◌, ◌≤◌, ◌+◌, ◌^◌, None, OnOk, OnErr, IfOk, IsErrOf, IsSomeAnd, is_some, option_map, option_copied};
+ghost use Rattle.std.specs.Option.{ForSome};
+ghost use Rattle.recovery_ledger.specs.InFlight.{Overflows};
+ghost use Rattle.recovery_ledger.specs.Packets.{forgotten_entry, after_sending};
+ghost use Rattle.recovery_ledger.specs.Paths.{counters_of, IsCountedOn};
+ghost use Rattle.recovery_ledger.specs.Spaces.{tracking_of, with_tracking, packets_of, space_empties};
+ghost use Rattle.recovery_paths.specs.LivePaths.{IsCountedOnEach, AreCountedOnEach, CanTrackOn, paths_after_sending, paths_without, paths_losing, paths_acking, left_by};
+ghost use Rattle.recovery_paths.specs.PathLog.{path_of, on_path_of, moved_to, each_path};
+ghost use Rattle.recovery_paths.specs.PathStates.{on_state, after_receiving, after_validation, is_path_probe};
+
+use crate::paths::{InFlight, LedgerError, PathData, TotalOverflow};
+use recovery_base::below::SpaceId;
+use recovery_base::time::Instant;
+use recovery_congestion::congestion::Controller;
+use recovery_ledger::spaces::{PacketSpace, SentPacket};
+use recovery_queue::queue::RetransmitQueue;
+use std::marker::Model;
+use std::mem;
+use thiserror::Error;
+
+/// A path that lives, by its name.
+#[derive(Clone, Copy)]
+pub enum PathName {
+    /// The path in use.
+    Current,
+    /// The path in use before it, until it is dropped.
+    Previous,
+}
+
+/// Why a datagram does not count. The paths are as they were.
+#[derive(Clone, Copy, Debug, PartialEq, Eq, Error)]
+pub enum DatagramError {
+    /// No path of the name lives.
+    #[error("there is no such path")]
+    NoSuchPath,
+    /// The bytes that came in on the path would pass `u64::MAX`.
+    #[error("the total passes 2^64 - 1 bytes")]
+    Overflow,
+}
+
+/// At most two paths. A packet is counted on the path that it went by, as long as that lives.
+#[derive(Drop)]
+pub struct LivePaths<C: Controller> {
+    /// The path in use.
+    pub current: PathData<C>,
+    previous: Option<PathData<C>>,
+}
+
+impl<C: Controller> Model for LivePaths<C> {
+    ghost use Rattle.recovery_paths.specs.PathLog.{OfPaths};
+    ghost use Rattle.recovery_paths.specs.PathStates.{Path};
+
+    ghost Value = { OfPaths (Path C.Content) };
+
+    ghost view = { λ paths. record { current = paths.current; previous = paths.previous } };
+}
+
+impl<C: Controller + Drop> LivePaths<C> {
+    /// The first path alone.
+    pub fn new(current: PathData<C>) -> Self
+        ensures { result ≡ record { current = current; previous = None } }
+    {
+        LivePaths {
+            current,
+            previous: None,
+        }
+    }
+
+    /// The path in use before the current one, unless it was dropped.
+    pub fn previous(&self) -> Option<&PathData<C>>
+        ensures { option_copied result ≡ self.now.previous }
+    {
+        self.previous.as_ref()
+    }
+
+    /// What is in flight on a path (RFC 9002, B.2), where it lives.
+    pub fn in_flight(&self, name: PathName) -> Option<InFlight>
+        ensures { result ≡ option_map (λ path. counters_of path.ledger) (path_of name self.now) }
+    {
+        match name {
+            PathName::Current => Some(self.current.in_flight()),
+            PathName::Previous => Some(self.previous.as_ref()?.in_flight()),
+        }
+    }
+
+    /// A datagram came in on a path, of so many bytes (RFC 9000, 8.1). Refused by `NoSuchPath`, then by `Overflow`.
+    pub fn receive_datagram(&mut self, name: PathName, bytes: u64) -> Result<(), DatagramError>
+        ensures ok { OnOk result (self.new ≡ on_path_of name (on_state (after_receiving bytes)) self.old) }
+        ensures no_path { IsErrOf result DatagramError.NoSuchPath ↔ (path_of name self.old ≡ None) }
+        ensures overflow { IsErrOf result DatagramError.Overflow
+            ↔ IsSomeAnd (path_of name self.old) (λ path. 2 ^ 64 ≤ path.state.received + bytes) }
+        ensures err { OnErr result (self.new ≡ self.old) }
+    {
+        match name {
+            PathName::Current => self.current.receive_datagram(bytes).map_err(overflow),
+            PathName::Previous => match &mut self.previous {
+                Some(path) => path.receive_datagram(bytes).map_err(overflow),
+                None => Err(DatagramError::NoSuchPath),
+            },
+        }
+    }
+
+    /// The peer was seen to receive at a path's address (RFC 9000, 8.2): false, and nothing, where no such path lives.
+    pub fn validate(&mut self, name: PathName) -> bool
+        ensures lives { result ≡ is_some (path_of name self.old) }
+        ensures after { self.new ≡ on_path_of name (on_state after_validation) self.old }
+    {
+        match name {
+            PathName::Current => {
+                self.current.validate();
+                true
+            }
+            PathName::Previous => match &mut self.previous {
+                Some(path) => {
+                    path.validate();
+                    true
+                }
+                None => false,
+            },
+        }
+    }
+
+    /// Tracks a packet of the path in use in a space, and counts it there. A packet that the space forgets for it is handed
+    /// back with its number, and is no longer counted on its path. `Overflow` is tested before anything is forgotten; a
+    /// refusal drops the packet and leaves all else. Cost: logarithmic in the packets tracked.
+    pub fn sent<Q>(
+        &mut self,
+        number: u64,
+        packet: SentPacket<Q>,
+        space: &mut PacketSpace<Q>,
+    ) -> Result<Option<(u64, SentPacket<Q>)>, LedgerError>
+    where
+        Q: RetransmitQueue + Drop,
+        Q::Meta: Drop,
+        requires { CanTrackOn self.old number packet space.old }
+        ensures space { OnOk result
+            (space.new ≡ with_tracking (after_sending number packet (tracking_of space.old)) space.old) }
+        ensures paths { IfOk result (λ gone. self.new ≡ paths_after_sending packet gone self.old) }
+        ensures forgotten { IfOk result (λ gone. gone ≡ forgotten_entry packet (tracking_of space.old)) }
+        ensures overflow { IsErrOf result LedgerError.Overflow
+            ↔ Overflows (counters_of self.old.current.ledger) packet }
+        ensures err_paths { OnErr result (self.new ≡ self.old) }
+        ensures err_space { OnErr result (space.new ≡ space.old) }
+    {
+        let forgotten = self.current.sent(number, packet, space)?;
+        if let Some((_, packet)) = &forgotten {
+            self.remove_from_previous(packet);
+        }
+        Ok(forgotten)
+    }
+
+    /// A packet of a space was acknowledged: whether it was the probe of the MTU in flight. It is counted on its path no
+    /// more, and the path in use is told of it, as [`PathData::on_packet_acked`] says.
+    pub fn on_packet_acked<Q: RetransmitQueue>(
+        &mut self,
+        space: SpaceId,
+        number: u64,
+        now: Instant,
+        packet: &SentPacket<Q>,
+        app_limited: bool,
+    ) -> bool
+        requires { IsCountedOnEach self.old packet.now }
+        ensures probe { result ≡ is_path_probe space number self.old.current.state }
+        ensures after { self.new ≡ paths_acking C.words space number now app_limited packet.now self.old }
+    {
+        self.remove_from_previous(packet);
+        self.current
+            .on_packet_acked(space, number, now, packet, app_limited)
+    }
+
+    /// A packet of a space was lost: whether it was the probe of the MTU in flight. It is counted on its path no more, and
+    /// the path in use is told of it, as [`PathData::on_packet_lost`] says.
+    pub fn on_packet_lost<Q: RetransmitQueue>(
+        &mut self,
+        space: SpaceId,
+        number: u64,
+        packet: &SentPacket<Q>,
+    ) -> bool
+        requires { IsCountedOnEach self.old packet.now }
+        ensures probe { result ≡ is_path_probe space number self.old.current.state }
+        ensures after { self.new ≡ paths_losing space number packet.now self.old }
+    {
+        self.remove_from_previous(packet);
+        self.current.on_packet_lost(space, number, packet)
+    }
+
+    /// Takes every packet of a space out, and counts each on its path no more. Cost: linear in the packets that the space
+    /// tracks.
+    pub fn forget_all<Q>(&mut self, space: &mut PacketSpace<Q>)
+    where
+        Q: RetransmitQueue + Drop,
+        Q::Meta: Drop,
+        requires { AreCountedOnEach self.old (packets_of space.old) }
+        ensures space { space.new ≡ space_empties space.old }
+        ensures paths { self.new ≡ paths_without (packets_of space.old) self.old }
+    {
+        while let Some((_, packet)) = space.take_first() {
+            self.remove_in_flight(&packet);
+        }
+    }
+
+    /// A path to another address is used from now on, and the one in use becomes the previous one; an older previous one is
+    /// dropped.
+    pub fn move_to(&mut self, path: PathData<C>)
+        ensures { self.new ≡ moved_to path self.old }
+    {
+        let left = mem::replace(&mut self.current, path);
+        self.previous = Some(left);
+    }
+
+    /// The previous path is dropped: false, and nothing, where none lives. Its packets stay tracked.
+    pub fn drop_previous(&mut self) -> bool
+        ensures lived { result ≡ is_some self.old.previous }
+        ensures after { self.new ≡ record self.old { previous = None } }
+    {
+        let lived = self.previous.is_some();
+        self.previous = None;
+        lived
+    }
+
+    /// Counts a packet on its path no more.
+    fn remove_in_flight<Q: RetransmitQueue>(&mut self, packet: &SentPacket<Q>)
+        requires { IsCountedOnEach self.old packet.now }
+        ensures { self.new ≡ each_path (left_by packet.now) self.old }
+    {
+        self.current.remove_in_flight(packet);
+        self.remove_from_previous(packet);
+    }
+
+    /// Counts a packet on the previous path no more, where it went by that.
+    fn remove_from_previous<Q: RetransmitQueue>(&mut self, packet: &SentPacket<Q>)
+        requires { ForSome self.old.previous (λ path. IsCountedOn path.ledger packet.now) }
+        ensures { self.new ≡ record self.old { previous = option_map (left_by packet.now) self.old.previous } }
+    {
+        if let Some(path) = &mut self.previous {
+            path.remove_in_flight(packet);
+        }
+    }
+}
+
+/// The total of a path has no room for a datagram.
+fn overflow(_: TotalOverflow) -> DatagramError
+    ensures { result ≡ DatagramError.Overflow }
+{
+    DatagramError::Overflow
+}
