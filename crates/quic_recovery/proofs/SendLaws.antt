@@ -1,0 +1,104 @@
+-- A packet that is sent: it may be tracked, the balance of the paths stays, and each part changes by its step.
+use Rattle.std.proofs.Common.{◌≡◌, ℕ, ◌+◌, ◌<◌, ◌≤◌, ◌^◌, Bool, false, Option, None, Some, option_map, Ok, refl, sym, ap, subst, ◌∙◌, arith}
+use Rattle.recovery_base.specs.declared.below.SpaceId.{SpaceId}
+use Rattle.recovery_congestion.specs.Calls.{sends as sends_bytes}
+use Rattle.recovery_ledger.specs.declared.paths.PathLedger.{PathLedger}
+use Rattle.recovery_ledger.specs.Discarded.{is_discarded}
+use Rattle.recovery_ledger.specs.InFlight.{in_flight, Overflows}
+use Rattle.recovery_ledger.specs.Ledger.{tracked_by}
+use Rattle.recovery_ledger.specs.Packets.{Packet, Packets, entry_number, forgotten_entry, forgotten_number, IsTooLarge}
+use Rattle.recovery_ledger.specs.Paths.{generation_of, counters_of, after_forgetting, path_after_sending}
+use Rattle.recovery_ledger.specs.Spaces.{Space, Spaces, space_of, with_space, tracking_of, packets_of, next_number_of, space_sends, HasGreatestCome}
+use Rattle.recovery_ledger.specs.Tracked.{packet_sent}
+use Rattle.recovery_ledger.specs.declared.paths.InFlight.{InFlight}
+use Rattle.recovery_ledger.proofs.LedgerLaws.{generation_after_forgetting, generation_after_sending}
+use Rattle.recovery_ledger.proofs.PacketLaws.{entry_number_of}
+use Rattle.recovery_paths.specs.Balance.{AreBalanced}
+use Rattle.recovery_paths.specs.LivePaths.{on_ledger, CanTrackOn, paths_after_sending}
+use Rattle.recovery_paths.specs.PathLog.{OfPaths, PathKnown, on_path_of, path_known, paths_known}
+use Rattle.recovery_paths.specs.PathStates.{PathState, Path, on_state, after_telling}
+use Rattle.recovery_paths.specs.declared.live_paths.PathName.TheVariants.{Current}
+use Rattle.recovery_paths.proofs.BalanceLaws.{can_track, sent, on_state_kept}
+use Rattle.recovery_skips.specs.Filters.{Skipping}
+use Rattle.quic_recovery.specs.declared.event.Answer.TheVariants.{Sent}
+use Rattle.quic_recovery.specs.declared.event.Event.TheVariants.{Send}
+use Rattle.quic_recovery.specs.History.{QueueMeaning}
+use Rattle.quic_recovery.specs.Known.{number_in}
+use Rattle.quic_recovery.specs.Numbers.{number_behind, skipping_behind}
+use Rattle.quic_recovery.specs.Parts.{Parts}
+use Rattle.quic_recovery.specs.State.{Changes, known_to}
+use Rattle.quic_recovery.proofs.DriverLaws.{sent_changes}
+use Rattle.quic_recovery.proofs.NumberLaws.{number_above, number_known, number_skips}
+
+-- the paths where a packet was sent, and another is perhaps forgotten for it, as the controller is told
+abbrev pub paths_telling : {K P : Type 0} → Packet P → Space P → (PathState K → PathState K) → OfPaths (Path K) → OfPaths (Path K)
+paths_telling packet there change paths = on_path_of Current (on_state change) (paths_after_sending packet (forgotten_entry packet (tracking_of there)) paths)
+
+module _ {K P : Type 0} (spaces : Spaces P) (paths : OfPaths (Path K)) (balanced : AreBalanced spaces paths) (space : SpaceId) (number : ℕ) (packet : Packet P) (own : packet.path_generation ≡ generation_of paths.current.ledger) (above : next_number_of (space_of space spaces) ≤ number) where
+  pub can_track_here : (here : Space P) → here ≡ space_of space spaces → CanTrackOn paths number packet here
+  can_track_here here same = let Can : Space P → Type 0 = CanTrackOn paths number packet in subst Can (sym same) (can_track spaces paths balanced space number packet own above)
+
+  pub sent_balanced : (change : PathState K → PathState K) (here : Space P) → (¬ IsTooLarge packet.largest_acked) → here ≡ space_sends number packet (space_of space spaces)
+      → AreBalanced (with_space spaces space here) (paths_telling packet (space_of space spaces) change paths)
+  sent_balanced change here small is =
+      let Come : Space P → Type 0 = HasGreatestCome in
+      on_state_kept (with_space spaces space here) (paths_after_sending packet (forgotten_entry packet (tracking_of (space_of space spaces))) paths)
+      (sent spaces paths balanced space number packet here own above small (ap tracking_of is) (ap next_number_of is) (subst Come (sym is) (balanced.coherent space).received)) Current change
+
+-- what is known of the paths then: the controller was told
+module _ {K P : Type 0} (packet : Packet P) (there : Space P) (change : PathState K → PathState K) (paths : OfPaths (Path K)) where
+  abbrev forgotten : Option (ℕ × Packet P)
+  forgotten = forgotten_entry packet (tracking_of there)
+
+  abbrev known_as : ℕ → Option (PathKnown K) → OfPaths (PathKnown K)
+  known_as generation previous = record { current = record { generation = generation; state = change paths.current.state }; previous = previous }
+
+  previous_known : (previous : Option (Path K)) → option_map path_known (option_map (on_ledger (λ ledger. after_forgetting ledger forgotten)) previous) ≡ option_map path_known previous
+  previous_known None = refl
+  previous_known (Some path) = ap (λ (g : ℕ). let known : PathKnown K = record { generation = g; state = path.state } in Some known) (generation_after_forgetting path.ledger forgotten)
+
+  pub telling_known : paths_known (paths_telling packet there change paths) ≡ known_as (generation_of paths.current.ledger) (option_map path_known paths.previous)
+  telling_known =
+      ap (λ (g : ℕ). known_as g (option_map path_known (option_map (on_ledger (λ ledger. after_forgetting ledger forgotten)) paths.previous))) (generation_after_sending paths.current.ledger packet forgotten)
+      ∙ ap (known_as (generation_of paths.current.ledger)) (previous_known paths.previous)
+
+-- what the event comes to
+module _ {K Q S M P : Type 0} (q : QueueMeaning Q S P) (old : Parts K P) (balanced : AreBalanced old.spaces old.paths) (space : SpaceId) (now size : ℕ) (ack_eliciting : Bool) (largest_acked : Option ℕ) (queue : Q) (frames : M)
+    (live : is_discarded space old.discarded ≡ false) (small : ¬ IsTooLarge largest_acked) where
+  abbrev packet_at_generation : ℕ → Packet P
+  packet_at_generation generation = packet_sent generation now size ack_eliciting largest_acked (q.contents queue)
+
+  abbrev here_then : Space P
+  here_then = space_of space old.spaces
+
+  pub send_changes : (generation number : ℕ) (there : Space P) (skipping : Skipping) (paths : OfPaths (Path K)) (forgotten : Option ℕ)
+      → generation ≡ generation_of old.paths.current.ledger → number ≡ number_behind old.skipping.filter space (next_number_of here_then) → number < 2 ^ 62
+      → (¬ Overflows (counters_of old.paths.current.ledger) (packet_at_generation generation))
+      → forgotten ≡ entry_number (forgotten_entry (packet_at_generation generation) (tracking_of here_then))
+      → there ≡ space_sends number (packet_at_generation generation) here_then → skipping ≡ skipping_behind space (next_number_of here_then) old.skipping
+      → paths ≡ paths_telling (packet_at_generation generation) here_then (after_telling old.settings.words (sends_bytes now size number)) old.paths
+      → Changes q old (Send space now size ack_eliciting largest_acked queue frames) (Ok (Sent number forgotten)) (record old { spaces = with_space old.spaces space there; skipping = skipping; paths = paths })
+  send_changes generation number there skipping paths forgotten own is left fits gone sends draws tells =
+      let Reached : ℕ → Type 0 = λ g.
+          (¬ Overflows (counters_of old.paths.current.ledger) (packet_at_generation g)) → forgotten ≡ entry_number (forgotten_entry (packet_at_generation g) (tracking_of here_then))
+          → there ≡ space_sends number (packet_at_generation g) here_then → paths ≡ paths_telling (packet_at_generation g) here_then (after_telling old.settings.words (sends_bytes now size number)) old.paths
+          → Changes q old (Send space now size ack_eliciting largest_acked queue frames) (Ok (Sent number forgotten)) (record old { spaces = with_space old.spaces space there; skipping = skipping; paths = paths }) in
+      subst Reached (sym own) by_own fits gone sends tells
+    where
+      by_own : (¬ Overflows (counters_of old.paths.current.ledger) (packet_at_generation (generation_of old.paths.current.ledger))) → forgotten ≡ entry_number (forgotten_entry (packet_at_generation (generation_of old.paths.current.ledger)) (tracking_of here_then))
+          → there ≡ space_sends number (packet_at_generation (generation_of old.paths.current.ledger)) here_then
+          → paths ≡ paths_telling (packet_at_generation (generation_of old.paths.current.ledger)) here_then (after_telling old.settings.words (sends_bytes now size number)) old.paths
+          → Changes q old (Send space now size ack_eliciting largest_acked queue frames) (Ok (Sent number forgotten)) (record old { spaces = with_space old.spaces space there; skipping = skipping; paths = paths })
+      by_own fits gone sends tells =
+          let packet = packet_at_generation (generation_of old.paths.current.ledger) in
+          let Fits : InFlight → Type 0 = λ f. ¬ Overflows f packet in
+          let is_known = is ∙ number_known old space in
+          let small_number : number_in (known_to old) space < 2 ^ 62 = omega (arith, is_known, left) in
+          let above = number_above old.skipping.filter space (next_number_of here_then) in
+          let above_known : next_number_of here_then ≤ number_in (known_to old) space = omega (arith, above, is, is_known) in
+          let step = sends ∙ ap (λ (n : ℕ). space_sends n packet here_then) is_known in
+          let told = ap (λ (p : OfPaths (Path K)). paths_known p) tells ∙ telling_known packet here_then (after_telling old.settings.words (sends_bytes now size number)) old.paths
+              ∙ ap (λ (n : ℕ). known_as packet here_then (after_telling old.settings.words (sends_bytes now size n)) old.paths (generation_of old.paths.current.ledger) (option_map path_known old.paths.previous)) is_known in
+          sent_changes q old space now size ack_eliciting largest_acked queue frames there skipping paths number forgotten live small small_number
+          (subst Fits balanced.current fits) is_known (gone ∙ entry_number_of (tracking_of here_then).last_eliciting packet (packets_of here_then)) (above_known, step)
+          (number_skips old.spaces space (number_in (known_to old) space) packet old.skipping skipping (sym (number_known old space)) draws) told
