@@ -15,6 +15,11 @@ abbrev pub is_nothing : ProbeFound → Bool
 is_nothing nothing_found = true
 is_nothing other = false
 
+-- contents are moved
+abbrev pub Moves : ProbeFound → Type 0
+Moves (moves number) = Unit {0}
+Moves other = ⊥
+
 module _ {P S : Type 0} (words : QueueWords P S) (streams : S) where
   -- the packet has contents to be sent
   abbrev pub is_filled : ℕ × Packet P → Bool

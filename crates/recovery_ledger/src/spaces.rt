@@ -1,6 +1,6 @@
 //! What is kept for each packet number space (RFC 9000, 12.3): received numbers, sent numbers, tracked packets, what is
 //! to be sent again, and what probes ask for.
-ghost use Rattle.std.specs.Prelude.{◌≡◌, Decides, ◌<◌, ◌≤◌, ◌^◌, ◌∷◌, [], ℕ, IfOk, OnOk, OnErr, IfSome, IfNone, None, Some, MatchOption, MatchResult, false, not, ◌||◌, length, nat_lt, option_map};
+ghost use Rattle.std.specs.Prelude.{◌≡◌, ◌≢◌, Decides, ◌<◌, ◌≤◌, ◌^◌, ◌∷◌, [], ℕ, IfOk, OnOk, OnErr, IfSome, IfNone, None, Some, MatchOption, MatchResult, false, not, ◌||◌, length, nat_lt, option_map};
 ghost use Rattle.std.specs.Option.{is_some};
 ghost use Rattle.recovery_base.specs.declared.below.SpaceId.{SpaceId};
 ghost use Rattle.recovery_base.specs.Ecn.{ecn_fault};
@@ -8,7 +8,7 @@ ghost use Rattle.recovery_base.specs.Received.{Has};
 ghost use Rattle.recovery_acks.specs.Acks.{new_acks};
 ghost use Rattle.recovery_ledger.specs.Kept.{kept_by};
 ghost use Rattle.recovery_ledger.specs.Packets.{AreBelow, IsAboveLast, HasSize, IsTooLarge, silent_in, no_packets, packet_at, with_contents, forgotten_entry, after_sending};
-ghost use Rattle.recovery_ledger.specs.Probes.{probe_found};
+ghost use Rattle.recovery_ledger.specs.Probes.{Moves, probe_found};
 ghost use Rattle.recovery_ledger.specs.Queued.{IsSendable, queued_by, no_ecn};
 ghost use Rattle.recovery_ledger.specs.SpaceLog.{loses, probes, takes_pending, feeds_back};
 ghost use Rattle.recovery_ledger.specs.Spaces.{space_of, tracking_of, with_tracking, packets_of, kept_of, acks_of, queued_of, with_acks, counts_of, next_number_of, after_number, after_eliciting, after_acknowledging, space_takes, space_moves, space_probes, HasGreatestCome, SpaceStep, ReceiveReply, heard_of, came, SubtractsLargest};
@@ -376,10 +376,12 @@ where
     }
 
     /// Moves the contents of a tracked packet behind the pending ones, to be sent again (RFC 9000, 13.3); the packet is
-    /// left with an empty queue. False, and nothing changed, where it is not tracked. `NoMemory` changes nothing. Cost:
-    /// logarithmic in the packets tracked, and that of the queue's `append`.
+    /// left with an empty queue. False, and nothing changed, where it is not tracked. `NoMemory`, of which a packet that is
+    /// not tracked is never refused, changes nothing. Cost: logarithmic in the packets tracked, and that of the queue's
+    /// `append`.
     pub fn queue_lost(&mut self, number: u64) -> Result<bool, NoMemory>
         ensures found { IfOk result (λ found. found ≡ is_some (packet_at (packets_of self.old) number)) }
+        ensures tracked { OnErr result (packet_at (packets_of self.old) number ≢ None) }
         ensures after { OnOk result (self.new ≡ space_moves Q.words number self.old) }
         ensures err { OnErr result (self.new ≡ self.old) }
     {
@@ -397,11 +399,12 @@ where
     }
 
     /// A packet is lost: its contents are moved behind the pending ones, and it is tracked no more. It is handed back
-    /// with an empty queue. `None`, and nothing changed, where it is not tracked. `NoMemory` changes nothing. Cost as
-    /// of `queue_lost`.
+    /// with an empty queue. `None`, and nothing changed, where it is not tracked; then memory is never refused.
+    /// `NoMemory` changes nothing. Cost as of `queue_lost`.
     pub fn lose(&mut self, number: u64) -> Result<Option<SentPacket<Q>>, NoMemory>
         ensures packet { IfOk result (λ packet. packet
             ≡ option_map (with_contents Q.words.empty) (packet_at (packets_of self.old) number)) }
+        ensures tracked { OnErr result (packet_at (packets_of self.old) number ≢ None) }
         ensures step { OnOk result (SpaceStep Q.words (loses number) self.old self.new) }
         ensures none { IfOk result (λ packet. IfNone packet (self.new ≡ self.old)) }
         ensures err { OnErr result (self.new ≡ self.old) }
@@ -412,8 +415,8 @@ where
 
     /// Looks for contents to be sent with a probe, where one is to be sent (RFC 9002, 6.2.4): what is pending serves;
     /// else the contents of the first packet by number that has some are moved to the pending ones; else a PING is
-    /// marked, unless the peer is to be asked for an ACK at once. `request_immediate_ack` marks that it is. `NoMemory`
-    /// changes nothing. Cost: linear in the packets tracked.
+    /// marked, unless the peer is to be asked for an ACK at once. `request_immediate_ack` marks that it is. `NoMemory`,
+    /// only where contents are to be moved, changes nothing. Cost: linear in the packets tracked.
     pub fn maybe_queue_probe(
         &mut self,
         request_immediate_ack: bool,
@@ -423,6 +426,8 @@ where
         ensures some { OnOk result (0 < self.old.loss_probes → self.new
             ≡ space_probes Q.words request_immediate_ack
             (probe_found Q.words streams.now self.old.pending (packets_of self.old)) self.old) }
+        ensures moves { OnErr result
+            (Moves (probe_found Q.words streams.now self.old.pending (packets_of self.old))) }
         ensures err { OnErr result (self.new ≡ self.old) }
     {
         if self.loss_probes == 0 {
@@ -444,7 +449,7 @@ where
 
     /// A probe is asked for (RFC 9002, 6.2.4), and perhaps an ACK at once with it: one more is to be sent, up to
     /// `u32::MAX`, and contents for it are looked for as `maybe_queue_probe` does. Answers what there is to send then.
-    /// `NoMemory` changes nothing.
+    /// `NoMemory`, only where contents are to be moved, changes nothing.
     pub fn queue_probe(
         &mut self,
         immediate: bool,
@@ -455,6 +460,8 @@ where
             self.old self.new) }
         ensures frames { IfOk result (λ frames.
             IsSendable Q.words streams.now (heard_of self.new) (queued_of self.new) frames) }
+        ensures moves { OnErr result
+            (Moves (probe_found Q.words streams.now self.old.pending (packets_of self.old))) }
         ensures err { OnErr result (self.new ≡ self.old) }
     {
         let before = self.loss_probes;
