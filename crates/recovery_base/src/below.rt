@@ -3,7 +3,9 @@ mod frames;
 mod ids;
 mod ranges;
 
-pub use frames::{AckFrequency, TransportError, TransportParameters, VarInt, VarIntBoundsExceeded};
+pub use frames::{
+    AckFrequency, EcnCounts, TransportError, TransportParameters, VarInt, VarIntBoundsExceeded,
+};
 pub use ids::{ConnectionId, IssuedCid, NewConnectionId, ResetToken};
 pub use ranges::ArrayRangeSet;
 use std::alloc::{AllocError, AllocFailed};

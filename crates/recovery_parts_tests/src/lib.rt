@@ -7,4 +7,6 @@ mod acks;
 #[cfg(test)]
 mod base;
 #[cfg(test)]
+mod ecn;
+#[cfg(test)]
 mod ids;

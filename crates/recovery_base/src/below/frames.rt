@@ -1,7 +1,8 @@
 //! Numbers, frames and parameters of the wire that loss recovery reads.
-ghost use Rattle.std.specs.Prelude.{◌≡◌, ℕ, ◌-◌, ◌<◌, ◌^◌};
+ghost use Rattle.std.specs.Prelude.{◌≡◌, ℕ, ◌-◌, ◌<◌, ◌^◌, None, Some, MatchResult, OnOk, OnErr, nat_lt};
 ghost use Rattle.std.specs.Option.{SomeIff};
 ghost use Rattle.std.specs.Result.{OkIff};
+ghost use Rattle.recovery_base.specs.Ecn.{ecn_fault};
 
 use std::marker::Model;
 use thiserror::Error;
@@ -125,4 +126,60 @@ pub struct TransportParameters {
     pub min_ack_delay: Option<VarInt>,
     /// The longest delay of its ACKs, in milliseconds.
     pub max_ack_delay: VarInt,
+}
+
+/// How many packets a peer says it got with each ECN codepoint, in all (RFC 9000, 19.3.2).
+#[derive(Clone, Copy, PartialEq, Eq, Default)]
+pub struct EcnCounts {
+    /// Packets that came with ECT(0).
+    pub ect0: u64,
+    /// Packets that came with ECT(1).
+    pub ect1: u64,
+    /// Packets that came with CE, which is Congestion Experienced.
+    pub ce: u64,
+}
+
+impl EcnCounts {
+    /// No packet of any codepoint.
+    pub const ZERO: EcnCounts = EcnCounts {
+        ect0: 0,
+        ect1: 0,
+        ce: 0,
+    };
+
+    /// Checks the counts of an ACK frame against these, which are those of the last one (RFC 9000, 13.4.2.1).
+    /// `newly_acked` is how many packets sent with ECT(0) the frame is the first to acknowledge.
+    ///
+    /// `Ok` keeps the new counts, and says whether CE rose: packets were marked for congestion. `Err` keeps the old
+    /// ones and says the cause, the first in this order that holds: one of the three counts fell ("peer ECT(0) count
+    /// regression", "peer ECT(1) count regression", "peer CE count regression"), the three rose by less than
+    /// `newly_acked` together ("ECN bleaching"), or ECT(0) and CE did so or ECT(1) rose ("ECN corruption").
+    pub fn detect(&mut self, newly_acked: u64, counts: EcnCounts) -> Result<bool, &'static str>
+        ensures result { MatchResult result
+            (λ marked. (ecn_fault self.old newly_acked counts ≡ None) × (marked ≡ nat_lt self.old.ce counts.ce))
+            (λ text. ecn_fault self.old newly_acked counts ≡ Some text.now) }
+        ensures taken { OnOk result (self.new ≡ counts) }
+        ensures kept { OnErr result (self.new ≡ self.old) }
+    {
+        if counts.ect0 < self.ect0 {
+            return Err("peer ECT(0) count regression");
+        }
+        if counts.ect1 < self.ect1 {
+            return Err("peer ECT(1) count regression");
+        }
+        if counts.ce < self.ce {
+            return Err("peer CE count regression");
+        }
+        let newly_acked = u128::from(newly_acked);
+        let rise = u128::from(counts.ect0 - self.ect0) + u128::from(counts.ce - self.ce);
+        if rise + u128::from(counts.ect1 - self.ect1) < newly_acked {
+            return Err("ECN bleaching");
+        }
+        if rise < newly_acked || counts.ect1 > self.ect1 {
+            return Err("ECN corruption");
+        }
+        let marked = counts.ce > self.ce;
+        *self = counts;
+        Ok(marked)
+    }
 }

@@ -1,0 +1,4 @@
+//! The queue of a program that sends numbered items.
+#![tactic(auto)]
+
+pub mod items;

@@ -1,0 +1,44 @@
+//! Queues of what is sent again.
+ghost use Rattle.std.specs.Prelude.{◌≡◌, OnOk, OnErr, IfErr};
+ghost use Rattle.recovery_queue.specs.Queues.{QueueWords, QueueLaws};
+
+use std::alloc::Global;
+
+/// What a packet carries that is sent again when it is lost (RFC 9000, 13.3): a queue of an application's own.
+///
+/// An implementation says by functions of its own (`words`) what each call does to what contracts see of it
+/// (`contents`), and keeps the laws: the empty contents add nothing on either side, and are seen to be empty.
+pub trait RetransmitQueue: Sized {
+    /// What `is_empty` looks at besides the queue, as the streams whose data it is.
+    type Streams;
+
+    /// What a packet says of itself besides its contents.
+    type Meta: Default;
+
+    /// What contracts see of a queue. No code makes a value of it.
+    type Contents;
+
+    ghost contents: { Self → Self.Contents };
+
+    /// What each call does to the contents.
+    ghost words: { QueueWords Self.Contents Self.Streams };
+
+    /// A queue with nothing in it. It takes no memory; the allocator is for what comes later.
+    fn empty(alloc: Global) -> Self
+        ensures { contents result ≡ words.empty };
+
+    /// Whether nothing is to be sent.
+    fn is_empty(&self, streams: &Self::Streams) -> bool
+        ensures { result ≡ words.is_empty (contents self.now) streams.now };
+
+    /// Joins the contents of another queue to these, as when its packet is lost.
+    ///
+    /// `Err` hands the other queue back as it was, and leaves this one as it was: memory was refused.
+    fn append(&mut self, other: Self) -> Result<(), Self>
+        ensures ok { OnOk result (contents self.new ≡ words.joined (contents self.old) (contents other)) }
+        ensures err { OnErr result (contents self.new ≡ contents self.old) }
+        ensures back { IfErr result (λ queue. contents queue ≡ contents other) };
+
+    /// The empty contents are a unit of joining, and are empty whatever they are asked with.
+    ghost laws: { QueueLaws words };
+}

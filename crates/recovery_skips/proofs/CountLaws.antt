@@ -1,0 +1,124 @@
+-- Which numbers are skipped: those that stand in the sequence of skips, and no others.
+use Rattle.std.proofs.Common.{◌≡◌, ℕ, zero, suc, ◌<◌, ◌↔◌, Option, None, Some, Bool, true, false, refl, ap, sym, subst, ◌∙◌, arith, inl, inr}
+use Rattle.std.specs.Prelude.{if◌then◌else◌}
+use Rattle.std.proofs.lemmas.Bool.{cases_lt}
+use Rattle.std.proofs.lemmas.Option.{same_Some}
+use Rattle.rand_core.specs.Stream.{Stream}
+use Rattle.recovery_skips.specs.declared.filter.Skips.{Skips}
+use Rattle.recovery_skips.specs.Skips.{skip_at, is_at, skips_below, is_skipped, skip_before, IsGreatestBelow}
+use Rattle.recovery_skips.proofs.SkipLaws.{is_at-some, is_at-self, skip_above}
+
+false_true : {A : Type 0} → false ≡ true → A
+false_true is = cc
+
+module _ (skips : Skips) (words : Stream) where
+  -- the skips before one are there, and lie below it
+  lower : (j k t : ℕ) → j < k → (skip_at skips words k).number ≡ Some t → (s : ℕ) × ((skip_at skips words j).number ≡ Some s) × (s < t)
+  lower j zero t less is = absurd (omega (arith, less))
+  lower j (suc k) t less is =
+      let before = skip_above skips words k t is in
+      elim (cases_lt j k) [
+        | inl further ↦
+            let found = lower j k before.0 further before.1 in
+            (found.0, found.1, omega (arith, found.2, before.2))
+        | inr near ↦
+            let same : k ≡ j = omega (arith, near, less) in
+            (before.0, subst (λ i. (skip_at skips words i).number ≡ Some before.0) same before.1, omega (arith, before.2))
+      ]
+
+  -- just so many skips lie below n
+  abbrev Counts : ℕ → ℕ → Type 0
+  Counts n count = (k s : ℕ) → (skip_at skips words k).number ≡ Some s → (s < n) ↔ (k < count)
+
+  -- the skip counted by those below n is the only one that can be n
+  only_at : (n count : ℕ) → Counts n count → (k : ℕ) → (skip_at skips words k).number ≡ Some n → k ≡ count
+  only_at n count counts k here =
+      elim (cases_lt k count) [
+        | inl below ↦ (let less : n < n = (counts k n here).1 below in absurd (omega (arith, less)))
+        | inr above ↦ elim (cases_lt count k) [
+          | inl further ↦
+              let found = lower count k n further here in
+              let less : count < count = (counts count found.0 found.1).0 found.2 in
+              absurd (omega (arith, less))
+          | inr near ↦ omega (arith, above, near)
+        ]
+      ]
+
+  with_skip : (n count : ℕ) → Counts n count → (skip_at skips words count).number ≡ Some n → Counts (suc n) (suc count)
+  with_skip n count counts here k s is = (to, from)
+    where
+      to : s < suc n → k < suc count
+      to less = elim (cases_lt s n) [
+        | inl below ↦ (let under : k < count = (counts k s is).0 below in omega (arith, under))
+        | inr near ↦
+            let same : s ≡ n = omega (arith, near, less) in
+            let at = only_at n count counts k (is ∙ ap (λ x. Some x) same) in
+            omega (arith, at)
+      ]
+
+      from : k < suc count → s < suc n
+      from less = elim (cases_lt k count) [
+        | inl below ↦ (let under : s < n = (counts k s is).1 below in omega (arith, under))
+        | inr near ↦
+            let at : count ≡ k = omega (arith, near, less) in
+            let same = same_Some s n (sym is ∙ ap (λ i. (skip_at skips words i).number) (sym at) ∙ here) in
+            omega (arith, same)
+      ]
+
+  without_skip : (n count : ℕ) → Counts n count → is_at n (skip_at skips words count).number ≡ false → Counts (suc n) count
+  without_skip n count counts free k s is = (to, from)
+    where
+      to : s < suc n → k < count
+      to less = elim (cases_lt s n) [
+        | inl below ↦ (counts k s is).0 below
+        | inr near ↦
+            let same : s ≡ n = omega (arith, near, less) in
+            let here = is ∙ ap (λ x. Some x) same in
+            let at = only_at n count counts k here in
+            false_true (sym free ∙ is_at-self n _ (ap (λ i. (skip_at skips words i).number) (sym at) ∙ here))
+      ]
+
+      from : k < count → s < suc n
+      from less = let under : s < n = (counts k s is).1 less in omega (arith, under)
+
+  -- a skip lies below n just where its place is below their count
+  pub skips_below_counts : (n k s : ℕ) → (skip_at skips words k).number ≡ Some s → (s < n) ↔ (k < skips_below skips words n)
+  skips_below_counts zero = λ k s is. (λ less. absurd (omega (arith, less)), λ less. absurd (omega (arith, less)))
+  skips_below_counts (suc n) = go (skips_below_counts n) (is_skipped skips words n) refl
+    where
+      go : Counts n (skips_below skips words n) → (here : Bool) → is_skipped skips words n ≡ here
+          → Counts (suc n) (if here then suc (skips_below skips words n) else skips_below skips words n)
+      go counts true here = with_skip n (skips_below skips words n) counts (is_at-some n _ here)
+      go counts false here = without_skip n (skips_below skips words n) counts here
+
+  -- a number is skipped just where it stands in the sequence
+  pub skipped_in_sequence : (n : ℕ) → (is_skipped skips words n ≡ true) ↔ ((k : ℕ) × ((skip_at skips words k).number ≡ Some n))
+  skipped_in_sequence n = (
+    λ here. (skips_below skips words n, is_at-some n _ here),
+    λ found.
+        let at = only_at n (skips_below skips words n) (skips_below_counts n) found.0 found.1 in
+        is_at-self n _ (ap (λ i. (skip_at skips words i).number) (sym at) ∙ found.1),
+  )
+
+  pub skip_before_greatest : (n : ℕ) → IsGreatestBelow skips words n (skip_before skips words n)
+  skip_before_greatest zero = λ m less. absurd (omega (arith, less))
+  skip_before_greatest (suc n) = go (skip_before_greatest n) (is_skipped skips words n) refl
+    where
+      more : (last : Option ℕ) → is_skipped skips words n ≡ false → IsGreatestBelow skips words n last → IsGreatestBelow skips words (suc n) last
+      more None free none = λ m less. elim (cases_lt m n) [
+        | inl below ↦ none m below
+        | inr near ↦ ap (λ i. is_skipped skips words i) (let same : m ≡ n = omega (arith, near, less) in same) ∙ free
+      ]
+      more (Some s) free greatest = (
+        omega (arith, greatest.0),
+        greatest.1,
+        λ m above less. elim (cases_lt m n) [
+          | inl below ↦ greatest.2 m above below
+          | inr near ↦ ap (λ i. is_skipped skips words i) (let same : m ≡ n = omega (arith, near, less) in same) ∙ free
+        ],
+      )
+
+      go : IsGreatestBelow skips words n (skip_before skips words n) → (here : Bool) → is_skipped skips words n ≡ here
+          → IsGreatestBelow skips words (suc n) (if here then Some n else skip_before skips words n)
+      go greatest true here = (omega arith, here, λ m above less. absurd (omega (arith, above, less)))
+      go greatest false here = more (skip_before skips words n) here greatest

@@ -1,0 +1,4 @@
+pub mod CountLaws
+pub mod DrawLaws
+pub mod RangeLaws
+pub mod SkipLaws

@@ -1,0 +1,243 @@
+//! Which numbers a filter leaves out, and which acknowledgements it refuses.
+use rand_core::{Rng, SeedableRng};
+use rand_pcg::{Pcg32, Pcg64};
+use recovery_base::below::{SpaceId, TransportError};
+use recovery_skips::{PacketNumberFilter, Skips};
+use std::process::Abort;
+
+/// From a number on up to below another, the numbers that are left out.
+type LeftOut = (u64, u64, &'static [u64]);
+
+/// Asserts that from number 0 on just these numbers of a row's span are left out.
+fn play<R: Rng>(rt: &impl Abort, filter: &mut PacketNumberFilter, rng: &mut R, row: &LeftOut) {
+    let (from, end, skips) = *row;
+    let mut next = 0u64;
+    let mut place = 0usize;
+    for _ in 0..end {
+        if next >= end {
+            break;
+        }
+        let told = filter.peek(next);
+        let number = filter.allocate(rng, next);
+        assert!(rt; number == Some(told), "{next}");
+        if told != next && next >= from {
+            assert!(rt; skips.get(place) == Some(&next), "{next} at place {place}");
+            place = place.saturating_add(1);
+        }
+        next = told.saturating_add(1);
+    }
+    assert!(rt; place == skips.len(), "{place} skips");
+}
+
+/// Asserts that the skips drawn from a seed are those of its row.
+fn play_seeds(rt: &impl Abort, rows: &[(u64, LeftOut)]) {
+    for (seed, row) in rows {
+        let mut rng = Pcg32::seed_from_u64(*seed);
+        let mut filter = PacketNumberFilter::new(&mut rng);
+        play(rt, &mut filter, &mut rng, row);
+    }
+}
+
+#[test]
+fn skips_drawn_from_a_seed(rt: HostRuntime) {
+    play_seeds(
+        &rt,
+        &[
+            (0, (0, 9000, &[63, 80, 176, 426, 793, 1051, 2992, 5116])),
+            (1, (0, 9000, &[31, 68, 148, 282, 538, 1327, 2065, 7540])),
+            (7, (0, 9000, &[6, 116, 168, 482, 908, 1341, 3802, 4189])),
+            (
+                u64::MAX,
+                (0, 9000, &[20, 114, 159, 314, 763, 1992, 2497, 4158]),
+            ),
+            (56, (0, 64, &[0])),
+            (260, (0, 64, &[0])),
+            (450, (0, 64, &[0])),
+            (0, (0, 64, &[63])),
+            (125, (0, 64, &[63])),
+            (215, (0, 64, &[63])),
+            (265, (0, 64, &[63])),
+            (19, (64, 128, &[127])),
+            (299, (64, 128, &[127])),
+            (305, (64, 128, &[127])),
+            (7731, (0, 128, &[63, 65])),
+            (13_171, (0, 128, &[63, 65])),
+            (17_348, (0, 128, &[63, 65])),
+        ],
+    );
+}
+
+/// Asserts that with a generator skips begin as they are to, and are those of a row.
+fn play_begun<R: Rng>(rt: &impl Abort, skips: Skips, rng: &mut R, row: &LeftOut) {
+    if let Skips::Starting(next) = skips {
+        assert!(rt; next < 64);
+    }
+    let mut filter = PacketNumberFilter::with_skips(skips, rng);
+    play(rt, &mut filter, rng, row);
+}
+
+#[test]
+fn skips_drawn_by_other_generators(rt: HostRuntime) {
+    let rows: [(u64, LeftOut); 4] = [
+        (0, (0, 9000, &[8, 86, 218, 265, 950, 1190, 2455, 6168])),
+        (1, (0, 9000, &[53, 65, 142, 507, 966, 1511, 2432, 5686])),
+        (7, (0, 9000, &[0, 78, 243, 469, 763, 1630, 2231, 5422])),
+        (
+            u64::MAX,
+            (0, 9000, &[53, 111, 250, 271, 1016, 1445, 2207, 4108]),
+        ),
+    ];
+    for (seed, row) in &rows {
+        play_begun(&rt, Skips::Drawn, &mut Pcg64::seed_from_u64(*seed), row);
+    }
+    play_begun(
+        &rt,
+        Skips::Drawn,
+        &mut Pcg32::new(42, 54),
+        &(0, 9000, &[30, 96, 229, 385, 1010, 1143, 2497, 4549]),
+    );
+}
+
+#[test]
+fn skips_begin_as_they_are_to(rt: HostRuntime) {
+    let rows: [(Skips, LeftOut); 5] = [
+        (Skips::Drawn, (0, 128, &[63, 80])),
+        (Skips::Starting(0), (0, 64, &[0])),
+        (Skips::Starting(5), (0, 64, &[5])),
+        (Skips::Starting(63), (0, 64, &[63])),
+        (Skips::Disabled, (0, 9000, &[])),
+    ];
+    for (skips, row) in &rows {
+        play_begun(&rt, *skips, &mut Pcg32::seed_from_u64(0), row);
+    }
+}
+
+/// The first number from one on up to below another that a filter would leave out.
+fn next_skip(filter: &PacketNumberFilter, from: u64, end: u64) -> Option<u64> {
+    for number in from..end {
+        if filter.peek(number) != number {
+            return Some(number);
+        }
+    }
+    None
+}
+
+/// A space and the ends of a range in it, and whether its acknowledgement is refused.
+type Ack = (SpaceId, u64, u64, bool);
+
+/// Asserts of each acknowledgement that it is refused, or that it is not.
+fn check(rt: &impl Abort, filter: &PacketNumberFilter, acks: &[Ack]) {
+    for (space, low, high, is_refused) in acks {
+        let answer = filter.check_ack(*space, *low..=*high);
+        let wanted = if *is_refused {
+            Err(TransportError::PROTOCOL_VIOLATION("unsent packet acked"))
+        } else {
+            Ok(())
+        };
+        assert!(rt; answer == wanted, "{low} to {high}");
+    }
+}
+
+/// Where skips start, the number then, the bounds of the next skip, and acknowledgements.
+type Start = (u64, u64, u64, u64, &'static [Ack]);
+
+fn play_start<R: Rng>(rt: &impl Abort, rng: &mut R, row: &Start) {
+    let (start, number, from, end, acks) = *row;
+    assert!(rt; start < 64);
+    let mut filter = PacketNumberFilter::starting(start);
+    assert!(rt; filter.allocate(rng, start) == Some(number), "{start}");
+    assert!(rt; next_skip(&filter, 0, from).is_none(), "{start}");
+    assert!(rt; next_skip(&filter, from, end).is_some(), "{start}");
+    check(rt, &filter, acks);
+}
+
+#[test]
+fn skips_start_at_either_end(rt: HostRuntime) {
+    use SpaceId::{Data, Handshake, Initial};
+    let rows: [Start; 2] = [
+        (
+            63,
+            64,
+            65,
+            128,
+            &[
+                (Data, 60, 63, true),
+                (Data, 63, 63, true),
+                (Data, 63, 70, true),
+                (Data, 64, 70, false),
+                (Data, 60, 62, false),
+                (Data, 70, 60, false),
+            ],
+        ),
+        (
+            0,
+            1,
+            64,
+            128,
+            &[
+                (Data, 0, 0, true),
+                (Data, 1, 1, false),
+                (Initial, 0, 0, false),
+                (Handshake, 0, 0, false),
+            ],
+        ),
+    ];
+    for row in &rows {
+        for seed in 0..50u64 {
+            play_start(&rt, &mut Pcg32::seed_from_u64(seed), row);
+        }
+    }
+}
+
+/// How many numbers are given out; a skip, and the first number behind which its acknowledgement is refused,
+/// and the first behind which it is not any more.
+type Remembered = (u64, u64, u64, u64);
+
+fn play_remembered<R: Rng>(rt: &impl Abort, rng: &mut R, row: &Remembered) {
+    let (end, skip, first, last) = *row;
+    let mut filter = PacketNumberFilter::with_skips(Skips::Drawn, rng);
+    let mut next = 0u64;
+    check(rt, &filter, &[(SpaceId::Data, skip, skip, false)]);
+    for _ in 0..end {
+        let number = filter.allocate(rng, next);
+        assert!(rt; number.is_some(), "{next}");
+        if let Some(number) = number {
+            let is_refused = number >= first && number < last;
+            check(rt, &filter, &[(SpaceId::Data, skip, skip, is_refused)]);
+            next = number.saturating_add(1);
+        }
+    }
+}
+
+#[test]
+fn the_last_skip_is_remembered(rt: HostRuntime) {
+    let rows: [Remembered; 3] = [
+        (120, 63, 64, 81),
+        (200, 80, 81, 177),
+        (100, 60, u64::MAX, u64::MAX),
+    ];
+    for row in &rows {
+        play_remembered(&rt, &mut Pcg32::seed_from_u64(0), row);
+    }
+}
+
+#[test]
+fn numbers_end_below_2_to_62(rt: HostRuntime) {
+    const END: u64 = 1 << 62;
+    let rows: [(u64, Option<u64>); 5] = [
+        (END - 2, Some(END - 2)),
+        (END - 1, Some(END - 1)),
+        (END, None),
+        (END + 1, None),
+        (u64::MAX, None),
+    ];
+    let mut rng = Pcg32::seed_from_u64(0);
+    let before = Pcg32::seed_from_u64(0);
+    let mut filter = PacketNumberFilter::disabled();
+    for (next, wanted) in &rows {
+        assert!(&rt; filter.peek(*next) == *next, "{next}");
+        assert!(&rt; filter.allocate(&mut rng, *next) == *wanted, "{next}");
+        assert!(&rt; rng == before, "{next}");
+        assert!(&rt; next_skip(&filter, 0, 100).is_none(), "{next}");
+    }
+}
