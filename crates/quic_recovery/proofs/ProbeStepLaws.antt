@@ -1,5 +1,10 @@
 -- What probes, losses, queues and counts of ECN change leaves the balance of the paths.
-use Rattle.std.proofs.Common.{◌≡◌, ℕ, Bool, Result, Ok, Err, OnOk, OnErr, refl, sym, ap, subst}
+use Rattle.std.proofs.Common.{◌≡◌, ℕ, ◌≤◌, nat_lt, nat_le, Bool, true, false, ◌&&◌, cond, IsTrue, Option, None, Some, Result, Ok, Err, OnOk, OnErr, refl, sym, ap, subst, ◌∙◌}
+use Rattle.std.proofs.lemmas.Bool.{leb-true, le-leb}
+use Rattle.std.specs.Option.{IsSomeAnd}
+use Rattle.std.specs.declared.ops.RangeInclusive.{RangeInclusive}
+use Rattle.std.specs.Range.{range_inclusive_start, range_inclusive_end, range_inclusive_exhausted}
+use Rattle.recovery_base.specs.declared.below.SpaceId.TheVariants.{Initial, Handshake, Data}
 use Rattle.recovery_base.specs.declared.below.SpaceId.{SpaceId}
 use Rattle.recovery_base.specs.declared.below.frames.EcnCounts.{EcnCounts}
 use Rattle.recovery_ledger.specs.Packets.{Tracking}
@@ -12,7 +17,16 @@ use Rattle.recovery_paths.specs.PathLog.{OfPaths}
 use Rattle.recovery_paths.specs.PathStates.{Path}
 use Rattle.recovery_paths.proofs.BalanceLaws.{kept, probed}
 use Rattle.recovery_queue.specs.Queues.{QueueWords}
-use Rattle.quic_recovery.proofs.DriverLaws.{with_same_space}
+use Rattle.recovery_skips.specs.Filters.{AcksSkip, range_holds}
+use Rattle.quic_recovery.specs.declared.event.Event.{Event}
+use Rattle.quic_recovery.specs.declared.event.Refusal.{Refusal}
+use Rattle.quic_recovery.specs.Entries.{Entries, nothing, refused}
+use Rattle.quic_recovery.specs.History.{QueueMeaning}
+use Rattle.quic_recovery.specs.Known.{Known}
+use Rattle.quic_recovery.specs.Parts.{Parts}
+use Rattle.quic_recovery.specs.State.{Changes, Steps, heard_to, known_to}
+use Rattle.quic_recovery.specs.Told.{ToldBy, skipped_in}
+use Rattle.quic_recovery.proofs.DriverLaws.{nothing_changes, with_same_space}
 
 -- nothing that is tracked or was received changes
 pub record Stays {P : Type 0} (old new : Space P) : Type 0 where
@@ -44,3 +58,58 @@ module _ {K P : Type 0} (spaces : Spaces P) (paths : OfPaths (Path K)) (balanced
 pub fed_back_stays : {P S A B : Type 0} (words : QueueWords P S) (counts : EcnCounts) (result : Result A B) (old new : Space P) → OnOk result (SpaceStep words (feeds_back counts) old new) → OnErr result (new ≡ old) → Stays old new
 fed_back_stays words counts (Ok answer) old new step same = stays_as (record old { ecn_feedback = counts }) old new step (record { tracking = refl; next = refl; acks = refl; dedup = refl })
 fed_back_stays words counts (Err error) old new step same = stays_as old old new same (record { tracking = refl; next = refl; acks = refl; dedup = refl })
+
+-- a refusal for which a space is put back as it was
+pub put_back : {K Q S M P : Type 0} (q : QueueMeaning Q S P) (old : Parts K P) (event : Event Q S M P) (refusal : Refusal) (space : SpaceId) (there : Space P) → there ≡ space_of space old.spaces → refused event refusal ≡ nothing
+    → ToldBy q old.settings.words (heard_to old) (known_to old) event (Err refusal) → Changes q old event (Err refusal) (record old { spaces = with_space old.spaces space there })
+put_back {K} {Q} {S} {M} {P} q old event refusal space there same is_nothing told =
+    let new : Parts K P = record old { spaces = with_space old.spaces space there } in
+    let kept : new ≡ old = ap (λ (spaces : Spaces P). record old { spaces = spaces }) (with_same_space old.spaces space there same) in
+    let Stepped : Entries P → Type 0 = λ entries. Steps q.words entries old new in
+    record { told = told; steps = subst Stepped (sym is_nothing) (nothing_changes q.words old new kept); refused = kept }
+
+-- ---- acknowledgements of skipped numbers
+
+both : (a b : Bool) → (a && b) ≡ true → (a ≡ true) × (b ≡ true)
+both true b is = (refl, is)
+both false b is = absurd (no is)
+  where
+    no : false ≡ true → ⊥
+    no e = cc
+
+lies_in : (low high n : ℕ) → IsTrue (nat_le low n && nat_le n high) → (low ≤ n) × (n ≤ high)
+lies_in low high n is = let tests = both (nat_le low n) (nat_le n high) is in (leb-true low n tests.0, leb-true n high tests.1)
+
+lies_there : (low high n : ℕ) → (low ≤ n) × (n ≤ high) → IsTrue (nat_le low n && nat_le n high)
+lies_there low high n is = ap (λ (b : Bool). b && nat_le n high) (le-leb low n is.0) ∙ le-leb n high is.1
+
+module _ {K P : Type 0} (known : Known K P) (range : RangeInclusive ℕ) (low high : ℕ) (start : range_inclusive_start range ≡ low) (end : range_inclusive_end range ≡ high) (whole : range_inclusive_exhausted range ≡ false) where
+  -- where the range is whole, it holds what lies between its ends
+  holds_between : (n : ℕ) → range_holds range n ≡ (nat_le low n && nat_le n high)
+  holds_between n =
+      ap (λ (b : Bool). nat_le (range_inclusive_start range) n && cond b (nat_lt n (range_inclusive_end range)) (nat_le n (range_inclusive_end range))) whole
+      ∙ ap (λ (m : ℕ). nat_le m n && nat_le n (range_inclusive_end range)) start ∙ ap (λ (m : ℕ). nat_le low n && nat_le n m) end
+
+  pub skip_acked : (space : SpaceId) → AcksSkip space range known.numbers.skipped → IsSomeAnd (skipped_in known space) (λ s. (low ≤ s) × (s ≤ high))
+  skip_acked Data acks = go known.numbers.skipped acks.holds
+    where
+      go : (last : Option ℕ) → IsSomeAnd last (λ s. IsTrue (range_holds range s)) → IsSomeAnd last (λ s. (low ≤ s) × (s ≤ high))
+      go None is = is
+      go (Some s) is = lies_in low high s (sym (holds_between s) ∙ is)
+  skip_acked Initial acks = absurd (no_data acks.in_data)
+    where
+      no_data : Initial ≡ Data → ⊥
+      no_data e = cc
+  skip_acked Handshake acks = absurd (no_data acks.in_data)
+    where
+      no_data : Handshake ≡ Data → ⊥
+      no_data e = cc
+
+  pub acks_skip : (space : SpaceId) → IsSomeAnd (skipped_in known space) (λ s. (low ≤ s) × (s ≤ high)) → AcksSkip space range known.numbers.skipped
+  acks_skip Data is = record { in_data = refl; holds = go known.numbers.skipped is }
+    where
+      go : (last : Option ℕ) → IsSomeAnd last (λ s. (low ≤ s) × (s ≤ high)) → IsSomeAnd last (λ s. IsTrue (range_holds range s))
+      go None is = is
+      go (Some s) is = holds_between s ∙ lies_there low high s is
+  acks_skip Initial is = absurd is
+  acks_skip Handshake is = absurd is

@@ -18,7 +18,7 @@ use Rattle.recovery_paths.specs.LivePaths.{on_ledger, CanTrackOn, paths_after_se
 use Rattle.recovery_paths.specs.PathLog.{OfPaths, PathKnown, on_path_of, path_known, paths_known}
 use Rattle.recovery_paths.specs.PathStates.{PathState, Path, on_state, after_telling}
 use Rattle.recovery_paths.specs.declared.live_paths.PathName.TheVariants.{Current}
-use Rattle.recovery_paths.proofs.BalanceLaws.{can_track, sent, on_state_kept}
+use Rattle.recovery_paths.proofs.BalanceLaws.{can_track, sent}
 use Rattle.recovery_skips.specs.Filters.{Skipping}
 use Rattle.quic_recovery.specs.declared.event.Answer.TheVariants.{Sent}
 use Rattle.quic_recovery.specs.declared.event.Event.TheVariants.{Send}
@@ -38,12 +38,12 @@ module _ {K P : Type 0} (spaces : Spaces P) (paths : OfPaths (Path K)) (balanced
   pub can_track_here : (here : Space P) → here ≡ space_of space spaces → CanTrackOn paths number packet here
   can_track_here here same = let Can : Space P → Type 0 = CanTrackOn paths number packet in subst Can (sym same) (can_track spaces paths balanced space number packet own above)
 
-  pub sent_balanced : (change : PathState K → PathState K) (here : Space P) → (¬ IsTooLarge packet.largest_acked) → here ≡ space_sends number packet (space_of space spaces)
-      → AreBalanced (with_space spaces space here) (paths_telling packet (space_of space spaces) change paths)
-  sent_balanced change here small is =
+  pub sent_balanced : (here : Space P) (then : OfPaths (Path K)) → (¬ IsTooLarge packet.largest_acked) → here ≡ space_sends number packet (space_of space spaces)
+      → then ≡ paths_after_sending packet (forgotten_entry packet (tracking_of (space_of space spaces))) paths → AreBalanced (with_space spaces space here) then
+  sent_balanced here then small is counts =
       let Come : Space P → Type 0 = HasGreatestCome in
-      on_state_kept (with_space spaces space here) (paths_after_sending packet (forgotten_entry packet (tracking_of (space_of space spaces))) paths)
-      (sent spaces paths balanced space number packet here own above small (ap tracking_of is) (ap next_number_of is) (subst Come (sym is) (balanced.coherent space).received)) Current change
+      let Balanced : OfPaths (Path K) → Type 0 = AreBalanced (with_space spaces space here) in
+      subst Balanced (sym counts) (sent spaces paths balanced space number packet here own above small (ap tracking_of is) (ap next_number_of is) (subst Come (sym is) (balanced.coherent space).received))
 
 -- what is known of the paths then: the controller was told
 module _ {K P : Type 0} (packet : Packet P) (there : Space P) (change : PathState K → PathState K) (paths : OfPaths (Path K)) where

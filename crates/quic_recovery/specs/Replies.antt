@@ -3,7 +3,9 @@ use Rattle.std.specs.Prelude.{◌==◌, Bool, MatchBool, Result, Ok, Err}
 use Rattle.quic_recovery.specs.declared.event.Answer.{Answer}
 use Rattle.quic_recovery.specs.declared.event.Refusal.{Refusal}
 use Rattle.quic_recovery.specs.declared.event.Answer.TheVariants as answers
-use Rattle.quic_recovery.specs.declared.event.Refusal.TheVariants.{NumberTooLarge, NoMemory}
+use Rattle.quic_recovery.specs.declared.event.Refusal.TheVariants.{NumberTooLarge, Overflow, NoMemory}
+use Rattle.recovery_ledger.specs.declared.paths.LedgerError.{LedgerError}
+use Rattle.recovery_ledger.specs.declared.paths.LedgerError.TheVariants as ledger
 use Rattle.recovery_ledger.specs.declared.spaces.ReceiveError.{ReceiveError}
 use Rattle.recovery_ledger.specs.declared.spaces.ReceiveError.TheVariants as error
 use Rattle.recovery_ledger.specs.declared.spaces.Receipt.{Receipt}
@@ -40,3 +42,9 @@ abbrev pub reply_to : {Q : Type 0} → Result Receipt ReceiveError → Reply Q
 reply_to (Ok receipt) = Ok (answer_to receipt)
 reply_to (Err error.NumberTooLarge) = Err NumberTooLarge
 reply_to (Err error.NoMemory) = Err NoMemory
+
+-- ---- what a packet that cannot be tracked is refused
+
+abbrev pub refusal_of : LedgerError → Refusal
+refusal_of ledger.NoMemory = NoMemory
+refusal_of ledger.Overflow = Overflow

@@ -1,13 +1,15 @@
 //! The paths of a connection that live: the one in use, and the one that was in use before it (RFC 9000, 9).
 ghost use Rattle.std.specs.Prelude.{◌≡◌, ◌↔◌, ◌≤◌, ◌+◌, ◌^◌, None, OnOk, OnErr, IfOk, IsErrOf, IsSomeAnd, is_some, option_map, option_copied};
 ghost use Rattle.std.specs.Option.{ForSome};
+ghost use Rattle.recovery_congestion.specs.Calls.{sends};
 ghost use Rattle.recovery_ledger.specs.InFlight.{Overflows};
 ghost use Rattle.recovery_ledger.specs.Packets.{forgotten_entry, after_sending};
-ghost use Rattle.recovery_ledger.specs.Paths.{counters_of, IsCountedOn};
+ghost use Rattle.recovery_ledger.specs.Paths.{generation_of, counters_of, IsCountedOn};
 ghost use Rattle.recovery_ledger.specs.Spaces.{tracking_of, with_tracking, packets_of, space_empties};
 ghost use Rattle.recovery_paths.specs.LivePaths.{IsCountedOnEach, AreCountedOnEach, CanTrackOn, paths_after_sending, paths_without, paths_losing, paths_acking, left_by};
 ghost use Rattle.recovery_paths.specs.PathLog.{path_of, on_path_of, moved_to, each_path};
-ghost use Rattle.recovery_paths.specs.PathStates.{on_state, after_receiving, after_validation, is_path_probe};
+ghost use Rattle.recovery_paths.specs.declared.live_paths.PathName.TheVariants.{Current};
+ghost use Rattle.recovery_paths.specs.PathStates.{on_state, after_receiving, after_telling, after_validation, is_path_probe};
 
 use crate::paths::{InFlight, LedgerError, PathData, TotalOverflow};
 use recovery_base::below::SpaceId;
@@ -72,6 +74,13 @@ impl<C: Controller + Drop> LivePaths<C> {
         ensures { option_copied result ≡ self.now.previous }
     {
         self.previous.as_ref()
+    }
+
+    /// How many paths were made before the one in use: the packets that are sent have this number.
+    pub fn generation(&self) -> u64
+        ensures { result ≡ generation_of self.now.current.ledger }
+    {
+        self.current.generation()
     }
 
     /// What is in flight on a path (RFC 9002, B.2), where it lives.
@@ -148,6 +157,13 @@ impl<C: Controller + Drop> LivePaths<C> {
             self.remove_from_previous(packet);
         }
         Ok(forgotten)
+    }
+
+    /// The controller of the path in use is told of a packet that goes out there.
+    pub fn on_sent(&mut self, now: Instant, bytes: u64, number: u64)
+        ensures { self.new ≡ on_path_of Current (on_state (after_telling C.words (sends now bytes number))) self.old }
+    {
+        self.current.on_sent(now, bytes, number);
     }
 
     /// A packet of a space was acknowledged: whether it was the probe of the MTU in flight. It is counted on its path no

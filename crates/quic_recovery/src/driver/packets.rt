@@ -2,7 +2,7 @@
 ghost use Rattle.std.specs.Prelude.{◌≡◌, ◌<◌, ◌^◌, Decides};
 ghost use Rattle.recovery_ledger.specs.Packets.{entry_number, IsTooLarge};
 ghost use Rattle.quic_recovery.specs.Numbers.{number_behind, skipping_behind};
-ghost use Rattle.quic_recovery.specs.Replies.{reply_to};
+ghost use Rattle.quic_recovery.specs.Replies.{reply_to, refusal_of};
 
 use crate::driver::Recovery;
 use crate::event::{Answer, Refusal};
@@ -65,7 +65,7 @@ where
             return Err(Refusal::NumberTooLarge);
         }
         let packet = SentPacket {
-            path_generation: self.paths.current.generation(),
+            path_generation: self.paths.generation(),
             time_sent: now,
             size,
             ack_eliciting,
@@ -81,12 +81,11 @@ where
         }
         let forgotten = match self.paths.sent(number, packet, here) {
             Ok(forgotten) => forgotten,
-            Err(LedgerError::NoMemory) => return Err(Refusal::NoMemory),
-            Err(LedgerError::Overflow) => return Err(Refusal::Overflow),
+            Err(error) => return Err(refusal_of(error)),
         };
         here.on_sent(number, ack_eliciting, now);
         give_out(&mut self.filter, &mut self.rng, space, next);
-        self.paths.current.on_sent(now, u64::from(size), number);
+        self.paths.on_sent(now, u64::from(size), number);
         Ok(Answer::Sent {
             number,
             forgotten: number_of(&forgotten),
@@ -185,6 +184,16 @@ fn reply_to<Q>(receipt: Result<Receipt, ReceiveError>) -> Result<Answer<Q>, Refu
         Ok(Receipt::Duplicate) => Ok(Answer::Duplicate),
         Err(ReceiveError::NumberTooLarge) => Err(Refusal::NumberTooLarge),
         Err(ReceiveError::NoMemory) => Err(Refusal::NoMemory),
+    }
+}
+
+/// What a packet that cannot be tracked is refused.
+fn refusal_of(error: LedgerError) -> Refusal
+    ensures { result ≡ refusal_of error }
+{
+    match error {
+        LedgerError::NoMemory => Refusal::NoMemory,
+        LedgerError::Overflow => Refusal::Overflow,
     }
 }
 

@@ -1,8 +1,13 @@
-use Rattle.std.proofs.Common.{OnOk, OnErr, ◌≡◌, subst}
-use Rattle.recovery_ledger.specs.Probes.{probe_found}
+use Rattle.std.proofs.Common.{OnOk, OnErr, ◌≡◌, refl, sym, subst, ◌∙◌}
+use Rattle.recovery_ledger.specs.Probes.{Moves, probe_found}
 use Rattle.recovery_ledger.specs.SpaceLog.{probes}
 use Rattle.recovery_ledger.specs.Spaces.{Space, space_of, packets_of, SpaceStep}
-use Rattle.quic_recovery.proofs.ProbeStepLaws.{probe_balanced}
+use Rattle.recovery_ledger.proofs.ReceivedLaws.{fails}
+use Rattle.quic_recovery.specs.declared.event.Event.TheVariants.{QueueProbe}
+use Rattle.quic_recovery.specs.declared.event.Refusal.TheVariants.{NoMemory}
+use Rattle.quic_recovery.specs.History.{queue_meaning}
+use Rattle.quic_recovery.specs.State.{parts_of}
+use Rattle.quic_recovery.proofs.ProbeStepLaws.{probe_balanced, put_back}
 use Rattle.quic_recovery.proofs.driver.Recovery.queue_probe.Goals as goal
 
 pub invariant_of-self : goal.invariant_of-self
@@ -16,3 +21,10 @@ invariant_of-self g c =
           c.queue_probe.result c.queue_probe.new.self (subst Stepped c.index_mut.ensures.value c.queue_probe.ensures.step) (subst Kept c.index_mut.ensures.value c.queue_probe.ensures.err);
       limited = c.args.self.now.limited;
     }
+
+pub returns : goal.returns
+returns g c =
+    let words = g.Q.RetransmitQueue.words in
+    let Moved : Space _ → Type 0 = λ s. Moves (probe_found words c.args.streams s.pending (packets_of s)) in
+    put_back (queue_meaning g.Q.RetransmitQueue.contents words) (parts_of c.args.self.now) (QueueProbe c.args.space c.args.immediate_ack c.args.streams) NoMemory c.args.space c.queue_probe.new.self
+    (c.in-Err.ensures.err ∙ c.index_mut.ensures.value) refl (fails _ (sym c.if-contains.ensures), subst Moved c.index_mut.ensures.value c.in-Err.ensures.moves)
