@@ -1,7 +1,6 @@
 -- What the parts know is what their logs say, and one event more leaves what its entries say.
 use Rattle.std.proofs.Common.{◌≡◌, ℕ, Bool, List, [], Option, None, Some, refl, sym, ap, subst, ◌∙◌}
 use Rattle.std.proofs.Math.Path.{fun_ext}
-use Rattle.std.specs.Option.{ForSome}
 use Rattle.recovery_base.specs.declared.below.SpaceId.{SpaceId}
 use Rattle.recovery_base.specs.declared.below.SpaceId.TheVariants.{Data}
 use Rattle.recovery_base.specs.declared.timer.Timer.{Timer}
@@ -22,10 +21,10 @@ use Rattle.recovery_ledger.specs.Discarded.{was_discarded, DiscardedStep, Discar
 use Rattle.recovery_ledger.specs.InFlight.{in_flight}
 use Rattle.recovery_ledger.specs.Ledger.{tracked_by, IsBalancedOn}
 use Rattle.recovery_ledger.specs.declared.paths.PathLedger.{PathLedger}
-use Rattle.recovery_ledger.specs.Packets.{Packet, Packets, no_packets}
+use Rattle.recovery_ledger.specs.Packets.{Packets, no_packets}
 use Rattle.recovery_ledger.specs.Paths.{generation_of, counters_of, fresh_ledger}
 use Rattle.recovery_ledger.specs.Probes.{ProbeFound, pending_stands, moves, nothing_found}
-use Rattle.recovery_ledger.specs.Queued.{Queued, queued_by}
+use Rattle.recovery_ledger.specs.Queued.{Queued}
 use Rattle.recovery_ledger.specs.SpaceLog.{SpaceEntry, heard, heard_again, sends, acknowledged, loses, probes, takes_pending, feeds_back, emptied, ack_goes, ack_is_late, asked}
 use Rattle.recovery_ledger.specs.Spaces.{Spaces, space_of, tracking_of, sent_of, acks_of, counts_of, queued_of, next_number_of, SpaceStep, SpaceLeft}
 use Rattle.recovery_ledger.specs.Tracked.{Sent, sent_by, sent_moved}
@@ -37,12 +36,12 @@ use Rattle.recovery_paths.specs.PathMaking.{PathMaking, PathSettings, state_made
 use Rattle.recovery_paths.specs.PathStates.{Path, PathState}
 use Rattle.recovery_paths.proofs.BalanceLaws.{fresh}
 use Rattle.recovery_paths.proofs.PathLogLaws.{paths_law}
-use Rattle.recovery_skips.specs.Filters.{Skipping, number_by, passed, skipping_at}
+use Rattle.recovery_skips.specs.Filters.{Skipping, number_by, skipping_at}
 use Rattle.recovery_skips.proofs.SkipLaws.{allocated, number_at, last_at}
 use Rattle.quic_recovery.specs.declared.event.Event.{Event}
 use Rattle.quic_recovery.specs.Entries.{Entries, logs_with}
 use Rattle.quic_recovery.specs.History.{Beginning, Reply}
-use Rattle.quic_recovery.specs.Known.{SpaceKnown, Numbering, Known, Logs, known_by, numbering_by, tracked_known, in_flight_on, first_ids, first_path, settings_of, last_limit}
+use Rattle.quic_recovery.specs.Known.{SpaceKnown, Numbering, Known, Logs, known_by, numbering_by, in_flight_on, first_ids, first_path, settings_of, last_limit}
 use Rattle.quic_recovery.specs.Logs.{onto}
 use Rattle.quic_recovery.specs.Parts.{Parts}
 use Rattle.quic_recovery.specs.State.{InFlightLeft, LeftBy, LimitStep, SkippingStep, Steps, ChangesBy, Changes, known_to, numbering_of}
