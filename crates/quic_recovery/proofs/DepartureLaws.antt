@@ -1,11 +1,12 @@
 -- What is acknowledged or lost was tracked: so no number leaves its space twice.
-use Rattle.std.proofs.Common.{ℕ, ◌≡◌, ◌≤◌, Bool, true, false, List, [], ◌∷◌, Option, None, Some, Result, Ok, Err, refl, arith}
+use Rattle.std.proofs.Common.{◌≡◌, ◌≤◌, true, false, List, [], ◌∷◌, Option, None, Some, Ok, Err, refl, arith}
 use Rattle.recovery_base.specs.declared.below.SpaceId.{SpaceId}
 use Rattle.recovery_base.specs.declared.below.SpaceId.TheVariants.{Initial, Handshake, Data}
 use Rattle.recovery_ledger.specs.Packets.{Packet}
 use Rattle.recovery_ledger.specs.SpaceLog.{SpaceEntry, heard, heard_again, sends, acknowledged, loses, probes, takes_pending, feeds_back, emptied, ack_goes, ack_is_late, asked}
 use Rattle.recovery_ledger.specs.Tracked.{Sent, sent_by}
 use Rattle.recovery_ledger.proofs.DepartureLaws.{LeavesTracked, ComeOnce, come_once, none_came, leave_once}
+use Rattle.recovery_queue.specs.Queues.{QueueWords}
 use Rattle.recovery_skips.proofs.SkipLaws.{number_from_above}
 use Rattle.quic_recovery.specs.declared.event.Event.{Event}
 use Rattle.quic_recovery.specs.declared.event.Event.TheVariants.{Received, Send, Acked, Lost, AckFrequencyIn, AcksSent, AckDelayTimeout, DiscardSpace, PollMtu, Transmit, Ecn, QueueProbe, TakePending}
@@ -96,18 +97,18 @@ module _ {F K Q S M P : Type 0} (beginning : Beginning F K Q S P) (before : Hist
   is_leaving event (Ok answer) told = answer_leaves event answer told
   is_leaving event (Err refusal) told = refusal_leaves event refusal
 
-module _ {F K Q S M P : Type 0} (beginning : Beginning F K Q S P) where
-  onto_once : (entry : Option (SpaceEntry P)) (log : List (SpaceEntry P)) → LeavesIf entry (sent_by beginning.queue.words log) → ComeOnce beginning.queue.words log → ComeOnce beginning.queue.words (onto entry log)
-  onto_once None log leaves come = come
-  onto_once (Some entry) log leaves come = come_once beginning.queue.words entry log leaves come
+onto_once : {P S : Type 0} (words : QueueWords P S) (entry : Option (SpaceEntry P)) (log : List (SpaceEntry P)) → LeavesIf entry (sent_by words log) → ComeOnce words log → ComeOnce words (onto entry log)
+onto_once words None log leaves come = come
+onto_once words (Some entry) log leaves come = come_once words entry log leaves come
 
+module _ {F K Q S M P : Type 0} (beginning : Beginning F K Q S P) where
   abbrev AllOnce : History Q S M P → Type 0
   AllOnce history = (space : SpaceId) → ComeOnce beginning.queue.words ((logs_of beginning history).spaces space)
 
   all_once : (before : History Q S M P) (events : List (Event Q S M P)) (replies : List (Reply Q)) → ThroughoutFrom (Told beginning) before events replies → AllOnce before → AllOnce (history_from before events replies)
   all_once before [] replies told come = come
   all_once before (event ∷ events) (reply ∷ replies) told come =
-      all_once ((event, reply) ∷ before) events replies told.1 (λ space. onto_once _ ((logs_of beginning before).spaces space) (is_leaving beginning before event reply told.0 space) (come space))
+      all_once ((event, reply) ∷ before) events replies told.1 (λ space. onto_once beginning.queue.words _ ((logs_of beginning before).spaces space) (is_leaving beginning before event reply told.0 space) (come space))
   all_once before (event ∷ events) [] told come = absurd told
 
   -- throughout a run

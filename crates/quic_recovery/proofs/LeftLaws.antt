@@ -1,13 +1,13 @@
 -- What the parts know is what their logs say, and one event more leaves what its entries say.
-use Rattle.std.proofs.Common.{◌≡◌, ℕ, Bool, List, Option, None, Some, refl, sym, ap, subst, ◌∙◌}
+use Rattle.std.proofs.Common.{◌≡◌, ℕ, Bool, List, [], Option, None, Some, refl, sym, ap, subst, ◌∙◌}
 use Rattle.std.proofs.Math.Path.{fun_ext}
-use Rattle.std.specs.Option.{ForSome}
 use Rattle.recovery_base.specs.declared.below.SpaceId.{SpaceId}
 use Rattle.recovery_base.specs.declared.below.SpaceId.TheVariants.{Data}
 use Rattle.recovery_base.specs.declared.timer.Timer.{Timer}
 use Rattle.recovery_base.specs.TimerLog.{TimerStep, TimersLeft}
 use Rattle.recovery_base.proofs.TimerLogLaws.{timer_law}
 use Rattle.recovery_acks.specs.AckFrequencies.{Frequency}
+use Rattle.recovery_acks.specs.Acks.{new_acks}
 use Rattle.recovery_acks.specs.RequestLog.{RequestStep, FrequencyLeft}
 use Rattle.recovery_acks.proofs.RequestLogLaws.{request_law}
 use Rattle.recovery_ids.specs.LocalIds.{LocalIds}
@@ -20,25 +20,28 @@ use Rattle.recovery_ledger.specs.Acks.{AckCounts, counts_by}
 use Rattle.recovery_ledger.specs.Discarded.{was_discarded, DiscardedStep, DiscardedLeft}
 use Rattle.recovery_ledger.specs.InFlight.{in_flight}
 use Rattle.recovery_ledger.specs.Ledger.{tracked_by, IsBalancedOn}
-use Rattle.recovery_ledger.specs.Packets.{Packet, Packets}
-use Rattle.recovery_ledger.specs.Paths.{generation_of, counters_of}
+use Rattle.recovery_ledger.specs.declared.paths.PathLedger.{PathLedger}
+use Rattle.recovery_ledger.specs.Packets.{Packets, no_packets}
+use Rattle.recovery_ledger.specs.Paths.{generation_of, counters_of, fresh_ledger}
 use Rattle.recovery_ledger.specs.Probes.{ProbeFound, pending_stands, moves, nothing_found}
-use Rattle.recovery_ledger.specs.Queued.{Queued, queued_by}
+use Rattle.recovery_ledger.specs.Queued.{Queued}
 use Rattle.recovery_ledger.specs.SpaceLog.{SpaceEntry, heard, heard_again, sends, acknowledged, loses, probes, takes_pending, feeds_back, emptied, ack_goes, ack_is_late, asked}
-use Rattle.recovery_ledger.specs.Spaces.{Spaces, space_of, sent_of, acks_of, counts_of, queued_of, next_number_of, SpaceStep, SpaceLeft}
+use Rattle.recovery_ledger.specs.Spaces.{Spaces, space_of, tracking_of, sent_of, acks_of, counts_of, queued_of, next_number_of, SpaceStep, SpaceLeft}
 use Rattle.recovery_ledger.specs.Tracked.{Sent, sent_by, sent_moved}
+use Rattle.recovery_ledger.proofs.CoherentLaws.{fresh_coherent}
 use Rattle.recovery_ledger.proofs.SpaceLaws.{space_law}
 use Rattle.recovery_paths.specs.Balance.{AreBalanced}
 use Rattle.recovery_paths.specs.PathLog.{OfPaths, PathKnown, PathsLeft, PathsStep, path_known, paths_known}
-use Rattle.recovery_paths.specs.PathMaking.{PathMaking, PathSettings}
-use Rattle.recovery_paths.specs.PathStates.{Path}
+use Rattle.recovery_paths.specs.PathMaking.{PathMaking, PathSettings, state_made}
+use Rattle.recovery_paths.specs.PathStates.{Path, PathState}
+use Rattle.recovery_paths.proofs.BalanceLaws.{fresh}
 use Rattle.recovery_paths.proofs.PathLogLaws.{paths_law}
-use Rattle.recovery_skips.specs.Filters.{Skipping, number_by, passed, skipping_at}
+use Rattle.recovery_skips.specs.Filters.{Skipping, number_by, skipping_at}
 use Rattle.recovery_skips.proofs.SkipLaws.{allocated, number_at, last_at}
 use Rattle.quic_recovery.specs.declared.event.Event.{Event}
 use Rattle.quic_recovery.specs.Entries.{Entries, logs_with}
 use Rattle.quic_recovery.specs.History.{Beginning, Reply}
-use Rattle.quic_recovery.specs.Known.{SpaceKnown, Numbering, Known, Logs, known_by, numbering_by, tracked_known, in_flight_on, first_ids, first_path, settings_of, last_limit}
+use Rattle.quic_recovery.specs.Known.{SpaceKnown, Numbering, Known, Logs, known_by, numbering_by, in_flight_on, first_ids, first_path, settings_of, last_limit}
 use Rattle.quic_recovery.specs.Logs.{onto}
 use Rattle.quic_recovery.specs.Parts.{Parts}
 use Rattle.quic_recovery.specs.State.{InFlightLeft, LeftBy, LimitStep, SkippingStep, Steps, ChangesBy, Changes, known_to, numbering_of}
@@ -194,3 +197,21 @@ module _ {F K Q S P : Type 0} (beginning : Beginning F K Q S P) where
       paths =
           let Step : PathSettings K → Type 0 = λ settings. PathsStep settings entries.paths (paths_known old.paths) (paths_known new.paths) in
           paths_law (settings_of beginning) path entries.paths logs.paths _ _ left.paths (subst Step left.settings steps.paths)
+
+-- ---- a fresh start
+
+-- one path of generation 0, and spaces that track nothing
+pub balanced_first : {K P : Type 0} (spaces : Spaces P) (path : Path K) (paths : OfPaths (Path K)) → paths ≡ record { current = path; previous = None } → ((space : SpaceId) → tracking_of (space_of space spaces) ≡ no_packets) → ((space : SpaceId) → acks_of (space_of space spaces) ≡ new_acks [])
+    → path.ledger ≡ fresh_ledger 0 → AreBalanced spaces paths
+balanced_first {K} {P} spaces path paths is none no_acks ledger =
+    let Sums : OfPaths (Path K) → Type 0 = AreBalanced spaces in
+    subst Sums (sym is) (fresh spaces path none (fresh_coherent spaces none no_acks) (ap counters_of ledger))
+
+module _ {F K Q S P : Type 0} (beginning : Beginning F K Q S P) where
+  -- the first path, as it was made
+  pub paths_first : (path : Path K) (paths : OfPaths (Path K)) → paths ≡ record { current = path; previous = None } → path.ledger ≡ fresh_ledger 0 → path.state ≡ state_made (first_path beginning) → PathsLeft (settings_of beginning) (first_path beginning) [] (paths_known paths)
+  paths_first path paths is ledger state =
+      ap (λ (p : OfPaths (Path K)). paths_known p) is ∙ ap (λ (l : PathLedger). known (generation_of l) path.state) ledger ∙ ap (λ (s : PathState K). known 0 s) state
+    where
+      known : ℕ → PathState K → OfPaths (PathKnown K)
+      known generation s = record { current = record { generation = generation; state = s }; previous = None }

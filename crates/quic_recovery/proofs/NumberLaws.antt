@@ -5,7 +5,7 @@ use Rattle.recovery_base.specs.declared.below.SpaceId.TheVariants.{Initial, Hand
 use Rattle.recovery_ledger.specs.Packets.{Packet}
 use Rattle.recovery_ledger.specs.SpaceLog.{sends}
 use Rattle.recovery_ledger.specs.Spaces.{Spaces, space_of, next_number_of}
-use Rattle.recovery_skips.specs.Filters.{Filter, Skipping, number_by}
+use Rattle.recovery_skips.specs.Filters.{Filter, Skipping}
 use Rattle.recovery_skips.specs.Skips.{is_at}
 use Rattle.quic_recovery.specs.Entries.{here}
 use Rattle.quic_recovery.specs.Known.{number_in}
