@@ -1,0 +1,35 @@
+use Rattle.std.proofs.Common.{rules, arith, ◌≡◌, ◌+◌, ◌<◌, ◌^◌, refl, ap, subst, sym, ◌∙◌}
+use Rattle.recovery_ledger.specs.Paths.{fresh_ledger, generation_of}
+use Rattle.recovery_paths.specs.Balance.{AreBalanced}
+use Rattle.recovery_paths.specs.PathLog.{OfPaths}
+use Rattle.recovery_paths.specs.PathStates.{Path}
+use Rattle.recovery_paths.proofs.BalanceLaws.{moved}
+use Rattle.quic_recovery.specs.State.{parts_of}
+use Rattle.quic_recovery.proofs.DriverLaws.{nothing_changes}
+use Rattle.quic_recovery.proofs.driver.Recovery.new_path.Goals.{then-fresh, else-fresh+in-Ok}
+use Rattle.quic_recovery.proofs.driver.Recovery.new_path.Goals as goal
+
+-- no memory for a second controller
+pub returns-in-Err : goal.returns-in-Err
+returns-in-Err g c =
+    let now = c.args.self.now in
+    let room : generation_of now.paths.current.ledger + 1 < 2 ^ 64 = search (rules, c.in-Some.ensures) in
+    record {
+      told = ((λ most. absurd (omega (arith, most, room))), search (rules, c.if-fresh.false));
+      steps = nothing_changes g.Q.RetransmitQueue.words (parts_of now) (parts_of now) refl;
+      refused = refl;
+    }
+
+pub invariant_of-self : goal.invariant_of-self
+invariant_of-self g c =
+    let now = c.args.self.now in
+    let ledger : c.if-fresh.path.ledger ≡ fresh_ledger c.in-Some.generation = elim c.if-fresh.branch [
+      then-fresh w ↦ ap (λ (p : Path _). p.ledger) w.path-is ∙ w.new-path.ensures.ledger
+      | else-fresh+in-Ok w ↦ ap (λ (p : Path _). p.ledger) w.path-is ∙ w.in-Ok.ensures.ledger
+    ] in
+    let next : c.in-Some.generation ≡ generation_of now.paths.current.ledger + 1 = search (rules, c.in-Some.ensures) in
+    let Balanced : OfPaths (Path _) → Type 0 = AreBalanced now.spaces in
+    record {
+      balanced = subst Balanced (sym c.move_to.ensures) (moved now.spaces now.paths now.balanced c.if-fresh.path (ledger ∙ ap fresh_ledger next));
+      limited = now.limited;
+    }
