@@ -1,2 +1,4 @@
 pub mod PacingLaws
 mod PacingRows
+mod BalanceLaws
+mod PacerLogLaws

@@ -1,0 +1,178 @@
+-- Laws of the balance and of the rate, on histories alone.
+use Rattle.std.proofs.Common.{◌≡◌, ℕ, ◌+◌, ◌-◌, ◌*◌, ◌≤◌, max, List, [], ◌∷◌, ◌++◌, refl, sym, ap, ◌∙◌, subst, arith, inl, inr}
+use Rattle.std.proofs.Math.Nat.{mul-le-mul, mul-le-mul_left, mul-add}
+use Rattle.std.proofs.lemmas.Bool.{cases_lt}
+use Rattle.recovery_pacing.specs.Pacing.{Bucket, PacerCall, capacity_of}
+use Rattle.recovery_pacing.specs.PacerLog.{PacerMark, changed, credited, answered, transmitted, IsCapPoint, credits_in, bytes_in, calls_in, greatest_window, least_rtt, latest_moment, capacity_in, greatest_moment, balance_from, balance_in, IsBalance}
+
+-- the calls have at most this window, at least this RTT and no later moment
+abbrev AreWithin : ℕ → ℕ → ℕ → List PacerCall → Type 0
+AreWithin window rtt latest [] = Unit {0}
+AreWithin window rtt latest (call ∷ calls) = ((call.window ≤ window) × (rtt ≤ call.rtt) × (call.now ≤ latest)) × AreWithin window rtt latest calls
+
+within_wider : (w w' r r' l l' : ℕ) (calls : List PacerCall) → w ≤ w' → r' ≤ r → l ≤ l' → AreWithin w r l calls → AreWithin w' r' l' calls
+within_wider w w' r r' l l' [] p q o h = tt
+within_wider w w' r r' l l' (call ∷ calls) p q o h = ((omega arith, omega arith, omega arith), within_wider w w' r r' l l' calls p q o h.1)
+
+within_own : (calls : List PacerCall) → AreWithin (greatest_window calls) (least_rtt calls) (latest_moment calls) calls
+within_own [] = tt
+within_own (call ∷ []) = ((omega arith, omega arith, omega arith), tt)
+within_own (call ∷ other ∷ calls) =
+    ((omega arith, omega arith, omega arith), within_wider _ _ _ _ _ _ (other ∷ calls) (omega arith) (omega arith) (omega arith) (within_own (other ∷ calls)))
+
+swap_last : (a b c : ℕ) → a + b + c ≡ a + c + b
+swap_last a b c = omega arith
+
+-- one credit more
+step_bound : (r r' w w' x c n g g0 : ℕ) → r ≤ r' → w' ≤ w → g0 ≤ g → 4 * r' * x ≤ 5 * w' * (n - g) → 4 * r * c ≤ 5 * w * (g - g0) → 4 * r * (x + c) ≤ 5 * w * (max n g - g0)
+step_bound r r' w w' x c n g g0 rtts windows rises one rest =
+    let low : 4 * r * x ≤ 4 * r' * x = mul-le-mul (mul-le-mul_left 4 rtts) (omega arith) in
+    let high : 5 * w' * (n - g) ≤ 5 * w * (n - g) = mul-le-mul (mul-le-mul_left 5 windows) (omega arith) in
+    let whole : max n g - g0 ≡ (n - g) + (g - g0) = omega arith in
+    rw (whole, mul-add (4 * r) x c, mul-add (5 * w) (n - g) (g - g0)) (omega arith)
+
+-- what was transmitted is covered by the capacity and the credits, and these by the time
+bound_at : (r w bytes capacity credits high latest low : ℕ) → bytes ≤ capacity + credits → 4 * r * credits ≤ 5 * w * (high - low) → high ≤ max latest low → 4 * r * (bytes - capacity) ≤ 5 * w * (latest - low)
+bound_at r w bytes capacity credits high latest low within earned below =
+    let less : 4 * r * (bytes - capacity) ≤ 4 * r * credits = mul-le-mul_left (4 * r) (omega arith) in
+    let more : 5 * w * (high - low) ≤ 5 * w * (latest - low) = mul-le-mul_left (5 * w) (omega arith) in
+    omega arith
+
+module _ (made : Bucket) where
+  -- at no cap point was more transmitted afterwards than its capacity and the credits after it
+  abbrev pub NoDebt : ℕ → ℕ → List PacerMark → Type 0
+  NoDebt k s [] = s ≤ made.capacity + k
+  NoDebt k s (changed call ∷ past) = (s ≤ capacity_of call.rtt call.window call.mtu + k) × NoDebt k s past
+  NoDebt k s (credited call x ∷ past) = (s ≤ capacity_in made past + k) × NoDebt (k + x) s past
+  NoDebt k s (answered call ∷ past) = NoDebt k s past
+  NoDebt k s (transmitted b ∷ past) = NoDebt k (s + b) past
+
+  -- each credit is at most five fourths of a window for each RTT since the greatest moment
+  abbrev pub AreEarned : List PacerMark → Type 0
+  AreEarned [] = Unit {0}
+  AreEarned (changed call ∷ past) = AreEarned past
+  AreEarned (credited call x ∷ past) = (4 * call.rtt * x ≤ 5 * call.window * (call.now - greatest_moment made past)) × AreEarned past
+  AreEarned (answered call ∷ past) = AreEarned past
+  AreEarned (transmitted b ∷ past) = AreEarned past
+
+  -- credits and bytes that come after a history without debt move its balance by as much
+  pub no_debt_more : (k s x : ℕ) (past : List PacerMark) → NoDebt k s past → NoDebt (k + x) s past
+  no_debt_more k s x [] h = omega arith
+  no_debt_more k s x (changed call ∷ past) h = (omega arith, no_debt_more k s x past h.1)
+  no_debt_more k s x (credited call y ∷ past) h =
+      (omega arith, subst (λ n. NoDebt n s past) (swap_last k y x) (no_debt_more (k + y) s x past h.1))
+  no_debt_more k s x (answered call ∷ past) h = no_debt_more k s x past h
+  no_debt_more k s x (transmitted b ∷ past) h = no_debt_more k (s + b) x past h
+
+  pub balance_more : (k s x : ℕ) (past : List PacerMark) → NoDebt k s past → balance_from made (k + x) s past ≡ balance_from made k s past + x
+  balance_more k s x [] h = omega arith
+  balance_more k s x (changed call ∷ past) h = omega (arith, balance_more k s x past h.1)
+  balance_more k s x (credited call y ∷ past) h =
+      omega (arith, balance_more (k + y) s x past h.1, ap (λ n. balance_from made n s past) (swap_last k x y))
+  balance_more k s x (answered call ∷ past) h = balance_more k s x past h
+  balance_more k s x (transmitted b ∷ past) h = balance_more k (s + b) x past h
+
+  pub balance_less : (k s b : ℕ) (past : List PacerMark) → balance_from made k (s + b) past ≡ balance_from made k s past - b
+  balance_less k s b [] = omega arith
+  balance_less k s b (changed call ∷ past) = omega (arith, balance_less k s b past)
+  balance_less k s b (credited call y ∷ past) = omega (arith, balance_less (k + y) s b past)
+  balance_less k s b (answered call ∷ past) = balance_less k s b past
+  balance_less k s b (transmitted y ∷ past) =
+      ap (λ n. balance_from made k n past) (swap_last s b y) ∙ balance_less k (s + y) b past
+
+  pub no_debt_less : (k s b : ℕ) (past : List PacerMark) → NoDebt k s past → b ≤ balance_from made k s past → NoDebt k (s + b) past
+  no_debt_less k s b [] h low = omega arith
+  no_debt_less k s b (changed call ∷ past) h low = (omega arith, no_debt_less k s b past h.1 (omega arith))
+  no_debt_less k s b (credited call y ∷ past) h low = (omega arith, no_debt_less (k + y) s b past h.1 (omega arith))
+  no_debt_less k s b (answered call ∷ past) h low = no_debt_less k s b past h low
+  no_debt_less k s b (transmitted y ∷ past) h low =
+      subst (λ n. NoDebt k n past) (swap_last s y b) (no_debt_less k (s + y) b past h low)
+
+  -- what was transmitted after a cap point is within its capacity and the credits after it
+  covered : (k s : ℕ) (later past : List PacerMark) → IsCapPoint past → NoDebt k s (later ++ past) → s + bytes_in later ≤ capacity_in made past + k + credits_in later
+  covered k s [] [] p h = omega arith
+  covered k s [] (changed call ∷ past) p h = omega arith
+  covered k s [] (credited call y ∷ past) p h = omega arith
+  covered k s [] (answered call ∷ past) p h = absurd p
+  covered k s [] (transmitted y ∷ past) p h = absurd p
+  covered k s (changed call ∷ later) past p h = covered k s later past p h.1
+  covered k s (credited call y ∷ later) past p h = omega (arith, covered (k + y) s later past p h.1)
+  covered k s (answered call ∷ later) past p h = covered k s later past p h
+  covered k s (transmitted y ∷ later) past p h = omega (arith, covered k (s + y) later past p h)
+
+  -- the greatest moment rises, and is at most the latest of the calls
+  greatest_rises : (later past : List PacerMark) → greatest_moment made past ≤ greatest_moment made (later ++ past)
+  greatest_rises [] past = omega arith
+  greatest_rises (changed call ∷ later) past = greatest_rises later past
+  greatest_rises (credited call y ∷ later) past = omega (arith, greatest_rises later past)
+  greatest_rises (answered call ∷ later) past = greatest_rises later past
+  greatest_rises (transmitted y ∷ later) past = greatest_rises later past
+
+  greatest_below : (w r latest : ℕ) (later past : List PacerMark) → AreWithin w r latest (calls_in later) → greatest_moment made (later ++ past) ≤ max latest (greatest_moment made past)
+  greatest_below w r latest [] past h = omega arith
+  greatest_below w r latest (changed call ∷ later) past h = greatest_below w r latest later past h.1
+  greatest_below w r latest (credited call y ∷ later) past h = omega (arith, greatest_below w r latest later past h.1)
+  greatest_below w r latest (answered call ∷ later) past h = greatest_below w r latest later past h.1
+  greatest_below w r latest (transmitted y ∷ later) past h = greatest_below w r latest later past h
+
+  -- all credits together are at most five fourths of the greatest window for each least RTT
+  credits_below : (w r latest : ℕ) (later past : List PacerMark) → AreWithin w r latest (calls_in later) → AreEarned (later ++ past) → 4 * r * credits_in later ≤ 5 * w * (greatest_moment made (later ++ past) - greatest_moment made past)
+  credits_below w r latest [] past h e = omega arith
+  credits_below w r latest (changed call ∷ later) past h e = credits_below w r latest later past h.1 e
+  credits_below w r latest (credited call y ∷ later) past h e =
+      step_bound r call.rtt w call.window y (credits_in later) call.now (greatest_moment made (later ++ past)) (greatest_moment made past) h.0.1 h.0.0 (greatest_rises later past) e.0 (credits_below w r latest later past h.1 e.1)
+  credits_below w r latest (answered call ∷ later) past h e = credits_below w r latest later past h.1 e
+  credits_below w r latest (transmitted y ∷ later) past h e = credits_below w r latest later past h e
+
+  -- the pacing bound
+  pub rate_bound : (history later past : List PacerMark) → NoDebt 0 0 history → AreEarned history → later ++ past ≡ history → IsCapPoint past → 4 * least_rtt (calls_in later) * (bytes_in later - capacity_in made past) ≤ 5 * greatest_window (calls_in later) * (latest_moment (calls_in later) - greatest_moment made past)
+  rate_bound history later past debt earned is point =
+      let debt' = subst (λ h. NoDebt 0 0 h) (sym is) debt in
+      let earned' = subst (λ h. AreEarned h) (sym is) earned in
+      let within = within_own (calls_in later) in
+      let all : bytes_in later ≤ capacity_in made past + credits_in later = omega (arith, covered 0 0 later past point debt') in
+      bound_at (least_rtt (calls_in later)) (greatest_window (calls_in later)) (bytes_in later) (capacity_in made past) (credits_in later) (greatest_moment made (later ++ past)) (latest_moment (calls_in later)) (greatest_moment made past) all
+      (credits_below _ _ _ later past within earned') (greatest_below _ _ _ later past within)
+
+  -- ---- the balance is the least over the cap points
+
+  below_each : (k s : ℕ) (later past : List PacerMark) → IsCapPoint past → NoDebt k s (later ++ past) → balance_from made k s (later ++ past) + s + bytes_in later ≤ capacity_in made past + k + credits_in later
+  below_each k s [] [] p h = omega arith
+  below_each k s [] (changed call ∷ past) p h = omega arith
+  below_each k s [] (credited call y ∷ past) p h = omega arith
+  below_each k s [] (answered call ∷ past) p h = absurd p
+  below_each k s [] (transmitted y ∷ past) p h = absurd p
+  below_each k s (changed call ∷ later) past p h = omega (arith, below_each k s later past p h.1)
+  below_each k s (credited call y ∷ later) past p h = omega (arith, below_each (k + y) s later past p h.1)
+  below_each k s (answered call ∷ later) past p h = below_each k s later past p h
+  below_each k s (transmitted y ∷ later) past p h = omega (arith, below_each k (s + y) later past p h)
+
+  abbrev Met : ℕ → ℕ → List PacerMark → Type 0
+  Met k s history =
+      (later : List PacerMark) × (past : List PacerMark) × (later ++ past ≡ history) × IsCapPoint past × (balance_from made k s history + s + bytes_in later ≡ capacity_in made past + k + credits_in later)
+
+  met_at : (k s : ℕ) (history : List PacerMark) → NoDebt k s history → Met k s history
+  met_at k s [] h = ([], [], refl, tt, omega arith)
+  met_at k s (changed call ∷ past) h =
+      let rest = met_at k s past h.1 in
+      elim (cases_lt (capacity_of call.rtt call.window call.mtu + k - s) (balance_from made k s past)) [
+        | inl low ↦ ([], changed call ∷ past, refl, tt, omega arith)
+        | inr high ↦ (changed call ∷ rest.0, rest.1, ap (λ l. changed call ∷ l) rest.2, rest.3, omega (arith, rest.4))
+      ]
+  met_at k s (credited call y ∷ past) h =
+      let rest = met_at (k + y) s past h.1 in
+      elim (cases_lt (capacity_in made past + k - s) (balance_from made (k + y) s past)) [
+        | inl low ↦ ([], credited call y ∷ past, refl, tt, omega arith)
+        | inr high ↦ (credited call y ∷ rest.0, rest.1, ap (λ l. credited call y ∷ l) rest.2, rest.3, omega (arith, rest.4))
+      ]
+  met_at k s (answered call ∷ past) h =
+      let rest = met_at k s past h in (answered call ∷ rest.0, rest.1, ap (λ l. answered call ∷ l) rest.2, rest.3, omega (arith, rest.4))
+  met_at k s (transmitted y ∷ past) h =
+      let rest = met_at k (s + y) past h in (transmitted y ∷ rest.0, rest.1, ap (λ l. transmitted y ∷ l) rest.2, rest.3, omega (arith, rest.4))
+
+  pub balance_is : (history : List PacerMark) → NoDebt 0 0 history → IsBalance made history (balance_in made history)
+  unfolding balance_in
+  balance_is history h = record {
+    at_most = λ later past is point. let e = ap (balance_from made 0 0) is in omega (arith, e, below_each 0 0 later past point (subst (λ v. NoDebt 0 0 v) (sym is) h));
+    met = let found = met_at 0 0 history h in (found.0, found.1, found.2, found.3, omega (arith, found.4));
+  }
