@@ -41,88 +41,88 @@ bound_at r w bytes capacity credits high latest low within earned below =
 module _ (made : Bucket) where
   -- at no cap point was more transmitted afterwards than its capacity and the credits after it
   abbrev pub NoDebt : ℕ → ℕ → List PacerMark → Type 0
-  NoDebt k s [] = s ≤ made.capacity + k
-  NoDebt k s (changed call ∷ past) = (s ≤ capacity_of call.rtt call.window call.mtu + k) × NoDebt k s past
-  NoDebt k s (credited call x ∷ past) = (s ≤ capacity_in made past + k) × NoDebt (k + x) s past
-  NoDebt k s (answered call ∷ past) = NoDebt k s past
-  NoDebt k s (transmitted b ∷ past) = NoDebt k (s + b) past
+  NoDebt credits bytes [] = bytes ≤ made.capacity + credits
+  NoDebt credits bytes (changed call ∷ past) = (bytes ≤ capacity_of call.rtt call.window call.mtu + credits) × NoDebt credits bytes past
+  NoDebt credits bytes (credited call credit ∷ past) = (bytes ≤ capacity_in made past + credits) × NoDebt (credits + credit) bytes past
+  NoDebt credits bytes (answered call ∷ past) = NoDebt credits bytes past
+  NoDebt credits bytes (transmitted sent ∷ past) = NoDebt credits (bytes + sent) past
 
   -- each credit is at most five fourths of a window for each RTT since the greatest moment
   abbrev pub AreEarned : List PacerMark → Type 0
   AreEarned [] = Unit {0}
   AreEarned (changed call ∷ past) = AreEarned past
-  AreEarned (credited call x ∷ past) = (4 * call.rtt * x ≤ 5 * call.window * (call.now - greatest_moment made past)) × AreEarned past
+  AreEarned (credited call credit ∷ past) = (4 * call.rtt * credit ≤ 5 * call.window * (call.now - greatest_moment made past)) × AreEarned past
   AreEarned (answered call ∷ past) = AreEarned past
-  AreEarned (transmitted b ∷ past) = AreEarned past
+  AreEarned (transmitted sent ∷ past) = AreEarned past
 
   -- credits and bytes that come after a history without debt move its balance by as much
-  pub no_debt_more : (k s x : ℕ) (past : List PacerMark) → NoDebt k s past → NoDebt (k + x) s past
-  no_debt_more k s x [] h = omega arith
-  no_debt_more k s x (changed call ∷ past) h = (omega arith, no_debt_more k s x past h.1)
-  no_debt_more k s x (credited call y ∷ past) h =
-      (omega arith, subst (λ n. NoDebt n s past) (swap_last k y x) (no_debt_more (k + y) s x past h.1))
-  no_debt_more k s x (answered call ∷ past) h = no_debt_more k s x past h
-  no_debt_more k s x (transmitted b ∷ past) h = no_debt_more k (s + b) x past h
+  pub no_debt_more : (credits bytes more : ℕ) (past : List PacerMark) → NoDebt credits bytes past → NoDebt (credits + more) bytes past
+  no_debt_more credits bytes more [] h = omega arith
+  no_debt_more credits bytes more (changed call ∷ past) h = (omega arith, no_debt_more credits bytes more past h.1)
+  no_debt_more credits bytes more (credited call credit ∷ past) h =
+      (omega arith, subst (λ n. NoDebt n bytes past) (swap_last credits credit more) (no_debt_more (credits + credit) bytes more past h.1))
+  no_debt_more credits bytes more (answered call ∷ past) h = no_debt_more credits bytes more past h
+  no_debt_more credits bytes more (transmitted sent ∷ past) h = no_debt_more credits (bytes + sent) more past h
 
-  pub balance_more : (k s x : ℕ) (past : List PacerMark) → NoDebt k s past → balance_from made (k + x) s past ≡ balance_from made k s past + x
-  balance_more k s x [] h = omega arith
-  balance_more k s x (changed call ∷ past) h = omega (arith, balance_more k s x past h.1)
-  balance_more k s x (credited call y ∷ past) h =
-      omega (arith, balance_more (k + y) s x past h.1, ap (λ n. balance_from made n s past) (swap_last k x y))
-  balance_more k s x (answered call ∷ past) h = balance_more k s x past h
-  balance_more k s x (transmitted b ∷ past) h = balance_more k (s + b) x past h
+  pub balance_more : (credits bytes more : ℕ) (past : List PacerMark) → NoDebt credits bytes past → balance_from made (credits + more) bytes past ≡ balance_from made credits bytes past + more
+  balance_more credits bytes more [] h = omega arith
+  balance_more credits bytes more (changed call ∷ past) h = omega (arith, balance_more credits bytes more past h.1)
+  balance_more credits bytes more (credited call credit ∷ past) h =
+      omega (arith, balance_more (credits + credit) bytes more past h.1, ap (λ n. balance_from made n bytes past) (swap_last credits more credit))
+  balance_more credits bytes more (answered call ∷ past) h = balance_more credits bytes more past h
+  balance_more credits bytes more (transmitted sent ∷ past) h = balance_more credits (bytes + sent) more past h
 
-  pub balance_less : (k s b : ℕ) (past : List PacerMark) → balance_from made k (s + b) past ≡ balance_from made k s past - b
-  balance_less k s b [] = omega arith
-  balance_less k s b (changed call ∷ past) = omega (arith, balance_less k s b past)
-  balance_less k s b (credited call y ∷ past) = omega (arith, balance_less (k + y) s b past)
-  balance_less k s b (answered call ∷ past) = balance_less k s b past
-  balance_less k s b (transmitted y ∷ past) =
-      ap (λ n. balance_from made k n past) (swap_last s b y) ∙ balance_less k (s + y) b past
+  pub balance_less : (credits bytes taken : ℕ) (past : List PacerMark) → balance_from made credits (bytes + taken) past ≡ balance_from made credits bytes past - taken
+  balance_less credits bytes taken [] = omega arith
+  balance_less credits bytes taken (changed call ∷ past) = omega (arith, balance_less credits bytes taken past)
+  balance_less credits bytes taken (credited call credit ∷ past) = omega (arith, balance_less (credits + credit) bytes taken past)
+  balance_less credits bytes taken (answered call ∷ past) = balance_less credits bytes taken past
+  balance_less credits bytes taken (transmitted sent ∷ past) =
+      ap (λ n. balance_from made credits n past) (swap_last bytes taken sent) ∙ balance_less credits (bytes + sent) taken past
 
-  pub no_debt_less : (k s b : ℕ) (past : List PacerMark) → NoDebt k s past → b ≤ balance_from made k s past → NoDebt k (s + b) past
-  no_debt_less k s b [] h low = omega arith
-  no_debt_less k s b (changed call ∷ past) h low = (omega arith, no_debt_less k s b past h.1 (omega arith))
-  no_debt_less k s b (credited call y ∷ past) h low = (omega arith, no_debt_less (k + y) s b past h.1 (omega arith))
-  no_debt_less k s b (answered call ∷ past) h low = no_debt_less k s b past h low
-  no_debt_less k s b (transmitted y ∷ past) h low =
-      subst (λ n. NoDebt k n past) (swap_last s y b) (no_debt_less k (s + y) b past h low)
+  pub no_debt_less : (credits bytes taken : ℕ) (past : List PacerMark) → NoDebt credits bytes past → taken ≤ balance_from made credits bytes past → NoDebt credits (bytes + taken) past
+  no_debt_less credits bytes taken [] h low = omega arith
+  no_debt_less credits bytes taken (changed call ∷ past) h low = (omega arith, no_debt_less credits bytes taken past h.1 (omega arith))
+  no_debt_less credits bytes taken (credited call credit ∷ past) h low = (omega arith, no_debt_less (credits + credit) bytes taken past h.1 (omega arith))
+  no_debt_less credits bytes taken (answered call ∷ past) h low = no_debt_less credits bytes taken past h low
+  no_debt_less credits bytes taken (transmitted sent ∷ past) h low =
+      subst (λ n. NoDebt credits n past) (swap_last bytes sent taken) (no_debt_less credits (bytes + sent) taken past h low)
 
   -- what was transmitted after a cap point is within its capacity and the credits after it
-  covered : (k s : ℕ) (later past : List PacerMark) → IsCapPoint past → NoDebt k s (later ++ past) → s + bytes_in later ≤ capacity_in made past + k + credits_in later
-  covered k s [] [] p h = omega arith
-  covered k s [] (changed call ∷ past) p h = omega arith
-  covered k s [] (credited call y ∷ past) p h = omega arith
-  covered k s [] (answered call ∷ past) p h = absurd p
-  covered k s [] (transmitted y ∷ past) p h = absurd p
-  covered k s (changed call ∷ later) past p h = covered k s later past p h.1
-  covered k s (credited call y ∷ later) past p h = omega (arith, covered (k + y) s later past p h.1)
-  covered k s (answered call ∷ later) past p h = covered k s later past p h
-  covered k s (transmitted y ∷ later) past p h = omega (arith, covered k (s + y) later past p h)
+  covered : (credits bytes : ℕ) (later past : List PacerMark) → IsCapPoint past → NoDebt credits bytes (later ++ past) → bytes + bytes_in later ≤ capacity_in made past + credits + credits_in later
+  covered credits bytes [] [] p h = omega arith
+  covered credits bytes [] (changed call ∷ past) p h = omega arith
+  covered credits bytes [] (credited call credit ∷ past) p h = omega arith
+  covered credits bytes [] (answered call ∷ past) p h = absurd p
+  covered credits bytes [] (transmitted sent ∷ past) p h = absurd p
+  covered credits bytes (changed call ∷ later) past p h = covered credits bytes later past p h.1
+  covered credits bytes (credited call credit ∷ later) past p h = omega (arith, covered (credits + credit) bytes later past p h.1)
+  covered credits bytes (answered call ∷ later) past p h = covered credits bytes later past p h
+  covered credits bytes (transmitted sent ∷ later) past p h = omega (arith, covered credits (bytes + sent) later past p h)
 
   -- the greatest moment rises, and is at most the latest of the calls
   greatest_rises : (later past : List PacerMark) → greatest_moment made past ≤ greatest_moment made (later ++ past)
   greatest_rises [] past = omega arith
   greatest_rises (changed call ∷ later) past = greatest_rises later past
-  greatest_rises (credited call y ∷ later) past = omega (arith, greatest_rises later past)
+  greatest_rises (credited call credit ∷ later) past = omega (arith, greatest_rises later past)
   greatest_rises (answered call ∷ later) past = greatest_rises later past
-  greatest_rises (transmitted y ∷ later) past = greatest_rises later past
+  greatest_rises (transmitted sent ∷ later) past = greatest_rises later past
 
   greatest_below : (w r latest : ℕ) (later past : List PacerMark) → AreWithin w r latest (calls_in later) → greatest_moment made (later ++ past) ≤ max latest (greatest_moment made past)
   greatest_below w r latest [] past h = omega arith
   greatest_below w r latest (changed call ∷ later) past h = greatest_below w r latest later past h.1
-  greatest_below w r latest (credited call y ∷ later) past h = omega (arith, greatest_below w r latest later past h.1)
+  greatest_below w r latest (credited call credit ∷ later) past h = omega (arith, greatest_below w r latest later past h.1)
   greatest_below w r latest (answered call ∷ later) past h = greatest_below w r latest later past h.1
-  greatest_below w r latest (transmitted y ∷ later) past h = greatest_below w r latest later past h
+  greatest_below w r latest (transmitted sent ∷ later) past h = greatest_below w r latest later past h
 
   -- all credits together are at most five fourths of the greatest window for each least RTT
   credits_below : (w r latest : ℕ) (later past : List PacerMark) → AreWithin w r latest (calls_in later) → AreEarned (later ++ past) → 4 * r * credits_in later ≤ 5 * w * (greatest_moment made (later ++ past) - greatest_moment made past)
   credits_below w r latest [] past h e = omega arith
   credits_below w r latest (changed call ∷ later) past h e = credits_below w r latest later past h.1 e
-  credits_below w r latest (credited call y ∷ later) past h e =
-      step_bound r call.rtt w call.window y (credits_in later) call.now (greatest_moment made (later ++ past)) (greatest_moment made past) h.0.1 h.0.0 (greatest_rises later past) e.0 (credits_below w r latest later past h.1 e.1)
+  credits_below w r latest (credited call credit ∷ later) past h e =
+      step_bound r call.rtt w call.window credit (credits_in later) call.now (greatest_moment made (later ++ past)) (greatest_moment made past) h.0.1 h.0.0 (greatest_rises later past) e.0 (credits_below w r latest later past h.1 e.1)
   credits_below w r latest (answered call ∷ later) past h e = credits_below w r latest later past h.1 e
-  credits_below w r latest (transmitted y ∷ later) past h e = credits_below w r latest later past h e
+  credits_below w r latest (transmitted sent ∷ later) past h e = credits_below w r latest later past h e
 
   -- the pacing bound
   pub rate_bound : (history later past : List PacerMark) → NoDebt 0 0 history → AreEarned history → later ++ past ≡ history → IsCapPoint past → 4 * least_rtt (calls_in later) * (bytes_in later - capacity_in made past) ≤ 5 * greatest_window (calls_in later) * (latest_moment (calls_in later) - greatest_moment made past)
@@ -136,39 +136,39 @@ module _ (made : Bucket) where
 
   -- ---- the balance is the least over the cap points
 
-  below_each : (k s : ℕ) (later past : List PacerMark) → IsCapPoint past → NoDebt k s (later ++ past) → balance_from made k s (later ++ past) + s + bytes_in later ≤ capacity_in made past + k + credits_in later
-  below_each k s [] [] p h = omega arith
-  below_each k s [] (changed call ∷ past) p h = omega arith
-  below_each k s [] (credited call y ∷ past) p h = omega arith
-  below_each k s [] (answered call ∷ past) p h = absurd p
-  below_each k s [] (transmitted y ∷ past) p h = absurd p
-  below_each k s (changed call ∷ later) past p h = omega (arith, below_each k s later past p h.1)
-  below_each k s (credited call y ∷ later) past p h = omega (arith, below_each (k + y) s later past p h.1)
-  below_each k s (answered call ∷ later) past p h = below_each k s later past p h
-  below_each k s (transmitted y ∷ later) past p h = omega (arith, below_each k (s + y) later past p h)
+  below_each : (credits bytes : ℕ) (later past : List PacerMark) → IsCapPoint past → NoDebt credits bytes (later ++ past) → balance_from made credits bytes (later ++ past) + bytes + bytes_in later ≤ capacity_in made past + credits + credits_in later
+  below_each credits bytes [] [] p h = omega arith
+  below_each credits bytes [] (changed call ∷ past) p h = omega arith
+  below_each credits bytes [] (credited call credit ∷ past) p h = omega arith
+  below_each credits bytes [] (answered call ∷ past) p h = absurd p
+  below_each credits bytes [] (transmitted sent ∷ past) p h = absurd p
+  below_each credits bytes (changed call ∷ later) past p h = omega (arith, below_each credits bytes later past p h.1)
+  below_each credits bytes (credited call credit ∷ later) past p h = omega (arith, below_each (credits + credit) bytes later past p h.1)
+  below_each credits bytes (answered call ∷ later) past p h = below_each credits bytes later past p h
+  below_each credits bytes (transmitted sent ∷ later) past p h = omega (arith, below_each credits (bytes + sent) later past p h)
 
   abbrev Met : ℕ → ℕ → List PacerMark → Type 0
-  Met k s history =
-      (later : List PacerMark) × (past : List PacerMark) × (later ++ past ≡ history) × IsCapPoint past × (balance_from made k s history + s + bytes_in later ≡ capacity_in made past + k + credits_in later)
+  Met credits bytes history =
+      (later : List PacerMark) × (past : List PacerMark) × (later ++ past ≡ history) × IsCapPoint past × (balance_from made credits bytes history + bytes + bytes_in later ≡ capacity_in made past + credits + credits_in later)
 
-  met_at : (k s : ℕ) (history : List PacerMark) → NoDebt k s history → Met k s history
-  met_at k s [] h = ([], [], refl, tt, omega arith)
-  met_at k s (changed call ∷ past) h =
-      let rest = met_at k s past h.1 in
-      elim (cases_lt (capacity_of call.rtt call.window call.mtu + k - s) (balance_from made k s past)) [
+  met_at : (credits bytes : ℕ) (history : List PacerMark) → NoDebt credits bytes history → Met credits bytes history
+  met_at credits bytes [] h = ([], [], refl, tt, omega arith)
+  met_at credits bytes (changed call ∷ past) h =
+      let rest = met_at credits bytes past h.1 in
+      elim (cases_lt (capacity_of call.rtt call.window call.mtu + credits - bytes) (balance_from made credits bytes past)) [
         | inl low ↦ ([], changed call ∷ past, refl, tt, omega arith)
         | inr high ↦ (changed call ∷ rest.0, rest.1, ap (λ l. changed call ∷ l) rest.2, rest.3, omega (arith, rest.4))
       ]
-  met_at k s (credited call y ∷ past) h =
-      let rest = met_at (k + y) s past h.1 in
-      elim (cases_lt (capacity_in made past + k - s) (balance_from made (k + y) s past)) [
-        | inl low ↦ ([], credited call y ∷ past, refl, tt, omega arith)
-        | inr high ↦ (credited call y ∷ rest.0, rest.1, ap (λ l. credited call y ∷ l) rest.2, rest.3, omega (arith, rest.4))
+  met_at credits bytes (credited call credit ∷ past) h =
+      let rest = met_at (credits + credit) bytes past h.1 in
+      elim (cases_lt (capacity_in made past + credits - bytes) (balance_from made (credits + credit) bytes past)) [
+        | inl low ↦ ([], credited call credit ∷ past, refl, tt, omega arith)
+        | inr high ↦ (credited call credit ∷ rest.0, rest.1, ap (λ l. credited call credit ∷ l) rest.2, rest.3, omega (arith, rest.4))
       ]
-  met_at k s (answered call ∷ past) h =
-      let rest = met_at k s past h in (answered call ∷ rest.0, rest.1, ap (λ l. answered call ∷ l) rest.2, rest.3, omega (arith, rest.4))
-  met_at k s (transmitted y ∷ past) h =
-      let rest = met_at k (s + y) past h in (transmitted y ∷ rest.0, rest.1, ap (λ l. transmitted y ∷ l) rest.2, rest.3, omega (arith, rest.4))
+  met_at credits bytes (answered call ∷ past) h =
+      let rest = met_at credits bytes past h in (answered call ∷ rest.0, rest.1, ap (λ l. answered call ∷ l) rest.2, rest.3, omega (arith, rest.4))
+  met_at credits bytes (transmitted sent ∷ past) h =
+      let rest = met_at credits (bytes + sent) past h in (transmitted sent ∷ rest.0, rest.1, ap (λ l. transmitted sent ∷ l) rest.2, rest.3, omega (arith, rest.4))
 
   pub balance_is : (history : List PacerMark) → NoDebt 0 0 history → IsBalance made history (balance_in made history)
   unfolding balance_in

@@ -1,4 +1,5 @@
 pub mod PacingLaws
 mod PacingRows
 mod BalanceLaws
-mod PacerLogLaws
+pub mod PacerLogLaws
+mod PacerLogRows

@@ -88,9 +88,9 @@ module _ (made : Bucket) where
     earned = t.earned;
   }
 
--- after a call the bucket knows its window and MTU
-resized-window : (call : PacerCall) (old : Bucket) → ((resized call.rtt call.window call.mtu old).window ≡ call.window) × ((resized call.rtt call.window call.mtu old).mtu ≡ call.mtu)
-resized-window call old = go ((call.window == old.window) && (call.mtu == old.mtu)) refl
+-- after a call the bucket knows the call's window and MTU
+resized-knows : (call : PacerCall) (old : Bucket) → ((resized call.rtt call.window call.mtu old).window ≡ call.window) × ((resized call.rtt call.window call.mtu old).mtu ≡ call.mtu)
+resized-knows call old = go ((call.window == old.window) && (call.mtu == old.mtu)) refl
   where
     go : (same : Bool) → ((call.window == old.window) && (call.mtu == old.mtu)) ≡ same →
         let bucket : Bucket = if same then old else record old { capacity = capacity_of call.rtt call.window call.mtu; window = call.window; mtu = call.mtu; tokens = min (capacity_of call.rtt call.window call.mtu) old.tokens } in
@@ -98,16 +98,17 @@ resized-window call old = go ((call.window == old.window) && (call.mtu == old.mt
     go true is = let both = and_parts _ _ is in (sym (eqb-true call.window old.window both.0), sym (eqb-true call.mtu old.mtu both.1))
     go false is = (refl, refl)
 
-paced-window : (call : PacerCall) (old : Bucket) → ((paced call old).window ≡ call.window) × ((paced call old).mtu ≡ call.mtu)
-paced-window call old = go (may_send call bucket)
+paced-knows : (call : PacerCall) (old : Bucket) → ((paced call old).window ≡ call.window) × ((paced call old).mtu ≡ call.mtu)
+paced-knows call old = go (may_send call bucket)
   where
     bucket : Bucket
     bucket = resized call.rtt call.window call.mtu old
 
     go : (pass : Bool) → let left : Bucket = if pass then bucket else refilled call.rtt call.window call.now bucket in (left.window ≡ call.window) × (left.mtu ≡ call.mtu)
-    go true = resized-window call old
-    go false = resized-window call old
+    go true = resized-knows call old
+    go false = resized-knows call old
 
+-- a call within the bounds is paced
 is_bounded : (call : PacerCall) → IsPaced call → is_unpaced call ≡ false
 is_bounded call bounds = or_from _ _ (lt-leb (2 ^ 32) call.window bounds.0) (ne_eqb call.rtt 0 (λ none. omega (arith, none, bounds.1)))
 
@@ -124,17 +125,18 @@ passed_is_covered call bucket bounds passes = leb-true call.bytes bucket.tokens 
     go false false is e = some_is_not_none _ e
 
 module _ (made : Bucket) where
+  -- the law of a call, before its answer and after it
   tied_asking : (call : PacerCall) (past : List PacerMark) (bucket : Bucket) → Tied made past bucket → Tied made (with_refill made call (with_change made call past)) (paced call bucket)
   tied_asking call past bucket t =
-      let known = resized-window call bucket in
+      let known = resized-knows call bucket in
       tied_refill made call (with_change made call past) (resized call.rtt call.window call.mtu bucket) known.0 known.1 (tied_change made call past bucket t)
 
-  -- the law of a call: the bucket after it knows the call's window and MTU, and holds what the history says
   tied_paced : (call : PacerCall) (past : List PacerMark) (bucket : Bucket) → Tied made past bucket → Tied made (answered call ∷ with_refill made call (with_change made call past)) (paced call bucket)
   tied_paced call past bucket t =
-      let known = paced-window call bucket in
+      let known = paced-knows call bucket in
       tied_answered made call (with_refill made call (with_change made call past)) (paced call bucket) known.0 known.1 (tied_asking call past bucket t)
 
+  -- what the pacer holds is what the history says
   pub tied_by : (entries : List PacerEntry) → made.tokens ≡ made.capacity → AreChecked made entries → Tied made (marks_by made entries) (bucket_by made entries)
   tied_by [] full checked = tied_made made full
   tied_by (asked call ∷ earlier) full checked = tied_paced call (marks_by made earlier) (bucket_by made earlier) (tied_by earlier full checked.1)

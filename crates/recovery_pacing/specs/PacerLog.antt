@@ -3,7 +3,9 @@ use Rattle.std.specs.Prelude.{◌≡◌, ℕ, ◌+◌, ◌-◌, ◌*◌, ◌^◌
 use Rattle.recovery_pacing.specs.Pacing.{Bucket, PacerCall, capacity_of, credit_of, wait_of, is_unpaced, paced, delay_of, less_tokens}
 
 pub data PacerEntry : Type 0 where
+  -- may so many bytes be sent?
   asked : (call : PacerCall) → PacerEntry
+  -- so many bytes were transmitted
   took : (bytes : ℕ) → PacerEntry
 
 -- the bucket after all that, where it was made so
@@ -25,25 +27,25 @@ HasPassed made bytes (asked call ∷ earlier) =
     (call.bytes ≡ bytes) × (delay_of call (paced call (bucket_by made earlier)) ≡ None)
 HasPassed made bytes (took other ∷ earlier) = ⊥
 
--- all calls are paced, and all bytes that were taken passed first
+-- all calls are paced, and all that was transmitted was checked: it passed right before
 abbrev pub AreChecked : Bucket → List PacerEntry → Type 0
 AreChecked made [] = Unit {0}
 AreChecked made (asked call ∷ earlier) = IsPaced call × AreChecked made earlier
 AreChecked made (took bytes ∷ earlier) = HasPassed made bytes earlier × AreChecked made earlier
 
--- ---- the history: what each call did, and what was taken
+-- ---- the history: what each call did, and what was transmitted
 
 pub data PacerMark : Type 0 where
   -- a call came with another window or MTU: the capacity was computed anew
   changed : (call : PacerCall) → PacerMark
-  -- a call found too little: so many bytes were credited, and the bucket held at most its capacity
+  -- a call found too little, and refilled: so many bytes were credited
   credited : (call : PacerCall) (credit : ℕ) → PacerMark
   -- a call was answered
   answered : (call : PacerCall) → PacerMark
   -- so many bytes were transmitted
   transmitted : (bytes : ℕ) → PacerMark
 
--- a cap point: the bucket held at most its capacity. The making, each change of capacity and each refill is one.
+-- the cap points, at which no more than the capacity is kept: the making, each change of capacity and each refill
 abbrev pub IsCapPoint : List PacerMark → Type 0
 IsCapPoint [] = Unit {0}
 IsCapPoint (changed call ∷ past) = Unit {0}
@@ -122,8 +124,8 @@ module _ (made : Bucket) where
 
   -- ---- the balance
 
-  -- the least, over all cap points, of the capacity there and the credits after it, less the bytes transmitted after it; so many
-  -- credits and bytes come after the marks that are still to be looked at
+  -- the least, over all cap points, of the capacity there and the credits after it, less the bytes transmitted after it; so
+  -- many credits and bytes come after the marks that are still to be seen
   abbrev pub balance_from : ℕ → ℕ → List PacerMark → ℕ
   balance_from credits bytes [] = made.capacity + credits - bytes
   balance_from credits bytes (changed call ∷ past) =
@@ -136,7 +138,7 @@ module _ (made : Bucket) where
   unfoldable pub balance_in : List PacerMark → ℕ
   balance_in history = balance_from 0 0 history
 
-  -- the same as a fact without a difference: at no cap point is it more, and at one it is just that
+  -- the same as a fact, without a difference: at no cap point is the balance more than that, and at one it is just that
   pub record IsBalance (history : List PacerMark) (balance : ℕ) : Type 0 where
     pub at_most : (later past : List PacerMark) → later ++ past ≡ history → IsCapPoint past
         → balance + bytes_in later ≤ capacity_in past + credits_in later
@@ -150,7 +152,7 @@ module _ (made : Bucket) where
   with_change call past =
       if (call.window == window_in past) && (call.mtu == mtu_in past) then past else changed call ∷ past
 
-  -- its credit is for the time since the greatest moment, and none if it comes earlier
+  -- its credit is for the time since the greatest moment; where it comes earlier, there is none
   abbrev pub credit_in : PacerCall → List PacerMark → ℕ
   credit_in call past = credit_of call.rtt call.window (call.now - greatest_moment past)
 
@@ -159,7 +161,7 @@ module _ (made : Bucket) where
   with_refill call past =
       if nat_le call.bytes (balance_in past) || is_unpaced call then past else credited call (credit_in call past) ∷ past
 
-  -- the history of these entries, and with what a further call does before it is answered
+  -- the history that these entries make, and with what one more call does before it is answered
   abbrev pub marks_by : List PacerEntry → List PacerMark
   marks_by [] = []
   marks_by (asked call ∷ earlier) = answered call ∷ with_refill call (with_change call (marks_by earlier))
@@ -170,20 +172,21 @@ module _ (made : Bucket) where
 
   -- ---- the promises
 
-  -- when the bytes that are short have come, or a full bucket where that is more; it stops at the last moment
+  -- when the bytes that the balance lacks have come, or a full bucket where that is more; it stops at the last moment
   abbrev pub moment_by : PacerCall → List PacerMark → ℕ
   moment_by call history =
       let short = max call.bytes (capacity_in history) - balance_in history in
       min (greatest_moment history + wait_of call.rtt call.window short) (2 ^ 64 - 1)
 
-  -- a call is told a moment exactly where the balance, after its own refill, is below the bytes asked
+  -- one more call is delayed exactly where the balance, after its own refill, is below the bytes asked, and until that moment
   pub record DelaysBy (earlier : List PacerEntry) (call : PacerCall) (given : Option ℕ) : Type 0 where
     pub balance : IsBalance (marks_asking call earlier) (balance_in (marks_asking call earlier))
     pub delayed : SomeIff given (balance_in (marks_asking call earlier) < call.bytes)
         (moment_by call (marks_asking call earlier))
 
-  -- from each cap point on, what is transmitted beyond the capacity there is at most five fourths of the greatest window for each
-  -- least RTT, of the calls at or after the point, in the time from the greatest moment there to the latest of these calls
+  -- from each cap point on: the bytes transmitted beyond the capacity there are at most five fourths of a window for each RTT
+  -- in the time from the greatest moment there to the latest of the calls at or after the point (none if that is earlier); the
+  -- window is the greatest of these calls, and the RTT the least
   abbrev pub KeepsRate : List PacerEntry → Type 0
   KeepsRate entries =
       (later past : List PacerMark) → later ++ past ≡ marks_by entries → IsCapPoint past
