@@ -1,2 +1,5 @@
 pub mod PacingLaws
 mod PacingRows
+mod BalanceLaws
+pub mod PacerLogLaws
+mod PacerLogRows

@@ -1,2 +1,3 @@
 pub mod Pacing
 pub mod Pacers
+pub mod PacerLog

@@ -1,0 +1,178 @@
+-- Laws of the balance and of the rate, on histories alone.
+use Rattle.std.proofs.Common.{◌≡◌, ℕ, ◌+◌, ◌-◌, ◌*◌, ◌≤◌, max, List, [], ◌∷◌, ◌++◌, refl, sym, ap, ◌∙◌, subst, arith, inl, inr}
+use Rattle.std.proofs.Math.Nat.{mul-le-mul, mul-le-mul_left, mul-add}
+use Rattle.std.proofs.lemmas.Bool.{cases_lt}
+use Rattle.recovery_pacing.specs.Pacing.{Bucket, PacerCall, capacity_of}
+use Rattle.recovery_pacing.specs.PacerLog.{PacerMark, changed, credited, answered, transmitted, IsCapPoint, credits_in, bytes_in, calls_in, greatest_window, least_rtt, latest_moment, capacity_in, greatest_moment, balance_from, balance_in, IsBalance}
+
+-- the calls have at most this window, at least this RTT and no later moment
+abbrev AreWithin : ℕ → ℕ → ℕ → List PacerCall → Type 0
+AreWithin window rtt latest [] = Unit {0}
+AreWithin window rtt latest (call ∷ calls) = ((call.window ≤ window) × (rtt ≤ call.rtt) × (call.now ≤ latest)) × AreWithin window rtt latest calls
+
+within_wider : (w w' r r' l l' : ℕ) (calls : List PacerCall) → w ≤ w' → r' ≤ r → l ≤ l' → AreWithin w r l calls → AreWithin w' r' l' calls
+within_wider w w' r r' l l' [] p q o h = tt
+within_wider w w' r r' l l' (call ∷ calls) p q o h = ((omega arith, omega arith, omega arith), within_wider w w' r r' l l' calls p q o h.1)
+
+within_own : (calls : List PacerCall) → AreWithin (greatest_window calls) (least_rtt calls) (latest_moment calls) calls
+within_own [] = tt
+within_own (call ∷ []) = ((omega arith, omega arith, omega arith), tt)
+within_own (call ∷ other ∷ calls) =
+    ((omega arith, omega arith, omega arith), within_wider _ _ _ _ _ _ (other ∷ calls) (omega arith) (omega arith) (omega arith) (within_own (other ∷ calls)))
+
+swap_last : (a b c : ℕ) → a + b + c ≡ a + c + b
+swap_last a b c = omega arith
+
+-- one credit more
+step_bound : (r r' w w' x c n g g0 : ℕ) → r ≤ r' → w' ≤ w → g0 ≤ g → 4 * r' * x ≤ 5 * w' * (n - g) → 4 * r * c ≤ 5 * w * (g - g0) → 4 * r * (x + c) ≤ 5 * w * (max n g - g0)
+step_bound r r' w w' x c n g g0 rtts windows rises one rest =
+    let low : 4 * r * x ≤ 4 * r' * x = mul-le-mul (mul-le-mul_left 4 rtts) (omega arith) in
+    let high : 5 * w' * (n - g) ≤ 5 * w * (n - g) = mul-le-mul (mul-le-mul_left 5 windows) (omega arith) in
+    let whole : max n g - g0 ≡ (n - g) + (g - g0) = omega arith in
+    rw (whole, mul-add (4 * r) x c, mul-add (5 * w) (n - g) (g - g0)) (omega arith)
+
+-- what was transmitted is covered by the capacity and the credits, and these by the time
+bound_at : (r w bytes capacity credits high latest low : ℕ) → bytes ≤ capacity + credits → 4 * r * credits ≤ 5 * w * (high - low) → high ≤ max latest low → 4 * r * (bytes - capacity) ≤ 5 * w * (latest - low)
+bound_at r w bytes capacity credits high latest low within earned below =
+    let less : 4 * r * (bytes - capacity) ≤ 4 * r * credits = mul-le-mul_left (4 * r) (omega arith) in
+    let more : 5 * w * (high - low) ≤ 5 * w * (latest - low) = mul-le-mul_left (5 * w) (omega arith) in
+    omega arith
+
+module _ (made : Bucket) where
+  -- at no cap point was more transmitted afterwards than its capacity and the credits after it
+  abbrev pub NoDebt : ℕ → ℕ → List PacerMark → Type 0
+  NoDebt credits bytes [] = bytes ≤ made.capacity + credits
+  NoDebt credits bytes (changed call ∷ past) = (bytes ≤ capacity_of call.rtt call.window call.mtu + credits) × NoDebt credits bytes past
+  NoDebt credits bytes (credited call credit ∷ past) = (bytes ≤ capacity_in made past + credits) × NoDebt (credits + credit) bytes past
+  NoDebt credits bytes (answered call ∷ past) = NoDebt credits bytes past
+  NoDebt credits bytes (transmitted sent ∷ past) = NoDebt credits (bytes + sent) past
+
+  -- each credit is at most five fourths of a window for each RTT since the greatest moment
+  abbrev pub AreEarned : List PacerMark → Type 0
+  AreEarned [] = Unit {0}
+  AreEarned (changed call ∷ past) = AreEarned past
+  AreEarned (credited call credit ∷ past) = (4 * call.rtt * credit ≤ 5 * call.window * (call.now - greatest_moment made past)) × AreEarned past
+  AreEarned (answered call ∷ past) = AreEarned past
+  AreEarned (transmitted sent ∷ past) = AreEarned past
+
+  -- credits and bytes that come after a history without debt move its balance by as much
+  pub no_debt_more : (credits bytes more : ℕ) (past : List PacerMark) → NoDebt credits bytes past → NoDebt (credits + more) bytes past
+  no_debt_more credits bytes more [] h = omega arith
+  no_debt_more credits bytes more (changed call ∷ past) h = (omega arith, no_debt_more credits bytes more past h.1)
+  no_debt_more credits bytes more (credited call credit ∷ past) h =
+      (omega arith, subst (λ n. NoDebt n bytes past) (swap_last credits credit more) (no_debt_more (credits + credit) bytes more past h.1))
+  no_debt_more credits bytes more (answered call ∷ past) h = no_debt_more credits bytes more past h
+  no_debt_more credits bytes more (transmitted sent ∷ past) h = no_debt_more credits (bytes + sent) more past h
+
+  pub balance_more : (credits bytes more : ℕ) (past : List PacerMark) → NoDebt credits bytes past → balance_from made (credits + more) bytes past ≡ balance_from made credits bytes past + more
+  balance_more credits bytes more [] h = omega arith
+  balance_more credits bytes more (changed call ∷ past) h = omega (arith, balance_more credits bytes more past h.1)
+  balance_more credits bytes more (credited call credit ∷ past) h =
+      omega (arith, balance_more (credits + credit) bytes more past h.1, ap (λ n. balance_from made n bytes past) (swap_last credits more credit))
+  balance_more credits bytes more (answered call ∷ past) h = balance_more credits bytes more past h
+  balance_more credits bytes more (transmitted sent ∷ past) h = balance_more credits (bytes + sent) more past h
+
+  pub balance_less : (credits bytes taken : ℕ) (past : List PacerMark) → balance_from made credits (bytes + taken) past ≡ balance_from made credits bytes past - taken
+  balance_less credits bytes taken [] = omega arith
+  balance_less credits bytes taken (changed call ∷ past) = omega (arith, balance_less credits bytes taken past)
+  balance_less credits bytes taken (credited call credit ∷ past) = omega (arith, balance_less (credits + credit) bytes taken past)
+  balance_less credits bytes taken (answered call ∷ past) = balance_less credits bytes taken past
+  balance_less credits bytes taken (transmitted sent ∷ past) =
+      ap (λ n. balance_from made credits n past) (swap_last bytes taken sent) ∙ balance_less credits (bytes + sent) taken past
+
+  pub no_debt_less : (credits bytes taken : ℕ) (past : List PacerMark) → NoDebt credits bytes past → taken ≤ balance_from made credits bytes past → NoDebt credits (bytes + taken) past
+  no_debt_less credits bytes taken [] h low = omega arith
+  no_debt_less credits bytes taken (changed call ∷ past) h low = (omega arith, no_debt_less credits bytes taken past h.1 (omega arith))
+  no_debt_less credits bytes taken (credited call credit ∷ past) h low = (omega arith, no_debt_less (credits + credit) bytes taken past h.1 (omega arith))
+  no_debt_less credits bytes taken (answered call ∷ past) h low = no_debt_less credits bytes taken past h low
+  no_debt_less credits bytes taken (transmitted sent ∷ past) h low =
+      subst (λ n. NoDebt credits n past) (swap_last bytes sent taken) (no_debt_less credits (bytes + sent) taken past h low)
+
+  -- what was transmitted after a cap point is within its capacity and the credits after it
+  covered : (credits bytes : ℕ) (later past : List PacerMark) → IsCapPoint past → NoDebt credits bytes (later ++ past) → bytes + bytes_in later ≤ capacity_in made past + credits + credits_in later
+  covered credits bytes [] [] p h = omega arith
+  covered credits bytes [] (changed call ∷ past) p h = omega arith
+  covered credits bytes [] (credited call credit ∷ past) p h = omega arith
+  covered credits bytes [] (answered call ∷ past) p h = absurd p
+  covered credits bytes [] (transmitted sent ∷ past) p h = absurd p
+  covered credits bytes (changed call ∷ later) past p h = covered credits bytes later past p h.1
+  covered credits bytes (credited call credit ∷ later) past p h = omega (arith, covered (credits + credit) bytes later past p h.1)
+  covered credits bytes (answered call ∷ later) past p h = covered credits bytes later past p h
+  covered credits bytes (transmitted sent ∷ later) past p h = omega (arith, covered credits (bytes + sent) later past p h)
+
+  -- the greatest moment rises, and is at most the latest of the calls
+  greatest_rises : (later past : List PacerMark) → greatest_moment made past ≤ greatest_moment made (later ++ past)
+  greatest_rises [] past = omega arith
+  greatest_rises (changed call ∷ later) past = greatest_rises later past
+  greatest_rises (credited call credit ∷ later) past = omega (arith, greatest_rises later past)
+  greatest_rises (answered call ∷ later) past = greatest_rises later past
+  greatest_rises (transmitted sent ∷ later) past = greatest_rises later past
+
+  greatest_below : (w r latest : ℕ) (later past : List PacerMark) → AreWithin w r latest (calls_in later) → greatest_moment made (later ++ past) ≤ max latest (greatest_moment made past)
+  greatest_below w r latest [] past h = omega arith
+  greatest_below w r latest (changed call ∷ later) past h = greatest_below w r latest later past h.1
+  greatest_below w r latest (credited call credit ∷ later) past h = omega (arith, greatest_below w r latest later past h.1)
+  greatest_below w r latest (answered call ∷ later) past h = greatest_below w r latest later past h.1
+  greatest_below w r latest (transmitted sent ∷ later) past h = greatest_below w r latest later past h
+
+  -- all credits together are at most five fourths of the greatest window for each least RTT
+  credits_below : (w r latest : ℕ) (later past : List PacerMark) → AreWithin w r latest (calls_in later) → AreEarned (later ++ past) → 4 * r * credits_in later ≤ 5 * w * (greatest_moment made (later ++ past) - greatest_moment made past)
+  credits_below w r latest [] past h e = omega arith
+  credits_below w r latest (changed call ∷ later) past h e = credits_below w r latest later past h.1 e
+  credits_below w r latest (credited call credit ∷ later) past h e =
+      step_bound r call.rtt w call.window credit (credits_in later) call.now (greatest_moment made (later ++ past)) (greatest_moment made past) h.0.1 h.0.0 (greatest_rises later past) e.0 (credits_below w r latest later past h.1 e.1)
+  credits_below w r latest (answered call ∷ later) past h e = credits_below w r latest later past h.1 e
+  credits_below w r latest (transmitted sent ∷ later) past h e = credits_below w r latest later past h e
+
+  -- the pacing bound
+  pub rate_bound : (history later past : List PacerMark) → NoDebt 0 0 history → AreEarned history → later ++ past ≡ history → IsCapPoint past → 4 * least_rtt (calls_in later) * (bytes_in later - capacity_in made past) ≤ 5 * greatest_window (calls_in later) * (latest_moment (calls_in later) - greatest_moment made past)
+  rate_bound history later past debt earned is point =
+      let debt' = subst (λ h. NoDebt 0 0 h) (sym is) debt in
+      let earned' = subst (λ h. AreEarned h) (sym is) earned in
+      let within = within_own (calls_in later) in
+      let all : bytes_in later ≤ capacity_in made past + credits_in later = omega (arith, covered 0 0 later past point debt') in
+      bound_at (least_rtt (calls_in later)) (greatest_window (calls_in later)) (bytes_in later) (capacity_in made past) (credits_in later) (greatest_moment made (later ++ past)) (latest_moment (calls_in later)) (greatest_moment made past) all
+      (credits_below _ _ _ later past within earned') (greatest_below _ _ _ later past within)
+
+  -- ---- the balance is the least over the cap points
+
+  below_each : (credits bytes : ℕ) (later past : List PacerMark) → IsCapPoint past → NoDebt credits bytes (later ++ past) → balance_from made credits bytes (later ++ past) + bytes + bytes_in later ≤ capacity_in made past + credits + credits_in later
+  below_each credits bytes [] [] p h = omega arith
+  below_each credits bytes [] (changed call ∷ past) p h = omega arith
+  below_each credits bytes [] (credited call credit ∷ past) p h = omega arith
+  below_each credits bytes [] (answered call ∷ past) p h = absurd p
+  below_each credits bytes [] (transmitted sent ∷ past) p h = absurd p
+  below_each credits bytes (changed call ∷ later) past p h = omega (arith, below_each credits bytes later past p h.1)
+  below_each credits bytes (credited call credit ∷ later) past p h = omega (arith, below_each (credits + credit) bytes later past p h.1)
+  below_each credits bytes (answered call ∷ later) past p h = below_each credits bytes later past p h
+  below_each credits bytes (transmitted sent ∷ later) past p h = omega (arith, below_each credits (bytes + sent) later past p h)
+
+  abbrev Met : ℕ → ℕ → List PacerMark → Type 0
+  Met credits bytes history =
+      (later : List PacerMark) × (past : List PacerMark) × (later ++ past ≡ history) × IsCapPoint past × (balance_from made credits bytes history + bytes + bytes_in later ≡ capacity_in made past + credits + credits_in later)
+
+  met_at : (credits bytes : ℕ) (history : List PacerMark) → NoDebt credits bytes history → Met credits bytes history
+  met_at credits bytes [] h = ([], [], refl, tt, omega arith)
+  met_at credits bytes (changed call ∷ past) h =
+      let rest = met_at credits bytes past h.1 in
+      elim (cases_lt (capacity_of call.rtt call.window call.mtu + credits - bytes) (balance_from made credits bytes past)) [
+        | inl low ↦ ([], changed call ∷ past, refl, tt, omega arith)
+        | inr high ↦ (changed call ∷ rest.0, rest.1, ap (λ l. changed call ∷ l) rest.2, rest.3, omega (arith, rest.4))
+      ]
+  met_at credits bytes (credited call credit ∷ past) h =
+      let rest = met_at (credits + credit) bytes past h.1 in
+      elim (cases_lt (capacity_in made past + credits - bytes) (balance_from made (credits + credit) bytes past)) [
+        | inl low ↦ ([], credited call credit ∷ past, refl, tt, omega arith)
+        | inr high ↦ (credited call credit ∷ rest.0, rest.1, ap (λ l. credited call credit ∷ l) rest.2, rest.3, omega (arith, rest.4))
+      ]
+  met_at credits bytes (answered call ∷ past) h =
+      let rest = met_at credits bytes past h in (answered call ∷ rest.0, rest.1, ap (λ l. answered call ∷ l) rest.2, rest.3, omega (arith, rest.4))
+  met_at credits bytes (transmitted sent ∷ past) h =
+      let rest = met_at credits (bytes + sent) past h in (transmitted sent ∷ rest.0, rest.1, ap (λ l. transmitted sent ∷ l) rest.2, rest.3, omega (arith, rest.4))
+
+  pub balance_is : (history : List PacerMark) → NoDebt 0 0 history → IsBalance made history (balance_in made history)
+  unfolding balance_in
+  balance_is history h = record {
+    at_most = λ later past is point. let e = ap (balance_from made 0 0) is in omega (arith, e, below_each 0 0 later past point (subst (λ v. NoDebt 0 0 v) (sym is) h));
+    met = let found = met_at 0 0 history h in (found.0, found.1, found.2, found.3, omega (arith, found.4));
+  }

@@ -1,0 +1,55 @@
+-- A worked row: what the history of one pacer comes to, computed.
+use Rattle.std.proofs.Common.{◌≡◌, ℕ, zero, suc, ◌-◌, ◌*◌, List, [], ◌∷◌, Some, refl, arith}
+use Rattle.recovery_pacing.specs.Pacing.{Bucket, PacerCall, bucket_made, paced, delay_of}
+use Rattle.recovery_pacing.specs.PacerLog.{PacerEntry, asked, took, bucket_by, AreChecked, PacerMark, bytes_in, calls_in, greatest_window, least_rtt, latest_moment, balance_in, marks_by, marks_asking, moment_by}
+
+-- at an RTT of 333 ms, a window of 12,000 bytes and an MTU of 1,200
+abbrev asks : ℕ → PacerCall
+asks now = record { bytes = 1_200; rtt = 333_000_000; mtu = 1_200; window = 12_000; now = now }
+
+abbrev made : Bucket
+made = bucket_made 333_000_000 12_000 1_200 0
+
+-- so many packets are checked and sent at a moment
+abbrev sends : ℕ → ℕ → List PacerEntry → List PacerEntry
+sends zero now earlier = earlier
+sends (suc count) now earlier = took 1_200 ∷ asked (asks now) ∷ sends count now earlier
+
+-- ten packets; the eleventh is delayed; ten more at the moment that it was told
+abbrev first_ten : List PacerEntry
+first_ten = sends 10 0 []
+
+abbrev all_twenty : List PacerEntry
+all_twenty = sends 10 266_400_000 (asked (asks 0) ∷ first_ten)
+
+-- after them one more is delayed
+abbrev history : List PacerMark
+history = marks_by made (asked (asks 266_400_000) ∷ all_twenty)
+
+-- a packet that is checked and sent meets the premise
+first_checked : AreChecked made (sends 1 0 [])
+first_checked = ((refl, refl), ((omega arith, omega arith), tt))
+
+first_moment : moment_by made (asks 0) (marks_asking made (asks 0) first_ten) ≡ 266_400_000
+unfolding balance_in
+first_moment = refl
+
+second_balance : balance_in made history ≡ 0
+unfolding balance_in
+second_balance = refl
+
+second_moment : moment_by made (asks 266_400_000) (marks_asking made (asks 266_400_000) all_twenty) ≡ 532_800_000
+unfolding balance_in
+second_moment = refl
+
+second_delay : delay_of (asks 266_400_000) (paced (asks 266_400_000) (bucket_by made all_twenty)) ≡ Some 532_800_000
+second_delay = refl
+
+-- from the making the bound is met with equality
+rate_met : 4 * least_rtt (calls_in history) * (bytes_in history - made.capacity) ≡ 5 * greatest_window (calls_in history) * (latest_moment (calls_in history) - made.last)
+unfolding balance_in
+rate_met = refl
+
+rate_is : 4 * least_rtt (calls_in history) * (bytes_in history - made.capacity) ≡ 15_984_000_000_000
+unfolding balance_in
+rate_is = refl
