@@ -4,8 +4,29 @@ use Rattle.std.specs.Prelude.{◌&&◌, ◌||◌, ◌==◌, nat_le, if◌then◌
 use Rattle.std.proofs.Math.Nat.{mul-div-le}
 use Rattle.std.proofs.lemmas.Bool.{and_parts, or_from, leb-true, leb-false, lt-leb, eqb-true, ne_eqb, true≢false}
 use Rattle.recovery_pacing.specs.Pacing.{Bucket, PacerCall, capacity_of, credit_of, wait_of, resized, refilled, is_unpaced, may_send, paced, next_moment, delay_of, less_tokens}
-use Rattle.recovery_pacing.specs.PacerLog.{PacerEntry, asked, took, bucket_by, IsPaced, AreChecked, PacerMark, changed, credited, answered, transmitted, window_in, mtu_in, capacity_in, greatest_moment, balance_in, with_change, credit_in, with_refill, marks_by, marks_asking, moment_by, DelaysBy, KeepsRate}
+use Rattle.recovery_pacing.specs.PacerLog.{PacerEntry, asked, took, bucket_by, AreChecked, PacerMark, changed, credited, answered, transmitted, window_in, mtu_in, capacity_in, greatest_moment, balance_in, with_change, credit_in, with_refill, marks_by, marks_asking, moment_by, DelaysBy, KeepsRate}
 use Rattle.recovery_pacing.proofs.BalanceLaws.{NoDebt, AreEarned, no_debt_more, no_debt_less, balance_more, balance_less, balance_is, rate_bound}
+
+-- the window is within 32 bits, and the RTT above zero
+abbrev IsPaced : PacerCall → Type 0
+IsPaced call = (call.window < 2 ^ 32) × (0 < call.rtt)
+
+-- ---- what was transmitted checked
+
+-- the last that happened is that so many bytes were asked for, and not delayed
+abbrev pub HasPassed : Bucket → ℕ → List PacerEntry → Type 0
+HasPassed made bytes [] = ⊥
+HasPassed made bytes (asked call ∷ earlier) =
+    (call.bytes ≡ bytes) × (delay_of call (paced call (bucket_by made earlier)) ≡ None)
+HasPassed made bytes (took other checked ∷ earlier) = ⊥
+
+-- all that was transmitted checked had passed right before
+abbrev pub HavePassed : Bucket → List PacerEntry → Type 0
+HavePassed made [] = Unit {0}
+HavePassed made (asked call ∷ earlier) = HavePassed made earlier
+HavePassed made (took bytes checked ∷ earlier) = (checked ≡ true → HasPassed made bytes earlier) × HavePassed made earlier
+
+-- ---- the ties
 
 module _ (made : Bucket) where
   -- the bucket holds what the history says: its tokens are the balance, its last moment the greatest one
@@ -137,19 +158,20 @@ module _ (made : Bucket) where
       tied_answered made call (with_refill made call (with_change made call past)) (paced call bucket) known.0 known.1 (tied_asking call past bucket t)
 
   -- what the pacer holds is what the history says
-  pub tied_by : (entries : List PacerEntry) → made.tokens ≡ made.capacity → AreChecked made entries → Tied made (marks_by made entries) (bucket_by made entries)
-  tied_by [] full checked = tied_made made full
-  tied_by (asked call ∷ earlier) full checked = tied_paced call (marks_by made earlier) (bucket_by made earlier) (tied_by earlier full checked.1)
-  tied_by (took bytes ∷ []) full checked = absurd checked.0
-  tied_by (took bytes ∷ took other ∷ earlier) full checked = absurd checked.0
-  tied_by (took bytes ∷ asked call ∷ earlier) full checked =
+  pub tied_by : (entries : List PacerEntry) → made.tokens ≡ made.capacity → AreChecked entries → HavePassed made entries → Tied made (marks_by made entries) (bucket_by made entries)
+  tied_by [] full checked passed = tied_made made full
+  tied_by (asked call ∷ earlier) full checked passed = tied_paced call (marks_by made earlier) (bucket_by made earlier) (tied_by earlier full checked.1 passed)
+  tied_by (took bytes flag ∷ []) full checked passed = absurd (passed.0 checked.0)
+  tied_by (took bytes flag ∷ took other before ∷ earlier) full checked passed = absurd (passed.0 checked.0)
+  tied_by (took bytes flag ∷ asked call ∷ earlier) full checked passed =
       let bucket = paced call (bucket_by made earlier) in
-      let low : bytes ≤ bucket.tokens = subst (λ n. n ≤ bucket.tokens) checked.0.0 (passed_is_covered call bucket checked.1.0 checked.0.1) in
-      tied_took made bytes (marks_by made (asked call ∷ earlier)) bucket low (tied_by (asked call ∷ earlier) full checked.1)
+      let pass = passed.0 checked.0 in
+      let low : bytes ≤ bucket.tokens = subst (λ n. n ≤ bucket.tokens) pass.0 (passed_is_covered call bucket checked.1.0 pass.1) in
+      tied_took made bytes (marks_by made (asked call ∷ earlier)) bucket low (tied_by (asked call ∷ earlier) full checked.1 passed.1)
 
   -- a call is delayed exactly by the balance
-  pub delays_by : (earlier : List PacerEntry) (call : PacerCall) → made.tokens ≡ made.capacity → AreChecked made (asked call ∷ earlier) → DelaysBy made earlier call (delay_of call (paced call (bucket_by made earlier)))
-  delays_by earlier call full checked = record {
+  pub delays_by : (earlier : List PacerEntry) (call : PacerCall) → made.tokens ≡ made.capacity → AreChecked (asked call ∷ earlier) → HavePassed made earlier → DelaysBy made earlier call (delay_of call (paced call (bucket_by made earlier)))
+  delays_by earlier call full checked passed = record {
     balance = balance_is made (marks_asking made call earlier) tied.no_debt;
     delayed = go (nat_le call.bytes bucket.tokens) (is_unpaced call) refl (is_bounded call checked.0);
   }
@@ -158,7 +180,7 @@ module _ (made : Bucket) where
       bucket = paced call (bucket_by made earlier)
 
       tied : Tied made (marks_asking made call earlier) bucket
-      tied = tied_asking call (marks_by made earlier) (bucket_by made earlier) (tied_by earlier full checked.1)
+      tied = tied_asking call (marks_by made earlier) (bucket_by made earlier) (tied_by earlier full checked.1 passed)
 
       go : (covered free : Bool) → nat_le call.bytes bucket.tokens ≡ covered → free ≡ false →
           SomeIff (if covered || free then None else Some (next_moment call bucket)) (balance_in made (marks_asking made call earlier) < call.bytes) (moment_by made call (marks_asking made call earlier))
@@ -170,6 +192,6 @@ module _ (made : Bucket) where
       )
 
   -- the pacing bound
-  pub keeps_rate : (entries : List PacerEntry) → made.tokens ≡ made.capacity → AreChecked made entries → KeepsRate made entries
-  keeps_rate entries full checked later past is point =
-      let t = tied_by entries full checked in rate_bound made (marks_by made entries) later past t.no_debt t.earned is point
+  pub keeps_rate : (entries : List PacerEntry) → made.tokens ≡ made.capacity → AreChecked entries → HavePassed made entries → KeepsRate made entries
+  keeps_rate entries full checked passed later past is point =
+      let t = tied_by entries full checked passed in rate_bound made (marks_by made entries) later past t.no_debt t.earned is point

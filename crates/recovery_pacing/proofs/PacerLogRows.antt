@@ -1,5 +1,5 @@
 -- A worked row: what the history of one pacer comes to, computed.
-use Rattle.std.proofs.Common.{◌≡◌, ℕ, zero, suc, ◌-◌, ◌*◌, List, [], ◌∷◌, Some, refl, arith}
+use Rattle.std.proofs.Common.{◌≡◌, ℕ, zero, suc, ◌-◌, ◌*◌, true, List, [], ◌∷◌, Some, refl, arith}
 use Rattle.recovery_pacing.specs.Pacing.{Bucket, PacerCall, bucket_made, paced, delay_of}
 use Rattle.recovery_pacing.specs.PacerLog.{PacerEntry, asked, took, bucket_by, AreChecked, PacerMark, bytes_in, calls_in, greatest_window, least_rtt, latest_moment, balance_in, marks_by, marks_asking, moment_by}
 
@@ -13,7 +13,7 @@ made = bucket_made 333_000_000 12_000 1_200 0
 -- so many packets are checked and sent at a moment
 abbrev sends : ℕ → ℕ → List PacerEntry → List PacerEntry
 sends zero now earlier = earlier
-sends (suc count) now earlier = took 1_200 ∷ asked (asks now) ∷ sends count now earlier
+sends (suc count) now earlier = took 1_200 true ∷ asked (asks now) ∷ sends count now earlier
 
 -- ten packets; the eleventh is delayed; ten more at the moment that it was told
 abbrev first_ten : List PacerEntry
@@ -26,9 +26,13 @@ all_twenty = sends 10 266_400_000 (asked (asks 0) ∷ first_ten)
 abbrev history : List PacerMark
 history = marks_by made (asked (asks 266_400_000) ∷ all_twenty)
 
--- a packet that is checked and sent meets the premise
-first_checked : AreChecked made (sends 1 0 [])
-first_checked = ((refl, refl), ((omega arith, omega arith), tt))
+-- the row meets the premise
+sends_checked : (count now : ℕ) (earlier : List PacerEntry) → AreChecked earlier → AreChecked (sends count now earlier)
+sends_checked zero now earlier checked = checked
+sends_checked (suc count) now earlier checked = (refl, ((omega arith, omega arith), sends_checked count now earlier checked))
+
+all_checked : AreChecked (asked (asks 266_400_000) ∷ all_twenty)
+all_checked = ((omega arith, omega arith), sends_checked 10 266_400_000 (asked (asks 0) ∷ first_ten) ((omega arith, omega arith), sends_checked 10 0 [] tt))
 
 first_moment : moment_by made (asks 0) (marks_asking made (asks 0) first_ten) ≡ 266_400_000
 unfolding balance_in

@@ -1,37 +1,26 @@
 -- What happened to a pacer since it was made, and what it lets pass by that alone (RFC 9002, 7.7). Lists are newest first.
-use Rattle.std.specs.Prelude.{◌≡◌, ℕ, ◌+◌, ◌-◌, ◌*◌, ◌^◌, ◌<◌, ◌≤◌, min, max, ◌&&◌, ◌||◌, ◌==◌, nat_le, if◌then◌else◌, List, [], ◌∷◌, ◌++◌, Option, None, SomeIff}
-use Rattle.recovery_pacing.specs.Pacing.{Bucket, PacerCall, capacity_of, credit_of, wait_of, is_unpaced, paced, delay_of, less_tokens}
+use Rattle.std.specs.Prelude.{◌≡◌, ℕ, ◌+◌, ◌-◌, ◌*◌, ◌^◌, ◌<◌, ◌≤◌, min, max, Bool, true, ◌&&◌, ◌||◌, ◌==◌, nat_le, if◌then◌else◌, List, [], ◌∷◌, ◌++◌, Option, SomeIff}
+use Rattle.recovery_pacing.specs.Pacing.{Bucket, PacerCall, capacity_of, credit_of, wait_of, is_unpaced, paced, less_tokens}
 
 pub data PacerEntry : Type 0 where
   -- may so many bytes be sent?
   asked : (call : PacerCall) → PacerEntry
-  -- so many bytes were transmitted
-  took : (bytes : ℕ) → PacerEntry
+  -- so many bytes were transmitted, after a call or unchecked
+  took : (bytes : ℕ) (checked : Bool) → PacerEntry
 
 -- the bucket after all that, where it was made so
 abbrev pub bucket_by : Bucket → List PacerEntry → Bucket
 bucket_by made [] = made
 bucket_by made (asked call ∷ earlier) = paced call (bucket_by made earlier)
-bucket_by made (took bytes ∷ earlier) = less_tokens bytes (bucket_by made earlier)
+bucket_by made (took bytes checked ∷ earlier) = less_tokens bytes (bucket_by made earlier)
 
 -- ---- the premise
 
--- the window is within 32 bits, and the RTT above zero
-abbrev pub IsPaced : PacerCall → Type 0
-IsPaced call = (call.window < 2 ^ 32) × (0 < call.rtt)
-
--- the last that happened is that so many bytes were asked for, and not delayed
-abbrev pub HasPassed : Bucket → ℕ → List PacerEntry → Type 0
-HasPassed made bytes [] = ⊥
-HasPassed made bytes (asked call ∷ earlier) =
-    (call.bytes ≡ bytes) × (delay_of call (paced call (bucket_by made earlier)) ≡ None)
-HasPassed made bytes (took other ∷ earlier) = ⊥
-
--- all calls are paced, and all that was transmitted was checked: it passed right before
-abbrev pub AreChecked : Bucket → List PacerEntry → Type 0
-AreChecked made [] = Unit {0}
-AreChecked made (asked call ∷ earlier) = IsPaced call × AreChecked made earlier
-AreChecked made (took bytes ∷ earlier) = HasPassed made bytes earlier × AreChecked made earlier
+-- all that was transmitted was checked, and all calls came with a window within 32 bits and an RTT above zero
+abbrev pub AreChecked : List PacerEntry → Type 0
+AreChecked [] = Unit {0}
+AreChecked (asked call ∷ earlier) = ((call.window < 2 ^ 32) × (0 < call.rtt)) × AreChecked earlier
+AreChecked (took bytes checked ∷ earlier) = (checked ≡ true) × AreChecked earlier
 
 -- ---- the history: what each call did, and what was transmitted
 
@@ -165,7 +154,7 @@ module _ (made : Bucket) where
   abbrev pub marks_by : List PacerEntry → List PacerMark
   marks_by [] = []
   marks_by (asked call ∷ earlier) = answered call ∷ with_refill call (with_change call (marks_by earlier))
-  marks_by (took bytes ∷ earlier) = transmitted bytes ∷ marks_by earlier
+  marks_by (took bytes checked ∷ earlier) = transmitted bytes ∷ marks_by earlier
 
   abbrev pub marks_asking : PacerCall → List PacerEntry → List PacerMark
   marks_asking call earlier = with_refill call (with_change call (marks_by earlier))

@@ -1,4 +1,6 @@
+pub mod AllowedLaws
 pub mod BalanceLaws
 pub mod LivePathsLaws
+pub mod PassedLaws
 pub mod PathLogLaws
 pub mod ThreefoldLaws

@@ -1,9 +1,10 @@
 -- What happened on the paths. A path's own part knows of no other path.
 use Rattle.std.specs.Prelude.{ℕ, ◌≡◌, ◌+◌, Bool, true, false, List, [], ◌∷◌, Option, None, Some, option_map}
+use Rattle.std.specs.Option.{ForSome}
 use Rattle.std.specs.declared.net.socket_addr.SocketAddr.{SocketAddr}
 use Rattle.recovery_congestion.specs.Calls.{ControllerCall, content_by}
 use Rattle.recovery_mtud.specs.DiscoveryLog.{MtuCall, discovery_by}
-use Rattle.recovery_pacing.specs.Pacing.{Bucket, PacerCall, paced, less_tokens}
+use Rattle.recovery_pacing.specs.PacerLog.{PacerEntry, asked, took, bucket_by}
 use Rattle.recovery_rtt.specs.Rtt.{rtt_by}
 use Rattle.recovery_paths.specs.declared.live_paths.PathName.{PathName}
 use Rattle.recovery_paths.specs.declared.live_paths.PathName.TheVariants.{Current, Previous}
@@ -29,6 +30,10 @@ on_path_of Previous change paths = record paths { previous = option_map change p
 -- another path is in use, and the one that was is the previous one
 abbrev pub moved_to : {P : Type 0} → P → OfPaths P → OfPaths P
 moved_to path paths = record { current = path; previous = Some paths.current }
+
+-- it holds of each path that lives
+abbrev pub OnEachPath : {P : Type 0} → (P → Type 0) → OfPaths P → Type 0
+OnEachPath Holds paths = Holds paths.current × ForSome paths.previous Holds
 
 abbrev pub each_path : {P Q : Type 0} → (P → Q) → OfPaths P → OfPaths Q
 each_path f paths = record { current = f paths.current; previous = option_map f paths.previous }
@@ -91,10 +96,6 @@ pub record Transmission : Type 0 where
   pub bytes : ℕ
   pub checked : Bool
 
-pub data PacerEntry : Type 0 where
-  asked : (call : PacerCall) → PacerEntry
-  took : (bytes : ℕ) → PacerEntry
-
 pub record PathPast (K : Type 0) : Type 0 where
   -- how many paths were made before it
   pub generation : ℕ
@@ -133,15 +134,10 @@ abbrev pub total_transmitted : List Transmission → ℕ
 total_transmitted [] = 0
 total_transmitted (transmission ∷ earlier) = total_transmitted earlier + transmission.bytes
 
-abbrev pub bucket_by : Bucket → List PacerEntry → Bucket
-bucket_by made [] = made
-bucket_by made (asked call ∷ earlier) = paced call (bucket_by made earlier)
-bucket_by made (took bytes ∷ earlier) = less_tokens bytes (bucket_by made earlier)
-
 abbrev pub past_transmitting : {K : Type 0} → ℕ → Bool → PathPast K → PathPast K
 past_transmitting bytes checked past = record past {
   transmissions = record { bytes = bytes; checked = checked } ∷ past.transmissions;
-  pacing = took bytes ∷ past.pacing;
+  pacing = took bytes checked ∷ past.pacing;
 }
 
 module _ {K : Type 0} (settings : PathSettings K) where

@@ -1,0 +1,40 @@
+-- What was transmitted checked had passed the pacer right before.
+use Rattle.std.proofs.Common.{◌≡◌, true, false, List, [], ◌++◌, None, Some, refl}
+use Rattle.std.proofs.lemmas.Bool.{false≢true}
+use Rattle.recovery_pacing.proofs.PacerLogLaws.{HavePassed}
+use Rattle.recovery_paths.specs.PathMaking.{PathMaking, PathSettings, bucket_of}
+use Rattle.recovery_paths.specs.PathLog.{OnEachPath, PathsEntry, PathEntry, PathPast, Following, pasts_by, each_path, state_of, known_of, past_with, past_following, fresh, goes_on, receives, is_validated, samples, tells, searches, asks, transmits, passes, is_reset}
+use Rattle.recovery_paths.proofs.AllowedLaws.{IsAllowed, IsKept, AreAllowed, kept_after}
+
+-- on one path, since its pacer was made
+abbrev pub HavePassedOn : {K : Type 0} → PathPast K → Type 0
+HavePassedOn past = HavePassed (bucket_of past.making.pacer) past.pacing
+
+none_is_some : {A B : Type 0} {a : A} → None ≡ Some a → B
+none_is_some e = cc
+
+module _ {K : Type 0} (settings : PathSettings K) where
+  passed_law : (entry : PathEntry) (past : PathPast K) → IsAllowed settings.words (state_of settings past) entry → HavePassedOn past → HavePassedOn (past_with settings entry past)
+  passed_law (receives bytes) past allowed passed = passed
+  passed_law is_validated past allowed passed = passed
+  passed_law (samples delay rtt) past allowed passed = passed
+  passed_law (tells call) past allowed passed = passed
+  passed_law (searches call) past allowed passed = passed
+  passed_law (asks now bytes) past allowed passed = passed
+  passed_law (transmits bytes) past allowed passed = (λ checked. absurd (false≢true checked), passed)
+  passed_law (passes now bytes) past allowed passed = (λ checked. (refl, allowed.1), passed)
+  passed_law (is_reset now) past allowed passed = tt
+
+  follows_passed : (following : Following) (past : PathPast K) → HavePassedOn (past_following settings following past)
+  follows_passed (fresh remote limit now) past = tt
+  follows_passed (goes_on remote now) past = tt
+
+  -- an event's entries keep that
+  pub passed_after : (first : PathMaking K) (entries log : List PathsEntry) → let pasts = pasts_by settings first log in
+      AreAllowed settings (each_path (known_of settings) pasts) entries → OnEachPath HavePassedOn pasts → OnEachPath HavePassedOn (pasts_by settings first (entries ++ log))
+  passed_after =
+      let kept : IsKept settings HavePassedOn = record { by_entry = passed_law; following = follows_passed } in
+      kept_after settings HavePassedOn kept
+
+  pub passed_at_first : (first : PathMaking K) → OnEachPath HavePassedOn (pasts_by settings first [])
+  passed_at_first first = (tt, λ past is. none_is_some is)
