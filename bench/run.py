@@ -256,6 +256,76 @@ def black_holes():
         number += 8
 
 
+# ---- what is sent again, and paths
+
+def queues():
+    """A packet with two items is lost, what was in it waits, and is handed out; a probe finds the next packet's."""
+    for i in itertools.count():
+        yield f"send data {moment(i)} 1200 1 - {10**6 + i} {10**6 + i + 1}"
+        yield f"send data {moment(i)} 1200 1 - {10**6 + i + 2}"
+        yield f"lost data {2 * i}"
+        yield "take-pending data"
+        yield "queue-probe data 0"
+        yield "take-pending data"
+        yield f"acked data {moment(i)} {2 * i + 1} 0"
+
+
+def paths():
+    """A packet is in flight on the previous path as another one is used, fresh and going on in turn."""
+    for i in itertools.count():
+        yield f"send data {moment(i)} 1200 1 -"
+        yield f"new-path {moment(i)} 4433 {i % 2}"
+        yield "in-flight previous"
+        yield "datagram-in previous 1200"
+        yield f"acked data {moment(i)} {i} 0"
+        yield "drop-previous"
+        yield f"reset-path {moment(i)}"
+
+
+def all_events():
+    """Every event once, in turn, as a connection goes on: no search for the MTU runs, since the peer takes 1,200 bytes at most."""
+    yield "peer-limit 1200"
+    yield "poll-mtu 0"
+    for i in itertools.count():
+        number = 10**6 + i
+        yield f"received data {moment(i)} {number} 1"
+        yield f"send data {moment(i)} 1200 1 {number} {number}"
+        yield f"send data {moment(i)} 40 0 -"
+        yield f"acked data {moment(i)} {2 * i + 1} 0"
+        yield "queue-probe data 1"
+        yield f"lost data {2 * i}"
+        yield f"losses-done {moment(i)}"
+        yield "take-pending data"
+        yield f"ecn data 1 {number} 0 {i}"
+        yield f"check-ack data {2 * i} {2 * i + 1}"
+        yield "acks-sent data"
+        yield "ack-delay-timeout data"
+        yield f"ack-frequency {number} 3 2000 2"
+        yield f"new-id {number} {number - 1} {i % 256}"
+        yield "next-id"
+        yield "initial-id 7"
+        yield f"issue-ids {moment(i)} {i + 1} 1"
+        yield "id-timeout"
+        yield f"peer-retired {i} 4"
+        yield f"new-path {moment(i)} 4433 {i % 2}"
+        yield "validated current"
+        yield "datagram-in current 1200"
+        yield f"sample 1000000 {10**8 + i * 7919 % 10**8}"
+        yield f"transmit {moment(i)} 1200 1"
+        yield f"pacer-check {moment(i)} 1200"
+        yield f"congestion {moment(i)} {moment(i)} 0 1200"
+        yield f"end-acks {moment(i)} 0 -"
+        yield f"poll-mtu {moment(i)}"
+        yield "in-flight current"
+        yield f"reset-path {moment(i)}"
+        yield "drop-previous"
+        yield f"set-timer idle {moment(i)}"
+        yield "next-timeout"
+        yield "stop-timer idle"
+        yield "discard initial"
+        yield "peer-limit 1200"
+
+
 # ---- timers
 
 def timers():
@@ -308,6 +378,9 @@ INPUTS = [
     Input("connection", connection, beginning=1, quick=True),
     Input("probes", probes, quick=True),
     Input("black_holes", black_holes),
+    Input("queues", queues),
+    Input("paths", paths),
+    Input("all_events", all_events, beginning=2, quick=True),
     Input("timers", timers, quick=True),
     Input("mixed", lambda: in_pairs(received_each(in_blocks, 1), timers())),
 ]

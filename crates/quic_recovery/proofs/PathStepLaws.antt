@@ -1,23 +1,35 @@
--- What an event does to the paths that live is a step of them.
-use Rattle.std.proofs.Common.{◌≡◌, ap, ap₂, ◌∙◌, refl, false, [], ◌∷◌, Option, None, Some, option_map, Ok}
+-- What an event does to the paths that live, and to the search on the one in use, is a step of them.
+use Rattle.std.proofs.Common.{◌≡◌, ℕ, ◌≤◌, ◌^◌, ap, ap₂, ◌∙◌, refl, sym, subst, Bool, true, false, MatchBool, [], ◌∷◌, Option, None, Some, option_map, Ok, Err}
 use Rattle.recovery_base.specs.declared.below.SpaceId.{SpaceId}
+use Rattle.recovery_base.specs.declared.below.SpaceId.TheVariants.{Data}
 use Rattle.recovery_ledger.specs.declared.discarded.DiscardedSpaces.{DiscardedSpaces}
 use Rattle.recovery_ledger.specs.declared.paths.PathLedger.{PathLedger}
 use Rattle.recovery_ledger.specs.Discarded.{is_discarded, DiscardedStep}
+use Rattle.recovery_ledger.specs.InFlight.{Overflows}
 use Rattle.recovery_ledger.specs.Ledger.{tracked_by}
-use Rattle.recovery_ledger.specs.Packets.{Packets}
+use Rattle.recovery_ledger.specs.Packets.{Packet, Packets}
 use Rattle.recovery_ledger.specs.Paths.{generation_of, after_leaving}
 use Rattle.recovery_ledger.specs.SpaceLog.{emptied}
 use Rattle.recovery_ledger.specs.Spaces.{Space, space_of, with_space, space_empties}
+use Rattle.recovery_ledger.specs.Tracked.{forgotten_by}
 use Rattle.recovery_ledger.proofs.ReceivedLaws.{fails}
+use Rattle.recovery_mtud.specs.Discovery.{Discovery, poll_of}
+use Rattle.recovery_mtud.specs.DiscoveryLog.{polls, discovery_after}
 use Rattle.recovery_paths.specs.LivePaths.{on_ledger, ledger_without, paths_without}
-use Rattle.recovery_paths.specs.PathLog.{OfPaths, PathKnown, path_known, paths_known}
-use Rattle.recovery_paths.specs.PathStates.{Path}
-use Rattle.quic_recovery.specs.declared.event.Event.TheVariants.{DiscardSpace}
-use Rattle.quic_recovery.specs.declared.event.Answer.TheVariants.{Done}
+use Rattle.recovery_paths.specs.PathLog.{OfPaths, PathKnown, path_known, paths_known, paths_after, known_with, known_following, on_current, tells}
+use Rattle.recovery_paths.specs.PathStates.{Path, on_state, with_discovery}
+use Rattle.quic_recovery.specs.declared.event.Event.TheVariants.{DiscardSpace, PollMtu, Send}
+use Rattle.quic_recovery.specs.declared.event.Answer.{Answer}
+use Rattle.quic_recovery.specs.declared.event.Answer.TheVariants.{Done, Sent, Probe}
+use Rattle.quic_recovery.specs.declared.event.Refusal.{Refusal}
+use Rattle.quic_recovery.specs.declared.event.Refusal.TheVariants.{NoMemory, NumberTooLarge, NumbersExhausted, SpaceDiscarded, Overflow}
+use Rattle.quic_recovery.specs.Entries.{sending, sent_call}
 use Rattle.quic_recovery.specs.History.{QueueMeaning}
+use Rattle.quic_recovery.specs.Known.{Known, current_in_flight, number_in, packet_now}
 use Rattle.quic_recovery.specs.Parts.{Parts}
-use Rattle.quic_recovery.specs.State.{Changes}
+use Rattle.quic_recovery.specs.Replies.{Answers, Refuses, same_refusal}
+use Rattle.quic_recovery.specs.State.{Changes, Steps, known_to}
+use Rattle.quic_recovery.specs.Told.{InSpace, SendReply, ProbeOutReply}
 use Rattle.quic_recovery.proofs.DriverLaws.{spaces_step, skips_nothing}
 
 -- ---- packets leave the paths: what is known of a path holds no counters
@@ -40,8 +52,7 @@ module _ {K P : Type 0} (packets : Packets P) where
   -- what is known of all paths stays
   pub paths_known_without : (paths : OfPaths (Path K)) → paths_known (paths_without packets paths) ≡ paths_known paths
   paths_known_without paths =
-      let Known : Type 0 = OfPaths (PathKnown K) in
-      let both : PathKnown K → Option (PathKnown K) → Known = λ current previous. record { current = current; previous = previous } in
+      let both : PathKnown K → Option (PathKnown K) → OfPaths (PathKnown K) = λ current previous. record { current = current; previous = previous } in
       ap₂ both (known_without paths.current) (previous_without paths.previous)
 
 -- ---- a space is discarded
@@ -67,3 +78,73 @@ module _ {K Q S M P : Type 0} (q : QueueMeaning Q S P) (old : Parts K P) (space 
     };
     refused = tt;
   }
+
+-- ---- a probe of the MTU is sent
+
+-- causes of refusal in their order, of which the second does not hold, are the others in theirs
+module _ (First Second Third Fourth One Other : Type 0) (none : ¬ Second) (alike : One → Other) where
+  pub but_second : (first second third fourth : Bool)
+      → MatchBool first First ((¬ First) × MatchBool second Second ((¬ Second) × MatchBool third Third ((¬ Third) × MatchBool fourth Fourth ((¬ Fourth) × One))))
+      → MatchBool first First ((¬ First) × MatchBool third Third ((¬ Third) × MatchBool fourth Fourth ((¬ Fourth) × Other)))
+  but_second true second third fourth is = is
+  but_second false true third fourth is = absurd (none is.1)
+  but_second false false true fourth is = (is.0, is.1.1)
+  but_second false false false true is = (is.0, is.1.1)
+  but_second false false false false is = (is.0, (is.1.1.0, (is.1.1.1.0, alike is.1.1.1.1)))
+
+-- want of memory refuses whatever is answered else
+refused_alike : {Q : Type 0} (Grows : Type 0) (One Other : Answer Q → Type 0) (refusal : Refusal) → Answers Grows One (Err refusal) → Answers Grows Other (Err refusal)
+refused_alike Grows One Other NoMemory is = is
+refused_alike Grows One Other other is = is
+
+module _ {K Q S M P : Type 0} (q : QueueMeaning Q S P) (old then : Parts K P) (now size : ℕ) (queue : Q) (frames : M)
+    (empty : q.contents queue ≡ q.words.empty) (due : poll_of now old.paths.current.state.discovery ≡ Some size) where
+  abbrev known : Known K P
+  known = known_to old
+
+  abbrev probe_of : P → Packet P
+  probe_of = packet_now known now size true None
+
+  abbrev Over : P → Type 0
+  Over contents = Overflows (current_in_flight known) (probe_of contents)
+
+  -- where the probe cannot be sent the event is refused likewise
+  pub probe_refused : (refusal : Refusal) → Changes {M = M} q old (Send Data now size true None queue frames) (Err refusal) then → Changes {M = M} q old (PollMtu now) (Err refusal) then
+  probe_refused refusal sent =
+      let Told : P → Type 0 = λ contents. SendReply {Q = Q} (known.spaces Data) (current_in_flight known) (number_in known Data) (probe_of contents) (Err refusal) in
+      let Out : Option ℕ → Type 0 = λ due. InSpace (known.spaces Data) (Refuses NumbersExhausted (2 ^ 62 ≤ known.numbers.next) (ProbeOutReply q known now due)) (Err refusal) in
+      let sent_as : Answer Q = Sent (number_in known Data) (forgotten_by (known.spaces Data).sent (probe_of q.words.empty)) in
+      record {
+        told = subst Out (sym due) (but_second _ _ _ (Over q.words.empty) _ _ (λ large. large) (refused_alike (Unit {0}) (λ answer. answer ≡ sent_as) (λ answer. answer ≡ Probe known.numbers.next size) refusal)
+            (same_refusal refusal SpaceDiscarded) (same_refusal refusal NumberTooLarge) (same_refusal refusal NumbersExhausted) (same_refusal refusal Overflow) (subst Told empty sent.told));
+        steps = sent.steps;
+        refused = sent.refused;
+      }
+
+  -- once it is sent the search goes on from where it was asked
+  pub probe_changes : (number : ℕ) (discovery : Discovery) (path : Path K) (answer : Answer Q) → number ≡ number_in known Data → discovery ≡ discovery_after (polls now number) old.paths.current.state.discovery
+      → path ≡ on_state (with_discovery discovery) then.paths.current → Changes {M = M} q old (Send Data now size true None queue frames) (Ok answer) then
+      → Changes {M = M} q old (PollMtu now) (Ok (Probe number size)) (record then { paths = record then.paths { current = path } })
+  probe_changes number discovery path answer is polled goes_on sent =
+      let Out : Option ℕ → Type 0 = λ due. ProbeOutReply q known now due (Ok (Probe number size)) in
+      let Fitting : P → Type 0 = λ contents. ¬ Over contents in
+      let Sending : P → Type 0 = λ contents. Steps q.words (sending known Data now size true None contents) old then in
+      let steps = subst Sending empty sent.steps in
+      let told : OfPaths (PathKnown K) = paths_after (known_with old.settings) (known_following old.settings) (on_current (tells (sent_call known Data now size)) ∷ []) (paths_known old.paths) in
+      let seen : Discovery → OfPaths (PathKnown K) → OfPaths (PathKnown K) = λ found all. record all { current = record all.current { state = with_discovery found all.current.state } } in
+      record {
+        told = (sent.told.0, (sent.told.1.1.0, subst Out (sym due) (subst Fitting empty sent.told.1.1.1.0, ap (λ n. Probe n size) is)));
+        steps = record {
+          settings = steps.settings;
+          spaces = steps.spaces;
+          discarded = steps.discarded;
+          skipping = steps.skipping;
+          frequency = steps.frequency;
+          timers = steps.timers;
+          remote_ids = steps.remote_ids;
+          local_ids = steps.local_ids;
+          paths = ap (λ (p : Path K). let all : OfPaths (Path K) = record then.paths { current = p } in paths_known all) goes_on ∙ ap (seen discovery) steps.paths ∙ ap (λ found. seen found told) polled;
+          limits = steps.limits;
+        };
+        refused = tt;
+      }
