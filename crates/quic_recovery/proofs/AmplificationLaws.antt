@@ -2,6 +2,7 @@
 use Rattle.std.proofs.Common.{ℕ, ◌≡◌, ◌&&◌, Bool, true, false, cond, List, [], ◌∷◌, ◌++◌, Option, None, Some, Ok, Err, refl}
 use Rattle.recovery_base.specs.declared.below.SpaceId.{SpaceId}
 use Rattle.recovery_congestion.specs.Calls.{ControllerCall}
+use Rattle.recovery_congestion.specs.Controllers.{ControllerWords}
 use Rattle.recovery_ledger.specs.Acks.{Heard}
 use Rattle.recovery_ledger.specs.Packets.{Packet, packet_at}
 use Rattle.recovery_mtud.specs.Discovery.{is_data, reports}
@@ -9,9 +10,10 @@ use Rattle.recovery_mtud.specs.DiscoveryLog.{MtuCall, losses_end, acks as acks_p
 use Rattle.recovery_paths.specs.declared.live_paths.PathName.TheVariants.{Current, Previous}
 use Rattle.recovery_paths.specs.PathLog.{PathsEntry, on_current, tells}
 use Rattle.recovery_paths.specs.PathMaking.{PathSettings}
-use Rattle.recovery_paths.specs.PathStates.{is_blocked, is_path_probe, loss_call}
+use Rattle.recovery_paths.specs.PathStates.{is_blocked, is_path_probe, loss_call, path_delay}
 use Rattle.recovery_paths.specs.Threefold.{AreWithinThreefold}
-use Rattle.recovery_paths.proofs.ThreefoldLaws.{AreAllowed, threefold_after, within_at_first}
+use Rattle.recovery_paths.proofs.AllowedLaws.{AreAllowed}
+use Rattle.recovery_paths.proofs.ThreefoldLaws.{threefold_after, within_at_first}
 use Rattle.quic_recovery.specs.declared.event.Event.{Event}
 use Rattle.quic_recovery.specs.declared.event.Event.TheVariants.{Received, Send, Acked, Lost, AckFrequencyIn, PollMtu, PeerLimit, LossesDone, Transmit, DatagramIn, Validated, Sample, PacerCheck, Congestion, EndAcks, NewPath, ResetPath, DropPrevious}
 use Rattle.quic_recovery.specs.declared.event.Answer.{Answer}
@@ -22,15 +24,19 @@ use Rattle.quic_recovery.specs.Amplification.{pasts_of, KeepsThreefold}
 use Rattle.quic_recovery.specs.Entries.{answered, entries_of, refused, acked_entry, acked_search, lost_search, searched, is_own, logs_of}
 use Rattle.quic_recovery.specs.History.{Beginning, History, QueueMeaning, Reply, ThroughoutFrom, Throughout}
 use Rattle.quic_recovery.specs.Known.{Known, known_by, first_path, settings_of, tracked_known}
-use Rattle.quic_recovery.specs.Told.{Told, ToldBy}
+use Rattle.quic_recovery.specs.Told.{Told, ToldBy, delayed_or}
 
 blocked_is_not_sent : {A Q : Type 0} → (let t : Answer Q = Transmitted in t ≡ Blocked) → A
 blocked_is_not_sent e = cc
 
--- what was transmitted was not blocked
-not_blocked : {Q : Type 0} (blocked : Bool) (otherwise : Answer Q) → Transmitted ≡ cond blocked Blocked otherwise → blocked ≡ false
-not_blocked true otherwise is = blocked_is_not_sent is
-not_blocked false otherwise is = refl
+delayed_is_not_sent : {A Q : Type 0} {until : ℕ} → (let t : Answer Q = Transmitted in t ≡ Delayed until) → A
+delayed_is_not_sent e = cc
+
+-- what was transmitted was neither blocked nor delayed
+sent_freely : {K Q : Type 0} (words : ControllerWords K) (blocked : Bool) (delay : Option ℕ) → (let t : Answer Q = Transmitted in t ≡ cond blocked Blocked (delayed_or words t delay)) → (blocked ≡ false) × (delay ≡ None)
+sent_freely words true delay is = blocked_is_not_sent is
+sent_freely words false None is = (refl, refl)
+sent_freely words false (Some until) is = delayed_is_not_sent is
 
 module _ {K P : Type 0} (settings : PathSettings K) (known : Known K P) where
   searched_allowed : (changes : Bool) (call : MtuCall) → AreAllowed settings known.paths (searched known changes call)
@@ -57,7 +63,9 @@ module _ {K P : Type 0} (settings : PathSettings K) (known : Known K P) where
 
 module _ {K Q S M P : Type 0} (q : QueueMeaning Q S P) (settings : PathSettings K) (heard : SpaceId → Heard) (known : Known K P) where
   answer_allowed : (event : Event Q S M P) (answer : Answer Q) → ToldBy q settings.words heard known event (Ok answer) → AreAllowed settings known.paths (answered q known event answer).paths
-  answer_allowed (Transmit now bytes true) Transmitted told = (not_blocked (is_blocked known.paths.current.state bytes) _ told.1, tt)
+  answer_allowed (Transmit now bytes true) Transmitted told =
+      let path = known.paths.current.state in
+      (sent_freely settings.words (is_blocked path bytes) (path_delay settings.words now bytes path) told.1, tt)
   answer_allowed (Transmit now bytes true) (Delayed until) told = (tt, tt)
   answer_allowed (Transmit now bytes true) answer told = tt
   answer_allowed (Transmit now bytes false) answer told = (tt, tt)
@@ -92,9 +100,20 @@ module _ {K Q S M P : Type 0} (q : QueueMeaning Q S P) (settings : PathSettings 
   refusal_allowed event refusal = tt
 
   -- what an event is to the paths, where it was told so
-  is_allowed : (event : Event Q S M P) (reply : Reply Q) → ToldBy q settings.words heard known event reply → AreAllowed settings known.paths (entries_of q known event reply).paths
+  pub is_allowed : (event : Event Q S M P) (reply : Reply Q) → ToldBy q settings.words heard known event reply → AreAllowed settings known.paths (entries_of q known event reply).paths
   is_allowed event (Ok answer) told = answer_allowed event answer told
   is_allowed event (Err refusal) told = refusal_allowed event refusal
+
+-- what each event keeps, and what holds of an event for that, throughout a run
+module _ {F K Q S M P : Type 0} (beginning : Beginning F K Q S P) (Kept : History Q S M P → Type 0) (Holds : History Q S M P → Event Q S M P → Reply Q → Type 0) where
+  pub throughout_kept : ((before : History Q S M P) (event : Event Q S M P) (reply : Reply Q) → Told beginning before event reply → Kept before → Kept ((event, reply) ∷ before))
+      → ((before : History Q S M P) (event : Event Q S M P) (reply : Reply Q) → Told beginning before event reply → Kept before → Holds before event reply)
+      → (before : History Q S M P) (events : List (Event Q S M P)) (replies : List (Reply Q)) → ThroughoutFrom (Told beginning) before events replies → Kept before → ThroughoutFrom Holds before events replies
+  throughout_kept keeps holds before [] [] told kept = tt
+  throughout_kept keeps holds before (event ∷ events) (reply ∷ replies) told kept =
+      (holds before event reply told.0 kept, throughout_kept keeps holds ((event, reply) ∷ before) events replies told.1 (keeps before event reply told.0 kept))
+  throughout_kept keeps holds before [] (reply ∷ replies) told kept = absurd told
+  throughout_kept keeps holds before (event ∷ events) [] told kept = absurd told
 
 module _ {F K Q S M P : Type 0} (beginning : Beginning F K Q S P) where
   after_one : (before : History Q S M P) (event : Event Q S M P) (reply : Reply Q) → Told beginning before event reply → AreWithinThreefold (pasts_of beginning before) → KeepsThreefold beginning before event reply
@@ -103,14 +122,8 @@ module _ {F K Q S M P : Type 0} (beginning : Beginning F K Q S P) where
       let known = known_by beginning logs in
       threefold_after (settings_of beginning) (first_path beginning) (entries_of beginning.queue known event reply).paths logs.paths (is_allowed beginning.queue (settings_of beginning) _ known event reply told) within
 
-  all_within : (before : History Q S M P) (events : List (Event Q S M P)) (replies : List (Reply Q)) → ThroughoutFrom (Told beginning) before events replies → AreWithinThreefold (pasts_of beginning before) → ThroughoutFrom (KeepsThreefold beginning) before events replies
-  all_within before [] [] told within = tt
-  all_within before (event ∷ events) (reply ∷ replies) told within =
-      let here = after_one before event reply told.0 within in
-      (here, all_within ((event, reply) ∷ before) events replies told.1 here)
-  all_within before [] (reply ∷ replies) told within = absurd told
-  all_within before (event ∷ events) [] told within = absurd told
-
   -- throughout a run
   pub threefold : (events : List (Event Q S M P)) (replies : List (Reply Q)) → Throughout (Told beginning) events replies → Throughout (KeepsThreefold beginning) events replies
-  threefold events replies told = all_within [] events replies told (within_at_first (settings_of beginning) (first_path beginning))
+  threefold events replies told =
+      let within : History Q S M P → Type 0 = λ before. AreWithinThreefold (pasts_of beginning before) in
+      throughout_kept beginning within (KeepsThreefold beginning) after_one after_one [] events replies told (within_at_first (settings_of beginning) (first_path beginning))

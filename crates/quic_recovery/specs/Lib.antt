@@ -6,6 +6,7 @@ pub mod IdReplies
 pub mod Known
 pub mod Logs
 pub mod Numbers
+pub mod Pacing
 pub mod Parts
 pub mod Refusals
 pub mod Replies

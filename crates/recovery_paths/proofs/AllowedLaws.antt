@@ -1,5 +1,5 @@
 -- What checked transmissions keep on one path holds of each path that lives, whatever happens.
-use Rattle.std.proofs.Common.{ℕ, ◌≡◌, false, List, [], ◌∷◌, ◌++◌, Option, None, Some, option_map, refl, subst}
+use Rattle.std.proofs.Common.{◌≡◌, false, List, [], ◌∷◌, ◌++◌, Option, None, Some, option_map, refl, subst}
 use Rattle.std.specs.Option.{ForSome}
 use Rattle.recovery_congestion.specs.Controllers.{ControllerWords}
 use Rattle.recovery_paths.specs.declared.live_paths.PathName.TheVariants.{Current, Previous}

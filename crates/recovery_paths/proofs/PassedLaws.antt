@@ -1,5 +1,5 @@
 -- What was transmitted checked had passed the pacer right before.
-use Rattle.std.proofs.Common.{◌≡◌, true, false, List, [], ◌++◌, None, Some, refl}
+use Rattle.std.proofs.Common.{◌≡◌, List, [], ◌++◌, None, Some, refl}
 use Rattle.std.proofs.lemmas.Bool.{false≢true}
 use Rattle.recovery_pacing.proofs.PacerLogLaws.{HavePassed}
 use Rattle.recovery_paths.specs.PathMaking.{PathMaking, PathSettings, bucket_of}

@@ -1,5 +1,5 @@
 -- Checked transmissions keep the bound on what goes to an address that is not validated.
-use Rattle.std.proofs.Common.{ℕ, ◌≡◌, ◌≤◌, ◌+◌, ◌*◌, ◌&&◌, Bool, true, false, not, nat_lt, List, [], ◌++◌, None, Some, sym, arith}
+use Rattle.std.proofs.Common.{ℕ, ◌≡◌, ◌≤◌, ◌*◌, ◌&&◌, Bool, true, false, not, nat_lt, List, [], ◌++◌, None, Some, sym, arith}
 use Rattle.std.proofs.lemmas.Bool.{ltb-false}
 use Rattle.recovery_paths.specs.PathMaking.{PathMaking, PathSettings}
 use Rattle.recovery_paths.specs.PathLog.{PathsEntry, PathEntry, PathPast, Following, pasts_by, each_path, state_of, known_of, past_with, past_following, fresh, goes_on, receives, is_validated, samples, tells, searches, asks, transmits, passes, is_reset}

@@ -1,0 +1,81 @@
+-- Each pacer delays by its balance and keeps its rate, throughout a run.
+use Rattle.std.proofs.Common.{ℕ, Bool, true, false, cond, List, [], ◌∷◌, Option, None, Some, Ok, Err, refl, sym, subst}
+use Rattle.recovery_pacing.proofs.PacerLogLaws.{delays_by, keeps_rate}
+use Rattle.recovery_paths.specs.PathLog.{OnEachPath, PathPast, state_of}
+use Rattle.recovery_paths.specs.PathMaking.{bucket_of}
+use Rattle.recovery_paths.specs.PathStates.{PathState, pacer_call, path_delay, is_blocked}
+use Rattle.recovery_paths.proofs.PassedLaws.{HavePassedOn, passed_after, passed_at_first}
+use Rattle.quic_recovery.specs.declared.event.Event.{Event}
+use Rattle.quic_recovery.specs.declared.event.Event.TheVariants.{Transmit, PacerCheck}
+use Rattle.quic_recovery.specs.declared.event.Answer.{Answer}
+use Rattle.quic_recovery.specs.declared.event.Answer.TheVariants.{Ready, Transmitted, Blocked}
+use Rattle.quic_recovery.specs.Amplification.{pasts_of}
+use Rattle.quic_recovery.specs.Entries.{entries_of, logs_of}
+use Rattle.quic_recovery.specs.History.{Beginning, History, Reply, Throughout}
+use Rattle.quic_recovery.specs.Known.{known_by, first_path, settings_of}
+use Rattle.quic_recovery.specs.Pacing.{IsByBalance, DelaysByBalance, KeepsPace}
+use Rattle.quic_recovery.specs.Told.{Told, delayed_or}
+use Rattle.quic_recovery.proofs.AmplificationLaws.{is_allowed, throughout_kept}
+
+module _ {F K Q S M P : Type 0} (beginning : Beginning F K Q S P) where
+  -- on each path that lives, what was transmitted checked had passed the pacer
+  abbrev HavePassedThere : History Q S M P → Type 0
+  HavePassedThere history = OnEachPath HavePassedOn (pasts_of beginning history)
+
+  passed_one : (before : History Q S M P) (event : Event Q S M P) (reply : Reply Q) → Told beginning before event reply → HavePassedThere before → HavePassedThere ((event, reply) ∷ before)
+  passed_one before event reply told passed =
+      let logs = logs_of beginning before in
+      let known = known_by beginning logs in
+      passed_after (settings_of beginning) (first_path beginning) (entries_of beginning.queue known event reply).paths logs.paths (is_allowed beginning.queue (settings_of beginning) _ known event reply told) passed
+
+  -- a call of the pacer of the path in use
+  abbrev delay_there : History Q S M P → ℕ → ℕ → Option ℕ
+  delay_there before now bytes = path_delay beginning.words now bytes (state_of (settings_of beginning) (pasts_of beginning before).current)
+
+  abbrev DelaysThere : History Q S M P → ℕ → ℕ → Option ℕ → Type 0
+  DelaysThere before now bytes given = IsByBalance beginning (pasts_of beginning before).current now bytes given
+
+  call_one : (before : History Q S M P) (now bytes : ℕ) → HavePassedThere before → DelaysThere before now bytes (delay_there before now bytes)
+  call_one before now bytes passed checked =
+      let past = (pasts_of beginning before).current in
+      delays_by (bucket_of past.making.pacer) past.pacing (pacer_call beginning.words (state_of (settings_of beginning) past) now bytes) refl checked passed.0
+
+  -- the table's answers to it
+  checks_by : (before : History Q S M P) (now bytes : ℕ) (given : Option ℕ) → DelaysThere before now bytes given → DelaysByBalance beginning before (PacerCheck now bytes) (Ok (delayed_or beginning.words Ready given))
+  checks_by before now bytes None by = by
+  checks_by before now bytes (Some until) by = by
+
+  transmits_by : (before : History Q S M P) (now bytes : ℕ) (blocked : Bool) (given : Option ℕ) → DelaysThere before now bytes given → DelaysByBalance beginning before (Transmit now bytes true) (Ok (cond blocked Blocked (delayed_or beginning.words Transmitted given)))
+  transmits_by before now bytes true given by = tt
+  transmits_by before now bytes false None by = by
+  transmits_by before now bytes false (Some until) by = by
+
+  delays_one : (before : History Q S M P) (event : Event Q S M P) (reply : Reply Q) → Told beginning before event reply → HavePassedThere before → DelaysByBalance beginning before event reply
+  delays_one before (PacerCheck now bytes) (Ok answer) told passed =
+      let D : Answer Q → Type 0 = λ a. DelaysByBalance beginning before (PacerCheck now bytes) (Ok a) in
+      subst D (sym told) (checks_by before now bytes (delay_there before now bytes) (call_one before now bytes passed))
+  delays_one before (PacerCheck now bytes) (Err refusal) told passed = tt
+  delays_one before (Transmit now bytes true) (Ok answer) told passed =
+      let blocked = is_blocked (state_of (settings_of beginning) (pasts_of beginning before).current) bytes in
+      let D : Answer Q → Type 0 = λ a. DelaysByBalance beginning before (Transmit now bytes true) (Ok a) in
+      subst D (sym told.1) (transmits_by before now bytes blocked (delay_there before now bytes) (call_one before now bytes passed))
+  delays_one before (Transmit now bytes true) (Err refusal) told passed = tt
+  delays_one before (Transmit now bytes false) reply told passed = tt
+  delays_one before event reply told passed = tt
+
+  pace_one : (before : History Q S M P) (event : Event Q S M P) (reply : Reply Q) → Told beginning before event reply → HavePassedThere before → KeepsPace beginning before event reply
+  pace_one before event reply told passed =
+      let after = passed_one before event reply told passed in
+      (
+        λ checked. keeps_rate (bucket_of (pasts_of beginning ((event, reply) ∷ before)).current.making.pacer) (pasts_of beginning ((event, reply) ∷ before)).current.pacing refl checked after.0,
+        λ past is checked. keeps_rate (bucket_of past.making.pacer) past.pacing refl checked (after.1 past is),
+      )
+
+  -- throughout a run
+  pub delayed : (events : List (Event Q S M P)) (replies : List (Reply Q)) → Throughout (Told beginning) events replies → Throughout (DelaysByBalance beginning) events replies
+  delayed events replies told =
+      throughout_kept beginning HavePassedThere (DelaysByBalance beginning) passed_one delays_one [] events replies told (passed_at_first (settings_of beginning) (first_path beginning))
+
+  pub rate : (events : List (Event Q S M P)) (replies : List (Reply Q)) → Throughout (Told beginning) events replies → Throughout (KeepsPace beginning) events replies
+  rate events replies told =
+      throughout_kept beginning HavePassedThere (KeepsPace beginning) passed_one pace_one [] events replies told (passed_at_first (settings_of beginning) (first_path beginning))

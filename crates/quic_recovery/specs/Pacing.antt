@@ -1,0 +1,41 @@
+-- Pacing at each moment of a run (RFC 9002, 7.7): what is delayed and until when, and the rate of what goes out. Both are said of
+-- a pacer as long as all transmissions since it was made were checked, at windows within 32 bits and RTTs above zero.
+use Rattle.std.specs.Prelude.{ℕ, true, ◌∷◌, Option, None, Some, Ok}
+use Rattle.recovery_pacing.specs.PacerLog.{asked, AreChecked, DelaysBy, KeepsRate}
+use Rattle.recovery_paths.specs.PathLog.{OnEachPath, PathPast, state_of}
+use Rattle.recovery_paths.specs.PathMaking.{bucket_of}
+use Rattle.recovery_paths.specs.PathStates.{pacer_call}
+use Rattle.quic_recovery.specs.declared.event.Event.{Event}
+use Rattle.quic_recovery.specs.declared.event.Event.TheVariants.{Transmit, PacerCheck}
+use Rattle.quic_recovery.specs.declared.event.Answer.{Answer}
+use Rattle.quic_recovery.specs.declared.event.Answer.TheVariants.{Delayed, Blocked}
+use Rattle.quic_recovery.specs.Amplification.{pasts_of}
+use Rattle.quic_recovery.specs.History.{Beginning, History, Reply}
+use Rattle.quic_recovery.specs.Known.{settings_of}
+
+-- a call of a path's pacer for so many bytes is delayed until this moment, or not, by the balance
+abbrev pub IsByBalance : {F K Q S P : Type 0} → Beginning F K Q S P → PathPast K → ℕ → ℕ → Option ℕ → Type 0
+IsByBalance beginning past now bytes given =
+    let call = pacer_call beginning.words (state_of (settings_of beginning) past) now bytes in
+    AreChecked (asked call ∷ past.pacing) → DelaysBy (bucket_of past.making.pacer) past.pacing call given
+
+-- until when, where the answer is that it is delayed
+abbrev pub delay_in : {Q : Type 0} → Answer Q → Option ℕ
+delay_in (Delayed until) = Some until
+delay_in answer = None
+
+module _ {F K Q S M P : Type 0} (beginning : Beginning F K Q S P) where
+  -- the pacer of the path in use is called where an event asks it, and for a checked transmission that is not blocked
+  abbrev pub DelaysByBalance : History Q S M P → Event Q S M P → Reply Q → Type 0
+  DelaysByBalance history (PacerCheck now bytes) (Ok answer) =
+      IsByBalance beginning (pasts_of beginning history).current now bytes (delay_in answer)
+  DelaysByBalance history (Transmit now bytes true) (Ok Blocked) = Unit {0}
+  DelaysByBalance history (Transmit now bytes true) (Ok answer) =
+      IsByBalance beginning (pasts_of beginning history).current now bytes (delay_in answer)
+  DelaysByBalance history event reply = Unit {0}
+
+  -- after an event, the pacer of each path that lives keeps the rate
+  abbrev pub KeepsPace : History Q S M P → Event Q S M P → Reply Q → Type 0
+  KeepsPace history event reply =
+      OnEachPath (λ past. AreChecked past.pacing → KeepsRate (bucket_of past.making.pacer) past.pacing)
+      (pasts_of beginning ((event, reply) ∷ history))
