@@ -1,9 +1,9 @@
 -- Each pacer delays by its balance and keeps its rate, throughout a run.
 use Rattle.std.proofs.Common.{ℕ, Bool, true, false, cond, List, [], ◌∷◌, Option, None, Some, Ok, Err, refl, sym, subst}
 use Rattle.recovery_pacing.proofs.PacerLogLaws.{delays_by, keeps_rate}
-use Rattle.recovery_paths.specs.PathLog.{OnEachPath, PathPast, state_of}
+use Rattle.recovery_paths.specs.PathLog.{OnEachPath, state_of}
 use Rattle.recovery_paths.specs.PathMaking.{bucket_of}
-use Rattle.recovery_paths.specs.PathStates.{PathState, pacer_call, path_delay, is_blocked}
+use Rattle.recovery_paths.specs.PathStates.{pacer_call, path_delay, is_blocked}
 use Rattle.recovery_paths.proofs.PassedLaws.{HavePassedOn, passed_after, passed_at_first}
 use Rattle.quic_recovery.specs.declared.event.Event.{Event}
 use Rattle.quic_recovery.specs.declared.event.Event.TheVariants.{Transmit, PacerCheck}

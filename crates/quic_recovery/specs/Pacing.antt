@@ -13,7 +13,7 @@ use Rattle.quic_recovery.specs.Amplification.{pasts_of}
 use Rattle.quic_recovery.specs.History.{Beginning, History, Reply}
 use Rattle.quic_recovery.specs.Known.{settings_of}
 
--- a call of a path's pacer for so many bytes is delayed until this moment, or not, by the balance
+-- a call of a path's pacer for so many bytes is answered by the balance: it is delayed until this moment, or it is not
 abbrev pub IsByBalance : {F K Q S P : Type 0} → Beginning F K Q S P → PathPast K → ℕ → ℕ → Option ℕ → Type 0
 IsByBalance beginning past now bytes given =
     let call = pacer_call beginning.words (state_of (settings_of beginning) past) now bytes in
