@@ -104,7 +104,7 @@ module _ {K Q S M P : Type 0} (q : QueueMeaning Q S P) (settings : PathSettings 
   is_allowed event (Ok answer) told = answer_allowed event answer told
   is_allowed event (Err refusal) told = refusal_allowed event refusal
 
--- what each event keeps, and what holds of an event for that, throughout a run
+-- what holds of an event because of what each event keeps holds throughout a run
 module _ {F K Q S M P : Type 0} (beginning : Beginning F K Q S P) (Kept : History Q S M P → Type 0) (Holds : History Q S M P → Event Q S M P → Reply Q → Type 0) where
   pub throughout_kept : ((before : History Q S M P) (event : Event Q S M P) (reply : Reply Q) → Told beginning before event reply → Kept before → Kept ((event, reply) ∷ before))
       → ((before : History Q S M P) (event : Event Q S M P) (reply : Reply Q) → Told beginning before event reply → Kept before → Holds before event reply)
@@ -116,6 +116,7 @@ module _ {F K Q S M P : Type 0} (beginning : Beginning F K Q S P) (Kept : Histor
   throughout_kept keeps holds before (event ∷ events) [] told kept = absurd told
 
 module _ {F K Q S M P : Type 0} (beginning : Beginning F K Q S P) where
+  -- an event keeps the bound
   after_one : (before : History Q S M P) (event : Event Q S M P) (reply : Reply Q) → Told beginning before event reply → AreWithinThreefold (pasts_of beginning before) → KeepsThreefold beginning before event reply
   after_one before event reply told within =
       let logs = logs_of beginning before in

@@ -1,7 +1,8 @@
 -- Each pacer delays by its balance and keeps its rate, throughout a run.
 use Rattle.std.proofs.Common.{ℕ, Bool, true, false, cond, List, [], ◌∷◌, Option, None, Some, Ok, Err, refl, sym, subst}
+use Rattle.recovery_pacing.specs.PacerLog.{AreChecked, KeepsRate}
 use Rattle.recovery_pacing.proofs.PacerLogLaws.{delays_by, keeps_rate}
-use Rattle.recovery_paths.specs.PathLog.{OnEachPath, state_of}
+use Rattle.recovery_paths.specs.PathLog.{OnEachPath, PathPast, state_of}
 use Rattle.recovery_paths.specs.PathMaking.{bucket_of}
 use Rattle.recovery_paths.specs.PathStates.{pacer_call, path_delay, is_blocked}
 use Rattle.recovery_paths.proofs.PassedLaws.{HavePassedOn, passed_after, passed_at_first}
@@ -17,18 +18,23 @@ use Rattle.quic_recovery.specs.Pacing.{IsByBalance, DelaysByBalance, KeepsPace}
 use Rattle.quic_recovery.specs.Told.{Told, delayed_or}
 use Rattle.quic_recovery.proofs.AmplificationLaws.{is_allowed, throughout_kept}
 
+-- a pacer whose checked transmissions had passed keeps its rate
+keeps_pace : {K : Type 0} (past : PathPast K) → HavePassedOn past → AreChecked past.pacing → KeepsRate (bucket_of past.making.pacer) past.pacing
+keeps_pace past passed checked = keeps_rate (bucket_of past.making.pacer) past.pacing refl checked passed
+
 module _ {F K Q S M P : Type 0} (beginning : Beginning F K Q S P) where
   -- on each path that lives, what was transmitted checked had passed the pacer
   abbrev HavePassedThere : History Q S M P → Type 0
   HavePassedThere history = OnEachPath HavePassedOn (pasts_of beginning history)
 
+  -- an event keeps that
   passed_one : (before : History Q S M P) (event : Event Q S M P) (reply : Reply Q) → Told beginning before event reply → HavePassedThere before → HavePassedThere ((event, reply) ∷ before)
   passed_one before event reply told passed =
       let logs = logs_of beginning before in
       let known = known_by beginning logs in
       passed_after (settings_of beginning) (first_path beginning) (entries_of beginning.queue known event reply).paths logs.paths (is_allowed beginning.queue (settings_of beginning) _ known event reply told) passed
 
-  -- a call of the pacer of the path in use
+  -- what the pacer of the path in use answers to a call is by its balance
   abbrev delay_there : History Q S M P → ℕ → ℕ → Option ℕ
   delay_there before now bytes = path_delay beginning.words now bytes (state_of (settings_of beginning) (pasts_of beginning before).current)
 
@@ -40,7 +46,7 @@ module _ {F K Q S M P : Type 0} (beginning : Beginning F K Q S P) where
       let past = (pasts_of beginning before).current in
       delays_by (bucket_of past.making.pacer) past.pacing (pacer_call beginning.words (state_of (settings_of beginning) past) now bytes) refl checked passed.0
 
-  -- the table's answers to it
+  -- and so are the answers that the table gives for it
   checks_by : (before : History Q S M P) (now bytes : ℕ) (given : Option ℕ) → DelaysThere before now bytes given → DelaysByBalance beginning before (PacerCheck now bytes) (Ok (delayed_or beginning.words Ready given))
   checks_by before now bytes None by = by
   checks_by before now bytes (Some until) by = by
@@ -50,6 +56,7 @@ module _ {F K Q S M P : Type 0} (beginning : Beginning F K Q S P) where
   transmits_by before now bytes false None by = by
   transmits_by before now bytes false (Some until) by = by
 
+  -- an event is delayed by the balance
   delays_one : (before : History Q S M P) (event : Event Q S M P) (reply : Reply Q) → Told beginning before event reply → HavePassedThere before → DelaysByBalance beginning before event reply
   delays_one before (PacerCheck now bytes) (Ok answer) told passed =
       let D : Answer Q → Type 0 = λ a. DelaysByBalance beginning before (PacerCheck now bytes) (Ok a) in
@@ -63,13 +70,10 @@ module _ {F K Q S M P : Type 0} (beginning : Beginning F K Q S P) where
   delays_one before (Transmit now bytes false) reply told passed = tt
   delays_one before event reply told passed = tt
 
+  -- after an event each pacer keeps its rate
   pace_one : (before : History Q S M P) (event : Event Q S M P) (reply : Reply Q) → Told beginning before event reply → HavePassedThere before → KeepsPace beginning before event reply
   pace_one before event reply told passed =
-      let after = passed_one before event reply told passed in
-      (
-        λ checked. keeps_rate (bucket_of (pasts_of beginning ((event, reply) ∷ before)).current.making.pacer) (pasts_of beginning ((event, reply) ∷ before)).current.pacing refl checked after.0,
-        λ past is checked. keeps_rate (bucket_of past.making.pacer) past.pacing refl checked (after.1 past is),
-      )
+      let after = passed_one before event reply told passed in (keeps_pace (pasts_of beginning ((event, reply) ∷ before)).current after.0, λ past is. keeps_pace past (after.1 past is))
 
   -- throughout a run
   pub delayed : (events : List (Event Q S M P)) (replies : List (Reply Q)) → Throughout (Told beginning) events replies → Throughout (DelaysByBalance beginning) events replies

@@ -44,6 +44,7 @@ module _ {K : Type 0} (settings : PathSettings K) where
   AreAllowed paths (entry ∷ earlier) =
       IsAllowedOn (paths_after (known_with settings) (known_following settings) earlier paths) entry × AreAllowed paths earlier
 
+  -- where nothing passes, all is allowed
   allowed_anywhere : (entry : PathEntry) (state : PathState K) → PassesNothing entry → IsAllowed settings.words state entry
   allowed_anywhere (passes now bytes) state nothing = absurd nothing
   allowed_anywhere (receives bytes) state nothing = tt
@@ -62,6 +63,7 @@ module _ {K : Type 0} (settings : PathSettings K) where
     previous_kept entry (Some path) nothing holds = λ past is.
         subst Holds (some_same is) (kept.by_entry entry path (allowed_anywhere entry (state_of settings path) nothing) (holds path refl))
 
+    -- an entry keeps it
     entry_kept : (entry : PathsEntry) (pasts : OfPaths (PathPast K)) → IsAllowedOn (each_path (known_of settings) pasts) entry → OnEachPath Holds pasts → OnEachPath Holds (paths_with (past_with settings) (past_following settings) entry pasts)
     entry_kept (on Current entry) pasts allowed holds = (kept.by_entry entry pasts.current allowed holds.0, holds.1)
     entry_kept (on Previous entry) pasts allowed holds = (holds.0, previous_kept entry pasts.previous allowed holds.1)

@@ -14,6 +14,7 @@ none_is_some : {A B : Type 0} {a : A} → None ≡ Some a → B
 none_is_some e = cc
 
 module _ {K : Type 0} (settings : PathSettings K) where
+  -- an entry keeps that
   passed_law : (entry : PathEntry) (past : PathPast K) → IsAllowed settings.words (state_of settings past) entry → HavePassedOn past → HavePassedOn (past_with settings entry past)
   passed_law (receives bytes) past allowed passed = passed
   passed_law is_validated past allowed passed = passed
@@ -25,11 +26,12 @@ module _ {K : Type 0} (settings : PathSettings K) where
   passed_law (passes now bytes) past allowed passed = (λ checked. (refl, allowed.1), passed)
   passed_law (is_reset now) past allowed passed = tt
 
+  -- a path that follows has a new pacer
   follows_passed : (following : Following) (past : PathPast K) → HavePassedOn (past_following settings following past)
   follows_passed (fresh remote limit now) past = tt
   follows_passed (goes_on remote now) past = tt
 
-  -- an event's entries keep that
+  -- an event's entries keep it
   pub passed_after : (first : PathMaking K) (entries log : List PathsEntry) → let pasts = pasts_by settings first log in
       AreAllowed settings (each_path (known_of settings) pasts) entries → OnEachPath HavePassedOn pasts → OnEachPath HavePassedOn (pasts_by settings first (entries ++ log))
   passed_after =

@@ -18,6 +18,7 @@ unblocked true received sent free open_yet = true_is_not_false open_yet
 unblocked false received sent free open_yet = ltb-false (3 * received) sent free
 
 module _ {K : Type 0} (settings : PathSettings K) where
+  -- an entry keeps the bound
   threefold_law : (entry : PathEntry) (past : PathPast K) → IsAllowed settings.words (state_of settings past) entry → IsWithinThreefold past → IsWithinThreefold (past_with settings entry past)
   threefold_law (receives bytes) past allowed within = λ unproved checked. let all = within unproved checked in omega (arith, all)
   threefold_law is_validated past allowed within = λ unproved checked. true_is_not_false unproved
@@ -29,6 +30,7 @@ module _ {K : Type 0} (settings : PathSettings K) where
   threefold_law (passes now bytes) past allowed within = λ unproved checked. unblocked past.validated _ _ allowed.0 unproved
   threefold_law (is_reset now) past allowed within = within
 
+  -- a path that follows begins within it
   follows_within : (following : Following) (past : PathPast K) → IsWithinThreefold (past_following settings following past)
   follows_within (fresh remote limit now) past = λ unproved checked. omega arith
   follows_within (goes_on remote now) past = λ unproved checked. omega arith
