@@ -2,11 +2,12 @@
 ghost use Rattle.std.specs.Prelude.{◌≡◌, ◌<◌};
 ghost use Rattle.recovery_skips.specs.Skips.{IsSkips};
 
+use crate::driver::refusals::{is, Fault, Refusal};
 use crate::tally::Tally;
 use quic_recovery::config::TransportConfig;
 use quic_recovery::congestion::{ControllerFactory, NewRenoConfig};
 use quic_recovery::driver::{Recovery, RecoveryConfig};
-use quic_recovery::event::{PathName, Refusal};
+use quic_recovery::event::PathName;
 use quic_recovery::spaces::PacketSpace;
 use rand_core::{Rng, SeedableRng};
 use rand_pcg::Pcg32;
@@ -26,6 +27,7 @@ mod items;
 mod moves;
 mod paths;
 mod probes;
+mod refusals;
 mod refused_memory;
 mod skips;
 
@@ -36,6 +38,10 @@ type Answer = quic_recovery::event::Answer<Tally>;
 /// A recovery whose controllers are NewReno, and whose skips are drawn from the words of `Pcg32`.
 type Reno = Recovery<NewRenoConfig, Tally, Pcg32>;
 
+/// What an event is replied.
+type Given = Result<Answer, quic_recovery::event::Refusal>;
+
+/// What a row wants.
 type Reply = Result<Answer, Refusal>;
 
 const TOO_LARGE: Reply = Err(Refusal::NumberTooLarge);
@@ -185,12 +191,12 @@ fn fresh(rt: &impl Abort, alloc: Global) -> Reno {
 }
 
 /// Asserts that a row was replied what it wants.
-fn same(rt: &impl Abort, row: u64, reply: &Reply, want: &Reply) {
+fn same(rt: &impl Abort, row: u64, reply: &Given, want: &Reply) {
     assert!(rt;
-        *reply != NO_MEMORY || *want == NO_MEMORY,
+        !is(reply, &NO_MEMORY) || *want == NO_MEMORY,
         "row {row}: NoMemory"
     );
-    assert!(rt; reply == want, "row {row}");
+    assert!(rt; is(reply, want), "row {row}");
 }
 
 /// Asserts what one event is replied.
@@ -258,7 +264,7 @@ where
     }
 }
 
-fn compare(rt: &impl Abort, replies: &[Reply], wanted: &[Reply]) {
+fn compare(rt: &impl Abort, replies: &[Given], wanted: &[Reply]) {
     assert!(rt; replies.len() == wanted.len());
     let mut row = 0u64;
     for (reply, want) in replies.iter().zip(wanted) {
@@ -419,63 +425,4 @@ fn a_refused_event_leaves_no_trace(rt: HostRuntime) {
             (received(SpaceId::Data, 0, true), new(true)),
         ],
     );
-}
-
-/// The refusals with their numbers, names and texts.
-const REFUSALS: [(Refusal, u8, &str, &str); 9] = [
-    (Refusal::NoMemory, 1, "NoMemory", "out of memory"),
-    (
-        Refusal::NumberTooLarge,
-        2,
-        "NumberTooLarge",
-        "a number is 2^62 or more",
-    ),
-    (
-        Refusal::NumbersExhausted,
-        3,
-        "NumbersExhausted",
-        "no packet number is left",
-    ),
-    (
-        Refusal::NotTracked,
-        4,
-        "NotTracked",
-        "the packet is not tracked",
-    ),
-    (
-        Refusal::SpaceDiscarded,
-        5,
-        "SpaceDiscarded",
-        "the space is discarded",
-    ),
-    (
-        Refusal::NoSuchPath,
-        6,
-        "NoSuchPath",
-        "there is no such path",
-    ),
-    (
-        Refusal::Overflow,
-        9,
-        "Overflow",
-        "a counter passes 2^64 - 1",
-    ),
-    (
-        Refusal::SkippedAcked,
-        16,
-        "SkippedAcked",
-        "a skipped packet number is acknowledged",
-    ),
-    (Refusal::Ecn("ECN bleaching"), 17, "Ecn", "ECN bleaching"),
-];
-
-#[test]
-fn refusals_have_numbers_names_and_texts(rt: HostRuntime) -> Result<(), Fail> {
-    for (refusal, number, name, text) in REFUSALS {
-        assert!(rt; refusal.number() == number, "{name}");
-        assert!(rt; refusal.name() == name, "{name}");
-        let printed = format!(in rt.alloc(); "{refusal}")?;
-        assert!(rt; printed.as_str() == text, "{name}");
-    }
-    Ok(())
 }

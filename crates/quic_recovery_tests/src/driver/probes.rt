@@ -20,13 +20,13 @@ const TAKE: Event = Event::TakePending {
     space: SpaceId::Data,
 };
 
-const ECT0_FALLS: Reply = Err(Refusal::Ecn("peer ECT(0) count regression"));
+const ECT0_FALLS: Reply = Err(Refusal::Ecn(Fault::Ect0Falls));
 
-const CE_FALLS: Reply = Err(Refusal::Ecn("peer CE count regression"));
+const CE_FALLS: Reply = Err(Refusal::Ecn(Fault::CeFalls));
 
-const BLEACHED: Reply = Err(Refusal::Ecn("ECN bleaching"));
+const BLEACHED: Reply = Err(Refusal::Ecn(Fault::Bleached));
 
-const CORRUPTED: Reply = Err(Refusal::Ecn("ECN corruption"));
+const CORRUPTED: Reply = Err(Refusal::Ecn(Fault::Corrupted));
 
 fn ecn(newly_acked: u64, ect0: u64, ect1: u64, ce: u64) -> Event {
     Event::Ecn {

@@ -44,13 +44,13 @@ fn traces_in(recovery: &Reno, space: SpaceId) -> Option<Traces> {
 fn send_anyway(rt: &impl Abort, recovery: &mut Reno, space: SpaceId, number: u64) -> bool {
     let before = traces_in(recovery, space);
     let reply = recovery.apply(send(space, 500, true));
-    if reply != NO_MEMORY {
-        assert!(rt; reply == sent(number, None), "at {number}");
+    if !is(&reply, &NO_MEMORY) {
+        assert!(rt; is(&reply, &sent(number, None)), "at {number}");
         return false;
     }
     assert!(rt; traces_in(recovery, space) == before, "at {number}");
     let again = recovery.apply(send(space, 500, true));
-    assert!(rt; again == sent(number, None), "at {number}");
+    assert!(rt; is(&again, &sent(number, None)), "at {number}");
     true
 }
 
@@ -93,13 +93,13 @@ fn a_refused_probe_leaves_no_trace(rt: HostRuntime) -> Result<(), Fail> {
     });
     let before = traces_in(&recovery, SpaceId::Data);
     let reply = recovery.apply(poll());
-    let is_refused = reply == NO_MEMORY;
+    let is_refused = is(&reply, &NO_MEMORY);
     if is_refused {
         assert!(rt; traces_in(&recovery, SpaceId::Data) == before);
         assert!(rt; !recovery.current().mtud.is_searching());
         told(&rt, &mut recovery, 0, poll(), want);
     } else {
-        assert!(rt; reply == want);
+        assert!(rt; is(&reply, &want));
     }
     told(&rt, &mut recovery, 1, poll(), Ok(Answer::NoProbe));
     told(&rt, &mut recovery, 2, CURRENT, in_flight(1326, 1));
@@ -115,11 +115,11 @@ fn twenty_sends(alloc: Global) -> Result<Vec<Event>, NoMemory> {
 }
 
 /// Asserts that each packet that was not refused has the next number: how many there are.
-fn count_sent(rt: &impl Abort, replies: &[Reply]) -> u64 {
+fn count_sent(rt: &impl Abort, replies: &[Given]) -> u64 {
     let mut next = 0u64;
     for reply in replies {
-        if *reply != NO_MEMORY {
-            assert!(rt; *reply == sent(next, None), "at {next}");
+        if !is(reply, &NO_MEMORY) {
+            assert!(rt; is(reply, &sent(next, None)), "at {next}");
             next = next.saturating_add(1);
         }
     }
@@ -157,12 +157,12 @@ fn packet() -> SentPacket<Tally> {
 /// Receives a packet, and once more where memory was refused: whether it was.
 fn receive_anyway(rt: &impl Abort, recovery: &mut Reno, number: u64, arm: bool) -> bool {
     let reply = recovery.apply(received(SpaceId::Data, number, true));
-    if reply != NO_MEMORY {
-        assert!(rt; reply == new(arm), "at {number}");
+    if !is(&reply, &NO_MEMORY) {
+        assert!(rt; is(&reply, &new(arm)), "at {number}");
         return false;
     }
     let again = recovery.apply(received(SpaceId::Data, number, true));
-    assert!(rt; again == new(arm), "at {number}");
+    assert!(rt; is(&again, &new(arm)), "at {number}");
     true
 }
 

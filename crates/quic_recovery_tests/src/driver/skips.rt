@@ -1,4 +1,7 @@
 //! Packet numbers that are skipped (RFC 9000, 21.4).
+ghost use Rattle.std.specs.Prelude.{◌≡◌};
+ghost use Rattle.recovery_skips.specs.Skips.{IsSkips};
+
 use super::*;
 use rand_pcg::Pcg64;
 

@@ -1,0 +1,42 @@
+-- A run is a session.
+use Rattle.std.proofs.Common.{◌≡◌, ℕ, List, Option, None, Some, Result, Ok, Err, IfOk, String, string_bytes, refl, subst}
+use Rattle.std.specs.Prelude.{unwrap_or}
+use Rattle.std.specs.declared.net.socket_addr.SocketAddr.{SocketAddr}
+use Rattle.rand_core.specs.Pcg32Seed.{pcg32_seed}
+use Rattle.rand_core.specs.Steps.{stream_of, steps_u32}
+use Rattle.rand_core.specs.Stream.{Stream}
+use Rattle.rand_pcg.specs.Pcg.{pcg32, pcg32_of_seed}
+use Rattle.recovery_congestion.specs.NewReno.{reno_made, reno_words}
+use Rattle.recovery_congestion.specs.RenoSettings.{RenoSettings}
+use Rattle.quic_recovery.specs.declared.driver.RecoveryConfig.{RecoveryConfig}
+use Rattle.recovery_items.specs.Items.{item_words}
+use Rattle.quic_recovery.specs.History.{begins, queue_meaning, Throughout}
+use Rattle.quic_recovery.specs.Told.{Told}
+use Rattle.recovery_lines.specs.Answers.{Reply, answer_lines}
+use Rattle.recovery_lines.specs.Lines.{ItemEvent, IsAt}
+use Rattle.recovery_replay.specs.Replay.{Session, settings, skips_with, words_with}
+
+-- the generator of a seed gives its words
+pub words_of_seed : (seed : Option ℕ) → stream_of (steps_u32 pcg32) (pcg32_of_seed (pcg32_seed 16 (unwrap_or seed 0))) ≡ words_with seed
+words_of_seed None = refl
+words_of_seed (Some seed) = refl
+
+-- a run that begins with these settings, and of whose replies the lines were written
+pub session : {Z E : Type 0} (seed : Option ℕ) (said : List ItemEvent) (replies : List Reply) (remote : SocketAddr) (config : RecoveryConfig RenoSettings) (start : ℕ) (random : Stream)
+    → IsAt 4433 remote → config ≡ settings remote (skips_with seed) → start ≡ 0 → random ≡ words_with seed
+    → Throughout (Told (begins reno_made reno_words (queue_meaning (λ items. items) item_words) config start random)) said replies
+    → (result : Result (String Z) E) → IfOk result (λ text. string_bytes text ≡ answer_lines replies) → IfOk result (λ text. Session seed (λ events. events ≡ said) (λ lines. string_bytes text ≡ lines))
+session seed said replies remote config start random at is_config is_start is_random told (Ok text) written =
+    let Begun : RecoveryConfig RenoSettings → Type 0 = λ c. Throughout (Told (begins reno_made reno_words (queue_meaning (λ items. items) item_words) c start random)) said replies in
+    let Started : ℕ → Type 0 = λ s. Throughout (Told (begins reno_made reno_words (queue_meaning (λ items. items) item_words) (settings remote (skips_with seed)) s random)) said replies in
+    let Drawn : Stream → Type 0 = λ r. Throughout (Told (begins reno_made reno_words (queue_meaning (λ items. items) item_words) (settings remote (skips_with seed)) 0 r)) said replies in
+    record {
+      events = said;
+      replies = replies;
+      said = refl;
+      remote = remote;
+      at = at;
+      told = subst Drawn is_random (subst Started is_start (subst Begun is_config told));
+      written = written;
+    }
+session seed said replies remote config start random at is_config is_start is_random told (Err error) written = tt
