@@ -3,3 +3,4 @@ mod PacingRows
 mod BalanceLaws
 pub mod PacerLogLaws
 mod PacerLogRows
+pub mod ProgressLaws

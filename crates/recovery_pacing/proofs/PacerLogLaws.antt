@@ -119,7 +119,7 @@ resized-knows call old = go ((call.window == old.window) && (call.mtu == old.mtu
     go true is = let both = and_parts _ _ is in (sym (eqb-true call.window old.window both.0), sym (eqb-true call.mtu old.mtu both.1))
     go false is = (refl, refl)
 
-paced-knows : (call : PacerCall) (old : Bucket) → ((paced call old).window ≡ call.window) × ((paced call old).mtu ≡ call.mtu)
+pub paced-knows : (call : PacerCall) (old : Bucket) → ((paced call old).window ≡ call.window) × ((paced call old).mtu ≡ call.mtu)
 paced-knows call old = go (may_send call bucket)
   where
     bucket : Bucket

@@ -1,3 +1,4 @@
 pub mod Pacing
 pub mod Pacers
 pub mod PacerLog
+pub mod Progress

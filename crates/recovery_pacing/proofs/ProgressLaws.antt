@@ -1,0 +1,111 @@
+-- What was delayed passes in time.
+use Rattle.std.proofs.Common.{◌≡◌, ℕ, ◌+◌, ◌-◌, ◌*◌, ◌/◌, ◌%◌, ◌^◌, ◌<◌, ◌≤◌, min, max, nat_le, Bool, true, false, ◌&&◌, ◌||◌, ◌==◌, cond, None, Some, refl, sym, ap, ap₂, ◌∙◌, arith}
+use Rattle.std.proofs.Math.Nat.{div-add-mod, mod-lt, mul-le-mul_left, mul-le-mul_right}
+use Rattle.std.proofs.lemmas.Bool.{or_parts, leb-false, le-leb, eq-eqb, eqb-false}
+use Rattle.std.proofs.lemmas.Nat.{le-div}
+use Rattle.recovery_pacing.specs.Pacing.{Bucket, PacerCall, longest_span, credit_of, wait_of, resized, refilled, may_send, capacity_of, is_unpaced, paced, next_moment, delay_of}
+use Rattle.recovery_pacing.proofs.PacerLogLaws.{paced-knows}
+use Rattle.recovery_pacing.specs.Progress.{AsksAgain, PassesInTime}
+
+-- in the time of the wait and the slack the bytes that were short have come
+waited : (rtt window short elapsed : ℕ) → 0 < rtt → 0 < window → rtt * short ≤ longest_span → wait_of rtt window short + 4 ≤ elapsed → short ≤ credit_of rtt window elapsed
+waited rtt window short elapsed some_rtt some_window uncut waits = le-div short (5 * window * elapsed) (4 * rtt) (omega (arith, some_rtt)) enough
+  where
+    q : ℕ
+    q = rtt * short / window
+
+    whole : rtt * short + 1 ≤ (q + 1) * window
+    whole = let e = div-add-mod (rtt * short) window in let lt = mod-lt (rtt * short) some_window in omega (arith, e, lt)
+
+    fifth : q + 1 ≤ 5 * (q / 5 + 1)
+    fifth = let e = div-add-mod q 5 in let lt : q % 5 < 5 = mod-lt q (omega arith) in omega (arith, e, lt)
+
+    same : wait_of rtt window short ≡ 4 * (q / 5)
+    same = let least : min (rtt * short) longest_span ≡ rtt * short = omega (arith, uncut) in ap (λ (n : ℕ). 4 * (n / window / 5)) least
+
+    longer : 4 * (q / 5) + 4 ≤ elapsed
+    longer = omega (arith, waits, same)
+
+    enough : short * (4 * rtt) ≤ 5 * window * elapsed
+    enough =
+        let fifths = mul-le-mul_right window fifth in
+        let spans = mul-le-mul_left (5 * window) longer in
+        omega (arith, whole, fifths, spans)
+
+-- the same call computes no capacity anew
+resized_again : (call later : PacerCall) (bucket : Bucket) → AsksAgain call later → (bucket.window ≡ call.window) × (bucket.mtu ≡ call.mtu) → resized later.rtt later.window later.mtu bucket ≡ bucket
+resized_again call later bucket again knows = ap (λ (same : Bool). cond same bucket anew) (ap₂ (λ (a b : Bool). a && b) (equal later.window bucket.window (again.window ∙ sym knows.0)) (equal later.mtu bucket.mtu (again.mtu ∙ sym knows.1)))
+  where
+    anew : Bucket
+    anew = record bucket { capacity = capacity_of later.rtt later.window later.mtu; window = later.window; mtu = later.mtu; tokens = min (capacity_of later.rtt later.window later.mtu) bucket.tokens }
+
+    equal : (a b : ℕ) → a ≡ b → (a == b) ≡ true
+    equal a b same = eq-eqb a b same
+
+-- a call that is delayed is paced, and the tokens do not cover it
+short_of : (call : PacerCall) (bucket : Bucket) (until : ℕ) → delay_of call bucket ≡ Some until → (may_send call bucket ≡ false) × (until ≡ next_moment call bucket)
+short_of call bucket until delays = go (may_send call bucket) refl delays
+  where
+    none_is_some : {A : Type 0} → None ≡ Some until → A
+    none_is_some e = cc
+
+    some_same : (a : ℕ) → Some a ≡ Some until → until ≡ a
+    some_same a e = cc
+
+    go : (pass : Bool) → may_send call bucket ≡ pass → cond pass None (Some (next_moment call bucket)) ≡ Some until → (may_send call bucket ≡ false) × (until ≡ next_moment call bucket)
+    go true is delays = none_is_some delays
+    go false is delays = (is, some_same (next_moment call bucket) delays)
+
+pub passes_in_time : (call : PacerCall) (old : Bucket) → 0 < call.window → PassesInTime call old
+passes_in_time call old some_window until later delays again reach late before_end = goes (may_send later bucket) refl
+  where
+    bucket : Bucket
+    bucket = paced call old
+
+    short : (may_send call bucket ≡ false) × (until ≡ next_moment call bucket)
+    short = short_of call bucket until delays
+
+    uncovered : (nat_le call.bytes bucket.tokens ≡ false) × (is_unpaced call ≡ false)
+    uncovered = or_parts (nat_le call.bytes bucket.tokens) (is_unpaced call) short.0
+
+    lacks : bucket.tokens < call.bytes
+    lacks = leb-false call.bytes bucket.tokens uncovered.0
+
+    some_rtt : 0 < call.rtt
+    some_rtt = let none = eqb-false call.rtt 0 (or_parts (nat_le (2 ^ 32) call.window) (call.rtt == 0) uncovered.1).1 in omega (arith, none)
+
+    lacking : ℕ
+    lacking = bucket.capacity - bucket.tokens
+
+    moment : until ≡ min (bucket.last + wait_of call.rtt call.window lacking) (2 ^ 64 - 1)
+    moment = let most : max call.bytes bucket.capacity - bucket.tokens ≡ lacking = let fits = reach.fits in omega (arith, fits) in
+        short.1 ∙ ap (λ (n : ℕ). min (bucket.last + wait_of call.rtt call.window n) (2 ^ 64 - 1)) most
+
+    elapsed : wait_of call.rtt call.window lacking + 4 ≤ later.now - bucket.last
+    elapsed = omega (arith, moment, late, before_end)
+
+    at_most : lacking ≤ bucket.capacity
+    at_most = omega arith
+
+    within : call.rtt * lacking ≤ longest_span
+    within = let uncut = reach.uncut in let less = mul-le-mul_left call.rtt at_most in omega (arith, uncut, less)
+
+    credited : lacking ≤ credit_of call.rtt call.window (later.now - bucket.last)
+    credited = waited call.rtt call.window lacking (later.now - bucket.last) some_rtt some_window within elapsed
+
+    after : Bucket
+    after = refilled call.rtt call.window later.now bucket
+
+    covers : call.bytes ≤ after.tokens
+    covers = let fits = reach.fits in omega (arith, credited, fits, lacks)
+
+    goes : (pass : Bool) → may_send later bucket ≡ pass → delay_of later (paced later bucket) ≡ None
+    goes pass is = ap (λ (b : Bucket). delay_of later (cond (may_send later b) b (refilled later.rtt later.window later.now b))) (resized_again call later bucket again (paced-knows call old)) ∙ by_test pass is
+      where
+        passing : (b : Bucket) → later.bytes ≤ b.tokens → delay_of later b ≡ None
+        passing b enough = ap (λ (c : Bool). cond (c || is_unpaced later) None (Some (next_moment later b))) (le-leb later.bytes b.tokens enough)
+
+        by_test : (pass : Bool) → may_send later bucket ≡ pass → delay_of later (cond (may_send later bucket) bucket (refilled later.rtt later.window later.now bucket)) ≡ None
+        by_test true is = ap (λ (c : Bool). delay_of later (cond c bucket (refilled later.rtt later.window later.now bucket))) is ∙ ap (λ (c : Bool). cond c None (Some (next_moment later bucket))) is
+        by_test false is = ap (λ (c : Bool). delay_of later (cond c bucket (refilled later.rtt later.window later.now bucket))) is
+            ∙ passing (refilled later.rtt later.window later.now bucket) (let same = again.bytes in let credit = ap₂ (λ (r w : ℕ). credit_of r w (later.now - bucket.last)) again.rtt again.window in omega (arith, covers, same, credit))
