@@ -80,9 +80,9 @@ module _ {K Q S M P : Type 0} (q : QueueMeaning Q S P) (old : Parts K P) (balanc
       → Changes q old (Send space now size ack_eliciting largest_acked queue frames) (Ok (Sent number forgotten)) (record old { spaces = with_space old.spaces space there; skipping = skipping; paths = paths })
   send_changes generation number there skipping paths forgotten own is left fits gone sends draws tells =
       let Reached : ℕ → Type 0 = λ g.
-          (¬ Overflows (counters_of old.paths.current.ledger) (packet_at_generation g)) → forgotten ≡ entry_number (forgotten_entry (packet_at_generation g) (tracking_of here_then))
-          → there ≡ space_sends number (packet_at_generation g) here_then → paths ≡ paths_telling (packet_at_generation g) here_then (after_telling old.settings.words (sends_bytes now size number)) old.paths
-          → Changes q old (Send space now size ack_eliciting largest_acked queue frames) (Ok (Sent number forgotten)) (record old { spaces = with_space old.spaces space there; skipping = skipping; paths = paths }) in
+      (¬ Overflows (counters_of old.paths.current.ledger) (packet_at_generation g)) → forgotten ≡ entry_number (forgotten_entry (packet_at_generation g) (tracking_of here_then))
+      → there ≡ space_sends number (packet_at_generation g) here_then → paths ≡ paths_telling (packet_at_generation g) here_then (after_telling old.settings.words (sends_bytes now size number)) old.paths
+      → Changes q old (Send space now size ack_eliciting largest_acked queue frames) (Ok (Sent number forgotten)) (record old { spaces = with_space old.spaces space there; skipping = skipping; paths = paths }) in
       subst Reached (sym own) by_own fits gone sends tells
     where
       by_own : (¬ Overflows (counters_of old.paths.current.ledger) (packet_at_generation (generation_of old.paths.current.ledger))) → forgotten ≡ entry_number (forgotten_entry (packet_at_generation (generation_of old.paths.current.ledger)) (tracking_of here_then))
@@ -98,7 +98,7 @@ module _ {K Q S M P : Type 0} (q : QueueMeaning Q S P) (old : Parts K P) (balanc
           let above_known : next_number_of here_then ≤ number_in (known_to old) space = omega (arith, above, is, is_known) in
           let step = sends ∙ ap (λ (n : ℕ). space_sends n packet here_then) is_known in
           let told = ap (λ (p : OfPaths (Path K)). paths_known p) tells ∙ telling_known packet here_then (after_telling old.settings.words (sends_bytes now size number)) old.paths
-              ∙ ap (λ (n : ℕ). known_as packet here_then (after_telling old.settings.words (sends_bytes now size n)) old.paths (generation_of old.paths.current.ledger) (option_map path_known old.paths.previous)) is_known in
+          ∙ ap (λ (n : ℕ). known_as packet here_then (after_telling old.settings.words (sends_bytes now size n)) old.paths (generation_of old.paths.current.ledger) (option_map path_known old.paths.previous)) is_known in
           sent_changes q old space now size ack_eliciting largest_acked queue frames there skipping paths number forgotten live small small_number
           (subst Fits balanced.current fits) is_known (gone ∙ entry_number_of (tracking_of here_then).last_eliciting packet (packets_of here_then)) (above_known, step)
           (number_skips old.spaces space (number_in (known_to old) space) packet old.skipping skipping (sym (number_known old space)) draws) told

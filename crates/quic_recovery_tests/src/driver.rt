@@ -2,7 +2,7 @@
 ghost use Rattle.std.specs.Prelude.{◌≡◌, ◌<◌};
 ghost use Rattle.recovery_skips.specs.Skips.{IsSkips};
 
-use crate::driver::refusals::{is, Fault, Refusal};
+use crate::driver::refusals::{Fault, Refusal, is};
 use crate::tally::Tally;
 use quic_recovery::config::TransportConfig;
 use quic_recovery::congestion::{ControllerFactory, NewRenoConfig};

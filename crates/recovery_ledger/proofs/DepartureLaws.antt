@@ -57,14 +57,14 @@ module _ {P : Type 0} (left : ℕ → ℕ) (sent : Sent P) (come : CameOnce left
     once = λ other.
         let sum = sum-sent_onto (λ entry. one_if_same entry.0 other) sent.last number packet sent.tracked in
         elim (same_numbers number other) [
-          inl zero_more ↦ (let one = come.once other in omega (arith, sum, zero_more, one))
-        | inr is ↦ (let none = come.none other (omega (arith, is.0, new)) in omega (arith, sum, is.1, none))
+          | inl zero_more ↦ (let one = come.once other in omega (arith, sum, zero_more, one))
+          | inr is ↦ (let none = come.none other (omega (arith, is.0, new)) in omega (arith, sum, is.1, none))
         ];
     none = λ other late.
         let sum = sum-sent_onto (λ entry. one_if_same entry.0 other) sent.last number packet sent.tracked in
         elim (same_numbers number other) [
-          inl zero_more ↦ (let none = come.none other (omega (arith, late, new)) in omega (arith, sum, zero_more, none))
-        | inr is ↦ absurd (omega (arith, late, is.0))
+          | inl zero_more ↦ (let none = come.none other (omega (arith, late, new)) in omega (arith, sum, zero_more, none))
+          | inr is ↦ absurd (omega (arith, late, is.0))
         ];
   }
 

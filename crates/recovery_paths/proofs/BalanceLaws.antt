@@ -126,7 +126,7 @@ module _ {K P : Type 0} (spaces : Spaces P) (paths : OfPaths (Path K)) (balanced
       (balanced_sent spaces paths.current.ledger balanced.current space packet here number forgotten tracking refl own)
       (λ path is. generation_after_forgetting path.ledger forgotten)
       (λ path is. balanced_sent_elsewhere spaces path.ledger (balanced.previous path is) space packet here number forgotten tracking refl
-          (λ same. let lt = balanced.older path is in absurd (omega (arith, lt, same, own))))
+      (λ same. let lt = balanced.older path is in absurd (omega (arith, lt, same, own))))
       (up_to_here space here (subst Up (sym packets) (up_to_sent (generation_of paths.current.ledger) old.last_eliciting number packet old.packets (balanced.up_to space) (omega (arith, own)))))
       (coherent_with spaces space here balanced.coherent (coherent_sent (space_of space spaces) here (balanced.coherent space) received number packet above small tracking next))
 

@@ -111,18 +111,8 @@ const REFUSALS: [(Cause, u8, &str, &str); 8] = [
         "SpaceDiscarded",
         "the space is discarded",
     ),
-    (
-        Cause::NoSuchPath,
-        6,
-        "NoSuchPath",
-        "there is no such path",
-    ),
-    (
-        Cause::Overflow,
-        9,
-        "Overflow",
-        "a counter passes 2^64 - 1",
-    ),
+    (Cause::NoSuchPath, 6, "NoSuchPath", "there is no such path"),
+    (Cause::Overflow, 9, "Overflow", "a counter passes 2^64 - 1"),
     (
         Cause::SkippedAcked,
         16,

@@ -5,11 +5,25 @@ use Rattle.quic_recovery.proofs.ProbeStepLaws.{skip_acked, acks_skip}
 use Rattle.quic_recovery.proofs.driver.Recovery.check_ack.Goals as goal
 
 pub returns-in-Ok : goal.returns-in-Ok
-returns-in-Ok g c =
-    (fails _ (sym c.if-contains.ensures), ((λ large. absurd (omega (arith, large, c.if-high-ge-NUMBER_LIMIT.false))), ((λ less. absurd (omega (arith, less, c.if-low-high.false))),
-    ((λ acked. c.in-Ok.ensures (acks_skip (known_to (parts_of c.args.self.now)) c.new.result c.args.low c.args.high c.new.ensures.start c.new.ensures.end c.new.ensures.exhausted c.args.space acked)), refl))))
+returns-in-Ok g c = (
+  fails _ (sym c.if-contains.ensures),
+  (
+    (λ large. absurd (omega (arith, large, c.if-high-ge-NUMBER_LIMIT.false))),
+    (
+      (λ less. absurd (omega (arith, less, c.if-low-high.false))),
+      ((λ acked. c.in-Ok.ensures (acks_skip (known_to (parts_of c.args.self.now)) c.new.result c.args.low c.args.high c.new.ensures.start c.new.ensures.end c.new.ensures.exhausted c.args.space acked)), refl),
+    ),
+  ),
+)
 
 pub returns-in-Err : goal.returns-in-Err
-returns-in-Err g c =
-    (fails _ (sym c.if-contains.ensures), ((λ large. absurd (omega (arith, large, c.if-high-ge-NUMBER_LIMIT.false))), ((λ less. absurd (omega (arith, less, c.if-low-high.false))),
-    skip_acked (known_to (parts_of c.args.self.now)) c.new.result c.args.low c.args.high c.new.ensures.start c.new.ensures.end c.new.ensures.exhausted c.args.space c.in-Err.ensures.0)))
+returns-in-Err g c = (
+  fails _ (sym c.if-contains.ensures),
+  (
+    (λ large. absurd (omega (arith, large, c.if-high-ge-NUMBER_LIMIT.false))),
+    (
+      (λ less. absurd (omega (arith, less, c.if-low-high.false))),
+      skip_acked (known_to (parts_of c.args.self.now)) c.new.result c.args.low c.args.high c.new.ensures.start c.new.ensures.end c.new.ensures.exhausted c.args.space c.in-Err.ensures.0,
+    ),
+  ),
+)

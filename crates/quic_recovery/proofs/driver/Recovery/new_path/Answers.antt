@@ -24,7 +24,7 @@ pub invariant_of-self : goal.invariant_of-self
 invariant_of-self g c =
     let now = c.args.self.now in
     let ledger : c.if-fresh.path.ledger ≡ fresh_ledger c.in-Some.generation = elim c.if-fresh.branch [
-      then-fresh w ↦ ap (λ (p : Path _). p.ledger) w.path-is ∙ w.new-path.ensures.ledger
+      | then-fresh w ↦ ap (λ (p : Path _). p.ledger) w.path-is ∙ w.new-path.ensures.ledger
       | else-fresh+in-Ok w ↦ ap (λ (p : Path _). p.ledger) w.path-is ∙ w.in-Ok.ensures.ledger
     ] in
     let next : c.in-Some.generation ≡ generation_of now.paths.current.ledger + 1 = search (rules, c.in-Some.ensures) in

@@ -17,7 +17,7 @@ returns g c =
     let due : poll_of now old.paths.current.state.discovery ≡ Some c.in-Some.size = search rules in
     let polled : discovery ≡ discovery_after (polls now number) old.paths.current.state.discovery = search rules in
     elim c.match-send.branch [
-      in-Ok w ↦ rw (w.result-is, w.self-is) (probe_changes q old _ now c.in-Some.size c.empty-queue.result c.default-frames.result c.empty-queue.ensures due
+      | in-Ok w ↦ rw (w.result-is, w.self-is) (probe_changes q old _ now c.in-Some.size c.empty-queue.result c.default-frames.result c.empty-queue.ensures due
           number discovery w.search_on-in-Ok.new.self _ c.number_in-number.ensures polled w.search_on-in-Ok.ensures (rw (← c.self-2.view_is) at w.in-Ok.ensures))
       | in-Err w ↦ rw (w.result-is, w.self-is) (probe_refused q old (parts_of c.send.new.self) now c.in-Some.size c.empty-queue.result c.default-frames.result c.empty-queue.ensures due w.in-Err.refusal w.in-Err.ensures)
     ]

@@ -65,8 +65,8 @@ returns g c =
     let gone = c.in-Ok.ensures.forgotten ∙ ap (λ (s : Space _). forgotten_entry packet (tracking_of s)) there in
     let counts = c.in-Ok.ensures.paths ∙ ap (λ (gone : Option (ℕ × Packet _)). paths_after_sending packet gone old.paths) gone in
     let tells = c.on_sent-2.ensures
-        ∙ ap (λ (n : ℕ). on_path_of Current (on_state (after_telling words (sends_bytes c.args.now n c.number_behind-number.result))) c.sent.new.self) c.from.ensures
-        ∙ ap (λ (all : OfPaths (Path _)). on_path_of Current (on_state (after_telling words (sends_bytes c.args.now c.args.size c.number_behind-number.result))) all) counts in
+    ∙ ap (λ (n : ℕ). on_path_of Current (on_state (after_telling words (sends_bytes c.args.now n c.number_behind-number.result))) c.sent.new.self) c.from.ensures
+    ∙ ap (λ (all : OfPaths (Path _)). on_path_of Current (on_state (after_telling words (sends_bytes c.args.now c.args.size c.number_behind-number.result))) all) counts in
     send_changes (queue_meaning g.Q.RetransmitQueue.contents g.Q.RetransmitQueue.words) old c.args.self.now.balanced c.args.space c.args.now c.args.size c.args.ack_eliciting c.args.largest_acked c.args.queue c.args.stream_frames
     (sym c.if-contains.ensures) (λ large. fails _ (c.if-is_too_large.false) (c.is_too_large.ensures.1 large))
     c.generation.result c.number_behind-number.result c.on_sent.new.self _ _ c.number_of.result
