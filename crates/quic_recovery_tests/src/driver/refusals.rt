@@ -1,6 +1,8 @@
 //! The refusals that rows want, whose texts are told by name: rows are handed on by value, and hold no references.
 use super::{Given, Reply};
 use quic_recovery::event::Refusal as Cause;
+use std::alloc::Global;
+use std::process::Abort;
 use std::test::Fail;
 
 /// A refusal, by its name.
@@ -84,59 +86,89 @@ fn fault_of(text: &str) -> Fault {
     }
 }
 
-/// The refusals with their numbers, names and texts.
-const REFUSALS: [(Cause, u8, &str, &str); 8] = [
-    (Cause::NoMemory, 1, "NoMemory", "out of memory"),
-    (
-        Cause::NumberTooLarge,
-        2,
-        "NumberTooLarge",
-        "a number is 2^62 or more",
-    ),
-    (
-        Cause::NumbersExhausted,
-        3,
-        "NumbersExhausted",
-        "no packet number is left",
-    ),
-    (
-        Cause::NotTracked,
-        4,
-        "NotTracked",
-        "the packet is not tracked",
-    ),
-    (
-        Cause::SpaceDiscarded,
-        5,
-        "SpaceDiscarded",
-        "the space is discarded",
-    ),
-    (Cause::NoSuchPath, 6, "NoSuchPath", "there is no such path"),
-    (Cause::Overflow, 9, "Overflow", "a counter passes 2^64 - 1"),
-    (
-        Cause::SkippedAcked,
-        16,
-        "SkippedAcked",
-        "a skipped packet number is acknowledged",
-    ),
-];
-
-#[test]
-fn refusals_have_numbers_names_and_texts(rt: HostRuntime) -> Result<(), Fail> {
-    for (refusal, number, name, text) in REFUSALS {
-        assert!(rt; refusal.number() == number, "{name}");
-        assert!(rt; refusal.name() == name, "{name}");
-        let printed = format!(in rt.alloc(); "{refusal}")?;
-        assert!(rt; printed.as_str() == text, "{name}");
-    }
+/// Asserts the number, the name and the text of a refusal.
+fn told_as(
+    rt: &impl Abort,
+    alloc: Global,
+    refusal: Cause,
+    number: u8,
+    name: &str,
+    text: &str,
+) -> Result<(), Fail> {
+    assert!(rt; refusal.number() == number, "{name}");
+    assert!(rt; refusal.name() == name, "{name}");
+    let printed = format!(in alloc; "{refusal}")?;
+    assert!(rt; printed.as_str() == text, "{name}");
     Ok(())
 }
 
 #[test]
-fn the_refusal_of_counts_has_its_text(rt: HostRuntime) -> Result<(), Fail> {
-    let refusal = Cause::Ecn("ECN bleaching");
-    assert!(rt; refusal.number() == 17 && refusal.name() == "Ecn");
-    let printed = format!(in rt.alloc(); "{refusal}")?;
-    assert!(rt; printed.as_str() == "ECN bleaching");
+fn refusals_have_numbers_names_and_texts(rt: HostRuntime) -> Result<(), Fail> {
+    let alloc = rt.alloc();
+    told_as(&rt, alloc, Cause::NoMemory, 1, "NoMemory", "out of memory")?;
+    told_as(
+        &rt,
+        alloc,
+        Cause::NumberTooLarge,
+        2,
+        "NumberTooLarge",
+        "a number is 2^62 or more",
+    )?;
+    told_as(
+        &rt,
+        alloc,
+        Cause::NumbersExhausted,
+        3,
+        "NumbersExhausted",
+        "no packet number is left",
+    )?;
+    told_as(
+        &rt,
+        alloc,
+        Cause::NotTracked,
+        4,
+        "NotTracked",
+        "the packet is not tracked",
+    )?;
+    told_as(
+        &rt,
+        alloc,
+        Cause::SpaceDiscarded,
+        5,
+        "SpaceDiscarded",
+        "the space is discarded",
+    )?;
+    told_as(
+        &rt,
+        alloc,
+        Cause::NoSuchPath,
+        6,
+        "NoSuchPath",
+        "there is no such path",
+    )?;
+    told_as(
+        &rt,
+        alloc,
+        Cause::Overflow,
+        9,
+        "Overflow",
+        "a counter passes 2^64 - 1",
+    )?;
+    told_as(
+        &rt,
+        alloc,
+        Cause::SkippedAcked,
+        16,
+        "SkippedAcked",
+        "a skipped packet number is acknowledged",
+    )?;
+    told_as(
+        &rt,
+        alloc,
+        Cause::Ecn("ECN bleaching"),
+        17,
+        "Ecn",
+        "ECN bleaching",
+    )?;
     Ok(())
 }
