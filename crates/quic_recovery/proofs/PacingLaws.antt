@@ -1,7 +1,10 @@
 -- Each pacer delays by its balance and keeps its rate, throughout a run.
 use Rattle.std.proofs.Common.{ℕ, Bool, true, false, cond, List, [], ◌∷◌, Option, None, Some, Ok, Err, refl, sym, subst}
 use Rattle.recovery_pacing.specs.PacerLog.{AreChecked, KeepsRate}
+use Rattle.recovery_pacing.specs.Pacing.{PacerCall}
+use Rattle.recovery_pacing.specs.Progress.{PassesBehind}
 use Rattle.recovery_pacing.proofs.PacerLogLaws.{delays_by, keeps_rate}
+use Rattle.recovery_pacing.proofs.ProgressLaws.{passes_behind}
 use Rattle.recovery_paths.specs.PathLog.{OnEachPath, PathPast, state_of}
 use Rattle.recovery_paths.specs.PathMaking.{bucket_of}
 use Rattle.recovery_paths.specs.PathStates.{pacer_call, path_delay, is_blocked}
@@ -14,7 +17,7 @@ use Rattle.quic_recovery.specs.Amplification.{pasts_of}
 use Rattle.quic_recovery.specs.Entries.{entries_of, logs_of}
 use Rattle.quic_recovery.specs.History.{Beginning, History, Reply, Throughout}
 use Rattle.quic_recovery.specs.Known.{known_by, first_path, settings_of}
-use Rattle.quic_recovery.specs.Pacing.{IsByBalance, DelaysByBalance, KeepsPace}
+use Rattle.quic_recovery.specs.Pacing.{IsByBalance, OnCall, AtCalls, DelaysByBalance, PassesSoon, KeepsPace}
 use Rattle.quic_recovery.specs.Told.{Told, delayed_or}
 use Rattle.quic_recovery.proofs.AmplificationLaws.{is_allowed, throughout_kept}
 
@@ -34,41 +37,49 @@ module _ {F K Q S M P : Type 0} (beginning : Beginning F K Q S P) where
       let known = known_by beginning logs in
       passed_after (settings_of beginning) (first_path beginning) (entries_of beginning.queue known event reply).paths logs.paths (is_allowed beginning.queue (settings_of beginning) _ known event reply told) passed
 
-  -- what the pacer of the path in use answers to a call is by its balance
+  -- what the pacer of the path in use answers to a call
   abbrev delay_there : History Q S M P → ℕ → ℕ → Option ℕ
   delay_there before now bytes = path_delay beginning.words now bytes (state_of (settings_of beginning) (pasts_of beginning before).current)
 
-  abbrev DelaysThere : History Q S M P → ℕ → ℕ → Option ℕ → Type 0
-  DelaysThere before now bytes given = IsByBalance beginning (pasts_of beginning before).current now bytes given
+  -- what holds of each call and its answer holds at each event
+  module _ (Holds : PathPast K → PacerCall → Option ℕ → Type 0) where
+    checks_by : (before : History Q S M P) (now bytes : ℕ) (given : Option ℕ) → OnCall beginning Holds before now bytes given → AtCalls beginning Holds before (PacerCheck now bytes) (Ok (delayed_or beginning.words Ready given))
+    checks_by before now bytes None by = by
+    checks_by before now bytes (Some until) by = by
 
-  call_one : (before : History Q S M P) (now bytes : ℕ) → HavePassedThere before → DelaysThere before now bytes (delay_there before now bytes)
-  call_one before now bytes passed checked =
-      let past = (pasts_of beginning before).current in
-      delays_by (bucket_of past.making.pacer) past.pacing (pacer_call beginning.words (state_of (settings_of beginning) past) now bytes) refl checked passed.0
+    transmits_by : (before : History Q S M P) (now bytes : ℕ) (blocked : Bool) (given : Option ℕ) → OnCall beginning Holds before now bytes given
+        → AtCalls beginning Holds before (Transmit now bytes true) (Ok (cond blocked Blocked (delayed_or beginning.words Transmitted given)))
+    transmits_by before now bytes true given by = tt
+    transmits_by before now bytes false None by = by
+    transmits_by before now bytes false (Some until) by = by
 
-  -- and so are the answers that the table gives for it
-  checks_by : (before : History Q S M P) (now bytes : ℕ) (given : Option ℕ) → DelaysThere before now bytes given → DelaysByBalance beginning before (PacerCheck now bytes) (Ok (delayed_or beginning.words Ready given))
-  checks_by before now bytes None by = by
-  checks_by before now bytes (Some until) by = by
+    at_calls : (before : History Q S M P) (event : Event Q S M P) (reply : Reply Q) → Told beginning before event reply
+        → ((now bytes : ℕ) → OnCall beginning Holds before now bytes (delay_there before now bytes)) → AtCalls beginning Holds before event reply
+    at_calls before (PacerCheck now bytes) (Ok answer) told holds =
+        let D : Answer Q → Type 0 = λ a. AtCalls beginning Holds before (PacerCheck now bytes) (Ok a) in
+        subst D (sym told) (checks_by before now bytes (delay_there before now bytes) (holds now bytes))
+    at_calls before (PacerCheck now bytes) (Err refusal) told holds = tt
+    at_calls before (Transmit now bytes true) (Ok answer) told holds =
+        let blocked = is_blocked (state_of (settings_of beginning) (pasts_of beginning before).current) bytes in
+        let D : Answer Q → Type 0 = λ a. AtCalls beginning Holds before (Transmit now bytes true) (Ok a) in
+        subst D (sym told.1) (transmits_by before now bytes blocked (delay_there before now bytes) (holds now bytes))
+    at_calls before (Transmit now bytes true) (Err refusal) told holds = tt
+    at_calls before (Transmit now bytes false) reply told holds = tt
+    at_calls before event reply told holds = tt
 
-  transmits_by : (before : History Q S M P) (now bytes : ℕ) (blocked : Bool) (given : Option ℕ) → DelaysThere before now bytes given → DelaysByBalance beginning before (Transmit now bytes true) (Ok (cond blocked Blocked (delayed_or beginning.words Transmitted given)))
-  transmits_by before now bytes true given by = tt
-  transmits_by before now bytes false None by = by
-  transmits_by before now bytes false (Some until) by = by
-
-  -- an event is delayed by the balance
+  -- each call is answered by the balance
   delays_one : (before : History Q S M P) (event : Event Q S M P) (reply : Reply Q) → Told beginning before event reply → HavePassedThere before → DelaysByBalance beginning before event reply
-  delays_one before (PacerCheck now bytes) (Ok answer) told passed =
-      let D : Answer Q → Type 0 = λ a. DelaysByBalance beginning before (PacerCheck now bytes) (Ok a) in
-      subst D (sym told) (checks_by before now bytes (delay_there before now bytes) (call_one before now bytes passed))
-  delays_one before (PacerCheck now bytes) (Err refusal) told passed = tt
-  delays_one before (Transmit now bytes true) (Ok answer) told passed =
-      let blocked = is_blocked (state_of (settings_of beginning) (pasts_of beginning before).current) bytes in
-      let D : Answer Q → Type 0 = λ a. DelaysByBalance beginning before (Transmit now bytes true) (Ok a) in
-      subst D (sym told.1) (transmits_by before now bytes blocked (delay_there before now bytes) (call_one before now bytes passed))
-  delays_one before (Transmit now bytes true) (Err refusal) told passed = tt
-  delays_one before (Transmit now bytes false) reply told passed = tt
-  delays_one before event reply told passed = tt
+  delays_one before event reply told passed =
+      let past = (pasts_of beginning before).current in
+      at_calls IsByBalance before event reply told
+      (λ now bytes checked. delays_by (bucket_of past.making.pacer) past.pacing (pacer_call beginning.words (state_of (settings_of beginning) past) now bytes) refl checked passed.0)
+
+  -- what was delayed passes soon
+  passes_one : (before : History Q S M P) (event : Event Q S M P) (reply : Reply Q) → Told beginning before event reply → HavePassedThere before → PassesSoon beginning before event reply
+  passes_one before event reply told passed =
+      let past = (pasts_of beginning before).current in
+      at_calls (λ past. PassesBehind (bucket_of past.making.pacer) past.pacing) before event reply told
+      (λ now bytes. passes_behind (bucket_of past.making.pacer) past.pacing (pacer_call beginning.words (state_of (settings_of beginning) past) now bytes))
 
   -- after an event each pacer keeps its rate
   pace_one : (before : History Q S M P) (event : Event Q S M P) (reply : Reply Q) → Told beginning before event reply → HavePassedThere before → KeepsPace beginning before event reply
@@ -83,3 +94,7 @@ module _ {F K Q S M P : Type 0} (beginning : Beginning F K Q S P) where
   pub rate : (events : List (Event Q S M P)) (replies : List (Reply Q)) → Throughout (Told beginning) events replies → Throughout (KeepsPace beginning) events replies
   rate events replies told =
       throughout_kept beginning HavePassedThere (KeepsPace beginning) passed_one pace_one [] events replies told (passed_at_first (settings_of beginning) (first_path beginning))
+
+  pub soon : (events : List (Event Q S M P)) (replies : List (Reply Q)) → Throughout (Told beginning) events replies → Throughout (PassesSoon beginning) events replies
+  soon events replies told =
+      throughout_kept beginning HavePassedThere (PassesSoon beginning) passed_one passes_one [] events replies told (passed_at_first (settings_of beginning) (first_path beginning))

@@ -2,6 +2,8 @@
 -- a pacer as long as all transmissions since it was made were checked, at windows within 32 bits and RTTs above zero.
 use Rattle.std.specs.Prelude.{ℕ, true, ◌∷◌, Option, None, Some, Ok}
 use Rattle.recovery_pacing.specs.PacerLog.{asked, AreChecked, DelaysBy, KeepsRate}
+use Rattle.recovery_pacing.specs.Pacing.{PacerCall}
+use Rattle.recovery_pacing.specs.Progress.{PassesBehind}
 use Rattle.recovery_paths.specs.PathLog.{OnEachPath, PathPast, state_of}
 use Rattle.recovery_paths.specs.PathMaking.{bucket_of}
 use Rattle.recovery_paths.specs.PathStates.{pacer_call}
@@ -13,11 +15,9 @@ use Rattle.quic_recovery.specs.Amplification.{pasts_of}
 use Rattle.quic_recovery.specs.History.{Beginning, History, Reply}
 use Rattle.quic_recovery.specs.Known.{settings_of}
 
--- a call of a path's pacer for so many bytes is answered by the balance: it is delayed until this moment, or it is not
-abbrev pub IsByBalance : {F K Q S P : Type 0} → Beginning F K Q S P → PathPast K → ℕ → ℕ → Option ℕ → Type 0
-IsByBalance beginning past now bytes given =
-    let call = pacer_call beginning.words (state_of (settings_of beginning) past) now bytes in
-    AreChecked (asked call ∷ past.pacing) → DelaysBy (bucket_of past.making.pacer) past.pacing call given
+-- a call of a path's pacer is answered by the balance: it is delayed until this moment, or it is not
+abbrev pub IsByBalance : {K : Type 0} → PathPast K → PacerCall → Option ℕ → Type 0
+IsByBalance past call given = AreChecked (asked call ∷ past.pacing) → DelaysBy (bucket_of past.making.pacer) past.pacing call given
 
 -- until when, where the answer is that it is delayed
 abbrev pub delay_in : {Q : Type 0} → Answer Q → Option ℕ
@@ -25,14 +25,25 @@ delay_in (Delayed until) = Some until
 delay_in answer = None
 
 module _ {F K Q S M P : Type 0} (beginning : Beginning F K Q S P) where
+  -- this holds of the pacer of the path in use, of a call of it for so many bytes, and of its delay
+  abbrev pub OnCall : (PathPast K → PacerCall → Option ℕ → Type 0) → History Q S M P → ℕ → ℕ → Option ℕ → Type 0
+  OnCall Holds history now bytes given =
+      let past = (pasts_of beginning history).current in
+      Holds past (pacer_call beginning.words (state_of (settings_of beginning) past) now bytes) given
+
   -- the pacer of the path in use is called where an event asks it, and for a checked transmission that is not blocked
+  abbrev pub AtCalls : (PathPast K → PacerCall → Option ℕ → Type 0) → History Q S M P → Event Q S M P → Reply Q → Type 0
+  AtCalls Holds history (PacerCheck now bytes) (Ok answer) = OnCall Holds history now bytes (delay_in answer)
+  AtCalls Holds history (Transmit now bytes true) (Ok Blocked) = Unit {0}
+  AtCalls Holds history (Transmit now bytes true) (Ok answer) = OnCall Holds history now bytes (delay_in answer)
+  AtCalls Holds history event reply = Unit {0}
+
   abbrev pub DelaysByBalance : History Q S M P → Event Q S M P → Reply Q → Type 0
-  DelaysByBalance history (PacerCheck now bytes) (Ok answer) =
-      IsByBalance beginning (pasts_of beginning history).current now bytes (delay_in answer)
-  DelaysByBalance history (Transmit now bytes true) (Ok Blocked) = Unit {0}
-  DelaysByBalance history (Transmit now bytes true) (Ok answer) =
-      IsByBalance beginning (pasts_of beginning history).current now bytes (delay_in answer)
-  DelaysByBalance history event reply = Unit {0}
+  DelaysByBalance = AtCalls IsByBalance
+
+  -- what was delayed as the pacer was asked last passes soon behind the moment that was named
+  abbrev pub PassesSoon : History Q S M P → Event Q S M P → Reply Q → Type 0
+  PassesSoon = AtCalls (λ past. PassesBehind (bucket_of past.making.pacer) past.pacing)
 
   -- after an event, the pacer of each path that lives keeps the rate
   abbrev pub KeepsPace : History Q S M P → Event Q S M P → Reply Q → Type 0

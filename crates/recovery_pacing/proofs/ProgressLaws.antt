@@ -1,11 +1,12 @@
 -- What was delayed passes in time.
-use Rattle.std.proofs.Common.{◌≡◌, ℕ, ◌+◌, ◌-◌, ◌*◌, ◌/◌, ◌%◌, ◌^◌, ◌<◌, ◌≤◌, min, max, nat_le, Bool, true, false, ◌&&◌, ◌||◌, ◌==◌, cond, None, Some, refl, sym, ap, ap₂, ◌∙◌, arith}
+use Rattle.std.proofs.Common.{◌≡◌, ℕ, ◌+◌, ◌-◌, ◌*◌, ◌/◌, ◌%◌, ◌^◌, ◌<◌, ◌≤◌, min, max, nat_le, Bool, true, false, List, [], ◌∷◌, ◌&&◌, ◌||◌, ◌==◌, cond, None, Some, refl, sym, ap, ap₂, ◌∙◌, arith}
 use Rattle.std.proofs.Math.Nat.{div-add-mod, mod-lt, mul-le-mul_left, mul-le-mul_right}
 use Rattle.std.proofs.lemmas.Bool.{or_parts, leb-false, le-leb, eq-eqb, eqb-false}
 use Rattle.std.proofs.lemmas.Nat.{le-div}
+use Rattle.recovery_pacing.specs.PacerLog.{PacerEntry, asked, took, bucket_by}
 use Rattle.recovery_pacing.specs.Pacing.{Bucket, PacerCall, longest_span, credit_of, wait_of, resized, refilled, may_send, capacity_of, is_unpaced, paced, next_moment, delay_of}
 use Rattle.recovery_pacing.proofs.PacerLogLaws.{paced-knows}
-use Rattle.recovery_pacing.specs.Progress.{AsksAgain, PassesInTime}
+use Rattle.recovery_pacing.specs.Progress.{AsksAgain, PassesInTime, PassesBehind}
 
 -- in the time of the wait and the slack the bytes that were short have come
 waited : (rtt window short elapsed : ℕ) → 0 < rtt → 0 < window → rtt * short ≤ longest_span → wait_of rtt window short + 4 ≤ elapsed → short ≤ credit_of rtt window elapsed
@@ -56,8 +57,8 @@ short_of call bucket until delays = go (may_send call bucket) refl delays
     go true is delays = none_is_some delays
     go false is delays = (is, some_same (next_moment call bucket) delays)
 
-pub passes_in_time : (call : PacerCall) (old : Bucket) → 0 < call.window → PassesInTime call old
-passes_in_time call old some_window until later delays again reach late before_end = goes (may_send later bucket) refl
+pub passes_in_time : (call later : PacerCall) (old : Bucket) → PassesInTime old call later (delay_of later (paced later (paced call old)))
+passes_in_time call later old until delays again reach late before_end = goes (may_send later bucket) refl
   where
     bucket : Bucket
     bucket = paced call old
@@ -91,7 +92,7 @@ passes_in_time call old some_window until later delays again reach late before_e
     within = let uncut = reach.uncut in let less = mul-le-mul_left call.rtt at_most in omega (arith, uncut, less)
 
     credited : lacking ≤ credit_of call.rtt call.window (later.now - bucket.last)
-    credited = waited call.rtt call.window lacking (later.now - bucket.last) some_rtt some_window within elapsed
+    credited = waited call.rtt call.window lacking (later.now - bucket.last) some_rtt reach.window within elapsed
 
     after : Bucket
     after = refilled call.rtt call.window later.now bucket
@@ -109,3 +110,8 @@ passes_in_time call old some_window until later delays again reach late before_e
         by_test true is = ap (λ (c : Bool). delay_of later (cond c bucket (refilled later.rtt later.window later.now bucket))) is ∙ ap (λ (c : Bool). cond c None (Some (next_moment later bucket))) is
         by_test false is = ap (λ (c : Bool). delay_of later (cond c bucket (refilled later.rtt later.window later.now bucket))) is
             ∙ passing (refilled later.rtt later.window later.now bucket) (let same = again.bytes in let credit = ap₂ (λ (r w : ℕ). credit_of r w (later.now - bucket.last)) again.rtt again.window in omega (arith, covers, same, credit))
+
+pub passes_behind : (made : Bucket) (entries : List PacerEntry) (later : PacerCall) → PassesBehind made entries later (delay_of later (paced later (bucket_by made entries)))
+passes_behind made [] later = tt
+passes_behind made (asked call ∷ earlier) later = passes_in_time call later (bucket_by made earlier)
+passes_behind made (took bytes checked ∷ earlier) later = tt
