@@ -63,6 +63,55 @@ fn paced_by_a_clock_that_steps_back(rt: HostRuntime) -> Result<(), Fail> {
     assert_lines(&rt, rt.alloc(), &lines)
 }
 
+/// An unchecked datagram voids the promises of pacing, and the answers are those of the pacer all the same: no debt is kept.
+#[test]
+fn paced_behind_an_unchecked_datagram(rt: HostRuntime) -> Result<(), Fail> {
+    let lines = [
+        (1, "validated current", "done"),
+        (10, "transmit 0 1200 1", "transmitted"),
+        (1, "transmit 0 1200 0", "transmitted"),
+        (1, "transmit 0 1200 1", "delayed 266400000"),
+        (10, "transmit 266400000 1200 1", "transmitted"),
+    ];
+    assert_lines(&rt, rt.alloc(), &lines)
+}
+
+/// What was delayed passes from 4 ns past the moment that was named on, and perhaps no nanosecond before.
+#[test]
+fn paced_four_nanoseconds_late(rt: HostRuntime) -> Result<(), Fail> {
+    let delayed = [
+        (1, "validated current", "done"),
+        (1, "sample 0 1000004", "done"),
+        (10, "transmit 0 1200 1", "transmitted"),
+        (1, "pacer-check 0 12000", "delayed 800000"),
+        (1, "pacer-check 800003 12000", "delayed 800067"),
+    ];
+    assert_lines(&rt, rt.alloc(), &delayed)?;
+    let passes = [
+        (1, "validated current", "done"),
+        (1, "sample 0 1000004", "done"),
+        (10, "transmit 0 1200 1", "transmitted"),
+        (1, "pacer-check 0 12000", "delayed 800000"),
+        (1, "pacer-check 800004 12000", "ready"),
+    ];
+    assert_lines(&rt, rt.alloc(), &passes)
+}
+
+/// One that asks at each moment that is named may be delayed for ever: each question rounds its credit down.
+#[test]
+fn paced_by_questions_that_round_down(rt: HostRuntime) -> Result<(), Fail> {
+    let lines = [
+        (1, "validated current", "done"),
+        (1, "sample 0 1000004", "done"),
+        (1, "transmit 0 1 1", "transmitted"),
+        (1, "pacer-check 0 12000", "delayed 64"),
+        (1, "pacer-check 64 12000", "delayed 128"),
+        (1, "pacer-check 128 12000", "delayed 192"),
+        (1, "pacer-check 196 12000", "ready"),
+    ];
+    assert_lines(&rt, rt.alloc(), &lines)
+}
+
 #[test]
 fn windows(rt: HostRuntime) -> Result<(), Fail> {
     let rows = [
