@@ -1,4 +1,5 @@
 pub mod BurstLaws
 pub mod DiscoveryLaws
+pub mod EntryLaws
 mod DiscoveryRows
 pub mod SearchLaws
