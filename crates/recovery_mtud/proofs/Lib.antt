@@ -3,3 +3,5 @@ pub mod DiscoveryLaws
 pub mod EntryLaws
 mod DiscoveryRows
 pub mod SearchLaws
+mod SearchTies
+mod SearchWidths
