@@ -3,5 +3,6 @@ pub mod DiscoveryLaws
 pub mod EntryLaws
 mod DiscoveryRows
 pub mod SearchLaws
+pub mod SearchRunLaws
 mod SearchTies
 mod SearchWidths

@@ -1,6 +1,7 @@
 -- What a discovery was told, with what it answered (RFC 8899, 4.3 and 5; RFC 9000, 14.3). Every list here has the newest entry first.
 use Rattle.std.specs.Prelude.{◌≡◌, ℕ, ◌==◌, IfSome, min, if◌then◌else◌, Option, Some, None, List, [], ◌∷◌, unwrap_or}
 use Rattle.std.specs.Option.{option_map}
+use Rattle.recovery_mtud.specs.declared.config.MtuDiscoveryConfig.{MtuDiscoveryConfig}
 use Rattle.recovery_mtud.specs.declared.search.Phase.TheVariants.{Initial}
 use Rattle.recovery_mtud.specs.Bursts.{bursts_made}
 use Rattle.recovery_mtud.specs.Discovery.{Discovery, poll_of, reports, within}
@@ -10,6 +11,10 @@ use Rattle.recovery_mtud.specs.DiscoveryLog.{MtuCall, polls, is_limited, acks, l
 pub record IsNew (made : Discovery) : Type 0 where
   pub search : IfSome made.search (λ search. search.phase ≡ Initial)
   pub bursts : made.bursts ≡ bursts_made made.bursts.min_mtu
+
+-- how it searches, where it does
+abbrev pub settings_of : Discovery → Option MtuDiscoveryConfig
+settings_of made = option_map (λ search. search.settings) made.search
 
 pub data MtuEntry : Type 0 where
   -- a poll gives a probe of that size, as the packet of that number
