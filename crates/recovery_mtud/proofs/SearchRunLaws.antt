@@ -11,7 +11,7 @@ use Rattle.recovery_mtud.specs.declared.search.Phase.TheVariants.{Initial, Searc
 use Rattle.recovery_mtud.specs.declared.search.Probing.{Probing}
 use Rattle.recovery_mtud.specs.Search.{MtuSearch, later, upper_from, begun, repeats, narrowed, next_size, size_to_probe, probing_in, answer_in, phase_with, phase_after, search_polled, is_number, is_running, phase_acked, phase_lost, search_reported}
 use Rattle.recovery_mtud.specs.Bursts.{LossBursts, bursts_closed, bursts_ended, is_black_hole}
-use Rattle.recovery_mtud.specs.Discovery.{Discovery, limit_or_greatest, poll_of, reports, taking, size_in, reset_in}
+use Rattle.recovery_mtud.specs.Discovery.{Discovery, is_searching_of, limit_or_greatest, poll_of, reports, taking, size_in, reset_in}
 use Rattle.recovery_mtud.specs.DiscoveryLog.{MtuCall, polls, is_limited, acks, loses_probe, loses, losses_end, resets, discovery_after, discovery_by}
 use Rattle.recovery_mtud.specs.MtuEntries.{IsNew, settings_of, MtuEntry, probed, unprobed, limited, acked, probe_lost, lost, losses_over, reported, reset, poll_entry, entry_of, entries_by, MtuProbe, unless_number, probe_in_flight, size_at, limit_in_use, mtu_in_use}
 use Rattle.recovery_mtud.specs.SearchRuns.{search_runs, search_of, before_search, is_due, next_activation, is_searched, ProbesInSearch, probed_sizes, acked_sizes, lost_sizes, TakesFew, AreLimitsOutside, start_mtu, IsHonest, start_upper, IsNearBest, EndsNearBest}
@@ -285,3 +285,159 @@ module _ (made : Discovery) (settings : MtuDiscoveryConfig) (entries : List MtuE
   over_phase Initial runs tie = tie
   over_phase (Searching p) runs tie = λ wide. (let at = tie wide in reaches_after losses_over p at.reached (sym runs) at.tie at.is)
   over_phase (Complete activation) runs tie = tie
+
+-- ---- one call
+
+-- the search of these settings, by the entries
+abbrev TiedIn : Discovery → MtuDiscoveryConfig → List MtuEntry → Option MtuSearch → Type 0
+TiedIn made settings entries None = ⊥
+TiedIn made settings entries (Some search) = (search.settings ≡ settings) × PhaseTie made search.settings entries search.phase
+
+record Told (made : Discovery) (settings : MtuDiscoveryConfig) (entry : MtuEntry) (entries : List MtuEntry) (new : Discovery) : Type 0 where
+  tie : TiedIn made settings (entry ∷ entries) new.search
+  inside : ProbesInSearch settings (entry ∷ entries)
+  near : IsWide settings → AreLimitsOutside entries → EndsNearBest made settings (entry ∷ entries)
+
+-- where the packet is not the probe in flight, nothing of the search changes
+acked_search : (number bytes mtu : ℕ) (search : MtuSearch) (bursts : LossBursts)
+    → (discovery_after (acks number bytes) (record { mtu = mtu; search = Some search; bursts = bursts })).search ≡ Some (record search { phase = phase_acked number search.phase })
+acked_search number bytes mtu search bursts = go search.phase
+  where
+    after : Phase → Option MtuSearch
+    after phase = (discovery_after (acks number bytes) (record { mtu = mtu; search = Some (record search { phase = phase }); bursts = bursts })).search
+
+    flying : (p : Probing) (flight : Option ℕ) → (let phase = Searching (record p { in_flight = flight }) in after phase ≡ Some (record search { phase = phase_acked number phase }))
+    flying p None = refl
+    flying p (Some own) = is_own (number == own) refl
+      where
+        p' : Probing
+        p' = record p { in_flight = Some own }
+
+        old : Discovery
+        old = record { mtu = mtu; search = Some (record search { phase = Searching p' }); bursts = bursts }
+
+        is_own : (is : Bool) → (number == own) ≡ is → (taking (if is then Some p.last else None) number bytes old).search ≡ Some (record search { phase = phase_acked number (Searching p') })
+        is_own true is = refl
+        is_own false is = ap (λ b. Some (record search { phase = (if b then Searching (record p' { in_flight = None; losses = 0 }) else Searching p') })) (sym is)
+
+    go : (phase : Phase) → after phase ≡ Some (record search { phase = phase_acked number phase })
+    go Initial = refl
+    go (Searching p) = flying p p.in_flight
+    go (Complete activation) = refl
+
+module _ (made : Discovery) (settings : MtuDiscoveryConfig) (entries : List MtuEntry) where
+  told_in : (call : MtuCall) (mtu limit : ℕ) (phase : Phase) (bursts : LossBursts) → (let old : Discovery = record { mtu = mtu; search = Some (record { limit = limit; phase = phase; settings = settings }); bursts = bursts } in
+      Holds made entries old → PhaseTie made settings entries phase → Told made settings (entry_of call old) entries (discovery_after call old))
+  told_in (polls now next) mtu limit phase bursts holds tie =
+      let polled = poll_stepped made settings entries now next mtu limit holds.mtu holds.limit phase holds.probe holds.runs tie in
+      record { tie = (refl, polled.tie); inside = polled.inside; near = polled.near }
+  told_in (is_limited size) mtu limit phase bursts holds tie = record { tie = (refl, limited_phase made settings entries size phase holds.runs tie); inside = tt; near = λ _ _. tt }
+  told_in (acks number bytes) mtu limit phase bursts holds tie = record {
+    tie = subst (TiedIn made settings (acked number bytes ∷ entries)) (sym (acked_search number bytes mtu (record { limit = limit; phase = phase; settings = settings }) bursts))
+      (refl, acked_phase made settings entries number bytes phase holds.probe holds.runs tie);
+    inside = tt;
+    near = λ _ _. tt;
+  }
+  told_in loses_probe mtu limit phase bursts holds tie = record { tie = (refl, lost_phase made settings entries phase holds.probe holds.runs tie); inside = tt; near = λ _ _. tt }
+  told_in (loses number bytes) mtu limit phase bursts holds tie = record { tie = (refl, packet_phase made settings entries number bytes phase holds.runs tie); inside = tt; near = λ _ _. tt }
+  told_in (losses_end now) mtu limit phase bursts holds tie = go (is_black_hole (bursts_closed bursts))
+    where
+      search : MtuSearch
+      search = record { limit = limit; phase = phase; settings = settings }
+
+      rest : Discovery
+      rest = record { mtu = mtu; search = Some search; bursts = bursts_ended bursts }
+
+      go : (hole : Bool) → Told made settings (if hole then reported now else losses_over) entries (if hole then record rest { mtu = bursts.min_mtu; search = Some (search_reported now search) } else rest)
+      go true = record { tie = (refl, refl); inside = tt; near = λ _ _. tt }
+      go false = record { tie = (refl, over_phase made settings entries phase holds.runs tie); inside = tt; near = λ _ _. tt }
+  told_in (resets new_mtu min_mtu) mtu limit phase bursts holds tie = record { tie = (refl, refl); inside = tt; near = λ _ _. tt }
+
+-- one call keeps the tie, and ends a search well
+told_after : (made : Discovery) (settings : MtuDiscoveryConfig) (entries : List MtuEntry) (call : MtuCall) (old : Discovery) → Holds made entries old → TiedIn made settings entries old.search
+    → Told made settings (entry_of call old) entries (discovery_after call old)
+told_after made settings entries call old holds tied = go old.search holds tied
+  where
+    go : (search : Option MtuSearch) → (let old' : Discovery = record old { search = search } in
+        Holds made entries old' → TiedIn made settings entries search → Told made settings (entry_of call old') entries (discovery_after call old'))
+    go None holds tied = absurd tied
+    go (Some search) holds tied =
+        let old' : Discovery = record old { search = Some search } in
+        subst (λ own. Told made own (entry_of call old') entries (discovery_after call old')) tied.0
+        (told_in made search.settings entries call old.mtu search.limit search.phase old.bursts holds tied.1)
+
+-- ---- all calls
+
+tied_made : (made : Discovery) (settings : MtuDiscoveryConfig) → IsNew made → settings_of made ≡ Some settings → TiedIn made settings [] made.search
+tied_made made settings new is = go made.search new.search is
+  where
+    go : (search : Option MtuSearch) → IfSome search (λ own. own.phase ≡ Initial) → option_map (λ own. own.settings) search ≡ Some settings → TiedIn made settings [] search
+    go None initial is = absurd (cc)
+    go (Some search) initial is = ((cc), subst (PhaseTie made search.settings []) (sym initial) refl)
+
+tied_by : (made : Discovery) (settings : MtuDiscoveryConfig) → IsNew made → settings_of made ≡ Some settings → (calls : List MtuCall) → TiedIn made settings (entries_by made calls) (discovery_by made calls).search
+tied_by made settings new is [] = tied_made made settings new is
+tied_by made settings new is (call ∷ earlier) =
+    (told_after made settings (entries_by made earlier) call (discovery_by made earlier) (holds_by made new earlier) (tied_by made settings new is earlier)).tie
+
+told_by : (made : Discovery) (settings : MtuDiscoveryConfig) → IsNew made → settings_of made ≡ Some settings → (call : MtuCall) (earlier : List MtuCall)
+    → Told made settings (entry_of call (discovery_by made earlier)) (entries_by made earlier) (discovery_after call (discovery_by made earlier))
+told_by made settings new is call earlier =
+    told_after made settings (entries_by made earlier) call (discovery_by made earlier) (holds_by made new earlier) (tied_by made settings new is earlier)
+
+few_in : (made : Discovery) (settings : MtuDiscoveryConfig) (entries : List MtuEntry) (phase : Phase) → is_running phase ≡ search_runs entries → PhaseTie made settings entries phase → IsWide settings → TakesFew entries
+few_in made settings entries phase runs tie wide = go phase runs tie
+  where
+    none : search_runs entries ≡ false → TakesFew entries
+    none idle = record {
+      sizes = subst (λ (x : List MtuEntry). distinct_count nat_eq (probed_sizes x) ≤ 16) (sym (idle_search entries idle)) (omega arith);
+      probes = subst (λ (x : List MtuEntry). length (probed_sizes x) ≤ 48) (sym (idle_search entries idle)) (omega arith);
+    }
+
+    go : (phase : Phase) → is_running phase ≡ search_runs entries → PhaseTie made settings entries phase → TakesFew entries
+    go Initial runs tie = none (sym runs)
+    go (Searching p) runs tie = let counts = few _ _ _ _ _ _ _ p (tie wide).tie in record { sizes = counts.0; probes = counts.1 }
+    go (Complete activation) runs tie = none (sym runs)
+
+-- at every moment the search that runs has taken at most 16 sizes and 48 probes
+pub search_takes_few : (made : Discovery) (settings : MtuDiscoveryConfig) → IsNew made → settings_of made ≡ Some settings → 3 ≤ settings.minimum_change → settings.upper_bound < 2 ^ 16
+    → (calls : List MtuCall) → TakesFew (entries_by made calls)
+search_takes_few made settings new is change bound calls =
+    let holds = holds_by made new calls in
+    go (discovery_by made calls).search holds.runs (tied_by made settings new is calls)
+  where
+    go : (search : Option MtuSearch) → unwrap_or (option_map (λ own. is_running own.phase) search) false ≡ search_runs (entries_by made calls) → TiedIn made settings (entries_by made calls) search → TakesFew (entries_by made calls)
+    go None runs tied = absurd tied
+    go (Some search) runs tied = few_in made search.settings (entries_by made calls) search.phase runs tied.1 (subst IsWide (sym tied.0) (change, bound))
+
+-- a search that ends by a poll ends near the best size of an honest link
+pub search_ends_near : (made : Discovery) (settings : MtuDiscoveryConfig) → IsNew made → settings_of made ≡ Some settings → 3 ≤ settings.minimum_change → settings.upper_bound < 2 ^ 16
+    → (calls : List MtuCall) → AreLimitsOutside (entries_by made calls) → EndsNearBest made settings (entries_by made calls)
+search_ends_near made settings new is change bound [] outside = tt
+search_ends_near made settings new is change bound (call ∷ earlier) outside =
+    (told_by made settings new is call earlier).near (change, bound) (outside_before (entry_of call (discovery_by made earlier)) (entries_by made earlier) outside)
+  where
+    outside_before : (entry : MtuEntry) (entries : List MtuEntry) → AreLimitsOutside (entry ∷ entries) → AreLimitsOutside entries
+    outside_before (probed now number size) entries outside = outside
+    outside_before (unprobed now) entries outside = outside
+    outside_before (limited limit) entries outside = outside.1
+    outside_before (acked number bytes) entries outside = outside
+    outside_before probe_lost entries outside = outside
+    outside_before (lost number bytes) entries outside = outside
+    outside_before losses_over entries outside = outside
+    outside_before (reported now) entries outside = outside
+    outside_before (reset mtu min_mtu) entries outside = outside
+
+-- a probe comes in a search alone, while none is in flight
+pub probes_in_search : (made : Discovery) (settings : MtuDiscoveryConfig) → IsNew made → settings_of made ≡ Some settings
+    → (calls : List MtuCall) → ProbesInSearch settings (entries_by made calls)
+probes_in_search made settings new is [] = tt
+probes_in_search made settings new is (call ∷ earlier) = (told_by made settings new is call earlier).inside
+
+-- the MTU in use is the one that the entries say
+pub mtu_by : (made : Discovery) → IsNew made → (calls : List MtuCall) → (discovery_by made calls).mtu ≡ mtu_in_use made (entries_by made calls)
+mtu_by made new calls = (holds_by made new calls).mtu
+
+-- a search runs exactly where the entries say so
+pub search_runs_by : (made : Discovery) → IsNew made → (calls : List MtuCall) → is_searching_of (discovery_by made calls) ≡ search_runs (entries_by made calls)
+search_runs_by made new calls = (holds_by made new calls).runs
