@@ -1,4 +1,6 @@
+mod BurstCounts
 pub mod BurstLaws
+mod BurstTies
 pub mod DiscoveryLaws
 pub mod EntryLaws
 mod DiscoveryRows
