@@ -1,5 +1,6 @@
 mod BurstCounts
 pub mod BurstLaws
+pub mod BurstRunLaws
 mod BurstTies
 pub mod DiscoveryLaws
 pub mod EntryLaws
