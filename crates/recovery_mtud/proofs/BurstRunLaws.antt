@@ -4,7 +4,7 @@ use Rattle.std.specs.Prelude.{nat_eq, ◌||◌, ◌&&◌, if◌then◌else◌, f
 use Rattle.std.specs.Option.{option_map}
 use Rattle.recovery_mtud.specs.Search.{search_reported}
 use Rattle.recovery_mtud.specs.Bursts.{LossBursts, bursts_made, bursts_probed, bursts_acked, bursts_closed, bursts_ended, is_black_hole}
-use Rattle.recovery_mtud.specs.Discovery.{Discovery, reports, size_of_probe, taking, reset_in}
+use Rattle.recovery_mtud.specs.Discovery.{Discovery, poll_of, reports, size_of_probe, taking, reset_in}
 use Rattle.recovery_mtud.specs.DiscoveryLog.{MtuCall, polls, is_limited, acks, loses_probe, loses, losses_end, resets, discovery_after, discovery_by}
 use Rattle.recovery_mtud.specs.MtuEntries.{IsNew, MtuEntry, probed, unprobed, limited, acked, probe_lost, lost, losses_over, reported, reset, poll_entry, entry_of, entries_by, probe_in_flight, size_at, min_mtu_in_use}
 use Rattle.recovery_mtud.specs.BurstRuns.{open_run, is_above, standing, unanswered, acked_numbers, lost_numbers, AreFatesApart, AreFourStanding, AreFourUnanswered, ReportNeedsFour, ReportComesAtFour}
@@ -183,3 +183,46 @@ report_comes_at_four made new (call ∷ earlier) = go call
         ended true is = tt
         ended false is = λ many. (let no : true ≡ false = sym (four_report made new earlier many) ∙ is in absurd (cc))
     go (resets mtu min_mtu) = tt
+
+-- ---- numbers by the calls
+
+abbrev pub acked_in_calls : List MtuCall → List ℕ
+acked_in_calls [] = []
+acked_in_calls (acks number bytes ∷ earlier) = number ∷ acked_in_calls earlier
+acked_in_calls (call ∷ earlier) = acked_in_calls earlier
+
+abbrev pub lost_in_calls : List MtuCall → List ℕ
+lost_in_calls [] = []
+lost_in_calls (loses number bytes ∷ earlier) = number ∷ lost_in_calls earlier
+lost_in_calls (call ∷ earlier) = lost_in_calls earlier
+
+abbrev pub HaveNumbers : List MtuEntry → List MtuCall → Type 0
+HaveNumbers entries calls = (acked_numbers entries ≡ acked_in_calls calls) × (lost_numbers entries ≡ lost_in_calls calls)
+
+-- the numbers of the entries are those of the calls
+pub numbers_by : (made : Discovery) (calls : List MtuCall) → HaveNumbers (entries_by made calls) calls
+numbers_by made [] = (refl, refl)
+numbers_by made (call ∷ earlier) = go call (numbers_by made earlier)
+  where
+    polled : (now next : ℕ) (answer : Option ℕ) → HaveNumbers (entries_by made earlier) earlier → HaveNumbers (poll_entry now next answer ∷ entries_by made earlier) earlier
+    polled now next None same = same
+    polled now next (Some size) same = same
+
+    ended : (now : ℕ) (hole : Bool) → HaveNumbers (entries_by made earlier) earlier → HaveNumbers ((if hole then reported now else losses_over) ∷ entries_by made earlier) earlier
+    ended now true same = same
+    ended now false same = same
+
+    go : (call : MtuCall) → HaveNumbers (entries_by made earlier) earlier → HaveNumbers (entry_of call (discovery_by made earlier) ∷ entries_by made earlier) (call ∷ earlier)
+    go (polls now next) same = polled now next (poll_of now (discovery_by made earlier)) same
+    go (is_limited limit) same = same
+    go (acks number bytes) same = (ap (λ numbers. number ∷ numbers) same.0, same.1)
+    go loses_probe same = same
+    go (loses number bytes) same = (same.0, ap (λ numbers. number ∷ numbers) same.1)
+    go (losses_end now) same = ended now (reports (discovery_by made earlier)) same
+    go (resets mtu min_mtu) same = same
+
+-- fates that are apart in the calls are apart in the entries
+pub fates_apart_by : (made : Discovery) (calls : List MtuCall) → ((number : ℕ) → has number (acked_in_calls calls) ≡ true → has number (lost_in_calls calls) ≡ false) → AreFatesApart (entries_by made calls)
+fates_apart_by made calls apart number good =
+    let same = numbers_by made calls in
+    ap (has number) same.1 ∙ apart number (sym (ap (has number) same.0) ∙ good)

@@ -1,6 +1,6 @@
 -- Whole searches: at most 16 sizes and 48 probes, and an end near the best size of an honest link.
 use Rattle.std.proofs.Common.{◌≡◌, ℕ, ◌+◌, ◌-◌, ◌*◌, ◌^◌, ◌<◌, ◌≤◌, min, Option, Some, None, is_some, Bool, true, false, List, [], ◌∷◌, ◌++◌, length, arith, refl, sym, ap, ◌∙◌, subst}
-use Rattle.std.specs.Prelude.{◌==◌, nat_lt, nat_le, nat_eq, ◌&&◌, ◌||◌, not, is_none, if◌then◌else◌, unwrap_or, option_to_list, IfSome, All}
+use Rattle.std.specs.Prelude.{◌==◌, nat_lt, nat_le, nat_eq, ⊤, ◌&&◌, ◌||◌, not, is_none, if◌then◌else◌, unwrap_or, option_to_list, IfSome, All}
 use Rattle.std.specs.Option.{option_map}
 use Rattle.std.specs.Set.{distinct_count}
 use Rattle.std.proofs.lemmas.Bool.Decides.{nat_tests}
@@ -410,23 +410,54 @@ search_takes_few made settings new is change bound calls =
     go None runs tied = absurd tied
     go (Some search) runs tied = few_in made search.settings (entries_by made calls) search.phase runs tied.1 (subst IsWide (sym tied.0) (change, bound))
 
+-- ---- limits that are told in turn
+
+outside_before : (entry : MtuEntry) (entries : List MtuEntry) → AreLimitsOutside (entry ∷ entries) → AreLimitsOutside entries
+outside_before (probed now number size) entries outside = outside
+outside_before (unprobed now) entries outside = outside
+outside_before (limited limit) entries outside = outside.1
+outside_before (acked number bytes) entries outside = outside
+outside_before probe_lost entries outside = outside
+outside_before (lost number bytes) entries outside = outside
+outside_before losses_over entries outside = outside
+outside_before (reported now) entries outside = outside
+outside_before (reset mtu min_mtu) entries outside = outside
+
+-- a call tells no limit to a discovery that searches
+abbrev pub IsInTurn : MtuCall → Discovery → Type 0
+IsInTurn (is_limited limit) old = is_searching_of old ≡ false
+IsInTurn call old = ⊤
+
+-- where each limit is told in turn, none is told while a search runs
+pub limits_outside_after : (made : Discovery) → IsNew made → (call : MtuCall) (earlier : List MtuCall) → IsInTurn call (discovery_by made earlier)
+    → AreLimitsOutside (entries_by made earlier) → AreLimitsOutside (entries_by made (call ∷ earlier))
+limits_outside_after made new call earlier turn outside = go call turn
+  where
+    polled : (now next : ℕ) (answer : Option ℕ) → AreLimitsOutside (poll_entry now next answer ∷ entries_by made earlier)
+    polled now next None = outside
+    polled now next (Some size) = outside
+
+    ended : (now : ℕ) (hole : Bool) → AreLimitsOutside ((if hole then reported now else losses_over) ∷ entries_by made earlier)
+    ended now true = outside
+    ended now false = outside
+
+    go : (call : MtuCall) → IsInTurn call (discovery_by made earlier) → AreLimitsOutside (entry_of call (discovery_by made earlier) ∷ entries_by made earlier)
+    go (polls now next) turn = polled now next (poll_of now (discovery_by made earlier))
+    go (is_limited limit) turn = (sym (holds_by made new earlier).runs ∙ turn, outside)
+    go (acks number bytes) turn = outside
+    go loses_probe turn = outside
+    go (loses number bytes) turn = outside
+    go (losses_end now) turn = ended now (reports (discovery_by made earlier))
+    go (resets mtu min_mtu) turn = outside
+
+-- ---- what whole runs promise
+
 -- a search that ends by a poll ends near the best size of an honest link
 pub search_ends_near : (made : Discovery) (settings : MtuDiscoveryConfig) → IsNew made → settings_of made ≡ Some settings → 3 ≤ settings.minimum_change → settings.upper_bound < 2 ^ 16
     → (calls : List MtuCall) → AreLimitsOutside (entries_by made calls) → EndsNearBest made settings (entries_by made calls)
 search_ends_near made settings new is change bound [] outside = tt
 search_ends_near made settings new is change bound (call ∷ earlier) outside =
     (told_by made settings new is call earlier).near (change, bound) (outside_before (entry_of call (discovery_by made earlier)) (entries_by made earlier) outside)
-  where
-    outside_before : (entry : MtuEntry) (entries : List MtuEntry) → AreLimitsOutside (entry ∷ entries) → AreLimitsOutside entries
-    outside_before (probed now number size) entries outside = outside
-    outside_before (unprobed now) entries outside = outside
-    outside_before (limited limit) entries outside = outside.1
-    outside_before (acked number bytes) entries outside = outside
-    outside_before probe_lost entries outside = outside
-    outside_before (lost number bytes) entries outside = outside
-    outside_before losses_over entries outside = outside
-    outside_before (reported now) entries outside = outside
-    outside_before (reset mtu min_mtu) entries outside = outside
 
 -- a probe comes in a search alone, while none is in flight
 pub probes_in_search : (made : Discovery) (settings : MtuDiscoveryConfig) → IsNew made → settings_of made ≡ Some settings
