@@ -1,9 +1,9 @@
 -- Whole runs of the detection of black holes: a report needs four bursts, and comes at four.
-use Rattle.std.proofs.Common.{◌≡◌, ◌⊎◌, inl, inr, ⊎_elim, ℕ, ◌≤◌, Option, Some, None, is_some, Bool, true, false, List, [], ◌∷◌, ◌++◌, length, refl, sym, ap, ◌∙◌, subst}
-use Rattle.std.specs.Prelude.{nat_eq, ◌||◌, ◌&&◌, if◌then◌else◌, filter}
+use Rattle.std.proofs.Common.{◌≡◌, ℕ, Option, Some, None, is_some, Bool, true, false, List, [], ◌∷◌, refl, sym, ap, ◌∙◌, subst}
+use Rattle.std.specs.Prelude.{if◌then◌else◌, filter}
 use Rattle.std.specs.Option.{option_map}
 use Rattle.recovery_mtud.specs.Search.{search_reported}
-use Rattle.recovery_mtud.specs.Bursts.{LossBursts, bursts_made, bursts_probed, bursts_acked, bursts_closed, bursts_ended, is_black_hole}
+use Rattle.recovery_mtud.specs.Bursts.{bursts_made, bursts_closed, is_black_hole}
 use Rattle.recovery_mtud.specs.Discovery.{Discovery, poll_of, reports, size_of_probe, taking, reset_in}
 use Rattle.recovery_mtud.specs.DiscoveryLog.{MtuCall, polls, is_limited, acks, loses_probe, loses, losses_end, resets, discovery_after, discovery_by}
 use Rattle.recovery_mtud.specs.MtuEntries.{IsNew, MtuEntry, probed, unprobed, limited, acked, probe_lost, lost, losses_over, reported, reset, poll_entry, entry_of, entries_by, probe_in_flight, size_at, min_mtu_in_use}

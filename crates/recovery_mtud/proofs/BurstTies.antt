@@ -1,12 +1,12 @@
 -- What is kept of bursts, against the bursts of the entries.
-use Rattle.std.proofs.Common.{◌≡◌, ◌⊎◌, inl, inr, ⊎_elim, ℕ, ◌+◌, ◌<◌, ◌≤◌, min, max, Option, Some, None, Bool, true, false, List, [], ◌∷◌, ◌++◌, length, arith, refl, sym, ap, ◌∙◌, subst}
+use Rattle.std.proofs.Common.{◌≡◌, ◌⊎◌, inl, inr, ⊎_elim, ℕ, ◌<◌, ◌≤◌, min, max, Option, Some, None, Bool, true, false, List, [], ◌∷◌, ◌++◌, length, arith, refl, sym, ap, ◌∙◌, subst}
 use Rattle.std.specs.Prelude.{nat_lt, nat_le, ◌==◌, ◌&&◌, not, if◌then◌else◌, filter}
 use Rattle.std.proofs.lemmas.Bool.Decides.{nat_tests}
 use Rattle.std.proofs.lemmas.Bool.{and_parts, leb-true, ltb-true}
 use Rattle.recovery_mtud.specs.declared.detector.Burst.{Burst}
-use Rattle.recovery_mtud.specs.Bursts.{LossBursts, bursts_made, bursts_probed, bursts_acked, with_burst, is_suspicious, with_suspicious, closing, bursts_closed, joins, burst_with, bursts_lost, is_black_hole, bursts_ended}
-use Rattle.recovery_mtud.specs.BurstRuns.{Loss, follows, if_any, least_size, last_number, is_above, is_past}
-use Rattle.recovery_mtud.proofs.BurstCounts.{one, tally, AllAbove, length-filter, tally-append, tally-filter, tally-same, all-filter, all-kept, tally-all, tally-raise, max_test, length-with_burst, tally-with_burst, all-with_burst, has, past_has, has_more, has_head}
+use Rattle.recovery_mtud.specs.Bursts.{LossBursts, bursts_made, bursts_probed, bursts_acked, with_burst, is_suspicious, with_suspicious, closing, bursts_closed, joins, burst_with, bursts_lost, is_black_hole}
+use Rattle.recovery_mtud.specs.BurstRuns.{Loss, follows, if_any, least_size, is_above, is_past}
+use Rattle.recovery_mtud.proofs.BurstCounts.{one, tally, AllAbove, length-filter, tally-filter, tally-same, all-filter, all-kept, tally-all, tally-raise, max_test, length-with_burst, tally-with_burst, all-with_burst, has, past_has, has_more, has_head}
 
 -- ---- the open burst
 
@@ -101,9 +101,9 @@ module _ (min_mtu : ℕ) (loss : Loss) (losses : List Loss) (bursts : List (List
       let parts = suspicious_true (least_size run) s.min_mtu loss.number s.newest s.acked is in
       let late : loss.number ≤ s.newest = grind (arith, nat_tests) in
       let over : s.acked < least_size run = ⊎_elim
-        (λ (before : s.newest ≤ loss.number). let same : s.newest ≡ loss.number = omega arith in omega (arith, apart_newest tie apart same, parts.0, tie.min_is))
-        (λ (small : s.acked < least_size run). small)
-        parts.1 in
+      (λ (before : s.newest ≤ loss.number). let same : s.newest ≡ loss.number = omega arith in omega (arith, apart_newest tie apart same, parts.0, tie.min_is))
+      (λ (small : s.acked < least_size run). small)
+      parts.1 in
       keep s.acked tie (omega (arith, parts.0, tie.min_is)) over tie.above tie.newest
   close_some tie apart false is newer other =
       record { open_is = refl; min_is = tie.min_is; above = tie.above; large = tie.large; counts = λ low. omega (arith, tie.counts low); newest = tie.newest; fate = tt }

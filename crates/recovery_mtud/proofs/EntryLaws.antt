@@ -7,9 +7,9 @@ use Rattle.recovery_mtud.specs.declared.detector.Burst.{Burst}
 use Rattle.recovery_mtud.specs.declared.search.Phase.{Phase}
 use Rattle.recovery_mtud.specs.declared.search.Phase.TheVariants.{Initial, Searching, Complete}
 use Rattle.recovery_mtud.specs.declared.search.Probing.{Probing}
-use Rattle.recovery_mtud.specs.Search.{MtuSearch, begun, size_to_probe, later, probing_in, answer_in, phase_with, phase_after, search_polled, is_running, is_number, phase_acked, search_acked, phase_lost, search_lost, search_reported}
+use Rattle.recovery_mtud.specs.Search.{MtuSearch, begun, size_to_probe, later, probing_in, answer_in, phase_with, phase_after, is_running, is_number, phase_lost, search_reported}
 use Rattle.recovery_mtud.specs.Bursts.{LossBursts, bursts_acked, is_suspicious, with_suspicious, closing, bursts_closed, joins, burst_with, bursts_lost, is_black_hole, bursts_ended}
-use Rattle.recovery_mtud.specs.Discovery.{Discovery, discovery_made, discovery_disabled, is_searching_of, size_in, size_of_probe, poll_of, reports, taking, discovery_ended, reset_in, within}
+use Rattle.recovery_mtud.specs.Discovery.{Discovery, discovery_made, discovery_disabled, is_searching_of, size_in, poll_of, taking, within}
 use Rattle.recovery_mtud.specs.DiscoveryLog.{MtuCall, polls, is_limited, acks, loses_probe, loses, losses_end, resets, discovery_after, discovery_by, kept_limit}
 use Rattle.recovery_mtud.specs.MtuEntries.{IsNew, MtuEntry, reported, losses_over, poll_entry, entry_of, entries_by, MtuProbe, unless_number, probe_in_flight, size_at, limit_in_use, min_mtu_in_use, mtu_in_use}
 use Rattle.recovery_mtud.specs.SearchRuns.{search_runs}
@@ -32,7 +32,7 @@ pub record Holds (made : Discovery) (entries : List MtuEntry) (discovery : Disco
   pub probe : held discovery.search ≡ probe_in_flight entries
   pub runs : is_searching_of discovery ≡ search_runs entries
 
--- its size is the probe's
+-- the size that the state gives at a number is the one of the probe held
 pub size_in_held : (number : ℕ) (search : Option MtuSearch) → size_in number search ≡ size_at number (held search)
 size_in_held number None = refl
 size_in_held number (Some search) = go search.phase
@@ -127,29 +127,17 @@ module _ (made : Discovery) (entries : List MtuEntry) where
     probe = holds.probe;
     runs = ap (λ flight. not (is_none flight) && search_runs entries) holds.probe;
   }
-  polls_holds now next mtu (Some search) bursts holds = go (poll_of now old) refl
+  polls_holds now next mtu (Some search) bursts holds =
+      let old : Discovery = record { mtu = mtu; search = Some search; bursts = bursts } in
+      let polled = poll_in_phase entries mtu now next search.limit search.settings search.phase holds.probe holds.runs in
+      let same = sizes (poll_of now old) in
+      record { mtu = holds.mtu ∙ same.0; limit = holds.limit ∙ same.1; min_mtu = holds.min_mtu ∙ same.2; probe = polled.0; runs = polled.1 }
     where
-      old : Discovery
-      old = record { mtu = mtu; search = Some search; bursts = bursts }
-
-      polled : PollHolds entries now next (poll_of now old) (search_polled mtu now next search).phase
-      polled = poll_in_phase entries mtu now next search.limit search.settings search.phase holds.probe holds.runs
-
-      go : (answer : Option ℕ) → poll_of now old ≡ answer → Holds made (poll_entry now next (poll_of now old) ∷ entries) (discovery_after (polls now next) old)
-      go None is = subst (λ answer. Holds made (poll_entry now next answer ∷ entries) (discovery_after (polls now next) old)) (sym is) (record {
-        mtu = holds.mtu;
-        limit = holds.limit;
-        min_mtu = holds.min_mtu;
-        probe = polled.0 ∙ ap (λ answer. probe_in_flight (poll_entry now next answer ∷ entries)) is;
-        runs = polled.1 ∙ ap (λ answer. search_runs (poll_entry now next answer ∷ entries)) is;
-      })
-      go (Some size) is = subst (λ answer. Holds made (poll_entry now next answer ∷ entries) (discovery_after (polls now next) old)) (sym is) (record {
-        mtu = holds.mtu;
-        limit = holds.limit;
-        min_mtu = holds.min_mtu;
-        probe = polled.0 ∙ ap (λ answer. probe_in_flight (poll_entry now next answer ∷ entries)) is;
-        runs = polled.1 ∙ ap (λ answer. search_runs (poll_entry now next answer ∷ entries)) is;
-      })
+      sizes : (answer : Option ℕ) → (mtu_in_use made entries ≡ mtu_in_use made (poll_entry now next answer ∷ entries))
+          × (limit_in_use made entries ≡ limit_in_use made (poll_entry now next answer ∷ entries))
+          × (min_mtu_in_use made entries ≡ min_mtu_in_use made (poll_entry now next answer ∷ entries))
+      sizes None = (refl, refl, refl)
+      sizes (Some size) = (refl, refl, refl)
 
   limited_holds : (limit mtu : ℕ) (search : Option MtuSearch) (bursts : LossBursts)
       → (let old : Discovery = record { mtu = mtu; search = search; bursts = bursts } in
@@ -169,8 +157,8 @@ module _ (made : Discovery) (entries : List MtuEntry) where
     runs = holds.runs;
   }
 
-  -- what a packet's acknowledgement leaves, by the probe in flight
-  pub record Acked (number : ℕ) (flight : Option MtuProbe) (old new : Discovery) : Type 0 where
+  -- what an acknowledgement leaves, by the probe in flight
+  record Acked (number : ℕ) (flight : Option MtuProbe) (old new : Discovery) : Type 0 where
     mtu : new.mtu ≡ unwrap_or (size_at number flight) old.mtu
     limit : kept_limit new ≡ kept_limit old
     min_mtu : new.bursts.min_mtu ≡ old.bursts.min_mtu
@@ -255,9 +243,9 @@ module _ (made : Discovery) (entries : List MtuEntry) where
       rest : Discovery
       rest = record old { bursts = bursts_ended bursts }
 
-      over : (reset_search : Option MtuSearch) → kept_limit (record old { search = reset_search }) ≡ kept_limit old → held reset_search ≡ None → is_searching_of (record old { search = reset_search }) ≡ false
-          → Holds made (reported now ∷ entries) (record rest { mtu = bursts.min_mtu; search = reset_search })
-      over reset_search limit none ended = record { mtu = holds.min_mtu; limit = limit ∙ holds.limit; min_mtu = bursts_ended_min_mtu bursts ∙ holds.min_mtu; probe = none; runs = ended }
+      over : (left : Option MtuSearch) → kept_limit (record old { search = left }) ≡ kept_limit old → held left ≡ None → is_searching_of (record old { search = left }) ≡ false
+          → Holds made (reported now ∷ entries) (record rest { mtu = bursts.min_mtu; search = left })
+      over left limit none ended = record { mtu = holds.min_mtu; limit = limit ∙ holds.limit; min_mtu = bursts_ended_min_mtu bursts ∙ holds.min_mtu; probe = none; runs = ended }
 
       ended : (old_search : Option MtuSearch) → kept_limit (record old { search = old_search }) ≡ kept_limit old
           → Holds made (reported now ∷ entries) (record rest { mtu = bursts.min_mtu; search = option_map (search_reported now) old_search })

@@ -5,6 +5,7 @@ mod BurstTies
 pub mod DiscoveryLaws
 pub mod EntryLaws
 mod DiscoveryRows
+mod RunRows
 pub mod SearchLaws
 pub mod SearchRunLaws
 mod SearchTies

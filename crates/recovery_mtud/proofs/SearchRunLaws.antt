@@ -1,6 +1,6 @@
 -- Whole searches: at most 16 sizes and 48 probes, and an end near the best size of an honest link.
-use Rattle.std.proofs.Common.{◌≡◌, ℕ, ◌+◌, ◌-◌, ◌*◌, ◌^◌, ◌<◌, ◌≤◌, min, Option, Some, None, is_some, Bool, true, false, List, [], ◌∷◌, ◌++◌, length, arith, refl, sym, ap, ◌∙◌, subst}
-use Rattle.std.specs.Prelude.{◌==◌, nat_lt, nat_le, nat_eq, ⊤, ◌&&◌, ◌||◌, not, is_none, if◌then◌else◌, unwrap_or, option_to_list, IfSome, All}
+use Rattle.std.proofs.Common.{◌≡◌, ℕ, ◌+◌, ◌-◌, ◌^◌, ◌<◌, ◌≤◌, Option, Some, None, is_some, Bool, true, false, List, [], ◌∷◌, ◌++◌, length, arith, refl, sym, ap, ◌∙◌, subst}
+use Rattle.std.specs.Prelude.{◌==◌, nat_lt, nat_le, nat_eq, ⊤, ◌&&◌, ◌||◌, not, is_none, if◌then◌else◌, unwrap_or, option_to_list, IfSome}
 use Rattle.std.specs.Option.{option_map}
 use Rattle.std.specs.Set.{distinct_count}
 use Rattle.std.proofs.lemmas.Bool.Decides.{nat_tests}
@@ -9,14 +9,14 @@ use Rattle.recovery_mtud.specs.declared.config.MtuDiscoveryConfig.{MtuDiscoveryC
 use Rattle.recovery_mtud.specs.declared.search.Phase.{Phase}
 use Rattle.recovery_mtud.specs.declared.search.Phase.TheVariants.{Initial, Searching, Complete}
 use Rattle.recovery_mtud.specs.declared.search.Probing.{Probing}
-use Rattle.recovery_mtud.specs.Search.{MtuSearch, later, upper_from, begun, repeats, narrowed, next_size, size_to_probe, probing_in, answer_in, phase_with, phase_after, search_polled, is_number, is_running, phase_acked, phase_lost, search_reported}
+use Rattle.recovery_mtud.specs.Search.{MtuSearch, later, upper_from, begun, repeats, narrowed, next_size, size_to_probe, probing_in, answer_in, phase_with, phase_after, is_running, phase_acked, phase_lost, search_reported}
 use Rattle.recovery_mtud.specs.Bursts.{LossBursts, bursts_closed, bursts_ended, is_black_hole}
-use Rattle.recovery_mtud.specs.Discovery.{Discovery, is_searching_of, limit_or_greatest, poll_of, reports, taking, size_in, reset_in}
+use Rattle.recovery_mtud.specs.Discovery.{Discovery, is_searching_of, limit_or_greatest, poll_of, reports, taking}
 use Rattle.recovery_mtud.specs.DiscoveryLog.{MtuCall, polls, is_limited, acks, loses_probe, loses, losses_end, resets, discovery_after, discovery_by}
 use Rattle.recovery_mtud.specs.MtuEntries.{IsNew, settings_of, MtuEntry, probed, unprobed, limited, acked, probe_lost, lost, losses_over, reported, reset, poll_entry, entry_of, entries_by, MtuProbe, unless_number, probe_in_flight, size_at, limit_in_use, mtu_in_use}
-use Rattle.recovery_mtud.specs.SearchRuns.{search_runs, search_of, before_search, is_due, next_activation, is_searched, ProbesInSearch, probed_sizes, acked_sizes, lost_sizes, TakesFew, AreLimitsOutside, start_mtu, IsHonest, start_upper, IsNearBest, EndsNearBest}
-use Rattle.recovery_mtud.proofs.EntryLaws.{held_in, held, Holds, holds_by}
-use Rattle.recovery_mtud.proofs.SearchTies.{Tie, AreHonest, few, tie_begun, tie_again, tie_next, tie_end, tie_acked, tie_lost}
+use Rattle.recovery_mtud.specs.SearchRuns.{search_runs, search_of, before_search, is_due, next_activation, is_searched, ProbesInSearch, probed_sizes, acked_sizes, lost_sizes, TakesFew, AreLimitsOutside, EndsNearBest}
+use Rattle.recovery_mtud.proofs.EntryLaws.{held_in, Holds, holds_by}
+use Rattle.recovery_mtud.proofs.SearchTies.{Tie, few, tie_begun, tie_again, tie_next, tie_end, tie_acked, tie_lost}
 
 -- ---- the entries of a search
 
@@ -82,9 +82,9 @@ module _ (made : Discovery) (settings : MtuDiscoveryConfig) (entries : List MtuE
   begins mtu limit same_mtu same_limit idle wide phase = record {
     reached = mtu_in_use made entries;
     tie =
-      subst (λ (x : List MtuEntry × List MtuEntry). TieIn made settings x.0 (mtu_in_use made entries) (probed_sizes x.1) (acked_sizes x.1) (lost_sizes x.1) (begun mtu (record { limit = limit; phase = phase; settings = settings })))
-      (λ i. (sym (idle_before entries idle) i, sym (idle_search entries idle) i))
-      (subst (λ (x : ℕ × ℕ). TieIn made settings entries (mtu_in_use made entries) [] [] [] (begun x.0 (record { limit = x.1; phase = phase; settings = settings })))
+        subst (λ (x : List MtuEntry × List MtuEntry). TieIn made settings x.0 (mtu_in_use made entries) (probed_sizes x.1) (acked_sizes x.1) (lost_sizes x.1) (begun mtu (record { limit = limit; phase = phase; settings = settings })))
+        (λ i. (sym (idle_before entries idle) i, sym (idle_search entries idle) i))
+        (subst (λ (x : ℕ × ℕ). TieIn made settings entries (mtu_in_use made entries) [] [] [] (begun x.0 (record { limit = x.1; phase = phase; settings = settings })))
         (λ i. (sym same_mtu i, ap limit_or_greatest (sym same_limit) i))
         (tie_begun (mtu_in_use made entries) (limit_or_greatest (limit_in_use made entries)) settings.upper_bound settings.minimum_change wide.1));
     is = λ outside. refl;
@@ -95,15 +95,15 @@ module _ (made : Discovery) (settings : MtuDiscoveryConfig) (entries : List MtuE
         → (answer : Option ℕ) → next_size settings.minimum_change (narrowed p) ≡ answer → Stepped made settings (poll_entry now next answer) entries (phase_with (later now settings.interval) next p answer)
     poll_next p reaches quiet searched empty once None is = record {
       tie =
-        ap (λ flight. if is_none flight && is_searched settings now entries then Some (later now settings.interval) else next_activation settings entries) quiet
-        ∙ ap (λ b. if b then Some (later now settings.interval) else next_activation settings entries) searched;
+          ap (λ flight. if is_none flight && is_searched settings now entries then Some (later now settings.interval) else next_activation settings entries) quiet
+          ∙ ap (λ b. if b then Some (later now settings.interval) else next_activation settings entries) searched;
       inside = tt;
       near = λ wide outside _ _ link honest. (
-        let at = reaches wide in
-        let same = at.is outside in
-        let near = tie_end _ _ _ _ next _ _ _ p at.tie wide.0 empty once is link honest.start (record { acked = honest.acked; lost = honest.lost }) in
-        record { carried = omega (arith, near.0, same); near = omega (arith, near.1, same) }
-      );
+          let at = reaches wide in
+          let same = at.is outside in
+          let near = tie_end _ _ _ _ next _ _ _ p at.tie wide.0 empty once is link honest.start (record { acked = honest.acked; lost = honest.lost }) in
+          record { carried = omega (arith, near.0, same); near = omega (arith, near.1, same) }
+          );
     }
     poll_next p reaches quiet searched empty once (Some size) is = record {
       tie = λ wide. (let at = reaches wide in record { reached = at.reached; tie = tie_next _ _ _ _ next _ _ _ p at.tie wide.0 empty once size is; is = at.is });
@@ -119,15 +119,15 @@ module _ (made : Discovery) (settings : MtuDiscoveryConfig) (entries : List MtuE
             Stepped made settings (poll_entry now next answer) entries (phase_with (later now settings.interval) next p answer))
         go true again = record {
           tie = λ wide. (
-            let at = reaches wide in
-            let same : narrowed p ≡ p = ap (λ b. if b then p else (if p.losses == 0 then record p { lower = p.last } else record p { upper = p.last - 1; losses = 0 })) again in
-            record {
-              reached = at.reached;
-              tie = subst (λ (x : Probing). TieIn made settings (before_search entries) at.reached (p.last ∷ probed_sizes (search_of entries)) (acked_sizes (search_of entries)) (lost_sizes (search_of entries)) (record x { in_flight = Some next; last = p.last })) (sym same)
-                (tie_again _ _ _ _ next _ _ _ p at.tie empty again);
-              is = at.is;
-            }
-          );
+              let at = reaches wide in
+              let same : narrowed p ≡ p = ap (λ b. if b then p else (if p.losses == 0 then record p { lower = p.last } else record p { upper = p.last - 1; losses = 0 })) again in
+              record {
+                reached = at.reached;
+                tie = subst (λ (x : Probing). TieIn made settings (before_search entries) at.reached (p.last ∷ probed_sizes (search_of entries)) (acked_sizes (search_of entries)) (lost_sizes (search_of entries)) (record x { in_flight = Some next; last = p.last })) (sym same)
+                    (tie_again _ _ _ _ next _ _ _ p at.tie empty again);
+                is = at.is;
+              }
+              );
           inside = (quiet, searched);
           near = λ wide outside. tt;
         }
@@ -189,9 +189,9 @@ module _ (made : Discovery) (settings : MtuDiscoveryConfig) (entries : List MtuE
               let idle : is_searched settings now entries ≡ false = ap (λ b. b || is_due (next_activation settings entries) now) (sym runs) ∙ ap (λ last. is_due last now) tie ∙ late in
               record {
                 tie =
-                  ap (λ flight. if is_none flight && is_searched settings now entries then Some (later now settings.interval) else next_activation settings entries) (sym flies)
-                  ∙ ap (λ b. if b then Some (later now settings.interval) else next_activation settings entries) idle
-                  ∙ tie;
+                    ap (λ flight. if is_none flight && is_searched settings now entries then Some (later now settings.interval) else next_activation settings entries) (sym flies)
+                    ∙ ap (λ b. if b then Some (later now settings.interval) else next_activation settings entries) idle
+                    ∙ tie;
                 inside = tt;
                 near = λ wide outside quiet searched. absurd (let no : true ≡ false = sym searched ∙ idle in cc);
               }
@@ -227,16 +227,16 @@ module _ (made : Discovery) (settings : MtuDiscoveryConfig) (entries : List MtuE
             let size : size_at number (Some own_probe) ≡ Some p.last = ap (λ b. if b then Some p.last else None) is in
             acked_reaches (record p' { in_flight = None; losses = 0 }) p.last (Some own_probe) flies runs
             (subst (λ found. TieIn made settings (before_search entries) p.last (probed_sizes (search_of entries)) (option_to_list found ++ acked_sizes (search_of entries)) (lost_sizes (search_of entries)) (record p' { in_flight = None; losses = 0 })) (sym size)
-              (tie_acked _ _ _ _ own _ _ _ p' at.tie refl))
+            (tie_acked _ _ _ _ own _ _ _ p' at.tie refl))
             (λ outside. ap (λ found. unwrap_or found (mtu_in_use made entries)) (sym size))
-        )
+            )
         go false is = λ wide. (
             let at = reaches wide in
             let size : size_at number (Some own_probe) ≡ None = ap (λ b. if b then Some p.last else None) is in
             acked_reaches p' at.reached (Some own_probe) flies runs
             (subst (λ found. TieIn made settings (before_search entries) at.reached (probed_sizes (search_of entries)) (option_to_list found ++ acked_sizes (search_of entries)) (lost_sizes (search_of entries)) p') (sym size) at.tie)
             (λ outside. at.is outside ∙ ap (λ found. unwrap_or found (mtu_in_use made entries)) (sym size))
-        )
+            )
 
     acked_phase : (phase : Phase) → held_in phase ≡ probe_in_flight entries → is_running phase ≡ search_runs entries → PhaseTie made settings entries phase
         → PhaseTie made settings (acked number bytes ∷ entries) (phase_acked number phase)
@@ -259,7 +259,7 @@ module _ (made : Discovery) (settings : MtuDiscoveryConfig) (entries : List MtuE
       let at = reaches wide in
       let p' : Probing = record p { in_flight = Some own } in
       lost_reaches (record p' { in_flight = None; losses = p.losses + 1 }) at.reached (Some (record { number = own; size = p.last })) flies runs (tie_lost _ _ _ _ own _ _ _ p' at.tie refl) at.is
-  )
+      )
 
   lost_phase : (phase : Phase) → held_in phase ≡ probe_in_flight entries → is_running phase ≡ search_runs entries → PhaseTie made settings entries phase → PhaseTie made settings (probe_lost ∷ entries) (phase_lost phase)
   lost_phase Initial flies runs tie = tie
@@ -273,7 +273,7 @@ module _ (made : Discovery) (settings : MtuDiscoveryConfig) (entries : List MtuE
   limited_phase limit (Searching p) runs tie = λ wide. (
       let at = tie wide in
       reaches_after (limited limit) p at.reached (sym runs) at.tie (λ outside. absurd (let no : true ≡ false = runs ∙ outside.0 in cc))
-  )
+      )
   limited_phase limit (Complete activation) runs tie = tie
 
   packet_phase : (number bytes : ℕ) (phase : Phase) → is_running phase ≡ search_runs entries → PhaseTie made settings entries phase → PhaseTie made settings (lost number bytes ∷ entries) phase
@@ -334,7 +334,7 @@ module _ (made : Discovery) (settings : MtuDiscoveryConfig) (entries : List MtuE
   told_in (is_limited size) mtu limit phase bursts holds tie = record { tie = (refl, limited_phase made settings entries size phase holds.runs tie); inside = tt; near = λ _ _. tt }
   told_in (acks number bytes) mtu limit phase bursts holds tie = record {
     tie = subst (TiedIn made settings (acked number bytes ∷ entries)) (sym (acked_search number bytes mtu (record { limit = limit; phase = phase; settings = settings }) bursts))
-      (refl, acked_phase made settings entries number bytes phase holds.probe holds.runs tie);
+        (refl, acked_phase made settings entries number bytes phase holds.probe holds.runs tie);
     inside = tt;
     near = λ _ _. tt;
   }

@@ -1,12 +1,12 @@
 -- What a search keeps: how many sizes may still come by its bounds, and what an honest link leaves of them.
 use Rattle.std.proofs.Common.{◌≡◌, ◌≢◌, ◌⊎◌, inl, inr, ⊎_elim, ℕ, suc, ◌+◌, ◌-◌, ◌*◌, ◌/◌, ◌^◌, ◌<◌, ◌≤◌, min, Option, Some, None, Bool, true, false, List, [], ◌∷◌, length, arith, refl, sym, ap, ◌∙◌, subst}
-use Rattle.std.specs.Prelude.{nat_lt, nat_eq, ◌==◌, ◌&&◌, ◌||◌, cond, if◌then◌else◌, All}
+use Rattle.std.specs.Prelude.{nat_lt, nat_eq, ◌==◌, ◌&&◌, if◌then◌else◌, All}
 use Rattle.std.specs.Set.{distinct_count, is_member}
 use Rattle.std.proofs.lemmas.Bool.Decides.{nat_tests}
 use Rattle.std.proofs.lemmas.Bool.{eq-eqb, ne_eqb}
 use Rattle.std.proofs.lemmas.List.Elements.{All-head, All-tail}
 use Rattle.recovery_mtud.specs.declared.search.Probing.{Probing}
-use Rattle.recovery_mtud.specs.Search.{MtuSearch, distance, middle, narrowed, next_size, repeats, begun, upper_from}
+use Rattle.recovery_mtud.specs.Search.{distance, middle, narrowed, next_size, repeats, upper_from}
 use Rattle.recovery_mtud.proofs.SearchWidths.{Above, Below, Halves, middle_up, middle_down, upper_up, end_up, end_down, next_some, next_none}
 
 abbrev pub flying : Option ℕ → ℕ
@@ -262,7 +262,7 @@ module _ (upper change start mtu number : ℕ) (probed acked lost : List ℕ) (p
         up = tie.up;
         stage = inr (record { some = omega arith; few = omega (arith, try.few, one); above = try.above; down = try.down; among = try.among; count = omega (arith, try.count, try.few, one) });
         fair = λ link carried honest. (
-          let fair = tie.fair link carried (record { acked = honest.acked; lost = All-tail (λ size. link < size) p.last lost honest.lost }) in
-          record { carried = fair.carried; best = fair.best; lost = λ _. All-head (λ size. link < size) p.last lost honest.lost }
-        );
+            let fair = tie.fair link carried (record { acked = honest.acked; lost = All-tail (λ size. link < size) p.last lost honest.lost }) in
+            record { carried = fair.carried; best = fair.best; lost = λ _. All-head (λ size. link < size) p.last lost honest.lost }
+            );
       }
