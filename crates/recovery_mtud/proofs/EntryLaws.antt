@@ -11,7 +11,7 @@ use Rattle.recovery_mtud.specs.Search.{MtuSearch, begun, size_to_probe, later, p
 use Rattle.recovery_mtud.specs.Bursts.{LossBursts, bursts_acked, is_suspicious, with_suspicious, closing, bursts_closed, joins, burst_with, bursts_lost, is_black_hole, bursts_ended}
 use Rattle.recovery_mtud.specs.Discovery.{Discovery, discovery_made, discovery_disabled, is_searching_of, size_in, poll_of, taking, within}
 use Rattle.recovery_mtud.specs.DiscoveryLog.{MtuCall, polls, is_limited, acks, loses_probe, loses, losses_end, resets, discovery_after, discovery_by, kept_limit}
-use Rattle.recovery_mtud.specs.MtuEntries.{IsNew, MtuEntry, reported, losses_over, poll_entry, entry_of, entries_by, MtuProbe, unless_number, probe_in_flight, size_at, limit_in_use, min_mtu_in_use, mtu_in_use}
+use Rattle.recovery_mtud.specs.MtuEntries.{IsNew, MtuEntry, reported, losses_over, poll_entry, entry_of, entries_by, AtEach, MtuProbe, unless_number, probe_in_flight, size_at, limit_in_use, min_mtu_in_use, mtu_in_use}
 use Rattle.recovery_mtud.specs.SearchRuns.{search_runs}
 
 -- ---- the probe that a discovery holds
@@ -294,6 +294,11 @@ holds_made made new = go made.search new.search
 pub holds_by : (made : Discovery) → IsNew made → (calls : List MtuCall) → Holds made (entries_by made calls) (discovery_by made calls)
 holds_by made new [] = holds_made made new
 holds_by made new (call ∷ earlier) = holds_after made (entries_by made earlier) call (discovery_by made earlier) (holds_by made new earlier)
+
+-- what holds whatever is told holds at each moment
+pub at_each : (made : Discovery) (P : List MtuEntry → Type 0) → ((calls : List MtuCall) → P (entries_by made calls)) → (calls : List MtuCall) → AtEach P (entries_by made calls)
+at_each made P always [] = always []
+at_each made P always (call ∷ earlier) = (always (call ∷ earlier), at_each made P always earlier)
 
 -- a discovery that was made, enabled or not, is new
 pub discovery_made_new : (mtu min_mtu : ℕ) (limit : Option ℕ) (settings : MtuDiscoveryConfig) → IsNew (discovery_made mtu min_mtu limit settings)

@@ -6,8 +6,8 @@ use Rattle.std.proofs.lemmas.Bool.Decides.{nat_tests}
 use Rattle.std.proofs.lemmas.Bool.{eq-eqb, ne_eqb}
 use Rattle.std.proofs.lemmas.List.Elements.{All-head, All-tail}
 use Rattle.recovery_mtud.specs.declared.search.Probing.{Probing}
-use Rattle.recovery_mtud.specs.Search.{distance, middle, narrowed, next_size, repeats, upper_from}
-use Rattle.recovery_mtud.proofs.SearchWidths.{Above, Below, Halves, middle_up, middle_down, upper_up, end_up, end_down, next_some, next_none}
+use Rattle.recovery_mtud.specs.Search.{distance, narrowed, next_size, repeats, upper_from}
+use Rattle.recovery_mtud.proofs.SearchWidths.{Above, Below, Halves, middle_up, middle_down, upper_up, IsNext, IsOver, end_up, end_down, next_some, next_none}
 
 abbrev pub flying : Option ℕ → ℕ
 flying None = 0
@@ -170,11 +170,11 @@ module _ (upper change start mtu number : ℕ) (probed acked lost : List ℕ) (p
         fair = λ link carried honest. let fair = tie.fair link carried honest in record { carried = fair.carried; best = omega (arith, fair.lost (omega (arith, gone)), fair.best); lost = λ some. absurd (omega (arith, some)) };
       }
 
-  halves_up : (tie : Tied) → 3 ≤ change → (size : ℕ) → ((distance (middle (record p { lower = p.last })) p.last < change) × (change ≤ p.upper - p.last) × (size ≡ p.upper)) ⊎ ((change ≤ distance (middle (record p { lower = p.last })) p.last) × (size ≡ middle (record p { lower = p.last }))) → Halves tie.further change p.last p.upper size
+  halves_up : (tie : Tied) → 3 ≤ change → (size : ℕ) → IsNext change ((p.last + p.upper) / 2) p.last p.upper size → Halves tie.further change p.last p.upper size
   halves_up tie wide size (inl near) = subst (λ x. Halves tie.further change p.last p.upper x) (sym near.2) (upper_up tie.further change p.last p.upper _ wide tie.order refl near.0 near.1 tie.up)
   halves_up tie wide size (inr far) = subst (λ x. Halves tie.further change p.last p.upper x) (sym far.1) (middle_up tie.further change p.last p.upper _ wide tie.order refl far.0 tie.up)
 
-  halves_down : (tie : Tied) → Trying tie.further tie.sizes change probed p → 3 ≤ change → (size : ℕ) → ((distance ((p.lower + (p.last - 1)) / 2) p.last < change) × (change ≤ p.last - 1 - p.last) × (size ≡ p.last - 1)) ⊎ ((change ≤ distance ((p.lower + (p.last - 1)) / 2) p.last) × (size ≡ (p.lower + (p.last - 1)) / 2)) → Halves tie.further change p.lower (p.last - 1) size
+  halves_down : (tie : Tied) → Trying tie.further tie.sizes change probed p → 3 ≤ change → (size : ℕ) → IsNext change ((p.lower + (p.last - 1)) / 2) p.last (p.last - 1) size → Halves tie.further change p.lower (p.last - 1) size
   halves_down tie try wide size (inl near) = absurd (omega (arith, near.1))
   halves_down tie try wide size (inr far) =
       let one : p.last ≡ p.last - 1 + 1 = omega (arith, try.above) in
@@ -219,7 +219,7 @@ module _ (upper change start mtu number : ℕ) (probed acked lost : List ℕ) (p
           let three = gone tie.further tie.sizes try empty once in
           let found = subst (λ (x : Probing). next_size change x ≡ None) (narrowed_down p once (λ zero. absurd (omega (arith, three, zero)))) next in
           let one : p.last ≡ p.last - 1 + 1 = omega (arith, try.above) in
-          let cases = subst (λ x. ((distance ((p.lower + (p.last - 1)) / 2) x < change) × (p.last - 1 - x < change)) ⊎ (((p.lower + (p.last - 1)) / 2 ≡ 0) × (change ≤ distance ((p.lower + (p.last - 1)) / 2) x))) one (next_none change _ p.last (p.last - 1) found) in
+          let cases = subst (λ x. IsOver change ((p.lower + (p.last - 1)) / 2) x (p.last - 1)) one (next_none change _ p.last (p.last - 1) found) in
           let near = end_down change p.lower (p.last - 1) _ wide (omega (arith, try.above)) refl cases in
           let lost_above = fair.lost (omega (arith, three)) in
           (fair.carried, omega (arith, near, lost_above, tie.lower_in))

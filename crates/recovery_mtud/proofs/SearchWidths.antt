@@ -1,5 +1,5 @@
 -- How the widths of a search shrink, on plain numbers: a size in the middle halves what is left (RFC 8899, 5.3.2).
-use Rattle.std.proofs.Common.{◌≡◌, ◌⊎◌, inl, inr, ⊎_elim, ℕ, zero, suc, ◌+◌, ◌-◌, ◌*◌, ◌/◌, ◌^◌, ◌<◌, ◌≤◌, Some, None, arith, refl}
+use Rattle.std.proofs.Common.{◌≡◌, ◌⊎◌, inl, inr, ⊎_elim, ℕ, zero, suc, ◌+◌, ◌-◌, ◌*◌, ◌/◌, ◌^◌, ◌<◌, ◌≤◌, Option, Some, None, arith, refl}
 use Rattle.std.specs.Prelude.{nat_lt, nat_le, ◌==◌, if◌then◌else◌}
 use Rattle.std.proofs.lemmas.Bool.Decides.{nat_tests}
 use Rattle.std.proofs.Math.Nat.{pow-suc}
@@ -67,18 +67,29 @@ upper_up (suc (suc k)) change l u m c o e near far (inl h) =
     record { left = suc k; one_less = refl; above_lower = omega arith; within = omega arith; up = inr (omega arith); down = inr (inl (omega arith, omega arith)) }
 upper_up k change l u m c o e near far (inr h) = absurd (omega arith)
 
+-- the next size: the upper bound, where the middle is near to the last size and the bound is not, or the middle
+abbrev pub IsNext : ℕ → ℕ → ℕ → ℕ → ℕ → Type 0
+IsNext change m last u size = ((distance m last < change) × (change ≤ u - last) × (size ≡ u)) ⊎ ((change ≤ distance m last) × (size ≡ m))
+
+-- there is none
+abbrev pub IsOver : ℕ → ℕ → ℕ → ℕ → Type 0
+IsOver change m last u = ((distance m last < change) × (u - last < change)) ⊎ ((m ≡ 0) × (change ≤ distance m last))
+
 -- a search that ends after a success, and after a loss
-pub end_up : (change l u m : ℕ) → 3 ≤ change → l ≤ u → m ≡ (l + u) / 2 → ((distance m l < change) × (u - l < change)) ⊎ ((m ≡ 0) × (change ≤ distance m l)) → u < l + change
+pub end_up : (change l u m : ℕ) → 3 ≤ change → l ≤ u → m ≡ (l + u) / 2 → IsOver change m l u → u < l + change
 end_up change l u m c o e (inl h) = omega (arith, h.0, h.1)
 end_up change l u m c o e (inr h) = absurd (omega (arith, h.0, h.1))
 
-pub end_down : (change l u m : ℕ) → 3 ≤ change → l ≤ u → m ≡ (l + u) / 2 → ((distance m (u + 1) < change) × (u - (u + 1) < change)) ⊎ ((m ≡ 0) × (change ≤ distance m (u + 1))) → u + 4 ≤ l + 2 * change
+pub end_down : (change l u m : ℕ) → 3 ≤ change → l ≤ u → m ≡ (l + u) / 2 → IsOver change m (u + 1) u → u + 4 ≤ l + 2 * change
 end_down change l u m c o e (inl h) = omega (arith, h.0, h.1)
 end_down change l u m c o e (inr h) = absurd (omega (arith, h.0, h.1))
 
 -- what the next size is, from the definition
-pub next_some : (change m last u size : ℕ) → (if nat_lt (distance m last) change then (if nat_le change (u - last) then Some u else None) else (if m == 0 then None else Some m)) ≡ Some size → ((distance m last < change) × (change ≤ u - last) × (size ≡ u)) ⊎ ((change ≤ distance m last) × (size ≡ m))
+abbrev pub size_from : ℕ → ℕ → ℕ → ℕ → Option ℕ
+size_from change m last u = if nat_lt (distance m last) change then (if nat_le change (u - last) then Some u else None) else (if m == 0 then None else Some m)
+
+pub next_some : (change m last u size : ℕ) → size_from change m last u ≡ Some size → IsNext change m last u size
 next_some change m last u size e = grind (arith, nat_tests)
 
-pub next_none : (change m last u : ℕ) → (if nat_lt (distance m last) change then (if nat_le change (u - last) then Some u else None) else (if m == 0 then None else Some m)) ≡ None → ((distance m last < change) × (u - last < change)) ⊎ ((m ≡ 0) × (change ≤ distance m last))
+pub next_none : (change m last u : ℕ) → size_from change m last u ≡ None → IsOver change m last u
 next_none change m last u e = grind (arith, nat_tests)

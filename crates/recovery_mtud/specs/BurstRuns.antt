@@ -94,7 +94,7 @@ AreFatesApart entries =
 abbrev pub is_past : List ℕ → List Loss → Bool
 is_past numbers burst = list_all (λ number. nat_lt number (last_number burst)) numbers
 
--- ---- reports: as all losses of a moment were told, the open burst closes
+-- ---- reports: they come as all losses of a moment were told, which closes the open burst
 
 abbrev pub AreFour : (List Loss → Bool) → List (List Loss) → Type 0
 AreFour test bursts = 4 ≤ length (filter test bursts)
@@ -104,18 +104,18 @@ module _ (made : Discovery) where
   abbrev pub AreFourStanding : List MtuEntry → Type 0
   AreFourStanding entries = AreFour (is_above (min_mtu_in_use made entries)) (if_any (open_run entries) ++ standing entries)
 
-  -- four such bursts have closed with no acknowledgement since, and past every number that was acknowledged
+  -- four such bursts have closed with no acknowledgement since, each past every number that was acknowledged
   abbrev pub AreFourUnanswered : List MtuEntry → Type 0
   AreFourUnanswered entries =
       AreFour (λ burst. is_above (min_mtu_in_use made entries) burst && is_past (acked_numbers entries) burst) (if_any (open_run entries) ++ unanswered entries)
 
-  -- a report needs the one
+  -- where a black hole is reported, four stand
   abbrev pub ReportNeedsFour : List MtuEntry → Type 0
   ReportNeedsFour [] = ⊤
   ReportNeedsFour (reported now ∷ earlier) = AreFourStanding earlier
   ReportNeedsFour (entry ∷ earlier) = ⊤
 
-  -- and comes at the other
+  -- where none is, no four have closed unanswered
   abbrev pub ReportComesAtFour : List MtuEntry → Type 0
   ReportComesAtFour [] = ⊤
   ReportComesAtFour (losses_over ∷ earlier) = AreFourUnanswered earlier → ⊥
