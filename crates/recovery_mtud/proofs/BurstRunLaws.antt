@@ -1,13 +1,15 @@
 -- Whole runs of the detection of black holes: a report needs four bursts, and comes at four.
-use Rattle.std.proofs.Common.{◌≡◌, ℕ, Option, Some, None, is_some, Bool, true, false, List, [], ◌∷◌, refl, sym, ap, ◌∙◌, subst}
-use Rattle.std.specs.Prelude.{if◌then◌else◌, filter}
+use Rattle.std.proofs.Common.{◌≡◌, ℕ, Option, Some, None, is_some, Bool, true, false, List, [], ◌∷◌, refl, sym, ap, min, arith, ◌∙◌, subst}
+use Rattle.std.specs.Prelude.{nat_lt, ◌&&◌, if◌then◌else◌, filter}
+use Rattle.std.specs.List.{list_all}
 use Rattle.std.specs.Option.{option_map}
+use Rattle.std.proofs.lemmas.Bool.Decides.{nat_tests}
 use Rattle.recovery_mtud.specs.Search.{search_reported}
 use Rattle.recovery_mtud.specs.Bursts.{bursts_made, bursts_closed, is_black_hole}
 use Rattle.recovery_mtud.specs.Discovery.{Discovery, poll_of, reports, size_of_probe, taking, reset_in}
 use Rattle.recovery_mtud.specs.DiscoveryLog.{MtuCall, polls, is_limited, acks, loses_probe, loses, losses_end, resets, discovery_after, discovery_by}
-use Rattle.recovery_mtud.specs.MtuEntries.{IsNew, MtuEntry, probed, unprobed, limited, acked, probe_lost, lost, losses_over, reported, reset, poll_entry, entry_of, entries_by, probe_in_flight, size_at, min_mtu_in_use}
-use Rattle.recovery_mtud.specs.BurstRuns.{open_run, is_above, standing, unanswered, acked_numbers, lost_numbers, AreFatesApart, AreFourStanding, AreFourUnanswered, ReportNeedsFour, ReportComesAtFour}
+use Rattle.recovery_mtud.specs.MtuEntries.{IsUntold, MtuEntry, probed, unprobed, limited, acked, probe_lost, lost, losses_over, reported, reset, poll_entry, entry_of, entries_by, probe_in_flight, size_at, min_mtu_in_use}
+use Rattle.recovery_mtud.specs.BurstRuns.{Loss, open_run, least_size, is_above, standing, unanswered, acked_numbers, lost_numbers, AreFatesApart, AreFourStanding, AreFourUnanswered, ReportNeedsFour, ReportComesAtFour}
 use Rattle.recovery_mtud.proofs.EntryLaws.{Holds, holds_by, size_in_held}
 use Rattle.recovery_mtud.proofs.BurstCounts.{has, has_more}
 use Rattle.recovery_mtud.proofs.BurstTies.{Needy, Coming, needy_acked, needy_probed, needy_lost, needy_ended, needy_report, needy_made, coming_acked, coming_probed, coming_lost, coming_ended, coming_report, coming_made}
@@ -122,26 +124,26 @@ module _ (made : Discovery) (entries : List MtuEntry) where
 
 -- ---- all calls
 
-needy_by : (made : Discovery) → IsNew made → (calls : List MtuCall) → AreFatesApart (entries_by made calls) → NeedyAt made (entries_by made calls) (discovery_by made calls)
+needy_by : (made : Discovery) → IsUntold made → (calls : List MtuCall) → AreFatesApart (entries_by made calls) → NeedyAt made (entries_by made calls) (discovery_by made calls)
 needy_by made new [] apart = subst (Needy made.bursts.min_mtu [] [] [] []) (sym new.bursts) (needy_made made.bursts.min_mtu [] [])
 needy_by made new (call ∷ earlier) apart =
     let before = apart_before (entry_of call (discovery_by made earlier)) (entries_by made earlier) apart in
     needy_after made (entries_by made earlier) call (discovery_by made earlier) (holds_by made new earlier) before (needy_by made new earlier before)
 
-coming_by : (made : Discovery) → IsNew made → (calls : List MtuCall) → ComingAt made (entries_by made calls) (discovery_by made calls)
+coming_by : (made : Discovery) → IsUntold made → (calls : List MtuCall) → ComingAt made (entries_by made calls) (discovery_by made calls)
 coming_by made new [] = subst (Coming made.bursts.min_mtu [] [] []) (sym new.bursts) (coming_made made.bursts.min_mtu [])
 coming_by made new (call ∷ earlier) = coming_after made (entries_by made earlier) call (discovery_by made earlier) (coming_by made new earlier)
 
 -- where a black hole is reported, four bursts stand
-pub four_stand : (made : Discovery) → IsNew made → (calls : List MtuCall) → AreFatesApart (entries_by made calls) → reports (discovery_by made calls) ≡ true → AreFourStanding made (entries_by made calls)
+pub four_stand : (made : Discovery) → IsUntold made → (calls : List MtuCall) → AreFatesApart (entries_by made calls) → reports (discovery_by made calls) ≡ true → AreFourStanding made (entries_by made calls)
 four_stand made new calls apart is = needy_report _ _ _ _ _ (discovery_by made calls).bursts (needy_by made new calls apart) (never_both (entries_by made calls) apart) is
 
 -- where four have closed unanswered, the end of losses reports a black hole
-pub four_report : (made : Discovery) → IsNew made → (calls : List MtuCall) → AreFourUnanswered made (entries_by made calls) → reports (discovery_by made calls) ≡ true
+pub four_report : (made : Discovery) → IsUntold made → (calls : List MtuCall) → AreFourUnanswered made (entries_by made calls) → reports (discovery_by made calls) ≡ true
 four_report made new calls many = coming_report _ _ _ _ (discovery_by made calls).bursts (coming_by made new calls) many
 
 -- a report needs four bursts that closed since the last one or a reset, all their packets above the least MTU, and were not refuted
-pub report_needs_four : (made : Discovery) → IsNew made → (calls : List MtuCall) → AreFatesApart (entries_by made calls) → ReportNeedsFour made (entries_by made calls)
+pub report_needs_four : (made : Discovery) → IsUntold made → (calls : List MtuCall) → AreFatesApart (entries_by made calls) → ReportNeedsFour made (entries_by made calls)
 report_needs_four made new [] apart = tt
 report_needs_four made new (call ∷ earlier) apart = go call (apart_before (entry_of call (discovery_by made earlier)) (entries_by made earlier) apart)
   where
@@ -163,7 +165,7 @@ report_needs_four made new (call ∷ earlier) apart = go call (apart_before (ent
     go (resets mtu min_mtu) apart = tt
 
 -- a report comes where four have closed with no acknowledgement since, past every number that was acknowledged
-pub report_comes_at_four : (made : Discovery) → IsNew made → (calls : List MtuCall) → ReportComesAtFour made (entries_by made calls)
+pub report_comes_at_four : (made : Discovery) → IsUntold made → (calls : List MtuCall) → ReportComesAtFour made (entries_by made calls)
 report_comes_at_four made new [] = tt
 report_comes_at_four made new (call ∷ earlier) = go call
   where
@@ -226,3 +228,15 @@ pub fates_apart_by : (made : Discovery) (calls : List MtuCall) → ((number : �
 fates_apart_by made calls apart number good =
     let same = numbers_by made calls in
     ap (has number) same.1 ∙ apart number (sym (ap (has number) same.0) ∙ good)
+
+-- the least packet of a burst is above a size exactly where all its packets are
+pub above_is_all : (size : ℕ) (loss : Loss) (losses : List Loss) → is_above size (loss ∷ losses) ≡ list_all (λ other. nat_lt size other.bytes) (loss ∷ losses)
+above_is_all size loss [] = go (nat_lt size loss.bytes)
+  where
+    go : (above : Bool) → above ≡ (above && true)
+    go true = refl
+    go false = refl
+above_is_all size loss (other ∷ losses) = least loss.bytes (least_size (other ∷ losses)) ∙ ap (λ rest. nat_lt size loss.bytes && rest) (above_is_all size other losses)
+  where
+    least : (a b : ℕ) → nat_lt size (min a b) ≡ (nat_lt size a && nat_lt size b)
+    least a b = grind (arith, nat_tests)

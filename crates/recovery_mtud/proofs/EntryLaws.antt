@@ -11,7 +11,7 @@ use Rattle.recovery_mtud.specs.Search.{MtuSearch, begun, size_to_probe, later, p
 use Rattle.recovery_mtud.specs.Bursts.{LossBursts, bursts_acked, is_suspicious, with_suspicious, closing, bursts_closed, joins, burst_with, bursts_lost, is_black_hole, bursts_ended}
 use Rattle.recovery_mtud.specs.Discovery.{Discovery, discovery_made, discovery_disabled, is_searching_of, size_in, poll_of, taking, within}
 use Rattle.recovery_mtud.specs.DiscoveryLog.{MtuCall, polls, is_limited, acks, loses_probe, loses, losses_end, resets, discovery_after, discovery_by, kept_limit}
-use Rattle.recovery_mtud.specs.MtuEntries.{IsNew, MtuEntry, reported, losses_over, poll_entry, entry_of, entries_by, AtEach, MtuProbe, unless_number, probe_in_flight, size_at, limit_in_use, min_mtu_in_use, mtu_in_use}
+use Rattle.recovery_mtud.specs.MtuEntries.{IsUntold, MtuEntry, reported, losses_over, poll_entry, entry_of, entries_by, AtEach, MtuProbe, unless_number, probe_in_flight, size_at, limit_in_use, min_mtu_in_use, mtu_in_use}
 use Rattle.recovery_mtud.specs.SearchRuns.{search_runs}
 
 -- ---- the probe that a discovery holds
@@ -280,7 +280,7 @@ module _ (made : Discovery) (entries : List MtuEntry) where
 
 -- ---- all calls
 
-holds_made : (made : Discovery) → IsNew made → Holds made [] made
+holds_made : (made : Discovery) → IsUntold made → Holds made [] made
 holds_made made new = go made.search new.search
   where
     still : (search : MtuSearch) (phase : Phase) → search.phase ≡ phase → phase ≡ Initial → (held_in search.phase ≡ None) × (is_running search.phase ≡ false)
@@ -291,7 +291,7 @@ holds_made made new = go made.search new.search
     go (Some own) initial = let quiet = still own own.phase refl initial in record { mtu = refl; limit = refl; min_mtu = refl; probe = quiet.0; runs = quiet.1 }
 
 -- whatever is told, a discovery holds what the entries say: the MTU in use is theirs, and so are the probe in flight and whether a search runs
-pub holds_by : (made : Discovery) → IsNew made → (calls : List MtuCall) → Holds made (entries_by made calls) (discovery_by made calls)
+pub holds_by : (made : Discovery) → IsUntold made → (calls : List MtuCall) → Holds made (entries_by made calls) (discovery_by made calls)
 holds_by made new [] = holds_made made new
 holds_by made new (call ∷ earlier) = holds_after made (entries_by made earlier) call (discovery_by made earlier) (holds_by made new earlier)
 
@@ -300,9 +300,9 @@ pub at_each : (made : Discovery) (P : List MtuEntry → Type 0) → ((calls : Li
 at_each made P always [] = always []
 at_each made P always (call ∷ earlier) = (always (call ∷ earlier), at_each made P always earlier)
 
--- a discovery that was made, enabled or not, is new
-pub discovery_made_new : (mtu min_mtu : ℕ) (limit : Option ℕ) (settings : MtuDiscoveryConfig) → IsNew (discovery_made mtu min_mtu limit settings)
-discovery_made_new mtu min_mtu limit settings = record { search = refl; bursts = refl }
+-- a discovery that was made, enabled or not, was told nothing
+pub discovery_made_untold : (mtu min_mtu : ℕ) (limit : Option ℕ) (settings : MtuDiscoveryConfig) → IsUntold (discovery_made mtu min_mtu limit settings)
+discovery_made_untold mtu min_mtu limit settings = record { search = refl; bursts = refl }
 
-pub discovery_disabled_new : (mtu min_mtu : ℕ) → IsNew (discovery_disabled mtu min_mtu)
-discovery_disabled_new mtu min_mtu = record { search = tt; bursts = refl }
+pub discovery_disabled_untold : (mtu min_mtu : ℕ) → IsUntold (discovery_disabled mtu min_mtu)
+discovery_disabled_untold mtu min_mtu = record { search = tt; bursts = refl }

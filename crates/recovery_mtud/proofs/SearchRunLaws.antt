@@ -13,7 +13,7 @@ use Rattle.recovery_mtud.specs.Search.{MtuSearch, later, upper_from, begun, repe
 use Rattle.recovery_mtud.specs.Bursts.{LossBursts, bursts_closed, bursts_ended, is_black_hole}
 use Rattle.recovery_mtud.specs.Discovery.{Discovery, is_searching_of, limit_or_greatest, poll_of, reports, taking}
 use Rattle.recovery_mtud.specs.DiscoveryLog.{MtuCall, polls, is_limited, acks, loses_probe, loses, losses_end, resets, discovery_after, discovery_by}
-use Rattle.recovery_mtud.specs.MtuEntries.{IsNew, settings_of, MtuEntry, probed, unprobed, limited, acked, probe_lost, lost, losses_over, reported, reset, poll_entry, entry_of, entries_by, MtuProbe, unless_number, probe_in_flight, size_at, limit_in_use, mtu_in_use}
+use Rattle.recovery_mtud.specs.MtuEntries.{IsUntold, search_settings, MtuEntry, probed, unprobed, limited, acked, probe_lost, lost, losses_over, reported, reset, poll_entry, entry_of, entries_by, MtuProbe, unless_number, probe_in_flight, size_at, limit_in_use, mtu_in_use}
 use Rattle.recovery_mtud.specs.SearchRuns.{search_runs, search_of, before_search, is_due, next_activation, is_searched, ProbesInSearch, probed_sizes, acked_sizes, lost_sizes, TakesFew, AreLimitsOutside, EndsNearBest}
 use Rattle.recovery_mtud.proofs.EntryLaws.{held_in, Holds, holds_by}
 use Rattle.recovery_mtud.proofs.SearchTies.{Tie, few, tie_begun, tie_again, tie_next, tie_end, tie_acked, tie_lost}
@@ -368,19 +368,19 @@ told_after made settings entries call old holds tied = go old.search holds tied
 
 -- ---- all calls
 
-tied_made : (made : Discovery) (settings : MtuDiscoveryConfig) → IsNew made → settings_of made ≡ Some settings → TiedIn made settings [] made.search
+tied_made : (made : Discovery) (settings : MtuDiscoveryConfig) → IsUntold made → search_settings made ≡ Some settings → TiedIn made settings [] made.search
 tied_made made settings new is = go made.search new.search is
   where
     go : (search : Option MtuSearch) → IfSome search (λ own. own.phase ≡ Initial) → option_map (λ own. own.settings) search ≡ Some settings → TiedIn made settings [] search
     go None initial is = absurd (cc)
     go (Some search) initial is = ((cc), subst (PhaseTie made search.settings []) (sym initial) refl)
 
-tied_by : (made : Discovery) (settings : MtuDiscoveryConfig) → IsNew made → settings_of made ≡ Some settings → (calls : List MtuCall) → TiedIn made settings (entries_by made calls) (discovery_by made calls).search
+tied_by : (made : Discovery) (settings : MtuDiscoveryConfig) → IsUntold made → search_settings made ≡ Some settings → (calls : List MtuCall) → TiedIn made settings (entries_by made calls) (discovery_by made calls).search
 tied_by made settings new is [] = tied_made made settings new is
 tied_by made settings new is (call ∷ earlier) =
     (told_after made settings (entries_by made earlier) call (discovery_by made earlier) (holds_by made new earlier) (tied_by made settings new is earlier)).tie
 
-told_by : (made : Discovery) (settings : MtuDiscoveryConfig) → IsNew made → settings_of made ≡ Some settings → (call : MtuCall) (earlier : List MtuCall)
+told_by : (made : Discovery) (settings : MtuDiscoveryConfig) → IsUntold made → search_settings made ≡ Some settings → (call : MtuCall) (earlier : List MtuCall)
     → Told made settings (entry_of call (discovery_by made earlier)) (entries_by made earlier) (discovery_after call (discovery_by made earlier))
 told_by made settings new is call earlier =
     told_after made settings (entries_by made earlier) call (discovery_by made earlier) (holds_by made new earlier) (tied_by made settings new is earlier)
@@ -400,7 +400,7 @@ few_in made settings entries phase runs tie wide = go phase runs tie
     go (Complete activation) runs tie = none (sym runs)
 
 -- at every moment the search that runs has taken at most 16 sizes and 48 probes
-pub search_takes_few : (made : Discovery) (settings : MtuDiscoveryConfig) → IsNew made → settings_of made ≡ Some settings → 3 ≤ settings.minimum_change → settings.upper_bound < 2 ^ 16
+pub search_takes_few : (made : Discovery) (settings : MtuDiscoveryConfig) → IsUntold made → search_settings made ≡ Some settings → 3 ≤ settings.minimum_change → settings.upper_bound < 2 ^ 16
     → (calls : List MtuCall) → TakesFew (entries_by made calls)
 search_takes_few made settings new is change bound calls =
     let holds = holds_by made new calls in
@@ -429,7 +429,7 @@ IsInTurn (is_limited limit) old = is_searching_of old ≡ false
 IsInTurn call old = ⊤
 
 -- where each limit is told in turn, none is told while a search runs
-pub limits_outside_after : (made : Discovery) → IsNew made → (call : MtuCall) (earlier : List MtuCall) → IsInTurn call (discovery_by made earlier)
+pub limits_outside_after : (made : Discovery) → IsUntold made → (call : MtuCall) (earlier : List MtuCall) → IsInTurn call (discovery_by made earlier)
     → AreLimitsOutside (entries_by made earlier) → AreLimitsOutside (entries_by made (call ∷ earlier))
 limits_outside_after made new call earlier turn outside = go call turn
   where
@@ -453,22 +453,22 @@ limits_outside_after made new call earlier turn outside = go call turn
 -- ---- what whole runs promise
 
 -- a search that ends by a poll ends near the best size of an honest link
-pub search_ends_near : (made : Discovery) (settings : MtuDiscoveryConfig) → IsNew made → settings_of made ≡ Some settings → 3 ≤ settings.minimum_change → settings.upper_bound < 2 ^ 16
+pub search_ends_near : (made : Discovery) (settings : MtuDiscoveryConfig) → IsUntold made → search_settings made ≡ Some settings → 3 ≤ settings.minimum_change → settings.upper_bound < 2 ^ 16
     → (calls : List MtuCall) → AreLimitsOutside (entries_by made calls) → EndsNearBest made settings (entries_by made calls)
 search_ends_near made settings new is change bound [] outside = tt
 search_ends_near made settings new is change bound (call ∷ earlier) outside =
     (told_by made settings new is call earlier).near (change, bound) (outside_before (entry_of call (discovery_by made earlier)) (entries_by made earlier) outside)
 
 -- a probe comes in a search alone, while none is in flight
-pub probes_in_search : (made : Discovery) (settings : MtuDiscoveryConfig) → IsNew made → settings_of made ≡ Some settings
+pub probes_in_search : (made : Discovery) (settings : MtuDiscoveryConfig) → IsUntold made → search_settings made ≡ Some settings
     → (calls : List MtuCall) → ProbesInSearch settings (entries_by made calls)
 probes_in_search made settings new is [] = tt
 probes_in_search made settings new is (call ∷ earlier) = (told_by made settings new is call earlier).inside
 
 -- the MTU in use is the one that the entries say
-pub mtu_by : (made : Discovery) → IsNew made → (calls : List MtuCall) → (discovery_by made calls).mtu ≡ mtu_in_use made (entries_by made calls)
+pub mtu_by : (made : Discovery) → IsUntold made → (calls : List MtuCall) → (discovery_by made calls).mtu ≡ mtu_in_use made (entries_by made calls)
 mtu_by made new calls = (holds_by made new calls).mtu
 
 -- a search runs exactly where the entries say so
-pub search_runs_by : (made : Discovery) → IsNew made → (calls : List MtuCall) → is_searching_of (discovery_by made calls) ≡ search_runs (entries_by made calls)
+pub search_runs_by : (made : Discovery) → IsUntold made → (calls : List MtuCall) → is_searching_of (discovery_by made calls) ≡ search_runs (entries_by made calls)
 search_runs_by made new calls = (holds_by made new calls).runs

@@ -8,13 +8,13 @@ use Rattle.recovery_mtud.specs.Discovery.{Discovery, poll_of, reports, within}
 use Rattle.recovery_mtud.specs.DiscoveryLog.{MtuCall, polls, is_limited, acks, loses_probe, loses, losses_end, resets, discovery_by, kept_limit}
 
 -- a discovery to which nothing was told yet
-pub record IsNew (made : Discovery) : Type 0 where
+pub record IsUntold (made : Discovery) : Type 0 where
   pub search : IfSome made.search (λ search. search.phase ≡ Initial)
   pub bursts : made.bursts ≡ bursts_made made.bursts.min_mtu
 
--- how it searches, where it does
-abbrev pub settings_of : Discovery → Option MtuDiscoveryConfig
-settings_of made = option_map (λ search. search.settings) made.search
+-- the settings that it searches by, where it does
+abbrev pub search_settings : Discovery → Option MtuDiscoveryConfig
+search_settings made = option_map (λ search. search.settings) made.search
 
 pub data MtuEntry : Type 0 where
   -- a poll gives a probe of that size, as the packet of that number
