@@ -1,0 +1,70 @@
+-- A report of a black hole needs four bursts, and comes at four, throughout a run.
+use Rattle.std.proofs.Common.{◌≡◌, ℕ, ◌+◌, ◌≤◌, ◌&&◌, Bool, true, false, cond, List, [], ◌∷◌, ◌++◌, Option, None, Some, Ok, Err, refl, sym, ap, subst, arith, ◌∙◌}
+use Rattle.recovery_base.specs.declared.below.SpaceId.{SpaceId}
+use Rattle.recovery_base.specs.declared.below.SpaceId.TheVariants.{Initial, Handshake, Data}
+use Rattle.recovery_config.specs.declared.config.TransportConfig.{TransportConfig}
+use Rattle.recovery_mtud.specs.declared.config.MtuDiscoveryConfig.{MtuDiscoveryConfig}
+use Rattle.recovery_mtud.specs.Discovery.{reports}
+use Rattle.recovery_mtud.specs.DiscoveryLog.{discovery_by}
+use Rattle.recovery_mtud.specs.MtuEntries.{IsUntold}
+use Rattle.recovery_mtud.proofs.BurstRunLaws.{four_report}
+use Rattle.recovery_mtud.proofs.EntryLaws.{discovery_made_untold, discovery_disabled_untold}
+use Rattle.recovery_paths.specs.PathMaking.{discovery_with, first_discovery}
+use Rattle.recovery_paths.proofs.UntoldLaws.{WasUntold, untold_by}
+use Rattle.quic_recovery.specs.declared.event.Event.{Event}
+use Rattle.quic_recovery.specs.declared.event.Event.TheVariants.{LossesDone}
+use Rattle.quic_recovery.specs.declared.event.Answer.{Answer}
+use Rattle.quic_recovery.specs.declared.event.Answer.TheVariants.{BlackHole}
+use Rattle.quic_recovery.specs.declared.event.Refusal.{Refusal}
+use Rattle.quic_recovery.specs.declared.event.Refusal.TheVariants.{NoMemory}
+use Rattle.quic_recovery.specs.Amplification.{pasts_of}
+use Rattle.quic_recovery.specs.Bursts.{mtu_entries_of, ComesAtFourBursts}
+use Rattle.quic_recovery.specs.Entries.{logs_of}
+use Rattle.quic_recovery.specs.History.{Beginning, History, Reply, ThroughoutFrom, Throughout}
+use Rattle.quic_recovery.specs.Known.{first_path, settings_of}
+use Rattle.quic_recovery.specs.Told.{Told}
+use Rattle.quic_recovery.proofs.AmplificationLaws.{throughout_kept}
+
+-- ---- the search of the path in use was told nothing as it was made
+
+discovery_untold : {F : Type 0} (limit : Option ℕ) (config : TransportConfig F) (settings : Option MtuDiscoveryConfig) → IsUntold (discovery_with limit config settings)
+discovery_untold limit config None = discovery_disabled_untold _ _
+discovery_untold limit config (Some settings) = discovery_made_untold _ _ limit settings
+
+first_untold : {F : Type 0} (allowed : Bool) (limit : Option ℕ) (config : TransportConfig F) → IsUntold (first_discovery allowed limit config)
+first_untold allowed limit config = discovery_untold limit config (cond allowed config.mtu_discovery_config None)
+
+module _ {F K Q S M P : Type 0} (beginning : Beginning F K Q S P) where
+  -- at each moment
+  untold_in : (history : History Q S M P) → WasUntold (pasts_of beginning history).current
+  untold_in history =
+      let config = beginning.config in
+      let made : (limit : Option ℕ) → IsUntold ((settings_of beginning).discovery limit) = λ limit. first_untold config.allow_mtud limit config.transport in
+      untold_by (settings_of beginning) made (first_path beginning) (made None) (logs_of beginning history).paths
+
+  -- the answer to the end of losses is what its detection reports
+  abbrev reports_there : History Q S M P → Bool
+  reports_there before = let past = (pasts_of beginning before).current in reports (discovery_by past.making.discovery past.searched)
+
+  -- ---- a report comes at four
+
+  comes_one : (before : History Q S M P) (event : Event Q S M P) (reply : Reply Q) → Told beginning before event reply → ComesAtFourBursts beginning before event reply
+  comes_one before (LossesDone now) (Ok answer) told = λ many.
+      let past = (pasts_of beginning before).current in
+      let given : Bool → Reply Q = λ hole. Ok (BlackHole hole) in
+      let is : reports_there before ≡ true = four_report past.making.discovery (untold_in before) past.searched many in
+      ap (λ (a : Answer Q). let reply : Reply Q = Ok a in reply) told ∙ ap given is
+  comes_one before (LossesDone now) (Err NoMemory) told = absurd told
+  comes_one before (LossesDone now) (Err refusal) told = absurd told
+  comes_one before event reply told = tt
+
+  -- throughout a run
+  comes_from : (before : History Q S M P) (events : List (Event Q S M P)) (replies : List (Reply Q)) → ThroughoutFrom (Told beginning) before events replies → ThroughoutFrom (ComesAtFourBursts beginning) before events replies
+  comes_from before [] [] told = tt
+  comes_from before (event ∷ events) (reply ∷ replies) told =
+      (comes_one before event reply told.0, comes_from ((event, reply) ∷ before) events replies told.1)
+  comes_from before [] (reply ∷ replies) told = absurd told
+  comes_from before (event ∷ events) [] told = absurd told
+
+  pub comes_at_four : (events : List (Event Q S M P)) (replies : List (Reply Q)) → Throughout (Told beginning) events replies → Throughout (ComesAtFourBursts beginning) events replies
+  comes_at_four = comes_from []
