@@ -4,12 +4,14 @@ use Rattle.recovery_base.specs.declared.below.SpaceId.{SpaceId}
 use Rattle.recovery_base.specs.declared.below.SpaceId.TheVariants.{Initial, Handshake, Data}
 use Rattle.recovery_config.specs.declared.config.TransportConfig.{TransportConfig}
 use Rattle.recovery_mtud.specs.declared.config.MtuDiscoveryConfig.{MtuDiscoveryConfig}
+use Rattle.recovery_ledger.specs.Departures.{LeaveOnce}
 use Rattle.recovery_mtud.specs.Discovery.{reports}
 use Rattle.recovery_mtud.specs.DiscoveryLog.{discovery_by}
 use Rattle.recovery_mtud.specs.MtuEntries.{IsUntold}
-use Rattle.recovery_mtud.proofs.BurstRunLaws.{four_report}
+use Rattle.recovery_mtud.proofs.BurstRunLaws.{four_report, four_stand}
 use Rattle.recovery_mtud.proofs.EntryLaws.{discovery_made_untold, discovery_disabled_untold}
 use Rattle.recovery_paths.specs.PathMaking.{discovery_with, first_discovery}
+use Rattle.recovery_paths.proofs.FateLaws.{apart_once}
 use Rattle.recovery_paths.proofs.UntoldLaws.{WasUntold, untold_by}
 use Rattle.quic_recovery.specs.declared.event.Event.{Event}
 use Rattle.quic_recovery.specs.declared.event.Event.TheVariants.{LossesDone}
@@ -18,12 +20,13 @@ use Rattle.quic_recovery.specs.declared.event.Answer.TheVariants.{BlackHole}
 use Rattle.quic_recovery.specs.declared.event.Refusal.{Refusal}
 use Rattle.quic_recovery.specs.declared.event.Refusal.TheVariants.{NoMemory}
 use Rattle.quic_recovery.specs.Amplification.{pasts_of}
-use Rattle.quic_recovery.specs.Bursts.{mtu_entries_of, ComesAtFourBursts}
+use Rattle.quic_recovery.specs.Bursts.{mtu_entries_of, ComesAtFourBursts, NeedsFourBursts}
 use Rattle.quic_recovery.specs.Entries.{logs_of}
-use Rattle.quic_recovery.specs.History.{Beginning, History, Reply, ThroughoutFrom, Throughout}
+use Rattle.quic_recovery.specs.History.{Beginning, History, Reply, ThroughoutFrom, Throughout, history_from}
 use Rattle.quic_recovery.specs.Known.{first_path, settings_of}
 use Rattle.quic_recovery.specs.Told.{Told}
-use Rattle.quic_recovery.proofs.AmplificationLaws.{throughout_kept}
+use Rattle.quic_recovery.proofs.DepartureLaws.{leave_once_in}
+use Rattle.quic_recovery.proofs.FateLaws.{fates_depart, once_before}
 
 -- ---- the search of the path in use was told nothing as it was made
 
@@ -68,3 +71,33 @@ module _ {F K Q S M P : Type 0} (beginning : Beginning F K Q S P) where
 
   pub comes_at_four : (events : List (Event Q S M P)) (replies : List (Reply Q)) → Throughout (Told beginning) events replies → Throughout (ComesAtFourBursts beginning) events replies
   comes_at_four = comes_from []
+
+  -- ---- a report needs four
+
+  abbrev HaveLeftOnce : History Q S M P → Type 0
+  HaveLeftOnce history = LeaveOnce ((logs_of beginning history).spaces Data)
+
+  needs_by : (before : History Q S M P) (now : ℕ) → HaveLeftOnce before → (hole : Bool) → reports_there before ≡ hole → NeedsFourBursts beginning before (LossesDone now) (Ok (BlackHole hole))
+  needs_by before now once true is =
+      let past = (pasts_of beginning before).current in
+      let apart = apart_once past.making.discovery past.searched (λ number. omega (arith, fates_depart beginning number before, once number)) in
+      four_stand past.making.discovery (untold_in before) past.searched apart is
+  needs_by before now once false is = tt
+
+  needs_one : (before : History Q S M P) (event : Event Q S M P) (reply : Reply Q) → Told beginning before event reply → HaveLeftOnce before → NeedsFourBursts beginning before event reply
+  needs_one before (LossesDone now) (Ok answer) told once =
+      let N : Answer Q → Type 0 = λ a. NeedsFourBursts beginning before (LossesDone now) (Ok a) in
+      subst N (sym told) (needs_by before now once (reports_there before) refl)
+  needs_one before (LossesDone now) (Err refusal) told once = tt
+  needs_one before event reply told once = tt
+
+  -- throughout a run, after which no number has left twice
+  needs_from : (before : History Q S M P) (events : List (Event Q S M P)) (replies : List (Reply Q)) → ThroughoutFrom (Told beginning) before events replies → HaveLeftOnce (history_from before events replies) → ThroughoutFrom (NeedsFourBursts beginning) before events replies
+  needs_from before [] [] told once = tt
+  needs_from before (event ∷ events) (reply ∷ replies) told once =
+      (needs_one before event reply told.0 (once_before beginning before (event ∷ events) (reply ∷ replies) once), needs_from ((event, reply) ∷ before) events replies told.1 once)
+  needs_from before [] (reply ∷ replies) told once = absurd told
+  needs_from before (event ∷ events) [] told once = absurd told
+
+  pub needs_four : (events : List (Event Q S M P)) (replies : List (Reply Q)) → Throughout (Told beginning) events replies → Throughout (NeedsFourBursts beginning) events replies
+  needs_four events replies told = needs_from [] events replies told (leave_once_in beginning events replies told Data)
