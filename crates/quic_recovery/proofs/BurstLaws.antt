@@ -1,7 +1,6 @@
 -- A report of a black hole needs four bursts, and comes at four, throughout a run.
-use Rattle.std.proofs.Common.{◌≡◌, ℕ, ◌+◌, ◌≤◌, ◌&&◌, Bool, true, false, cond, List, [], ◌∷◌, ◌++◌, Option, None, Some, Ok, Err, refl, sym, ap, subst, arith, ◌∙◌}
-use Rattle.recovery_base.specs.declared.below.SpaceId.{SpaceId}
-use Rattle.recovery_base.specs.declared.below.SpaceId.TheVariants.{Initial, Handshake, Data}
+use Rattle.std.proofs.Common.{◌≡◌, ℕ, Bool, true, false, cond, List, [], ◌∷◌, Option, None, Some, Ok, Err, refl, sym, ap, subst, arith, ◌∙◌}
+use Rattle.recovery_base.specs.declared.below.SpaceId.TheVariants.{Data}
 use Rattle.recovery_config.specs.declared.config.TransportConfig.{TransportConfig}
 use Rattle.recovery_mtud.specs.declared.config.MtuDiscoveryConfig.{MtuDiscoveryConfig}
 use Rattle.recovery_ledger.specs.Departures.{LeaveOnce}
@@ -17,23 +16,24 @@ use Rattle.quic_recovery.specs.declared.event.Event.{Event}
 use Rattle.quic_recovery.specs.declared.event.Event.TheVariants.{LossesDone}
 use Rattle.quic_recovery.specs.declared.event.Answer.{Answer}
 use Rattle.quic_recovery.specs.declared.event.Answer.TheVariants.{BlackHole}
-use Rattle.quic_recovery.specs.declared.event.Refusal.{Refusal}
 use Rattle.quic_recovery.specs.declared.event.Refusal.TheVariants.{NoMemory}
 use Rattle.quic_recovery.specs.Amplification.{pasts_of}
-use Rattle.quic_recovery.specs.Bursts.{mtu_entries_of, ComesAtFourBursts, NeedsFourBursts}
+use Rattle.quic_recovery.specs.Bursts.{ComesAtFourBursts, NeedsFourBursts}
 use Rattle.quic_recovery.specs.Entries.{logs_of}
 use Rattle.quic_recovery.specs.History.{Beginning, History, Reply, ThroughoutFrom, Throughout, history_from}
 use Rattle.quic_recovery.specs.Known.{first_path, settings_of}
 use Rattle.quic_recovery.specs.Told.{Told}
 use Rattle.quic_recovery.proofs.DepartureLaws.{leave_once_in}
-use Rattle.quic_recovery.proofs.FateLaws.{fates_depart, once_before}
+use Rattle.quic_recovery.proofs.FateLaws.{log_of_data, fates_depart, once_before}
 
 -- ---- the search of the path in use was told nothing as it was made
 
+-- with a search or without one
 discovery_untold : {F : Type 0} (limit : Option ℕ) (config : TransportConfig F) (settings : Option MtuDiscoveryConfig) → IsUntold (discovery_with limit config settings)
 discovery_untold limit config None = discovery_disabled_untold _ _
 discovery_untold limit config (Some settings) = discovery_made_untold _ _ limit settings
 
+-- as the settings of paths make it
 first_untold : {F : Type 0} (allowed : Bool) (limit : Option ℕ) (config : TransportConfig F) → IsUntold (first_discovery allowed limit config)
 first_untold allowed limit config = discovery_untold limit config (cond allowed config.mtu_discovery_config None)
 
@@ -51,17 +51,19 @@ module _ {F K Q S M P : Type 0} (beginning : Beginning F K Q S P) where
 
   -- ---- a report comes at four
 
+  -- where four have closed unanswered, the answer is a report
   comes_one : (before : History Q S M P) (event : Event Q S M P) (reply : Reply Q) → Told beginning before event reply → ComesAtFourBursts beginning before event reply
   comes_one before (LossesDone now) (Ok answer) told = λ many.
       let past = (pasts_of beginning before).current in
-      let given : Bool → Reply Q = λ hole. Ok (BlackHole hole) in
+      let reply : Answer Q → Reply Q = λ a. Ok a in
+      let reported : Bool → Reply Q = λ hole. Ok (BlackHole hole) in
       let is : reports_there before ≡ true = four_report past.making.discovery (untold_in before) past.searched many in
-      ap (λ (a : Answer Q). let reply : Reply Q = Ok a in reply) told ∙ ap given is
+      ap reply told ∙ ap reported is
   comes_one before (LossesDone now) (Err NoMemory) told = absurd told
   comes_one before (LossesDone now) (Err refusal) told = absurd told
   comes_one before event reply told = tt
 
-  -- throughout a run
+  -- from a moment on
   comes_from : (before : History Q S M P) (events : List (Event Q S M P)) (replies : List (Reply Q)) → ThroughoutFrom (Told beginning) before events replies → ThroughoutFrom (ComesAtFourBursts beginning) before events replies
   comes_from before [] [] told = tt
   comes_from before (event ∷ events) (reply ∷ replies) told =
@@ -69,14 +71,17 @@ module _ {F K Q S M P : Type 0} (beginning : Beginning F K Q S P) where
   comes_from before [] (reply ∷ replies) told = absurd told
   comes_from before (event ∷ events) [] told = absurd told
 
+  -- throughout a run
   pub comes_at_four : (events : List (Event Q S M P)) (replies : List (Reply Q)) → Throughout (Told beginning) events replies → Throughout (ComesAtFourBursts beginning) events replies
   comes_at_four = comes_from []
 
   -- ---- a report needs four
 
+  -- no number of a 1-RTT packet has left twice
   abbrev HaveLeftOnce : History Q S M P → Type 0
-  HaveLeftOnce history = LeaveOnce ((logs_of beginning history).spaces Data)
+  HaveLeftOnce history = LeaveOnce (log_of_data beginning history)
 
+  -- where a hole is reported, four stand
   needs_by : (before : History Q S M P) (now : ℕ) → HaveLeftOnce before → (hole : Bool) → reports_there before ≡ hole → NeedsFourBursts beginning before (LossesDone now) (Ok (BlackHole hole))
   needs_by before now once true is =
       let past = (pasts_of beginning before).current in
@@ -84,6 +89,7 @@ module _ {F K Q S M P : Type 0} (beginning : Beginning F K Q S P) where
       four_stand past.making.discovery (untold_in before) past.searched apart is
   needs_by before now once false is = tt
 
+  -- so where the answer says one
   needs_one : (before : History Q S M P) (event : Event Q S M P) (reply : Reply Q) → Told beginning before event reply → HaveLeftOnce before → NeedsFourBursts beginning before event reply
   needs_one before (LossesDone now) (Ok answer) told once =
       let N : Answer Q → Type 0 = λ a. NeedsFourBursts beginning before (LossesDone now) (Ok a) in
@@ -91,7 +97,7 @@ module _ {F K Q S M P : Type 0} (beginning : Beginning F K Q S P) where
   needs_one before (LossesDone now) (Err refusal) told once = tt
   needs_one before event reply told once = tt
 
-  -- throughout a run, after which no number has left twice
+  -- from a moment on, in a run after which no number has left twice
   needs_from : (before : History Q S M P) (events : List (Event Q S M P)) (replies : List (Reply Q)) → ThroughoutFrom (Told beginning) before events replies → HaveLeftOnce (history_from before events replies) → ThroughoutFrom (NeedsFourBursts beginning) before events replies
   needs_from before [] [] told once = tt
   needs_from before (event ∷ events) (reply ∷ replies) told once =
@@ -99,5 +105,6 @@ module _ {F K Q S M P : Type 0} (beginning : Beginning F K Q S P) where
   needs_from before [] (reply ∷ replies) told once = absurd told
   needs_from before (event ∷ events) [] told once = absurd told
 
+  -- throughout a run
   pub needs_four : (events : List (Event Q S M P)) (replies : List (Reply Q)) → Throughout (Told beginning) events replies → Throughout (NeedsFourBursts beginning) events replies
   needs_four events replies told = needs_from [] events replies told (leave_once_in beginning events replies told Data)

@@ -9,7 +9,7 @@ use Rattle.recovery_ledger.specs.SpaceLog.{SpaceEntry, heard, heard_again, sends
 use Rattle.recovery_mtud.specs.Discovery.{reports, is_probe}
 use Rattle.recovery_mtud.specs.DiscoveryLog.{MtuCall, losses_end, loses_probe, loses as loses_packet, acks as acks_packet}
 use Rattle.recovery_paths.specs.declared.live_paths.PathName.TheVariants.{Current, Previous}
-use Rattle.recovery_paths.specs.PathLog.{PathsEntry, on_current, tells}
+use Rattle.recovery_paths.specs.PathLog.{on_current, tells}
 use Rattle.recovery_paths.specs.PathStates.{is_path_probe, loss_call}
 use Rattle.recovery_paths.proofs.FateLaws.{fate, fates, told_in, told-append, fates_by}
 use Rattle.quic_recovery.specs.declared.event.Event.{Event}
@@ -43,10 +43,12 @@ departures-onto number (Some (asked frame)) log = omega arith
 module _ {K P : Type 0} (known : Known K P) (number : ℕ) where
   -- ---- what each part of an event's entries tells
 
+  -- a call of the search tells its own
   searched_tells : (changes : Bool) (call : MtuCall) → told_in number (searched known changes call) ≡ fate number call
   searched_tells true call = omega arith
   searched_tells false call = omega arith
 
+  -- what the controller is told says nothing of numbers
   told_if : (own : Bool) (call : ControllerCall) → told_in number (cond own (on_current (tells call) ∷ []) []) ≡ 0
   told_if true call = refl
   told_if false call = refl
@@ -55,6 +57,7 @@ module _ {K P : Type 0} (known : Known K P) (number : ℕ) where
   acked_entry_tells now app_limited None = refl
   acked_entry_tells now app_limited (Some packet) = told_if (is_own known packet && packet.ack_eliciting) _
 
+  -- a lost probe has no fate, and another packet has one
   lost_tells : (probe : Bool) (other bytes : ℕ) → fate number (cond probe loses_probe (loses_packet other bytes)) ≤ one_if_same other number
   lost_tells true other bytes = omega arith
   lost_tells false other bytes = omega arith
@@ -87,6 +90,7 @@ abbrev Departs : {P : Type 0} → ℕ → Entries P → Type 0
 Departs number entries = told_in number entries.paths ≤ departures number (onto (entries.spaces Data) [])
 
 module _ {K Q S M P : Type 0} (q : QueueMeaning Q S P) (known : Known K P) (number : ℕ) where
+  -- by each event
   answer_departs : (event : Event Q S M P) (answer : Answer Q) → Departs number (answered q known event answer)
   answer_departs (Acked space now other app_limited) answer = acked_departs known number space now other app_limited (packet_at (tracked_known known space) other)
   answer_departs (Lost space other) answer = lost_departs known number space other (packet_at (tracked_known known space) other)
@@ -117,6 +121,7 @@ module _ {K Q S M P : Type 0} (q : QueueMeaning Q S P) (known : Known K P) (numb
   answer_departs (AckFrequencyIn frame) answer = omega arith
   answer_departs event answer = omega arith
 
+  -- and by a refused one
   refusal_departs : (event : Event Q S M P) (refusal : Refusal) → Departs number (refused event refusal)
   refusal_departs (AckFrequencyIn frame) DelayTooSmall = omega arith
   refusal_departs (AckFrequencyIn frame) refusal = omega arith
@@ -127,10 +132,11 @@ module _ {K Q S M P : Type 0} (q : QueueMeaning Q S P) (known : Known K P) (numb
   event_departs event (Err refusal) = refusal_departs event refusal
 
 module _ {F K Q S M P : Type 0} (beginning : Beginning F K Q S P) where
-  -- what left the space of 1-RTT packets up to a moment
-  abbrev log_of_data : History Q S M P → List (SpaceEntry P)
+  -- what happened in the space of 1-RTT packets up to a moment
+  abbrev pub log_of_data : History Q S M P → List (SpaceEntry P)
   log_of_data history = (logs_of beginning history).spaces Data
 
+  -- so by a whole history
   told_departs : (number : ℕ) (history : History Q S M P) → told_in number (logs_of beginning history).paths ≤ departures number (log_of_data history)
   told_departs number [] = omega arith
   told_departs number (happened ∷ earlier) =

@@ -6,7 +6,6 @@ use Rattle.recovery_mtud.specs.MtuEntries.{MtuEntry, entries_by}
 use Rattle.recovery_paths.specs.PathLog.{PathPast}
 use Rattle.quic_recovery.specs.declared.event.Event.{Event}
 use Rattle.quic_recovery.specs.declared.event.Event.TheVariants.{LossesDone}
-use Rattle.quic_recovery.specs.declared.event.Answer.{Answer}
 use Rattle.quic_recovery.specs.declared.event.Answer.TheVariants.{BlackHole}
 use Rattle.quic_recovery.specs.Amplification.{pasts_of}
 use Rattle.quic_recovery.specs.History.{Beginning, History, Reply}

@@ -1,8 +1,8 @@
 -- How often the search of the path in use is told that a number was acknowledged or lost: at most as often as that happened.
-use Rattle.std.proofs.Common.{◌≡◌, ⊎_elim, ℕ, ◌+◌, ◌≤◌, ◌==◌, Bool, true, false, cond, List, [], ◌∷◌, ◌++◌, refl, sym, ap, arith}
+use Rattle.std.proofs.Common.{◌≡◌, ⊎_elim, ℕ, ◌+◌, ◌≤◌, Bool, true, false, List, [], ◌∷◌, ◌++◌, refl, arith}
 use Rattle.std.specs.Prelude.{nat_eq}
 use Rattle.std.specs.Set.{is_member}
-use Rattle.std.proofs.lemmas.Bool.{eqb-true, or_cases}
+use Rattle.std.proofs.lemmas.Bool.{or_cases}
 use Rattle.std.proofs.lemmas.Bool.Decides.{nat_tests}
 use Rattle.recovery_ledger.specs.Departures.{one_if_same}
 use Rattle.recovery_mtud.specs.BurstRuns.{AreFatesApart}
@@ -11,7 +11,7 @@ use Rattle.recovery_mtud.specs.DiscoveryLog.{MtuCall, polls, is_limited, acks, l
 use Rattle.recovery_mtud.specs.MtuEntries.{entries_by}
 use Rattle.recovery_mtud.proofs.BurstRunLaws.{acked_in_calls, lost_in_calls, fates_apart_by}
 use Rattle.recovery_paths.specs.declared.live_paths.PathName.TheVariants.{Current, Previous}
-use Rattle.recovery_paths.specs.PathLog.{OfPaths, PathsEntry, PathEntry, PathPast, Following, pasts_by, paths_with, past_with, past_following, on, moves, drops_previous, fresh, goes_on, receives, is_validated, samples, tells, searches, asks, transmits, passes, is_reset}
+use Rattle.recovery_paths.specs.PathLog.{PathsEntry, PathEntry, PathPast, Following, pasts_by, past_with, past_following, on, moves, drops_previous, fresh, goes_on, receives, is_validated, samples, tells, searches, asks, transmits, passes, is_reset}
 use Rattle.recovery_paths.specs.PathMaking.{PathMaking, PathSettings}
 
 -- ---- the fates of a number, by the calls of a search
@@ -22,6 +22,7 @@ fate number (acks other bytes) = one_if_same other number
 fate number (loses other bytes) = one_if_same other number
 fate number call = 0
 
+-- how often the number has one
 abbrev pub fates : ℕ → List MtuCall → ℕ
 fates number [] = 0
 fates number (call ∷ earlier) = fates number earlier + fate number call
@@ -46,6 +47,7 @@ fates_are number (loses_probe ∷ earlier) = omega (arith, fates_are number earl
 fates_are number (losses_end now ∷ earlier) = omega (arith, fates_are number earlier)
 fates_are number (resets mtu min_mtu ∷ earlier) = omega (arith, fates_are number earlier)
 
+-- a number that is another stands there
 one_here : (number other : ℕ) → nat_eq number other ≡ true → one_if_same other number ≡ 1
 one_here number other is = grind (arith, nat_tests)
 
@@ -70,6 +72,7 @@ abbrev pub told_on_path : ℕ → PathEntry → ℕ
 told_on_path number (searches call) = fate number call
 told_on_path number entry = 0
 
+-- of the entries of the paths, those on the one in use tell it
 abbrev pub told_by : ℕ → PathsEntry → ℕ
 told_by number (on Current entry) = told_on_path number entry
 told_by number (on Previous entry) = 0
@@ -80,6 +83,7 @@ abbrev pub told_in : ℕ → List PathsEntry → ℕ
 told_in number [] = 0
 told_in number (entry ∷ earlier) = told_in number earlier + told_by number entry
 
+-- entries before others add what they tell
 pub told-append : (number : ℕ) (entries log : List PathsEntry) → told_in number (entries ++ log) ≡ told_in number log + told_in number entries
 told-append number [] log = omega arith
 told-append number (entry ∷ entries) log = omega (arith, told-append number entries log)
