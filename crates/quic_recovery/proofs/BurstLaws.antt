@@ -2,8 +2,8 @@
 use Rattle.std.proofs.Common.{◌≡◌, ℕ, Bool, true, false, cond, List, [], ◌∷◌, Option, None, Some, Ok, Err, refl, sym, ap, subst, arith, ◌∙◌}
 use Rattle.recovery_base.specs.declared.below.SpaceId.TheVariants.{Data}
 use Rattle.recovery_config.specs.declared.config.TransportConfig.{TransportConfig}
-use Rattle.recovery_mtud.specs.declared.config.MtuDiscoveryConfig.{MtuDiscoveryConfig}
 use Rattle.recovery_ledger.specs.Departures.{LeaveOnce}
+use Rattle.recovery_mtud.specs.declared.config.MtuDiscoveryConfig.{MtuDiscoveryConfig}
 use Rattle.recovery_mtud.specs.Discovery.{reports}
 use Rattle.recovery_mtud.specs.DiscoveryLog.{discovery_by}
 use Rattle.recovery_mtud.specs.MtuEntries.{IsUntold}
