@@ -1,4 +1,12 @@
+mod BurstCounts
 pub mod BurstLaws
+pub mod BurstRunLaws
+mod BurstTies
 pub mod DiscoveryLaws
+pub mod EntryLaws
 mod DiscoveryRows
+mod RunRows
 pub mod SearchLaws
+pub mod SearchRunLaws
+mod SearchTies
+mod SearchWidths

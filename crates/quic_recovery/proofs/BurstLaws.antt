@@ -1,0 +1,110 @@
+-- A report of a black hole needs four bursts, and comes at four, throughout a run.
+use Rattle.std.proofs.Common.{◌≡◌, ℕ, Bool, true, false, cond, List, [], ◌∷◌, Option, None, Some, Ok, Err, refl, sym, ap, subst, arith, ◌∙◌}
+use Rattle.recovery_base.specs.declared.below.SpaceId.TheVariants.{Data}
+use Rattle.recovery_config.specs.declared.config.TransportConfig.{TransportConfig}
+use Rattle.recovery_ledger.specs.Departures.{LeaveOnce}
+use Rattle.recovery_mtud.specs.declared.config.MtuDiscoveryConfig.{MtuDiscoveryConfig}
+use Rattle.recovery_mtud.specs.Discovery.{reports}
+use Rattle.recovery_mtud.specs.DiscoveryLog.{discovery_by}
+use Rattle.recovery_mtud.specs.MtuEntries.{IsUntold}
+use Rattle.recovery_mtud.proofs.BurstRunLaws.{four_report, four_stand}
+use Rattle.recovery_mtud.proofs.EntryLaws.{discovery_made_untold, discovery_disabled_untold}
+use Rattle.recovery_paths.specs.PathMaking.{discovery_with, first_discovery}
+use Rattle.recovery_paths.proofs.FateLaws.{apart_once}
+use Rattle.recovery_paths.proofs.UntoldLaws.{WasUntold, untold_by}
+use Rattle.quic_recovery.specs.declared.event.Event.{Event}
+use Rattle.quic_recovery.specs.declared.event.Event.TheVariants.{LossesDone}
+use Rattle.quic_recovery.specs.declared.event.Answer.{Answer}
+use Rattle.quic_recovery.specs.declared.event.Answer.TheVariants.{BlackHole}
+use Rattle.quic_recovery.specs.declared.event.Refusal.TheVariants.{NoMemory}
+use Rattle.quic_recovery.specs.Amplification.{pasts_of}
+use Rattle.quic_recovery.specs.Bursts.{ComesAtFourBursts, NeedsFourBursts}
+use Rattle.quic_recovery.specs.Entries.{logs_of}
+use Rattle.quic_recovery.specs.History.{Beginning, History, Reply, ThroughoutFrom, Throughout, history_from}
+use Rattle.quic_recovery.specs.Known.{first_path, settings_of}
+use Rattle.quic_recovery.specs.Told.{Told}
+use Rattle.quic_recovery.proofs.DepartureLaws.{leave_once_in}
+use Rattle.quic_recovery.proofs.FateLaws.{log_of_data, fates_depart, once_before}
+
+-- ---- the search of the path in use was told nothing as it was made
+
+-- with a search or without one
+discovery_untold : {F : Type 0} (limit : Option ℕ) (config : TransportConfig F) (settings : Option MtuDiscoveryConfig) → IsUntold (discovery_with limit config settings)
+discovery_untold limit config None = discovery_disabled_untold _ _
+discovery_untold limit config (Some settings) = discovery_made_untold _ _ limit settings
+
+-- as the settings of paths make it
+first_untold : {F : Type 0} (allowed : Bool) (limit : Option ℕ) (config : TransportConfig F) → IsUntold (first_discovery allowed limit config)
+first_untold allowed limit config = discovery_untold limit config (cond allowed config.mtu_discovery_config None)
+
+module _ {F K Q S M P : Type 0} (beginning : Beginning F K Q S P) where
+  -- at each moment
+  untold_in : (history : History Q S M P) → WasUntold (pasts_of beginning history).current
+  untold_in history =
+      let config = beginning.config in
+      let made : (limit : Option ℕ) → IsUntold ((settings_of beginning).discovery limit) = λ limit. first_untold config.allow_mtud limit config.transport in
+      untold_by (settings_of beginning) made (first_path beginning) (made None) (logs_of beginning history).paths
+
+  -- the answer to the end of losses is what its detection reports
+  abbrev reports_there : History Q S M P → Bool
+  reports_there before = let past = (pasts_of beginning before).current in reports (discovery_by past.making.discovery past.searched)
+
+  -- ---- a report comes at four
+
+  -- where four have closed unanswered, the answer is a report
+  comes_one : (before : History Q S M P) (event : Event Q S M P) (reply : Reply Q) → Told beginning before event reply → ComesAtFourBursts beginning before event reply
+  comes_one before (LossesDone now) (Ok answer) told = λ many.
+      let past = (pasts_of beginning before).current in
+      let reply : Answer Q → Reply Q = λ a. Ok a in
+      let reported : Bool → Reply Q = λ hole. Ok (BlackHole hole) in
+      let is : reports_there before ≡ true = four_report past.making.discovery (untold_in before) past.searched many in
+      ap reply told ∙ ap reported is
+  comes_one before (LossesDone now) (Err NoMemory) told = absurd told
+  comes_one before (LossesDone now) (Err refusal) told = absurd told
+  comes_one before event reply told = tt
+
+  -- from a moment on
+  comes_from : (before : History Q S M P) (events : List (Event Q S M P)) (replies : List (Reply Q)) → ThroughoutFrom (Told beginning) before events replies → ThroughoutFrom (ComesAtFourBursts beginning) before events replies
+  comes_from before [] [] told = tt
+  comes_from before (event ∷ events) (reply ∷ replies) told =
+      (comes_one before event reply told.0, comes_from ((event, reply) ∷ before) events replies told.1)
+  comes_from before [] (reply ∷ replies) told = absurd told
+  comes_from before (event ∷ events) [] told = absurd told
+
+  -- throughout a run
+  pub comes_at_four : (events : List (Event Q S M P)) (replies : List (Reply Q)) → Throughout (Told beginning) events replies → Throughout (ComesAtFourBursts beginning) events replies
+  comes_at_four = comes_from []
+
+  -- ---- a report needs four
+
+  -- no number of a 1-RTT packet has left twice
+  abbrev HaveLeftOnce : History Q S M P → Type 0
+  HaveLeftOnce history = LeaveOnce (log_of_data beginning history)
+
+  -- where a hole is reported, four stand
+  needs_by : (before : History Q S M P) (now : ℕ) → HaveLeftOnce before → (hole : Bool) → reports_there before ≡ hole → NeedsFourBursts beginning before (LossesDone now) (Ok (BlackHole hole))
+  needs_by before now once true is =
+      let past = (pasts_of beginning before).current in
+      let apart = apart_once past.making.discovery past.searched (λ number. omega (arith, fates_depart beginning number before, once number)) in
+      four_stand past.making.discovery (untold_in before) past.searched apart is
+  needs_by before now once false is = tt
+
+  -- so where the answer says one
+  needs_one : (before : History Q S M P) (event : Event Q S M P) (reply : Reply Q) → Told beginning before event reply → HaveLeftOnce before → NeedsFourBursts beginning before event reply
+  needs_one before (LossesDone now) (Ok answer) told once =
+      let N : Answer Q → Type 0 = λ a. NeedsFourBursts beginning before (LossesDone now) (Ok a) in
+      subst N (sym told) (needs_by before now once (reports_there before) refl)
+  needs_one before (LossesDone now) (Err refusal) told once = tt
+  needs_one before event reply told once = tt
+
+  -- from a moment on, in a run after which no number has left twice
+  needs_from : (before : History Q S M P) (events : List (Event Q S M P)) (replies : List (Reply Q)) → ThroughoutFrom (Told beginning) before events replies → HaveLeftOnce (history_from before events replies) → ThroughoutFrom (NeedsFourBursts beginning) before events replies
+  needs_from before [] [] told once = tt
+  needs_from before (event ∷ events) (reply ∷ replies) told once =
+      (needs_one before event reply told.0 (once_before beginning before (event ∷ events) (reply ∷ replies) once), needs_from ((event, reply) ∷ before) events replies told.1 once)
+  needs_from before [] (reply ∷ replies) told once = absurd told
+  needs_from before (event ∷ events) [] told once = absurd told
+
+  -- throughout a run
+  pub needs_four : (events : List (Event Q S M P)) (replies : List (Reply Q)) → Throughout (Told beginning) events replies → Throughout (NeedsFourBursts beginning) events replies
+  needs_four events replies told = needs_from [] events replies told (leave_once_in beginning events replies told Data)

@@ -1,0 +1,122 @@
+-- Whole runs of the detection of black holes (RFC 8899, 4.3), over what a discovery was told and answered. Every list here has the
+-- newest entry first.
+use Rattle.std.specs.Prelude.{◌≡◌, ℕ, ◌+◌, ◌≤◌, ◌==◌, nat_lt, nat_eq, min, ⊤, Bool, true, false, ◌&&◌, if◌then◌else◌, Option, is_some, List, [], ◌∷◌, ◌++◌, length, filter}
+use Rattle.std.specs.List.{list_all}
+use Rattle.std.specs.Set.{is_member}
+use Rattle.recovery_mtud.specs.Discovery.{Discovery}
+use Rattle.recovery_mtud.specs.MtuEntries.{MtuEntry, acked, lost, losses_over, reported, reset, MtuProbe, probe_in_flight, size_at, min_mtu_in_use}
+
+-- ---- bursts: packets of Data that were lost one after another, none of them the probe in flight
+
+pub record Loss : Type 0 where
+  pub number : ℕ
+  pub bytes : ℕ
+
+abbrev pub follows : ℕ → List Loss → Bool
+follows number [] = false
+follows number (last ∷ burst) = number == last.number + 1
+
+-- the open burst: the longest run of numbers up to the one lost last, since all losses of a moment were told or all began anew
+abbrev pub open_run : List MtuEntry → List Loss
+open_run [] = []
+open_run (lost number bytes ∷ earlier) =
+    record { number = number; bytes = bytes } ∷ (if follows number (open_run earlier) then open_run earlier else [])
+open_run (losses_over ∷ earlier) = []
+open_run (reported now ∷ earlier) = []
+open_run (reset mtu min_mtu ∷ earlier) = []
+open_run (entry ∷ earlier) = open_run earlier
+
+abbrev pub if_any : List Loss → List (List Loss)
+if_any [] = []
+if_any (last ∷ burst) = (last ∷ burst) ∷ []
+
+-- the burst that an entry closes, if any: a lost number that does not follow closes it, and the end of a moment's losses
+abbrev pub closed_by : MtuEntry → List MtuEntry → List (List Loss)
+closed_by (lost number bytes) earlier = if follows number (open_run earlier) then [] else if_any (open_run earlier)
+closed_by losses_over earlier = if_any (open_run earlier)
+closed_by (reported now) earlier = if_any (open_run earlier)
+closed_by entry earlier = []
+
+abbrev pub least_size : List Loss → ℕ
+least_size [] = 0
+least_size (loss ∷ []) = loss.bytes
+least_size (loss ∷ other ∷ losses) = min loss.bytes (least_size (other ∷ losses))
+
+abbrev pub last_number : List Loss → ℕ
+last_number [] = 0
+last_number (last ∷ burst) = last.number
+
+-- all its packets are larger than this: the least is
+abbrev pub is_above : ℕ → List Loss → Bool
+is_above size burst = nat_lt size (least_size burst)
+
+-- ---- bursts that have closed
+
+-- an acknowledged packet refutes the bursts before it whose least packet is at most as large, the probe in flight all of them
+abbrev pub unrefuted : ℕ → ℕ → Option MtuProbe → List (List Loss) → List (List Loss)
+unrefuted number bytes probe bursts = if is_some (size_at number probe) then [] else filter (is_above bytes) bursts
+
+-- those that closed since the last report or reset, and were not refuted since
+abbrev pub standing : List MtuEntry → List (List Loss)
+standing [] = []
+standing (acked number bytes ∷ earlier) = unrefuted number bytes (probe_in_flight earlier) (standing earlier)
+standing (reported now ∷ earlier) = []
+standing (reset mtu min_mtu ∷ earlier) = []
+standing (entry ∷ earlier) = closed_by entry earlier ++ standing earlier
+
+-- those that closed since the last report, reset or acknowledgement
+abbrev pub unanswered : List MtuEntry → List (List Loss)
+unanswered [] = []
+unanswered (acked number bytes ∷ earlier) = []
+unanswered (reported now ∷ earlier) = []
+unanswered (reset mtu min_mtu ∷ earlier) = []
+unanswered (entry ∷ earlier) = closed_by entry earlier ++ unanswered earlier
+
+-- ---- numbers
+
+abbrev pub acked_numbers : List MtuEntry → List ℕ
+acked_numbers [] = []
+acked_numbers (acked number bytes ∷ earlier) = number ∷ acked_numbers earlier
+acked_numbers (entry ∷ earlier) = acked_numbers earlier
+
+-- the probes apart
+abbrev pub lost_numbers : List MtuEntry → List ℕ
+lost_numbers [] = []
+lost_numbers (lost number bytes ∷ earlier) = number ∷ lost_numbers earlier
+lost_numbers (entry ∷ earlier) = lost_numbers earlier
+
+-- no number is told both as acknowledged and as lost
+abbrev pub AreFatesApart : List MtuEntry → Type 0
+AreFatesApart entries =
+    (number : ℕ) → is_member nat_eq (acked_numbers entries) number ≡ true → is_member nat_eq (lost_numbers entries) number ≡ false
+
+-- the last number of the burst exceeds all of these
+abbrev pub is_past : List ℕ → List Loss → Bool
+is_past numbers burst = list_all (λ number. nat_lt number (last_number burst)) numbers
+
+-- ---- reports: they come as all losses of a moment were told, which closes the open burst
+
+abbrev pub AreFour : (List Loss → Bool) → List (List Loss) → Type 0
+AreFour test bursts = 4 ≤ length (filter test bursts)
+
+module _ (made : Discovery) where
+  -- four bursts stand whose packets are all larger than the least MTU
+  abbrev pub AreFourStanding : List MtuEntry → Type 0
+  AreFourStanding entries = AreFour (is_above (min_mtu_in_use made entries)) (if_any (open_run entries) ++ standing entries)
+
+  -- four such bursts have closed with no acknowledgement since, each past every number that was acknowledged
+  abbrev pub AreFourUnanswered : List MtuEntry → Type 0
+  AreFourUnanswered entries =
+      AreFour (λ burst. is_above (min_mtu_in_use made entries) burst && is_past (acked_numbers entries) burst) (if_any (open_run entries) ++ unanswered entries)
+
+  -- where a black hole is reported, four stand
+  abbrev pub ReportNeedsFour : List MtuEntry → Type 0
+  ReportNeedsFour [] = ⊤
+  ReportNeedsFour (reported now ∷ earlier) = AreFourStanding earlier
+  ReportNeedsFour (entry ∷ earlier) = ⊤
+
+  -- where none is, no four have closed unanswered
+  abbrev pub ReportComesAtFour : List MtuEntry → Type 0
+  ReportComesAtFour [] = ⊤
+  ReportComesAtFour (losses_over ∷ earlier) = AreFourUnanswered earlier → ⊥
+  ReportComesAtFour (entry ∷ earlier) = ⊤

@@ -1,0 +1,118 @@
+-- How often the search of the path in use is told that a number was acknowledged or lost: at most as often as that happened.
+use Rattle.std.proofs.Common.{◌≡◌, ⊎_elim, ℕ, ◌+◌, ◌≤◌, Bool, true, false, List, [], ◌∷◌, ◌++◌, refl, arith}
+use Rattle.std.specs.Prelude.{nat_eq}
+use Rattle.std.specs.Set.{is_member}
+use Rattle.std.proofs.lemmas.Bool.{or_cases}
+use Rattle.std.proofs.lemmas.Bool.Decides.{nat_tests}
+use Rattle.recovery_ledger.specs.Departures.{one_if_same}
+use Rattle.recovery_mtud.specs.BurstRuns.{AreFatesApart}
+use Rattle.recovery_mtud.specs.Discovery.{Discovery}
+use Rattle.recovery_mtud.specs.DiscoveryLog.{MtuCall, polls, is_limited, acks, loses_probe, loses, losses_end, resets}
+use Rattle.recovery_mtud.specs.MtuEntries.{entries_by}
+use Rattle.recovery_mtud.proofs.BurstRunLaws.{acked_in_calls, lost_in_calls, fates_apart_by}
+use Rattle.recovery_paths.specs.declared.live_paths.PathName.TheVariants.{Current, Previous}
+use Rattle.recovery_paths.specs.PathLog.{PathsEntry, PathEntry, PathPast, Following, pasts_by, past_with, past_following, on, moves, drops_previous, fresh, goes_on, receives, is_validated, samples, tells, searches, asks, transmits, passes, is_reset}
+use Rattle.recovery_paths.specs.PathMaking.{PathMaking, PathSettings}
+
+-- ---- the fates of a number, by the calls of a search
+
+-- 1 where a call tells the number as acknowledged or lost, the probe in flight apart
+abbrev pub fate : ℕ → MtuCall → ℕ
+fate number (acks other bytes) = one_if_same other number
+fate number (loses other bytes) = one_if_same other number
+fate number call = 0
+
+-- how often the number has one
+abbrev pub fates : ℕ → List MtuCall → ℕ
+fates number [] = 0
+fates number (call ∷ earlier) = fates number earlier + fate number call
+
+-- how often it stands among others
+abbrev times : ℕ → List ℕ → ℕ
+times number [] = 0
+times number (other ∷ numbers) = times number numbers + one_if_same other number
+
+-- it is one of them
+abbrev has : ℕ → List ℕ → Bool
+has number numbers = is_member nat_eq numbers number
+
+-- the fates are those of the numbers acknowledged and of those lost
+fates_are : (number : ℕ) (calls : List MtuCall) → fates number calls ≡ times number (acked_in_calls calls) + times number (lost_in_calls calls)
+fates_are number [] = refl
+fates_are number (acks other bytes ∷ earlier) = omega (arith, fates_are number earlier)
+fates_are number (loses other bytes ∷ earlier) = omega (arith, fates_are number earlier)
+fates_are number (polls now next ∷ earlier) = omega (arith, fates_are number earlier)
+fates_are number (is_limited limit ∷ earlier) = omega (arith, fates_are number earlier)
+fates_are number (loses_probe ∷ earlier) = omega (arith, fates_are number earlier)
+fates_are number (losses_end now ∷ earlier) = omega (arith, fates_are number earlier)
+fates_are number (resets mtu min_mtu ∷ earlier) = omega (arith, fates_are number earlier)
+
+-- a number that is another stands there
+one_here : (number other : ℕ) → nat_eq number other ≡ true → one_if_same other number ≡ 1
+one_here number other is = grind (arith, nat_tests)
+
+-- what is among others stands there once at least
+stands : (number : ℕ) (numbers : List ℕ) → has number numbers ≡ true → 1 ≤ times number numbers
+stands number [] is = absurd (cc)
+stands number (other ∷ numbers) is =
+    ⊎_elim (λ (here : nat_eq number other ≡ true). omega (arith, one_here number other here)) (λ (there : has number numbers ≡ true). omega (arith, stands number numbers there)) (or_cases _ _ is)
+
+-- where each number has one fate at most, none is both acknowledged and lost
+pub apart_once : (made : Discovery) (calls : List MtuCall) → ((number : ℕ) → fates number calls ≤ 1) → AreFatesApart (entries_by made calls)
+apart_once made calls once = fates_apart_by made calls (λ number good. go number good (has number (lost_in_calls calls)) refl)
+  where
+    go : (number : ℕ) → has number (acked_in_calls calls) ≡ true → (bad : Bool) → has number (lost_in_calls calls) ≡ bad → has number (lost_in_calls calls) ≡ false
+    go number good true bad = absurd (omega (arith, once number, fates_are number calls, stands number (acked_in_calls calls) good, stands number (lost_in_calls calls) bad))
+    go number good false none = none
+
+-- ---- what happens on the paths
+
+-- 1 where an entry tells the search of the path in use a fate of the number
+abbrev pub told_on_path : ℕ → PathEntry → ℕ
+told_on_path number (searches call) = fate number call
+told_on_path number entry = 0
+
+-- of the entries of the paths, those on the one in use tell it
+abbrev pub told_by : ℕ → PathsEntry → ℕ
+told_by number (on Current entry) = told_on_path number entry
+told_by number (on Previous entry) = 0
+told_by number (moves following) = 0
+told_by number drops_previous = 0
+
+abbrev pub told_in : ℕ → List PathsEntry → ℕ
+told_in number [] = 0
+told_in number (entry ∷ earlier) = told_in number earlier + told_by number entry
+
+-- entries before others add what they tell
+pub told-append : (number : ℕ) (entries log : List PathsEntry) → told_in number (entries ++ log) ≡ told_in number log + told_in number entries
+told-append number [] log = omega arith
+told-append number (entry ∷ entries) log = omega (arith, told-append number entries log)
+
+module _ {K : Type 0} (settings : PathSettings K) (number : ℕ) where
+  abbrev fates_on : PathPast K → ℕ
+  fates_on past = fates number past.searched
+
+  -- an entry adds its own
+  fates_with : (entry : PathEntry) (past : PathPast K) → fates_on (past_with settings entry past) ≤ fates_on past + told_on_path number entry
+  fates_with (receives bytes) past = omega arith
+  fates_with is_validated past = omega arith
+  fates_with (samples delay rtt) past = omega arith
+  fates_with (tells call) past = omega arith
+  fates_with (searches call) past = omega arith
+  fates_with (asks now bytes) past = omega arith
+  fates_with (transmits bytes) past = omega arith
+  fates_with (passes now bytes) past = omega arith
+  fates_with (is_reset now) past = omega arith
+
+  -- a path that follows begins with none, or with those of the path before it
+  fates_following : (following : Following) (past : PathPast K) → fates_on (past_following settings following past) ≤ fates_on past
+  fates_following (fresh remote limit now) past = omega arith
+  fates_following (goes_on remote now) past = omega arith
+
+  -- on the path in use a number has at most the fates that were told
+  pub fates_by : (first : PathMaking K) (log : List PathsEntry) → fates_on (pasts_by settings first log).current ≤ told_in number log
+  fates_by first [] = omega arith
+  fates_by first (on Current entry ∷ log) = omega (arith, fates_by first log, fates_with entry (pasts_by settings first log).current)
+  fates_by first (on Previous entry ∷ log) = omega (arith, fates_by first log)
+  fates_by first (moves following ∷ log) = omega (arith, fates_by first log, fates_following following (pasts_by settings first log).current)
+  fates_by first (drops_previous ∷ log) = omega (arith, fates_by first log)
