@@ -1,12 +1,14 @@
--- Each event keeps the bound on what goes to an address that is not validated.
-use Rattle.std.proofs.Common.{ℕ, ◌≡◌, ◌&&◌, Bool, true, false, cond, List, [], ◌∷◌, ◌++◌, Option, None, Some, Ok, Err, refl}
+-- What each event may be to the paths, and that it keeps the bound on what goes to an address that is not validated.
+use Rattle.std.proofs.Common.{ℕ, ◌≡◌, ◌&&◌, Bool, true, false, cond, if◌then◌else◌, List, [], ◌∷◌, ◌++◌, Option, None, Some, Ok, Err, refl}
+use Rattle.std.proofs.lemmas.Bool.{false_from_ne_true}
 use Rattle.recovery_base.specs.declared.below.SpaceId.{SpaceId}
 use Rattle.recovery_congestion.specs.Calls.{ControllerCall}
 use Rattle.recovery_congestion.specs.Controllers.{ControllerWords}
 use Rattle.recovery_ledger.specs.Acks.{Heard}
 use Rattle.recovery_ledger.specs.Packets.{Packet, packet_at}
-use Rattle.recovery_mtud.specs.Discovery.{is_data, reports}
-use Rattle.recovery_mtud.specs.DiscoveryLog.{MtuCall, losses_end, acks as acks_packet}
+use Rattle.recovery_mtud.specs.Discovery.{Discovery, is_data, is_probe, is_searching_of, reports}
+use Rattle.recovery_mtud.specs.DiscoveryLog.{MtuCall, losses_end, acks as acks_packet, loses_probe, loses}
+use Rattle.recovery_mtud.proofs.SearchRunLaws.{IsInTurn}
 use Rattle.recovery_paths.specs.declared.live_paths.PathName.TheVariants.{Current, Previous}
 use Rattle.recovery_paths.specs.PathLog.{PathsEntry, on_current, tells}
 use Rattle.recovery_paths.specs.PathMaking.{PathSettings}
@@ -38,14 +40,22 @@ sent_freely words true delay is = blocked_is_not_sent is
 sent_freely words false None is = (refl, refl)
 sent_freely words false (Some until) is = delayed_is_not_sent is
 
-module _ {K P : Type 0} (settings : PathSettings K) (known : Known K P) where
-  searched_allowed : (changes : Bool) (call : MtuCall) → AreAllowed settings known.paths (searched known changes call)
-  searched_allowed true call = (tt, (tt, tt))
-  searched_allowed false call = (tt, tt)
+-- a loss is no limit
+loss_in_turn : (own : Bool) (number bytes : ℕ) (old : Discovery) → IsInTurn (if own then loses_probe else loses number bytes) old
+loss_in_turn true number bytes old = tt
+loss_in_turn false number bytes old = tt
 
-  data_allowed : (is_data : Bool) (changes : Bool) (call : MtuCall) → AreAllowed settings known.paths (cond is_data (searched known changes call) [])
-  data_allowed true changes call = searched_allowed changes call
-  data_allowed false changes call = tt
+module _ {K P : Type 0} (settings : PathSettings K) (known : Known K P) where
+  abbrev IsInTurnNow : MtuCall → Type 0
+  IsInTurnNow call = IsInTurn call known.paths.current.state.discovery
+
+  searched_allowed : (changes : Bool) (call : MtuCall) → IsInTurnNow call → AreAllowed settings known.paths (searched known changes call)
+  searched_allowed true call turn = (tt, (turn, tt))
+  searched_allowed false call turn = (turn, tt)
+
+  data_allowed : (is_data : Bool) (changes : Bool) (call : MtuCall) → IsInTurnNow call → AreAllowed settings known.paths (cond is_data (searched known changes call) [])
+  data_allowed true changes call turn = searched_allowed changes call turn
+  data_allowed false changes call turn = tt
 
   -- the search first, then the acknowledged packet
   acked_with : (own : Bool) (call : ControllerCall) (entries : List PathsEntry) → AreAllowed settings known.paths entries → AreAllowed settings known.paths (cond own (on_current (tells call) ∷ []) [] ++ entries)
@@ -55,11 +65,13 @@ module _ {K P : Type 0} (settings : PathSettings K) (known : Known K P) where
   acked_allowed : (space : SpaceId) (now number : ℕ) (app_limited : Bool) (packet : Option (Packet P)) → AreAllowed settings known.paths (acked_entry known now app_limited packet ++ acked_search known space number packet)
   acked_allowed space now number app_limited None = tt
   acked_allowed space now number app_limited (Some packet) =
-      acked_with (is_own known packet && packet.ack_eliciting) _ (acked_search known space number (Some packet)) (data_allowed (is_data space) (is_path_probe space number known.paths.current.state) (acks_packet number packet.size))
+      acked_with (is_own known packet && packet.ack_eliciting) _ (acked_search known space number (Some packet)) (data_allowed (is_data space) (is_path_probe space number known.paths.current.state) (acks_packet number packet.size) tt)
 
   lost_allowed : (space : SpaceId) (number : ℕ) (packet : Option (Packet P)) → AreAllowed settings known.paths (lost_search known space number packet)
   lost_allowed space number None = tt
-  lost_allowed space number (Some packet) = data_allowed (is_data space) false (loss_call number packet.size known.paths.current.state.discovery)
+  lost_allowed space number (Some packet) =
+      let old = known.paths.current.state.discovery in
+      data_allowed (is_data space) false (loss_call number packet.size old) (loss_in_turn (is_probe number old) number packet.size old)
 
 module _ {K Q S M P : Type 0} (q : QueueMeaning Q S P) (settings : PathSettings K) (heard : SpaceId → Heard) (known : Known K P) where
   answer_allowed : (event : Event Q S M P) (answer : Answer Q) → ToldBy q settings.words heard known event (Ok answer) → AreAllowed settings known.paths (answered q known event answer).paths
@@ -82,8 +94,8 @@ module _ {K Q S M P : Type 0} (q : QueueMeaning Q S P) (settings : PathSettings 
   answer_allowed (Lost space number) answer told = lost_allowed settings known space number (packet_at (tracked_known known space) number)
   answer_allowed (PollMtu now) (Probe number size) told = (tt, (tt, tt))
   answer_allowed (PollMtu now) answer told = (tt, tt)
-  answer_allowed (PeerLimit size) answer told = (tt, tt)
-  answer_allowed (LossesDone now) answer told = searched_allowed settings known (reports known.paths.current.state.discovery) (losses_end now)
+  answer_allowed (PeerLimit size) answer told = (false_from_ne_true (is_searching_of known.paths.current.state.discovery) told.1.0, tt)
+  answer_allowed (LossesDone now) answer told = searched_allowed settings known (reports known.paths.current.state.discovery) (losses_end now) tt
   answer_allowed (NewPath now remote is_fresh) answer told = (tt, tt)
   answer_allowed (ResetPath now) answer told = (tt, tt)
   answer_allowed DropPrevious answer told = (tt, tt)

@@ -1,18 +1,13 @@
 -- Reports of black holes at each moment of a run (RFC 8899, 4.3): what a report needs, and where one comes. Both are said of the path
 -- in use; one that goes on from another path has what was told and reported there.
-use Rattle.std.specs.Prelude.{◌≡◌, true, List, Ok}
+use Rattle.std.specs.Prelude.{◌≡◌, true, Ok}
 use Rattle.recovery_mtud.specs.BurstRuns.{AreFourStanding, AreFourUnanswered}
-use Rattle.recovery_mtud.specs.MtuEntries.{MtuEntry, entries_by}
-use Rattle.recovery_paths.specs.PathLog.{PathPast}
 use Rattle.quic_recovery.specs.declared.event.Event.{Event}
 use Rattle.quic_recovery.specs.declared.event.Event.TheVariants.{LossesDone}
 use Rattle.quic_recovery.specs.declared.event.Answer.TheVariants.{BlackHole}
 use Rattle.quic_recovery.specs.Amplification.{pasts_of}
 use Rattle.quic_recovery.specs.History.{Beginning, History, Reply}
-
--- what the discovery of a path was told and answered since it was made
-abbrev pub entries_on : {K : Type 0} → PathPast K → List MtuEntry
-entries_on past = entries_by past.making.discovery past.searched
+use Rattle.quic_recovery.specs.Search.{entries_on}
 
 module _ {F K Q S M P : Type 0} (beginning : Beginning F K Q S P) where
   -- where the end of losses reports a black hole, four bursts of packets above the least MTU stand: closed since the last report,

@@ -11,5 +11,6 @@ pub mod Pacing
 pub mod Parts
 pub mod Refusals
 pub mod Replies
+pub mod Search
 pub mod State
 pub mod Told

@@ -2,20 +2,23 @@
 use Rattle.std.proofs.Common.{◌≡◌, false, List, [], ◌∷◌, ◌++◌, Option, None, Some, option_map, refl, subst}
 use Rattle.std.specs.Option.{ForSome}
 use Rattle.recovery_congestion.specs.Controllers.{ControllerWords}
+use Rattle.recovery_mtud.proofs.SearchRunLaws.{IsInTurn}
 use Rattle.recovery_paths.specs.declared.live_paths.PathName.TheVariants.{Current, Previous}
 use Rattle.recovery_paths.specs.PathMaking.{PathMaking, PathSettings}
 use Rattle.recovery_paths.specs.PathStates.{PathState, is_blocked, path_delay}
 use Rattle.recovery_paths.specs.PathLog.{OfPaths, OnEachPath, PathsEntry, PathEntry, PathPast, PathKnown, Following, paths_with, paths_after, pasts_by, each_path, state_of, known_of, known_with, known_following, past_with, past_following, on, moves, drops_previous, receives, is_validated, samples, tells, searches, asks, transmits, passes, is_reset}
 use Rattle.recovery_paths.proofs.PathLogLaws.{each-after}
 
--- what passes was neither blocked nor delayed
+-- what passes was neither blocked nor delayed, and a limit is told while no search runs
 abbrev pub IsAllowed : {K : Type 0} → ControllerWords K → PathState K → PathEntry → Type 0
 IsAllowed words state (passes now bytes) = (is_blocked state bytes ≡ false) × (path_delay words now bytes state ≡ None)
+IsAllowed words state (searches call) = IsInTurn call state.discovery
 IsAllowed words state entry = Unit {0}
 
--- nothing passes
+-- nothing passes, and the search sees nothing
 abbrev pub PassesNothing : PathEntry → Type 0
 PassesNothing (passes now bytes) = ⊥
+PassesNothing (searches call) = ⊥
 PassesNothing entry = Unit {0}
 
 none_is_some : {A B : Type 0} {a : A} → None ≡ Some a → B
@@ -25,9 +28,18 @@ some_same : {A : Type 0} {a b : A} → Some a ≡ Some b → a ≡ b
 some_same e = cc
 
 module _ {K : Type 0} (settings : PathSettings K) where
-  -- it goes on to hold of a path as long as what passes is allowed, and holds of a path that follows on another one
+  -- as long as what happens is allowed it goes on to hold
+  abbrev pub IsKeptBy : (PathPast K → Type 0) → Type 0
+  IsKeptBy Holds = (entry : PathEntry) (past : PathPast K) → IsAllowed settings.words (state_of settings past) entry → Holds past → Holds (past_with settings entry past)
+
+  -- it goes on to hold of a path as long as what happens is allowed, and goes over to a path that follows on it
+  pub record GoesOver (Holds : PathPast K → Type 0) : Type 0 where
+    pub by_entry : IsKeptBy Holds
+    pub following : (following : Following) (past : PathPast K) → Holds past → Holds (past_following settings following past)
+
+  -- it goes on so, and holds of a path that follows on any
   pub record IsKept (Holds : PathPast K → Type 0) : Type 0 where
-    pub by_entry : (entry : PathEntry) (past : PathPast K) → IsAllowed settings.words (state_of settings past) entry → Holds past → Holds (past_with settings entry past)
+    pub by_entry : IsKeptBy Holds
     pub following : (following : Following) (past : PathPast K) → Holds (past_following settings following past)
 
   -- ---- the entries of one event, the newest first
@@ -44,19 +56,19 @@ module _ {K : Type 0} (settings : PathSettings K) where
   AreAllowed paths (entry ∷ earlier) =
       IsAllowedOn (paths_after (known_with settings) (known_following settings) earlier paths) entry × AreAllowed paths earlier
 
-  -- where nothing passes, all is allowed
+  -- where nothing passes and no search sees anything, all is allowed
   allowed_anywhere : (entry : PathEntry) (state : PathState K) → PassesNothing entry → IsAllowed settings.words state entry
   allowed_anywhere (passes now bytes) state nothing = absurd nothing
   allowed_anywhere (receives bytes) state nothing = tt
   allowed_anywhere is_validated state nothing = tt
   allowed_anywhere (samples delay rtt) state nothing = tt
   allowed_anywhere (tells call) state nothing = tt
-  allowed_anywhere (searches call) state nothing = tt
+  allowed_anywhere (searches call) state nothing = absurd nothing
   allowed_anywhere (asks now bytes) state nothing = tt
   allowed_anywhere (transmits bytes) state nothing = tt
   allowed_anywhere (is_reset now) state nothing = tt
 
-  module _ (Holds : PathPast K → Type 0) (kept : IsKept Holds) where
+  module _ (Holds : PathPast K → Type 0) (kept : GoesOver Holds) where
     -- on the previous path nothing passes
     previous_kept : (entry : PathEntry) (path : Option (PathPast K)) → PassesNothing entry → ForSome path Holds → ForSome (option_map (past_with settings entry) path) Holds
     previous_kept entry None nothing holds = λ past is. none_is_some is
@@ -67,13 +79,17 @@ module _ {K : Type 0} (settings : PathSettings K) where
     entry_kept : (entry : PathsEntry) (pasts : OfPaths (PathPast K)) → IsAllowedOn (each_path (known_of settings) pasts) entry → OnEachPath Holds pasts → OnEachPath Holds (paths_with (past_with settings) (past_following settings) entry pasts)
     entry_kept (on Current entry) pasts allowed holds = (kept.by_entry entry pasts.current allowed holds.0, holds.1)
     entry_kept (on Previous entry) pasts allowed holds = (holds.0, previous_kept entry pasts.previous allowed holds.1)
-    entry_kept (moves following) pasts allowed holds = (kept.following following pasts.current, λ past is. subst Holds (some_same is) holds.0)
+    entry_kept (moves following) pasts allowed holds = (kept.following following pasts.current holds.0, λ past is. subst Holds (some_same is) holds.0)
     entry_kept drops_previous pasts allowed holds = (holds.0, λ past is. none_is_some is)
 
     -- an event's entries keep it
-    pub kept_after : (first : PathMaking K) (entries log : List PathsEntry) → let pasts = pasts_by settings first log in
+    pub goes_over_after : (first : PathMaking K) (entries log : List PathsEntry) → let pasts = pasts_by settings first log in
         AreAllowed (each_path (known_of settings) pasts) entries → OnEachPath Holds pasts → OnEachPath Holds (pasts_by settings first (entries ++ log))
-    kept_after first [] log allowed holds = holds
-    kept_after first (entry ∷ earlier) log allowed holds =
+    goes_over_after first [] log allowed holds = holds
+    goes_over_after first (entry ∷ earlier) log allowed holds =
         let Q : OfPaths (PathKnown K) → Type 0 = λ paths. IsAllowedOn paths entry in
-        entry_kept entry (pasts_by settings first (earlier ++ log)) (subst Q (each-after settings first earlier log) allowed.0) (kept_after first earlier log allowed.1 holds)
+        entry_kept entry (pasts_by settings first (earlier ++ log)) (subst Q (each-after settings first earlier log) allowed.0) (goes_over_after first earlier log allowed.1 holds)
+
+  pub kept_after : (Holds : PathPast K → Type 0) → IsKept Holds → (first : PathMaking K) (entries log : List PathsEntry) → let pasts = pasts_by settings first log in
+      AreAllowed (each_path (known_of settings) pasts) entries → OnEachPath Holds pasts → OnEachPath Holds (pasts_by settings first (entries ++ log))
+  kept_after Holds kept = goes_over_after Holds (record { by_entry = kept.by_entry; following = λ following past _. kept.following following past })

@@ -4,5 +4,6 @@ pub mod FateLaws
 pub mod LivePathsLaws
 pub mod PassedLaws
 pub mod PathLogLaws
+pub mod SearchedLaws
 pub mod ThreefoldLaws
 pub mod UntoldLaws

@@ -1,0 +1,133 @@
+-- Searches for the MTU take few probes and end near the best size, throughout a run.
+use Rattle.std.proofs.Common.{ℕ, ◌≡◌, ◌<◌, ◌≤◌, ◌^◌, Bool, true, false, if◌then◌else◌, List, [], ◌∷◌, Option, None, Some, Ok, Err, subst, ◌∙◌}
+use Rattle.std.specs.Option.{ForSome}
+use Rattle.std.specs.contracts.option.Option.{the_type}
+use Rattle.recovery_mtud.specs.contracts.config.MtuDiscoveryConfig.{the_row}
+use denote.Enum.Declared.{row}
+use denote.Laws.{Is}
+use mir.Val.{Val}
+use Rattle.recovery_mtud.specs.declared.config.MtuDiscoveryConfig.{MtuDiscoveryConfig}
+use Rattle.recovery_mtud.specs.Discovery.{poll_of}
+use Rattle.recovery_mtud.specs.DiscoveryLog.{polls}
+use Rattle.recovery_mtud.specs.MtuEntries.{MtuEntry, poll_entry, probed, unprobed}
+use Rattle.recovery_mtud.specs.SearchRuns.{EndsNearBest, ProbesInSearch, TakesFew}
+use Rattle.recovery_mtud.proofs.SearchRunLaws.{search_takes_few, search_ends_near, probes_in_search, mtu_by, limits_outside_after}
+use Rattle.recovery_paths.specs.PathLog.{OnEachPath, PathPast, pasts_by, state_of}
+use Rattle.recovery_paths.proofs.SearchedLaws.{IsSearchedBy, IsPathSearchedBy, first_searched, searched_over, searched_at_first}
+use Rattle.quic_recovery.specs.declared.event.Event.{Event}
+use Rattle.quic_recovery.specs.declared.event.Event.TheVariants.{PollMtu}
+use Rattle.quic_recovery.specs.declared.event.Answer.{Answer}
+use Rattle.quic_recovery.specs.declared.event.Answer.TheVariants.{Probe, NoProbe}
+use Rattle.quic_recovery.specs.Amplification.{pasts_of}
+use Rattle.quic_recovery.specs.Entries.{entries_of, logs_of}
+use Rattle.quic_recovery.specs.History.{Beginning, History, QueueMeaning, Reply, Throughout}
+use Rattle.quic_recovery.specs.Known.{Known, known_by, first_path, settings_of}
+use Rattle.quic_recovery.specs.Search.{entries_on, discovery_settings, SearchesFew, ProbesInTurn, EndsNear, UsesMtu}
+use Rattle.quic_recovery.specs.Told.{Told, ProbeOutReply}
+use Rattle.quic_recovery.proofs.AmplificationLaws.{is_allowed, throughout_kept}
+
+some_same : {A : Type 0} {a b : A} → Some a ≡ Some b → a ≡ b
+some_same e = cc
+
+no_probe_is_none : {A Q : Type 0} {number size : ℕ} → (let p : Answer Q = Probe number size in p ≡ NoProbe) → A
+no_probe_is_none e = cc
+
+none_is_no_probe : {A Q : Type 0} {number size : ℕ} → (let p : Answer Q = NoProbe in p ≡ Probe number size) → A
+none_is_no_probe e = cc
+
+-- an upper bound is a `u16`
+pub bound_in : (o : Option MtuDiscoveryConfig) (values : List Val) → Is (row (the_type the_row)) o values → ForSome o (λ settings. settings.upper_bound < 2 ^ 16)
+bound_in None values is = λ settings none. absurd (cc)
+bound_in (Some own) values is = λ settings some. subst (λ (s : MtuDiscoveryConfig). s.upper_bound < 2 ^ 16) (some_same some) is.1.1.1.1.0.1.1.1.0.1
+
+-- what holds of the settings holds where they are used
+pub where_allowed : {A : Type 0} (P : A → Type 0) (allowed : Bool) (o : Option A) → ForSome o P → ForSome (if allowed then o else None) P
+where_allowed P true o holds = holds
+where_allowed P false o holds = λ x is. absurd (cc)
+
+module _ {K Q S P : Type 0} (q : QueueMeaning Q S P) (known : Known K P) (settings : MtuDiscoveryConfig) (now next : ℕ) (earlier : List MtuEntry) where
+  -- a poll that is answered by a probe gives one
+  probe_out : (answer : Option ℕ) (number size : ℕ) → ProbeOutReply q known now answer (Ok (Probe number size)) → ProbesInSearch settings (poll_entry now next answer ∷ earlier) → ProbesInSearch settings (probed now number size ∷ earlier)
+  probe_out None number size told inside = no_probe_is_none told
+  probe_out (Some own) number size told inside = inside
+
+  -- a poll that is answered by no probe gives none
+  none_out : (made : _) (answer : Option ℕ) → ProbeOutReply q known now answer (Ok NoProbe) → EndsNearBest made settings (poll_entry now next answer ∷ earlier) → EndsNearBest made settings (unprobed now ∷ earlier)
+  none_out made None told near = near
+  none_out made (Some own) told near = none_is_no_probe told.1
+
+module _ {F K Q S P : Type 0} (beginning : Beginning F K Q S P) where
+  -- a path is searched by the settings of the run
+  abbrev IsSearched : PathPast K → Type 0
+  IsSearched = IsPathSearchedBy (discovery_settings beginning)
+
+  fresh_is : (limit : Option ℕ) → IsSearchedBy (discovery_settings beginning) ((settings_of beginning).discovery limit) []
+  fresh_is limit = first_searched beginning.config.allow_mtud limit beginning.config.transport
+
+  -- so is the first one
+  first_is : OnEachPath IsSearched (pasts_by (settings_of beginning) (first_path beginning) [])
+  first_is = searched_at_first (settings_of beginning) (discovery_settings beginning) fresh_is (first_path beginning) (fresh_is None)
+
+module _ {F K Q S M P : Type 0} (beginning : Beginning F K Q S P) where
+  -- each path that lives is
+  abbrev AreSearched : History Q S M P → Type 0
+  AreSearched history = OnEachPath (IsSearched beginning) (pasts_of beginning history)
+
+  -- an event keeps that
+  searched_one : (before : History Q S M P) (event : Event Q S M P) (reply : Reply Q) → Told beginning before event reply → AreSearched before → AreSearched ((event, reply) ∷ before)
+  searched_one before event reply told searched =
+      let logs = logs_of beginning before in
+      let known = known_by beginning logs in
+      searched_over (settings_of beginning) (discovery_settings beginning) (fresh_is beginning) (first_path beginning) (entries_of beginning.queue known event reply).paths logs.paths
+      (is_allowed beginning.queue (settings_of beginning) _ known event reply told) searched
+
+  -- the upper bound is a `u16`
+  module _ (small : ForSome (discovery_settings beginning) (λ settings. settings.upper_bound < 2 ^ 16)) where
+    few_one : (before : History Q S M P) (event : Event Q S M P) (reply : Reply Q) → Told beginning before event reply → AreSearched before → SearchesFew beginning before event reply
+    few_one before event reply told searched = λ settings is change. (
+        let after = searched_one before event reply told searched in
+        let few : (past : PathPast K) → IsPathSearchedBy (discovery_settings beginning) past → TakesFew (entries_on past) = λ past by.
+            search_takes_few past.making.discovery settings by.untold (by.settings_are ∙ is) change (small settings is) past.searched in
+        (few (pasts_of beginning ((event, reply) ∷ before)).current after.0, λ past lives. few past (after.1 past lives))
+        )
+
+    ends_one : (before : History Q S M P) (event : Event Q S M P) (reply : Reply Q) → Told beginning before event reply → AreSearched before → EndsNear beginning before event reply
+    ends_one before (PollMtu now) (Ok NoProbe) told searched = λ settings is change. (
+        let known = known_by beginning (logs_of beginning before) in
+        let past = (pasts_of beginning before).current in
+        let made = past.making.discovery in
+        let by = searched.0 in
+        let next = known.numbers.next in
+        let outside = limits_outside_after made by.untold (polls now next) past.searched tt by.outside in
+        none_out beginning.queue known settings now next (entries_on past) made (poll_of now (state_of (settings_of beginning) past).discovery) told.1.1
+        (search_ends_near made settings by.untold (by.settings_are ∙ is) change (small settings is) (polls now next ∷ past.searched) outside)
+        )
+    ends_one before event reply told searched = tt
+
+    pub searches : (events : List (Event Q S M P)) (replies : List (Reply Q)) → Throughout (Told beginning) events replies → Throughout (SearchesFew beginning) events replies
+    searches events replies told = throughout_kept beginning AreSearched (SearchesFew beginning) searched_one few_one [] events replies told (first_is beginning)
+
+    pub ends : (events : List (Event Q S M P)) (replies : List (Reply Q)) → Throughout (Told beginning) events replies → Throughout (EndsNear beginning) events replies
+    ends events replies told = throughout_kept beginning AreSearched (EndsNear beginning) searched_one ends_one [] events replies told (first_is beginning)
+
+  probes_one : (before : History Q S M P) (event : Event Q S M P) (reply : Reply Q) → Told beginning before event reply → AreSearched before → ProbesInTurn beginning before event reply
+  probes_one before (PollMtu now) (Ok (Probe number size)) told searched = λ settings is. (
+      let known = known_by beginning (logs_of beginning before) in
+      let past = (pasts_of beginning before).current in
+      let next = known.numbers.next in
+      probe_out beginning.queue known settings now next (entries_on past) (poll_of now (state_of (settings_of beginning) past).discovery) number size told.1.1
+      (probes_in_search past.making.discovery settings searched.0.untold (searched.0.settings_are ∙ is) (polls now next ∷ past.searched))
+      )
+  probes_one before event reply told searched = tt
+
+  mtu_one : (before : History Q S M P) (event : Event Q S M P) (reply : Reply Q) → Told beginning before event reply → AreSearched before → UsesMtu beginning before event reply
+  mtu_one before event reply told searched =
+      let after = searched_one before event reply told searched in
+      let past = (pasts_of beginning ((event, reply) ∷ before)).current in
+      (mtu_by past.making.discovery after.0.untold past.searched, λ past lives. mtu_by past.making.discovery (after.1 past lives).untold past.searched)
+
+  pub probes : (events : List (Event Q S M P)) (replies : List (Reply Q)) → Throughout (Told beginning) events replies → Throughout (ProbesInTurn beginning) events replies
+  probes events replies told = throughout_kept beginning AreSearched (ProbesInTurn beginning) searched_one probes_one [] events replies told (first_is beginning)
+
+  pub mtu : (events : List (Event Q S M P)) (replies : List (Reply Q)) → Throughout (Told beginning) events replies → Throughout (UsesMtu beginning) events replies
+  mtu events replies told = throughout_kept beginning AreSearched (UsesMtu beginning) searched_one mtu_one [] events replies told (first_is beginning)

@@ -1,0 +1,70 @@
+-- How each path is searched: all of them by the same settings, each from a discovery to which nothing was told, and with each limit in turn.
+use Rattle.std.proofs.Common.{ℕ, ◌≡◌, Bool, List, [], ◌∷◌, ◌++◌, Option, None, Some, if◌then◌else◌, refl}
+use Rattle.recovery_config.specs.declared.config.TransportConfig.{TransportConfig}
+use Rattle.recovery_config.specs.Settings.{initial_mtu_of}
+use Rattle.recovery_mtud.specs.declared.config.MtuDiscoveryConfig.{MtuDiscoveryConfig}
+use Rattle.recovery_mtud.specs.Discovery.{Discovery}
+use Rattle.recovery_mtud.specs.DiscoveryLog.{MtuCall, discovery_by}
+use Rattle.recovery_mtud.specs.MtuEntries.{IsUntold, search_settings, entries_by}
+use Rattle.recovery_mtud.specs.SearchRuns.{AreLimitsOutside}
+use Rattle.recovery_mtud.proofs.EntryLaws.{discovery_made_untold, discovery_disabled_untold}
+use Rattle.recovery_mtud.proofs.SearchRunLaws.{IsInTurn, limits_outside_after}
+use Rattle.recovery_paths.specs.PathMaking.{PathMaking, PathSettings, discovery_with, first_discovery, reset_call}
+use Rattle.recovery_paths.specs.PathLog.{OnEachPath, PathsEntry, PathEntry, PathPast, Following, pasts_by, each_path, state_of, known_of, past_with, past_following, fresh, goes_on, receives, is_validated, samples, tells, searches, asks, transmits, passes, is_reset}
+use Rattle.recovery_paths.proofs.AllowedLaws.{IsAllowed, GoesOver, AreAllowed, goes_over_after}
+
+-- a discovery that was made so and called so is searched by these settings, if any
+pub record IsSearchedBy (settings : Option MtuDiscoveryConfig) (made : Discovery) (calls : List MtuCall) : Type 0 where
+  pub untold : IsUntold made
+  pub settings_are : search_settings made ≡ settings
+  pub outside : AreLimitsOutside (entries_by made calls)
+
+abbrev pub IsPathSearchedBy : {K : Type 0} → Option MtuDiscoveryConfig → PathPast K → Type 0
+IsPathSearchedBy by past = IsSearchedBy by past.making.discovery past.searched
+
+none_is_some : {A B : Type 0} {a : A} → None ≡ Some a → B
+none_is_some e = cc
+
+-- one more call that is in turn
+searched_after : (by : Option MtuDiscoveryConfig) (made : Discovery) (call : MtuCall) (earlier : List MtuCall) → IsInTurn call (discovery_by made earlier) → IsSearchedBy by made earlier → IsSearchedBy by made (call ∷ earlier)
+searched_after by made call earlier turn searched = record {
+  untold = searched.untold;
+  settings_are = searched.settings_are;
+  outside = limits_outside_after made searched.untold call earlier turn searched.outside;
+}
+
+-- the discovery of a path that is made is searched where that is allowed, as the settings of paths say
+pub first_searched : {F : Type 0} (allowed : Bool) (limit : Option ℕ) (config : TransportConfig F) → IsSearchedBy (if allowed then config.mtu_discovery_config else None) (first_discovery allowed limit config) []
+first_searched allowed limit config = go (if allowed then config.mtu_discovery_config else None)
+  where
+    go : (by : Option MtuDiscoveryConfig) → IsSearchedBy by (discovery_with limit config by) []
+    go None = record { untold = discovery_disabled_untold (initial_mtu_of config) config.min_mtu; settings_are = refl; outside = tt }
+    go (Some own) = record { untold = discovery_made_untold (initial_mtu_of config) config.min_mtu limit own; settings_are = refl; outside = tt }
+
+module _ {K : Type 0} (settings : PathSettings K) (by : Option MtuDiscoveryConfig) (fresh_is : (limit : Option ℕ) → IsSearchedBy by (settings.discovery limit) []) where
+  -- an entry that is allowed keeps that
+  searched_law : (entry : PathEntry) (past : PathPast K) → IsAllowed settings.words (state_of settings past) entry → IsPathSearchedBy by past → IsPathSearchedBy by (past_with settings entry past)
+  searched_law (receives bytes) past allowed searched = searched
+  searched_law is_validated past allowed searched = searched
+  searched_law (samples delay rtt) past allowed searched = searched
+  searched_law (tells call) past allowed searched = searched
+  searched_law (searches call) past allowed searched = searched_after by past.making.discovery call past.searched allowed searched
+  searched_law (asks now bytes) past allowed searched = searched
+  searched_law (transmits bytes) past allowed searched = searched
+  searched_law (passes now bytes) past allowed searched = searched
+  searched_law (is_reset now) past allowed searched = searched_after by past.making.discovery (reset_call settings) past.searched tt searched
+
+  -- a fresh path is searched from its making on, and one that goes on as the path before it
+  follows_searched : (following : Following) (past : PathPast K) → IsPathSearchedBy by past → IsPathSearchedBy by (past_following settings following past)
+  follows_searched (fresh remote limit now) past searched = fresh_is limit
+  follows_searched (goes_on remote now) past searched = searched
+
+  -- an event's entries keep that
+  pub searched_over : (first : PathMaking K) (entries log : List PathsEntry) → let pasts = pasts_by settings first log in
+      AreAllowed settings (each_path (known_of settings) pasts) entries → OnEachPath (IsPathSearchedBy by) pasts → OnEachPath (IsPathSearchedBy by) (pasts_by settings first (entries ++ log))
+  searched_over =
+      let over : GoesOver settings (IsPathSearchedBy by) = record { by_entry = searched_law; following = follows_searched } in
+      goes_over_after settings (IsPathSearchedBy by) over
+
+  pub searched_at_first : (first : PathMaking K) → IsSearchedBy by first.discovery [] → OnEachPath (IsPathSearchedBy by) (pasts_by settings first [])
+  searched_at_first first searched = (searched, λ past is. none_is_some is)
