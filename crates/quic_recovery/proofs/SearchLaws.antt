@@ -87,7 +87,7 @@ module _ {F K Q S M P : Type 0} (beginning : Beginning F K Q S P) where
     few_one before event reply told searched = λ settings is change. (
         let after = searched_one before event reply told searched in
         let few : (past : PathPast K) → IsPathSearchedBy (discovery_settings beginning) past → TakesFew (entries_on past) = λ past by.
-            search_takes_few past.making.discovery settings by.untold (by.settings_are ∙ is) change (small settings is) past.searched in
+        search_takes_few past.making.discovery settings by.untold (by.settings_are ∙ is) change (small settings is) past.searched in
         (few (pasts_of beginning ((event, reply) ∷ before)).current after.0, λ past lives. few past (after.1 past lives))
         )
 
