@@ -1,5 +1,6 @@
 -- Searches for the MTU take few probes and end near the best size, throughout a run.
-use Rattle.std.proofs.Common.{ℕ, ◌≡◌, ◌<◌, ◌≤◌, ◌^◌, Bool, true, false, if◌then◌else◌, List, [], ◌∷◌, Option, None, Some, Ok, Err, subst, ◌∙◌}
+use Rattle.std.proofs.Common.{ℕ, ◌≡◌, ◌<◌, ◌≤◌, ◌^◌, Bool, true, false, if◌then◌else◌, List, [], ◌∷◌, Option, None, Some, Ok, Err, refl, subst, ◌∙◌}
+use Rattle.std.specs.Prelude.{IsSomeAnd}
 use Rattle.std.specs.Option.{ForSome}
 use Rattle.std.specs.contracts.option.Option.{the_type}
 use Rattle.recovery_mtud.specs.contracts.config.MtuDiscoveryConfig.{the_row}
@@ -12,6 +13,7 @@ use Rattle.recovery_mtud.specs.DiscoveryLog.{polls}
 use Rattle.recovery_mtud.specs.MtuEntries.{MtuEntry, poll_entry, probed, unprobed}
 use Rattle.recovery_mtud.specs.SearchRuns.{EndsNearBest, ProbesInSearch, TakesFew}
 use Rattle.recovery_mtud.proofs.SearchRunLaws.{search_takes_few, search_ends_near, probes_in_search, mtu_by, limits_outside_after}
+use Rattle.recovery_mtud.proofs.UnsearchedLaws.{unsearched}
 use Rattle.recovery_paths.specs.PathLog.{OnEachPath, PathPast, pasts_by, state_of}
 use Rattle.recovery_paths.proofs.SearchedLaws.{IsSearchedBy, IsPathSearchedBy, first_searched, searched_over, searched_at_first}
 use Rattle.quic_recovery.specs.declared.event.Event.{Event}
@@ -44,6 +46,12 @@ bound_in (Some own) values is = λ settings some. subst (λ (s : MtuDiscoveryCon
 pub where_allowed : {A : Type 0} (P : A → Type 0) (allowed : Bool) (o : Option A) → ForSome o P → ForSome (if allowed then o else None) P
 where_allowed P true o holds = holds
 where_allowed P false o holds = λ x is. absurd (cc)
+
+module _ {K Q S P : Type 0} (q : QueueMeaning Q S P) (known : Known K P) (now : ℕ) where
+  -- a poll that gives none is not answered by a probe
+  unanswered : {A : Type 0} (answer : Option ℕ) (number size : ℕ) → answer ≡ None → ProbeOutReply q known now answer (Ok (Probe number size)) → A
+  unanswered None number size none told = no_probe_is_none told
+  unanswered (Some own) number size none told = absurd (cc)
 
 module _ {K Q S P : Type 0} (q : QueueMeaning Q S P) (known : Known K P) (settings : MtuDiscoveryConfig) (now next : ℕ) (earlier : List MtuEntry) where
   -- a poll that is answered by a probe gives one
@@ -111,13 +119,23 @@ module _ {F K Q S M P : Type 0} (beginning : Beginning F K Q S P) where
     ends events replies told = throughout_kept beginning AreSearched (EndsNear beginning) searched_one ends_one [] events replies told (first_is beginning)
 
   probes_one : (before : History Q S M P) (event : Event Q S M P) (reply : Reply Q) → Told beginning before event reply → AreSearched before → ProbesInTurn beginning before event reply
-  probes_one before (PollMtu now) (Ok (Probe number size)) told searched = λ settings is. (
-      let known = known_by beginning (logs_of beginning before) in
-      let past = (pasts_of beginning before).current in
-      let next = known.numbers.next in
-      probe_out beginning.queue known settings now next (entries_on past) (poll_of now (state_of (settings_of beginning) past).discovery) number size told.1.1
-      (probes_in_search past.making.discovery settings searched.0.untold (searched.0.settings_are ∙ is) (polls now next ∷ past.searched))
-      )
+  probes_one before (PollMtu now) (Ok (Probe number size)) told searched = go (discovery_settings beginning) refl
+    where
+      known : Known K P
+      known = known_by beginning (logs_of beginning before)
+
+      past : PathPast K
+      past = (pasts_of beginning before).current
+
+      answer : Option ℕ
+      answer = poll_of now (state_of (settings_of beginning) past).discovery
+
+      go : (by : Option MtuDiscoveryConfig) → discovery_settings beginning ≡ by → IsSomeAnd by (λ settings. ProbesInSearch settings (probed now number size ∷ entries_on past))
+      go None is = unanswered beginning.queue known now answer number size (unsearched past.making.discovery (searched.0.settings_are ∙ is) now past.searched) told.1.1
+      go (Some settings) is =
+          let next = known.numbers.next in
+          probe_out beginning.queue known settings now next (entries_on past) answer number size told.1.1
+          (probes_in_search past.making.discovery settings searched.0.untold (searched.0.settings_are ∙ is) (polls now next ∷ past.searched))
   probes_one before event reply told searched = tt
 
   mtu_one : (before : History Q S M P) (event : Event Q S M P) (reply : Reply Q) → Told beginning before event reply → AreSearched before → UsesMtu beginning before event reply

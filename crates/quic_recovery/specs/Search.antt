@@ -1,6 +1,6 @@
 -- The search for the MTU at each moment of a run (RFC 8899, 5; RFC 9000, 14.3): how many probes it takes, how near it ends to what
 -- a link carries, and which MTU is in use.
-use Rattle.std.specs.Prelude.{◌≡◌, ◌≤◌, List, ◌∷◌, Option, None, Ok, if◌then◌else◌}
+use Rattle.std.specs.Prelude.{◌≡◌, ◌≤◌, List, ◌∷◌, Option, None, Ok, if◌then◌else◌, IsSomeAnd}
 use Rattle.std.specs.Option.{ForSome}
 use Rattle.recovery_mtud.specs.declared.config.MtuDiscoveryConfig.{MtuDiscoveryConfig}
 use Rattle.recovery_mtud.specs.MtuEntries.{MtuEntry, probed, unprobed, entries_by, mtu_in_use}
@@ -32,10 +32,11 @@ module _ {F K Q S M P : Type 0} (beginning : Beginning F K Q S P) where
   SearchesFew history event reply =
       WhereSearched beginning (λ settings. OnEachPath (λ past. TakesFew (entries_on past)) (pasts_of beginning ((event, reply) ∷ history)))
 
-  -- a poll that is answered by a probe finds a search that runs, or begins one that is due, and no probe in flight
+  -- a poll that is answered by a probe comes where paths are searched; it finds a search that runs, or begins one that is due, and
+  -- no probe in flight
   abbrev pub ProbesInTurn : History Q S M P → Event Q S M P → Reply Q → Type 0
   ProbesInTurn history (PollMtu now) (Ok (Probe number size)) =
-      ForSome (discovery_settings beginning) (λ settings.
+      IsSomeAnd (discovery_settings beginning) (λ settings.
       ProbesInSearch settings (probed now number size ∷ entries_on (pasts_of beginning history).current))
   ProbesInTurn history event reply = Unit {0}
 

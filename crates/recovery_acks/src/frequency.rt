@@ -60,13 +60,8 @@ impl AckFrequencyState {
             Some(micros) => Duration::from_micros(micros.into_inner()),
             None => Duration::ZERO,
         };
-        longer(
-            shorter(
-                wanted,
-                longer(rtt, Duration::from_millis(MIN_AUTOMATIC_ACK_DELAY_MILLIS)),
-            ),
-            least,
-        )
+        let most = rtt.max(Duration::from_millis(MIN_AUTOMATIC_ACK_DELAY_MILLIS));
+        wanted.min(most).max(least)
     }
 
     /// The longest delay that the peer may use: its own, or the one asked for while that request is on its way.
@@ -74,7 +69,7 @@ impl AckFrequencyState {
         ensures { result ≡ longest_delay (pending_of self.now) self.now.peer_max_ack_delay }
     {
         match self.in_flight_ack_frequency_frame {
-            Some((_, requested)) => longer(self.peer_max_ack_delay, requested),
+            Some((_, requested)) => self.peer_max_ack_delay.max(requested),
             None => self.peer_max_ack_delay,
         }
     }
@@ -168,25 +163,5 @@ impl AckFrequencyState {
         self.max_ack_delay = max_ack_delay;
         pending_acks.set_ack_frequency_params(frame);
         Ok(true)
-    }
-}
-
-fn longer(first: Duration, second: Duration) -> Duration
-    ensures { result ≡ max first second }
-{
-    if first.as_nanos() < second.as_nanos() {
-        second
-    } else {
-        first
-    }
-}
-
-fn shorter(first: Duration, second: Duration) -> Duration
-    ensures { result ≡ min first second }
-{
-    if first.as_nanos() < second.as_nanos() {
-        first
-    } else {
-        second
     }
 }

@@ -191,7 +191,9 @@ where
         ensures next { next_number_of result ≡ 0 }
         ensures kept { kept_of result ≡ kept_by Q.words now [] }
         ensures queued { queued_of result ≡ queued_by Q.words [] }
-        ensures others { (result.ecn_counters ≡ no_ecn) × (result.loss_time ≡ None) × (result.crypto_offset ≡ 0) }
+        ensures ecn { result.ecn_counters ≡ no_ecn }
+        ensures loss_time { result.loss_time ≡ None }
+        ensures crypto_offset { result.crypto_offset ≡ 0 }
     {
         PacketSpace {
             dedup: Dedup::new(),
@@ -232,7 +234,8 @@ where
     /// Gives out the next packet number. `None`, and nothing changed, where it would be 2^62.
     pub fn get_tx_number(&mut self) -> Option<u64>
         ensures number { IfSome result (λ number. number ≡ next_number_of self.old) }
-        ensures some { IfSome result (λ number. (number < 2 ^ 62) × (self.new ≡ after_number number self.old)) }
+        ensures limit { IfSome result (λ number. number < 2 ^ 62) }
+        ensures given { IfSome result (λ number. self.new ≡ after_number number self.old) }
         ensures none { IfNone result (2 ^ 62 ≤ next_number_of self.old) }
         ensures unchanged { IfNone result (self.new ≡ self.old) }
     {
@@ -527,7 +530,8 @@ impl<Q: RetransmitQueue> Model for PacketSpaces<Q> {
 
     ghost Value = { Spaces Q.Contents };
 
-    ghost view = { λ spaces. record { initial = spaces.initial; handshake = spaces.handshake; «data» = spaces.data } };
+    ghost view = { λ spaces. record {
+        initial = spaces.initial; handshake = spaces.handshake; «data» = spaces.data } };
 }
 
 impl<Q> PacketSpaces<Q>

@@ -10,3 +10,4 @@ pub mod SearchLaws
 pub mod SearchRunLaws
 mod SearchTies
 mod SearchWidths
+pub mod UnsearchedLaws

@@ -6,8 +6,8 @@ ghost use Rattle.recovery_mtud.specs.DiscoveryLog.{MtuCall, discovery_after, dis
 /// Whatever is told of sizes above zero, the MTU in use stays above zero, and at most four bursts are kept.
 #[tactic(auto, using(crate::proofs::DiscoveryLaws::discovery_by_sound))]
 pub fn discovery_stays_sound()
-    ensures { (made : Discovery) → IsDiscoverySound made → (calls : List MtuCall) → ArePositiveMtuCalls calls →
-        IsDiscoverySound (discovery_by made calls) }
+    ensures { (made : Discovery) → IsDiscoverySound made
+        → (calls : List MtuCall) → ArePositiveMtuCalls calls → IsDiscoverySound (discovery_by made calls) }
 {}
 
 /// The MTU in use changes to the size of an acknowledged probe, down to the peer's limit, to the least MTU by a report, or by a

@@ -136,7 +136,8 @@ impl MtuDiscovery {
     #[tactic(auto, using(crate::proofs::BurstLaws::bursts_acked_sound))]
     pub fn on_acked(&mut self, space: SpaceId, packet_number: u64, packet_bytes: u16) -> bool
         ensures answer { result ≡ is_data space && is_probe packet_number self.old }
-        ensures after { self.new ≡ (if is_data space then discovery_acked packet_number packet_bytes self.old else self.old) }
+        ensures after { self.new
+            ≡ (if is_data space then discovery_acked packet_number packet_bytes self.old else self.old) }
     {
         if space != SpaceId::Data {
             return false;

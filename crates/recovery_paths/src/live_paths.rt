@@ -161,7 +161,8 @@ impl<C: Controller + Drop> LivePaths<C> {
 
     /// The controller of the path in use is told of a packet that goes out there.
     pub fn on_sent(&mut self, now: Instant, bytes: u64, number: u64)
-        ensures { self.new ≡ on_path_of Current (on_state (after_telling C.words (sends now bytes number))) self.old }
+        ensures { self.new
+            ≡ on_path_of Current (on_state (after_telling C.words (sends now bytes number))) self.old }
     {
         self.current.on_sent(now, bytes, number);
     }
@@ -247,7 +248,8 @@ impl<C: Controller + Drop> LivePaths<C> {
     /// Counts a packet on the previous path no more, where it went by that.
     fn remove_from_previous<Q: RetransmitQueue>(&mut self, packet: &SentPacket<Q>)
         requires { ForSome self.old.previous (λ path. IsCountedOn path.ledger packet.now) }
-        ensures { self.new ≡ record self.old { previous = option_map (left_by packet.now) self.old.previous } }
+        ensures { self.new
+            ≡ record self.old { previous = option_map (left_by packet.now) self.old.previous } }
     {
         if let Some(path) = &mut self.previous {
             path.remove_in_flight(packet);

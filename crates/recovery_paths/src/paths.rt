@@ -241,7 +241,8 @@ impl<C: Controller + Drop> PathData<C> {
         ensures path { IfOk result (λ gone.
             self.new ≡ record self.old { ledger = path_after_sending self.old.ledger packet gone }) }
         ensures forgotten { IfOk result (λ gone. gone ≡ forgotten_entry packet (tracking_of space.old)) }
-        ensures overflow { IsErrOf result LedgerError.Overflow ↔ Overflows (counters_of self.old.ledger) packet }
+        ensures overflow { IsErrOf result LedgerError.Overflow
+            ↔ Overflows (counters_of self.old.ledger) packet }
         ensures err_path { OnErr result (self.new ≡ self.old) }
         ensures err_space { OnErr result (space.new ≡ space.old) }
     {

@@ -61,7 +61,7 @@ impl RttEstimator {
     pub fn conservative(&self) -> Duration
         ensures { result ≡ rtt_conservative self.now }
     {
-        longer(self.get(), self.latest)
+        self.get().max(self.latest)
     }
 
     /// The least sample, or the initial RTT before the first one.
@@ -101,7 +101,7 @@ impl RttEstimator {
                 self.variance = span(rtt.as_nanos() / 2);
             }
             Some(smoothed) => {
-                self.min = shorter(self.min, rtt);
+                self.min = self.min.min(rtt);
                 let adjusted = without_delay(self.min, ack_delay, rtt);
                 let apart = smoothed.saturating_sub(adjusted).as_nanos()
                     + adjusted.saturating_sub(smoothed).as_nanos();
@@ -130,25 +130,5 @@ fn span(nanos: u128) -> Duration
     match Duration::checked_from_nanos(nanos) {
         Some(span) => span,
         None => unreachable!(),
-    }
-}
-
-fn longer(first: Duration, second: Duration) -> Duration
-    ensures { result ≡ max first second }
-{
-    if first.as_nanos() < second.as_nanos() {
-        second
-    } else {
-        first
-    }
-}
-
-fn shorter(first: Duration, second: Duration) -> Duration
-    ensures { result ≡ min first second }
-{
-    if first.as_nanos() < second.as_nanos() {
-        first
-    } else {
-        second
     }
 }
