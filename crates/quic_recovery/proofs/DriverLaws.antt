@@ -1,5 +1,5 @@
 -- What an event does to one space is a step of all three.
-use Rattle.std.proofs.Common.{◌≡◌, ℕ, ◌<◌, ◌≤◌, ◌^◌, ap₂, arith, Bool, false, List, [], ◌∷◌, Option, None, Some, Result, IfOk, OnErr, Ok, Err, refl, sym, ap, subst}
+use Rattle.std.proofs.Common.{◌≡◌, ℕ, ◌<◌, ◌^◌, ap₂, arith, Bool, false, List, [], ◌∷◌, Option, Some, Result, IfOk, OnErr, Ok, Err, refl, sym, ap, subst}
 use Rattle.recovery_base.specs.declared.below.SpaceId.{SpaceId}
 use Rattle.recovery_base.specs.declared.below.SpaceId.TheVariants.{Initial, Handshake, Data}
 use Rattle.recovery_ids.specs.CidQueue.{remote_ids}
@@ -24,7 +24,7 @@ use Rattle.recovery_queue.specs.Queues.{QueueWords}
 use Rattle.recovery_skips.specs.Filters.{Skipping}
 use Rattle.quic_recovery.specs.declared.event.Event.TheVariants.{Received, Send}
 use Rattle.quic_recovery.specs.declared.event.Answer.TheVariants.{Sent}
-use Rattle.quic_recovery.specs.Entries.{Entries, here, in_space, nothing}
+use Rattle.quic_recovery.specs.Entries.{here, in_space, nothing}
 use Rattle.quic_recovery.specs.History.{QueueMeaning}
 use Rattle.quic_recovery.specs.Known.{number_in, current_in_flight}
 use Rattle.quic_recovery.specs.Logs.{StepBy}

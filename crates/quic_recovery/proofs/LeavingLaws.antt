@@ -1,7 +1,6 @@
 -- A packet that is acknowledged or lost leaves its path, and the search for the MTU sees it.
-use Rattle.std.proofs.Common.{◌≡◌, ℕ, Bool, true, false, cond, ◌&&◌, ◌==◌, [], ◌∷◌, ◌++◌, List, Option, None, Some, option_map, Ok, refl, sym, ap, subst, ◌∙◌}
+use Rattle.std.proofs.Common.{◌≡◌, ℕ, Bool, true, false, cond, ◌&&◌, ◌==◌, [], ◌∷◌, ◌++◌, Option, None, Some, option_map, Ok, refl, sym, ap, subst, ◌∙◌}
 use Rattle.recovery_base.specs.declared.below.SpaceId.{SpaceId}
-use Rattle.recovery_base.specs.declared.below.SpaceId.TheVariants.{Data}
 use Rattle.recovery_congestion.specs.Calls.{acks, takes_mtu}
 use Rattle.recovery_ledger.specs.Discarded.{is_discarded}
 use Rattle.recovery_ledger.specs.Ledger.{tracked_by}
@@ -13,10 +12,9 @@ use Rattle.recovery_ledger.proofs.ReceivedLaws.{fails}
 use Rattle.recovery_mtud.specs.Discovery.{is_data}
 use Rattle.recovery_mtud.specs.DiscoveryLog.{MtuCall, acks as acks_packet}
 use Rattle.recovery_paths.specs.LivePaths.{left_by, paths_acking, paths_losing}
-use Rattle.recovery_paths.specs.PathLog.{OfPaths, PathKnown, PathsEntry, PathsStep, paths_after, known_with, known_following, paths_known, path_known, on_current, tells, searches}
+use Rattle.recovery_paths.specs.PathLog.{OfPaths, PathKnown, PathsStep, paths_after, known_with, known_following, paths_known, path_known, on_current, tells, searches}
 use Rattle.recovery_paths.specs.PathStates.{Path, PathState, after_telling, after_searching, is_path_probe, loss_call}
 use Rattle.quic_recovery.specs.declared.event.Event.TheVariants.{Acked, Lost}
-use Rattle.quic_recovery.specs.declared.event.Answer.{Answer}
 use Rattle.quic_recovery.specs.declared.event.Answer.TheVariants as answer
 use Rattle.quic_recovery.specs.Entries.{acked_entry, acked_search, lost_search}
 use Rattle.quic_recovery.specs.History.{QueueMeaning}

@@ -1,13 +1,11 @@
 -- A packet that is sent: it may be tracked, the balance of the paths stays, and each part changes by its step.
-use Rattle.std.proofs.Common.{◌≡◌, ℕ, ◌+◌, ◌<◌, ◌≤◌, ◌^◌, Bool, false, Option, None, Some, option_map, Ok, refl, sym, ap, subst, ◌∙◌, arith}
+use Rattle.std.proofs.Common.{◌≡◌, ℕ, ◌<◌, ◌≤◌, ◌^◌, Bool, false, Option, None, Some, option_map, Ok, refl, sym, ap, subst, ◌∙◌, arith}
 use Rattle.recovery_base.specs.declared.below.SpaceId.{SpaceId}
 use Rattle.recovery_congestion.specs.Calls.{sends as sends_bytes}
-use Rattle.recovery_ledger.specs.declared.paths.PathLedger.{PathLedger}
 use Rattle.recovery_ledger.specs.Discarded.{is_discarded}
-use Rattle.recovery_ledger.specs.InFlight.{in_flight, Overflows}
-use Rattle.recovery_ledger.specs.Ledger.{tracked_by}
-use Rattle.recovery_ledger.specs.Packets.{Packet, Packets, entry_number, forgotten_entry, forgotten_number, IsTooLarge}
-use Rattle.recovery_ledger.specs.Paths.{generation_of, counters_of, after_forgetting, path_after_sending}
+use Rattle.recovery_ledger.specs.InFlight.{Overflows}
+use Rattle.recovery_ledger.specs.Packets.{Packet, entry_number, forgotten_entry, IsTooLarge}
+use Rattle.recovery_ledger.specs.Paths.{generation_of, counters_of, after_forgetting}
 use Rattle.recovery_ledger.specs.Spaces.{Space, Spaces, space_of, with_space, tracking_of, packets_of, next_number_of, space_sends, HasGreatestCome}
 use Rattle.recovery_ledger.specs.Tracked.{packet_sent}
 use Rattle.recovery_ledger.specs.declared.paths.InFlight.{InFlight}

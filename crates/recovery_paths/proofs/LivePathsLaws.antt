@@ -1,9 +1,9 @@
 -- Packets leave the paths that live, one after another.
-use Rattle.std.proofs.Common.{◌≡◌, ℕ, List, [], ◌∷◌, Option, None, Some, option_map, refl, ap, subst}
+use Rattle.std.proofs.Common.{◌≡◌, ℕ, ◌∷◌, Option, None, Some, option_map, refl, ap, subst}
 use Rattle.std.specs.Option.{ForSome}
 use Rattle.recovery_ledger.specs.InFlight.{IsCountedIn}
 use Rattle.recovery_ledger.specs.Packets.{Packet, Packets}
-use Rattle.recovery_ledger.specs.Paths.{generation_of, counters_of, IsCountedOn}
+use Rattle.recovery_ledger.specs.Paths.{generation_of, counters_of}
 use Rattle.recovery_ledger.proofs.LedgerLaws.{first_leaves}
 use Rattle.recovery_paths.specs.LivePaths.{on_ledger, IsCountedOnEach, AreCountedOnEach, ledger_without, paths_without, left_by}
 use Rattle.recovery_paths.specs.PathLog.{OfPaths, each_path}

@@ -1,9 +1,8 @@
 -- What is known of the paths, one entry at a time.
-use Rattle.std.proofs.Common.{ℕ, ◌≡◌, List, [], ◌∷◌, ◌++◌, Option, None, Some, option_map, refl, ap, ◌∙◌}
+use Rattle.std.proofs.Common.{◌≡◌, List, [], ◌∷◌, ◌++◌, Option, None, Some, option_map, refl, ap, ◌∙◌}
 use Rattle.recovery_paths.specs.declared.live_paths.PathName.TheVariants.{Current, Previous}
 use Rattle.recovery_paths.specs.PathMaking.{PathMaking, PathSettings}
-use Rattle.recovery_paths.specs.PathStates.{PathState}
-use Rattle.recovery_paths.specs.PathLog.{OfPaths, PathsEntry, PathEntry, PathPast, PathKnown, Following, paths_with, paths_after, pasts_by, each_path, on_path_of, state_of, state_with, past_with, past_following, known_of, known_with, known_following, PathsStep, PathsLeft, on, moves, drops_previous, fresh, goes_on, receives, is_validated, samples, tells, searches, asks, transmits, passes, is_reset}
+use Rattle.recovery_paths.specs.PathLog.{OfPaths, PathsEntry, PathEntry, PathPast, PathKnown, Following, paths_with, paths_after, pasts_by, each_path, state_of, state_with, past_with, past_following, known_of, known_with, known_following, PathsStep, PathsLeft, on, moves, drops_previous, fresh, goes_on, receives, is_validated, samples, tells, searches, asks, transmits, passes, is_reset}
 
 -- what is mapped after a change is the change of what is mapped
 option-each : {P Q : Type 0} (f : P → Q) (change : P → P) (changed : Q → Q) → ((p : P) → changed (f p) ≡ f (change p)) → (path : Option P) → option_map changed (option_map f path) ≡ option_map f (option_map change path)

@@ -1,4 +1,4 @@
-use Rattle.std.proofs.Common.{◌≡◌, option_map, refl, sym, ap, subst, ◌∙◌}
+use Rattle.std.proofs.Common.{option_map, refl, sym, ap, subst, ◌∙◌}
 use Rattle.recovery_ledger.specs.Packets.{packet_at, with_contents}
 use Rattle.recovery_ledger.specs.Spaces.{Space, space_of, with_space, packets_of, space_loses, IsCoherent}
 use Rattle.recovery_ledger.proofs.CoherentLaws.{coherent_lost}

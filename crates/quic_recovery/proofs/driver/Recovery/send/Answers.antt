@@ -1,8 +1,8 @@
-use Rattle.std.proofs.Common.{◌≡◌, ℕ, ◌+◌, ◌<◌, ◌≤◌, ◌^◌, Option, Ok, Err, refl, sym, ap, subst, ◌∙◌, arith}
+use Rattle.std.proofs.Common.{◌≡◌, ℕ, Option, Ok, Err, refl, sym, ap, subst, ◌∙◌, arith}
 use Rattle.recovery_congestion.specs.Calls.{sends as sends_bytes}
 use Rattle.recovery_ledger.specs.declared.paths.LedgerError.{LedgerError}
-use Rattle.recovery_ledger.specs.Packets.{Packet, entry_number, forgotten_entry, IsTooLarge}
-use Rattle.recovery_ledger.specs.Spaces.{Space, Spaces, space_of, with_space, tracking_of, next_number_of, after_number, after_eliciting, space_sends}
+use Rattle.recovery_ledger.specs.Packets.{Packet, entry_number, forgotten_entry}
+use Rattle.recovery_ledger.specs.Spaces.{Space, space_of, with_space, tracking_of, next_number_of, after_number, after_eliciting, space_sends}
 use Rattle.recovery_ledger.specs.Tracked.{packet_sent}
 use Rattle.recovery_ledger.proofs.ReceivedLaws.{fails}
 use Rattle.recovery_paths.specs.Balance.{AreBalanced}
@@ -14,7 +14,6 @@ use Rattle.recovery_paths.proofs.BalanceLaws.{on_state_kept}
 use Rattle.quic_recovery.specs.History.{queue_meaning}
 use Rattle.quic_recovery.specs.Numbers.{number_behind, skipping_behind}
 use Rattle.quic_recovery.specs.State.{parts_of}
-use Rattle.quic_recovery.proofs.DriverLaws.{with_same_space}
 use Rattle.quic_recovery.proofs.NumberLaws.{number_above}
 use Rattle.quic_recovery.proofs.SendLaws.{can_track_here, sent_balanced, send_changes}
 use Rattle.quic_recovery.proofs.driver.Recovery.send.Goals as goal

@@ -1,4 +1,4 @@
-use Rattle.std.proofs.Common.{◌≡◌, ◌∷◌, sym, ap, subst, ◌∙◌}
+use Rattle.std.proofs.Common.{sym, ap, subst, ◌∙◌}
 use Rattle.recovery_ledger.specs.Packets.{Packets}
 use Rattle.recovery_ledger.specs.Spaces.{Space, tracking_of, with_tracking, packets_of}
 use Rattle.recovery_paths.specs.LivePaths.{AreCountedOnEach, paths_without}

@@ -1,4 +1,4 @@
-use Rattle.std.proofs.Common.{◌≡◌, sym, subst, ◌∙◌}
+use Rattle.std.proofs.Common.{sym, subst, ◌∙◌}
 use Rattle.std.specs.Option.{ForSome}
 use Rattle.recovery_ledger.specs.Packets.{forgotten_entry}
 use Rattle.recovery_ledger.specs.Paths.{IsCountedOn}
