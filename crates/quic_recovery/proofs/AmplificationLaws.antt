@@ -10,10 +10,10 @@ use Rattle.recovery_mtud.specs.Discovery.{Discovery, is_data, is_probe, is_searc
 use Rattle.recovery_mtud.specs.DiscoveryLog.{MtuCall, losses_end, acks as acks_packet, loses_probe, loses}
 use Rattle.recovery_mtud.proofs.SearchRunLaws.{IsInTurn}
 use Rattle.recovery_paths.specs.declared.live_paths.PathName.TheVariants.{Current, Previous}
-use Rattle.recovery_paths.specs.PathLog.{PathsEntry, on_current, tells}
+use Rattle.recovery_paths.specs.PathLog.{OnEachPath, PathsEntry, on_current, tells}
 use Rattle.recovery_paths.specs.PathMaking.{PathSettings}
 use Rattle.recovery_paths.specs.PathStates.{is_blocked, is_path_probe, loss_call, path_delay}
-use Rattle.recovery_paths.specs.Threefold.{AreWithinThreefold}
+use Rattle.recovery_paths.specs.Threefold.{IsWithinThreefold}
 use Rattle.recovery_paths.proofs.AllowedLaws.{AreAllowed}
 use Rattle.recovery_paths.proofs.ThreefoldLaws.{threefold_after, within_at_first}
 use Rattle.quic_recovery.specs.declared.event.Event.{Event}
@@ -129,7 +129,7 @@ module _ {F K Q S M P : Type 0} (beginning : Beginning F K Q S P) (Kept : Histor
 
 module _ {F K Q S M P : Type 0} (beginning : Beginning F K Q S P) where
   -- an event keeps the bound
-  after_one : (before : History Q S M P) (event : Event Q S M P) (reply : Reply Q) → Told beginning before event reply → AreWithinThreefold (pasts_of beginning before) → KeepsThreefold beginning before event reply
+  after_one : (before : History Q S M P) (event : Event Q S M P) (reply : Reply Q) → Told beginning before event reply → OnEachPath IsWithinThreefold (pasts_of beginning before) → KeepsThreefold beginning before event reply
   after_one before event reply told within =
       let logs = logs_of beginning before in
       let known = known_by beginning logs in
@@ -138,5 +138,5 @@ module _ {F K Q S M P : Type 0} (beginning : Beginning F K Q S P) where
   -- throughout a run
   pub threefold : (events : List (Event Q S M P)) (replies : List (Reply Q)) → Throughout (Told beginning) events replies → Throughout (KeepsThreefold beginning) events replies
   threefold events replies told =
-      let within : History Q S M P → Type 0 = λ before. AreWithinThreefold (pasts_of beginning before) in
+      let within : History Q S M P → Type 0 = λ before. OnEachPath IsWithinThreefold (pasts_of beginning before) in
       throughout_kept beginning within (KeepsThreefold beginning) after_one after_one [] events replies told (within_at_first (settings_of beginning) (first_path beginning))

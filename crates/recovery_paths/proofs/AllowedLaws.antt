@@ -28,19 +28,10 @@ some_same : {A : Type 0} {a b : A} → Some a ≡ Some b → a ≡ b
 some_same e = cc
 
 module _ {K : Type 0} (settings : PathSettings K) where
-  -- as long as what happens is allowed it goes on to hold
-  abbrev pub IsKeptBy : (PathPast K → Type 0) → Type 0
-  IsKeptBy Holds = (entry : PathEntry) (past : PathPast K) → IsAllowed settings.words (state_of settings past) entry → Holds past → Holds (past_with settings entry past)
-
-  -- it goes on to hold of a path as long as what happens is allowed, and goes over to a path that follows on it
-  pub record GoesOver (Holds : PathPast K → Type 0) : Type 0 where
-    pub by_entry : IsKeptBy Holds
-    pub following : (following : Following) (past : PathPast K) → Holds past → Holds (past_following settings following past)
-
-  -- it goes on so, and holds of a path that follows on any
+  -- it goes on to hold of a path as long as what happens is allowed, and of a path that follows on it
   pub record IsKept (Holds : PathPast K → Type 0) : Type 0 where
-    pub by_entry : IsKeptBy Holds
-    pub following : (following : Following) (past : PathPast K) → Holds (past_following settings following past)
+    pub by_entry : (entry : PathEntry) (past : PathPast K) → IsAllowed settings.words (state_of settings past) entry → Holds past → Holds (past_with settings entry past)
+    pub following : (following : Following) (past : PathPast K) → Holds past → Holds (past_following settings following past)
 
   -- ---- the entries of one event, the newest first
 
@@ -68,7 +59,7 @@ module _ {K : Type 0} (settings : PathSettings K) where
   allowed_anywhere (transmits bytes) state nothing = tt
   allowed_anywhere (is_reset now) state nothing = tt
 
-  module _ (Holds : PathPast K → Type 0) (kept : GoesOver Holds) where
+  module _ (Holds : PathPast K → Type 0) (kept : IsKept Holds) where
     -- on the previous path nothing passes
     previous_kept : (entry : PathEntry) (path : Option (PathPast K)) → PassesNothing entry → ForSome path Holds → ForSome (option_map (past_with settings entry) path) Holds
     previous_kept entry None nothing holds = λ past is. none_is_some is
@@ -83,13 +74,9 @@ module _ {K : Type 0} (settings : PathSettings K) where
     entry_kept drops_previous pasts allowed holds = (holds.0, λ past is. none_is_some is)
 
     -- an event's entries keep it
-    pub goes_over_after : (first : PathMaking K) (entries log : List PathsEntry) → let pasts = pasts_by settings first log in
+    pub kept_after : (first : PathMaking K) (entries log : List PathsEntry) → let pasts = pasts_by settings first log in
         AreAllowed (each_path (known_of settings) pasts) entries → OnEachPath Holds pasts → OnEachPath Holds (pasts_by settings first (entries ++ log))
-    goes_over_after first [] log allowed holds = holds
-    goes_over_after first (entry ∷ earlier) log allowed holds =
+    kept_after first [] log allowed holds = holds
+    kept_after first (entry ∷ earlier) log allowed holds =
         let Q : OfPaths (PathKnown K) → Type 0 = λ paths. IsAllowedOn paths entry in
-        entry_kept entry (pasts_by settings first (earlier ++ log)) (subst Q (each-after settings first earlier log) allowed.0) (goes_over_after first earlier log allowed.1 holds)
-
-  pub kept_after : (Holds : PathPast K → Type 0) → IsKept Holds → (first : PathMaking K) (entries log : List PathsEntry) → let pasts = pasts_by settings first log in
-      AreAllowed (each_path (known_of settings) pasts) entries → OnEachPath Holds pasts → OnEachPath Holds (pasts_by settings first (entries ++ log))
-  kept_after Holds kept = goes_over_after Holds (record { by_entry = kept.by_entry; following = λ following past _. kept.following following past })
+        entry_kept entry (pasts_by settings first (earlier ++ log)) (subst Q (each-after settings first earlier log) allowed.0) (kept_after first earlier log allowed.1 holds)

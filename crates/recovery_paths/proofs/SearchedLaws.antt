@@ -11,7 +11,7 @@ use Rattle.recovery_mtud.proofs.EntryLaws.{discovery_made_untold, discovery_disa
 use Rattle.recovery_mtud.proofs.SearchRunLaws.{IsInTurn, limits_outside_after}
 use Rattle.recovery_paths.specs.PathMaking.{PathMaking, PathSettings, discovery_with, first_discovery, reset_call}
 use Rattle.recovery_paths.specs.PathLog.{OnEachPath, PathsEntry, PathEntry, PathPast, Following, pasts_by, each_path, state_of, known_of, past_with, past_following, fresh, goes_on, receives, is_validated, samples, tells, searches, asks, transmits, passes, is_reset}
-use Rattle.recovery_paths.proofs.AllowedLaws.{IsAllowed, GoesOver, AreAllowed, goes_over_after}
+use Rattle.recovery_paths.proofs.AllowedLaws.{IsAllowed, IsKept, AreAllowed, kept_after}
 
 -- a discovery that was made so and called so is searched by these settings, if any
 pub record IsSearchedBy (settings : Option MtuDiscoveryConfig) (made : Discovery) (calls : List MtuCall) : Type 0 where
@@ -63,8 +63,8 @@ module _ {K : Type 0} (settings : PathSettings K) (by : Option MtuDiscoveryConfi
   pub searched_over : (first : PathMaking K) (entries log : List PathsEntry) → let pasts = pasts_by settings first log in
       AreAllowed settings (each_path (known_of settings) pasts) entries → OnEachPath (IsPathSearchedBy by) pasts → OnEachPath (IsPathSearchedBy by) (pasts_by settings first (entries ++ log))
   searched_over =
-      let over : GoesOver settings (IsPathSearchedBy by) = record { by_entry = searched_law; following = follows_searched } in
-      goes_over_after settings (IsPathSearchedBy by) over
+      let kept : IsKept settings (IsPathSearchedBy by) = record { by_entry = searched_law; following = follows_searched } in
+      kept_after settings (IsPathSearchedBy by) kept
 
   pub searched_at_first : (first : PathMaking K) → IsSearchedBy by first.discovery [] → OnEachPath (IsPathSearchedBy by) (pasts_by settings first [])
   searched_at_first first searched = (searched, λ past is. none_is_some is)

@@ -2,8 +2,8 @@
 use Rattle.std.proofs.Common.{ℕ, ◌≡◌, ◌≤◌, ◌*◌, ◌&&◌, Bool, true, false, not, nat_lt, List, [], ◌++◌, None, Some, sym, arith}
 use Rattle.std.proofs.lemmas.Bool.{ltb-false}
 use Rattle.recovery_paths.specs.PathMaking.{PathMaking, PathSettings}
-use Rattle.recovery_paths.specs.PathLog.{PathsEntry, PathEntry, PathPast, Following, pasts_by, each_path, state_of, known_of, past_with, past_following, fresh, goes_on, receives, is_validated, samples, tells, searches, asks, transmits, passes, is_reset}
-use Rattle.recovery_paths.specs.Threefold.{IsWithinThreefold, AreWithinThreefold}
+use Rattle.recovery_paths.specs.PathLog.{OnEachPath, PathsEntry, PathEntry, PathPast, Following, pasts_by, each_path, state_of, known_of, past_with, past_following, fresh, goes_on, receives, is_validated, samples, tells, searches, asks, transmits, passes, is_reset}
+use Rattle.recovery_paths.specs.Threefold.{IsWithinThreefold}
 use Rattle.recovery_paths.proofs.AllowedLaws.{IsAllowed, IsKept, AreAllowed, kept_after}
 
 true_is_not_false : {A : Type 0} → true ≡ false → A
@@ -31,17 +31,16 @@ module _ {K : Type 0} (settings : PathSettings K) where
   threefold_law (is_reset now) past allowed within = within
 
   -- a path that follows begins within it
-  follows_within : (following : Following) (past : PathPast K) → IsWithinThreefold (past_following settings following past)
-  follows_within (fresh remote limit now) past = λ unproved checked. omega arith
-  follows_within (goes_on remote now) past = λ unproved checked. omega arith
+  follows_within : (following : Following) (past : PathPast K) → IsWithinThreefold past → IsWithinThreefold (past_following settings following past)
+  follows_within (fresh remote limit now) past within = λ unproved checked. omega arith
+  follows_within (goes_on remote now) past within = λ unproved checked. omega arith
 
   -- an event's entries keep the bound
   pub threefold_after : (first : PathMaking K) (entries log : List PathsEntry) → let pasts = pasts_by settings first log in
-      AreAllowed settings (each_path (known_of settings) pasts) entries → AreWithinThreefold pasts → AreWithinThreefold (pasts_by settings first (entries ++ log))
-  threefold_after first entries log allowed within =
+      AreAllowed settings (each_path (known_of settings) pasts) entries → OnEachPath IsWithinThreefold pasts → OnEachPath IsWithinThreefold (pasts_by settings first (entries ++ log))
+  threefold_after =
       let kept : IsKept settings IsWithinThreefold = record { by_entry = threefold_law; following = follows_within } in
-      let both = kept_after settings IsWithinThreefold kept first entries log allowed (within.current, within.previous) in
-      record { current = both.0; previous = both.1 }
+      kept_after settings IsWithinThreefold kept
 
-  pub within_at_first : (first : PathMaking K) → AreWithinThreefold (pasts_by settings first [])
-  within_at_first first = record { current = λ unproved checked. omega arith; previous = λ past is. none_is_some is }
+  pub within_at_first : (first : PathMaking K) → OnEachPath IsWithinThreefold (pasts_by settings first [])
+  within_at_first first = (λ unproved checked. omega arith, λ past is. none_is_some is)

@@ -8,16 +8,12 @@ use Rattle.recovery_ledger.specs.InFlight.{IsCountedIn}
 use Rattle.recovery_ledger.specs.Packets.{Packet, Packets, forgotten_entry}
 use Rattle.recovery_ledger.specs.Paths.{generation_of, counters_of, after_leaving, after_forgetting, path_after_sending, IsCountedOn, CanTrack}
 use Rattle.recovery_ledger.specs.Spaces.{Space, tracking_of}
-use Rattle.recovery_paths.specs.PathLog.{OfPaths, each_path}
+use Rattle.recovery_paths.specs.PathLog.{OfPaths, OnEachPath, each_path}
 use Rattle.recovery_paths.specs.PathStates.{Path, path_acked, path_lost}
 
 module _ {K : Type 0} where
   abbrev pub on_ledger : (PathLedger → PathLedger) → Path K → Path K
   on_ledger change path = record path { ledger = change path.ledger }
-
-  -- it holds of both paths
-  abbrev pub OnEach : (Path K → Type 0) → OfPaths (Path K) → Type 0
-  OnEach Holds paths = Holds paths.current × ForSome paths.previous Holds
 
 -- packets leave a path, one after another
 abbrev pub ledger_without : {P : Type 0} → Packets P → PathLedger → PathLedger
@@ -29,12 +25,12 @@ module _ {K P : Type 0} where
 
   -- the packet is among those counted on its path, where that lives
   abbrev pub IsCountedOnEach : OfPaths (Path K) → Packet P → Type 0
-  IsCountedOnEach paths packet = OnEach (λ path. IsCountedOn path.ledger packet) paths
+  IsCountedOnEach paths packet = OnEachPath (λ path. IsCountedOn path.ledger packet) paths
 
   -- and so are all packets of a space
   abbrev pub AreCountedOnEach : OfPaths (Path K) → Packets P → Type 0
   AreCountedOnEach paths packets =
-      OnEach (λ path. IsCountedIn (counters_of path.ledger) (generation_of path.ledger) packets) paths
+      OnEachPath (λ path. IsCountedIn (counters_of path.ledger) (generation_of path.ledger) packets) paths
 
   -- a packet may be tracked for the path in use, and one that is forgotten for it is among those counted on its path
   pub record CanTrackOn (paths : OfPaths (Path K)) (number : ℕ) (packet : Packet P) (space : Space P) : Type 0 where
