@@ -1,0 +1,156 @@
+-- What each event is to the search on the path in use is read off its answer.
+use Rattle.std.proofs.Common.{ℕ, ◌≡◌, ◌&&◌, Bool, true, false, if◌then◌else◌, List, [], ◌∷◌, ◌++◌, Option, None, Some, Ok, Err, refl, sym, ap, subst, ◌∙◌}
+use Rattle.recovery_base.specs.declared.below.SpaceId.{SpaceId}
+use Rattle.recovery_base.specs.declared.below.SpaceId.TheVariants as space
+use Rattle.recovery_congestion.specs.Calls.{ControllerCall}
+use Rattle.recovery_ledger.specs.Packets.{Packet, packet_at}
+use Rattle.recovery_mtud.specs.Discovery.{is_data, is_probe, poll_of, reports}
+use Rattle.recovery_mtud.specs.DiscoveryLog.{MtuCall, acks as acks_packet, loses, loses_probe, losses_end, discovery_by}
+use Rattle.recovery_mtud.specs.MtuEntries.{MtuEntry, acked, lost, probe_lost, losses_over, reported, poll_entry, entry_of}
+use Rattle.recovery_paths.specs.PathMaking.{PathMaking, PathSettings}
+use Rattle.recovery_paths.specs.PathLog.{PathsEntry, PathPast, on_current, pasts_by, state_of, tells}
+use Rattle.recovery_paths.specs.PathStates.{is_path_probe, loss_call}
+use Rattle.quic_recovery.specs.declared.event.Event.{Event}
+use Rattle.quic_recovery.specs.declared.event.Event.TheVariants.{Received, Send, Acked, Lost, NewId, NextId, InitialId, IssueIds, IdTimeout, PeerRetired, AckFrequencyIn, AcksSent, AckDelayTimeout, SetTimer, StopTimer, DiscardSpace, DatagramIn, Validated, Sample, Transmit, PacerCheck, Congestion, EndAcks, PollMtu, PeerLimit, LossesDone, Ecn, QueueProbe, TakePending, NewPath, ResetPath, DropPrevious}
+use Rattle.quic_recovery.specs.declared.event.Answer.{Answer}
+use Rattle.quic_recovery.specs.declared.event.Answer.TheVariants as answer
+use Rattle.quic_recovery.specs.declared.event.Answer.TheVariants.{New, Flag, Transmitted, Delayed, Probe, NoProbe, BlackHole}
+use Rattle.recovery_paths.specs.declared.live_paths.PathName.TheVariants.{Current, Previous}
+use Rattle.quic_recovery.specs.declared.event.Refusal.{Refusal}
+use Rattle.quic_recovery.specs.declared.event.Refusal.TheVariants.{DelayTooSmall}
+use Rattle.quic_recovery.specs.Amplification.{pasts_of}
+use Rattle.quic_recovery.specs.Entries.{acked_entry, acked_search, is_own, logs_of, lost_search, searched}
+use Rattle.quic_recovery.specs.History.{Beginning, History, Reply, Throughout}
+use Rattle.quic_recovery.specs.Known.{Known, first_path, known_by, settings_of, tracked_known}
+use Rattle.quic_recovery.specs.Search.{EntersAsTold, data_packet, entered, entries_on, of_packet}
+use Rattle.quic_recovery.specs.Told.{Told, ProbeOutReply}
+use Rattle.quic_recovery.proofs.AmplificationLaws.{throughout_kept}
+
+module _ {K P : Type 0} (settings : PathSettings K) (first : PathMaking K) (log : List PathsEntry) (known : Known K P) where
+  -- the entries on the path in use, once all this happened too
+  abbrev entries_with : List PathsEntry → List MtuEntry
+  entries_with entries = entries_on (pasts_by settings first (entries ++ log)).current
+
+  abbrev before : List MtuEntry
+  before = entries_with []
+
+  abbrev past : PathPast K
+  past = (pasts_by settings first log).current
+
+  abbrev seen : MtuCall → MtuEntry
+  seen call = entry_of call (discovery_by past.making.discovery past.searched)
+
+  -- what the controller is told is nothing to the search
+  searched_seen : (changes : Bool) (call : MtuCall) → entries_with (searched known changes call) ≡ seen call ∷ before
+  searched_seen true call = refl
+  searched_seen false call = refl
+
+  data_seen : (in_data changes : Bool) (call : MtuCall) → entries_with (if in_data then searched known changes call else []) ≡ (if in_data then seen call ∷ before else before)
+  data_seen true changes call = searched_seen changes call
+  data_seen false changes call = refl
+
+  acked_with : (own : Bool) (call : ControllerCall) (entries : List PathsEntry) → entries_with ((if own then on_current (tells call) ∷ [] else []) ++ entries) ≡ entries_with entries
+  acked_with true call entries = refl
+  acked_with false call entries = refl
+
+  acked_seen : (space : SpaceId) (now number : ℕ) (app_limited : Bool) (packet : Option (Packet P))
+      → entries_with (acked_entry known now app_limited packet ++ acked_search known space number packet) ≡ (if is_data space then of_packet (acked number) packet else []) ++ before
+  acked_seen space.Initial now number app_limited None = refl
+  acked_seen space.Handshake now number app_limited None = refl
+  acked_seen space.Data now number app_limited None = refl
+  acked_seen space.Initial now number app_limited (Some packet) = acked_with (is_own known packet && packet.ack_eliciting) _ []
+  acked_seen space.Handshake now number app_limited (Some packet) = acked_with (is_own known packet && packet.ack_eliciting) _ []
+  acked_seen space.Data now number app_limited (Some packet) =
+      let probed = is_path_probe space.Data number known.paths.current.state in
+      let call = acks_packet number packet.size in
+      acked_with (is_own known packet && packet.ack_eliciting) _ (searched known probed call) ∙ searched_seen probed call
+
+  lost_seen : (own : Bool) (number bytes : ℕ) → entries_with (searched known false (if own then loses_probe else loses number bytes)) ≡ (if own then probe_lost else lost number bytes) ∷ before
+  lost_seen true number bytes = refl
+  lost_seen false number bytes = refl
+
+  -- outside 1-RTT keys nothing is seen
+  lost_unseen : (space : SpaceId) (number : ℕ) (packet : Option (Packet P)) → is_data space ≡ false → entries_with (lost_search known space number packet) ≡ before
+  lost_unseen space number None other = refl
+  lost_unseen space number (Some packet) other =
+      let call = loss_call number packet.size known.paths.current.state.discovery in
+      ap (λ (in_data : Bool). entries_with (if in_data then searched known false call else [])) other
+
+  lost_data_seen : (number : ℕ) (packet : Option (Packet P)) →
+      entries_with (lost_search known space.Data number packet)
+      ≡ of_packet (λ bytes. if is_path_probe space.Data number known.paths.current.state then probe_lost else lost number bytes) packet ++ before
+  lost_data_seen number None = refl
+  lost_data_seen number (Some packet) = lost_seen (is_path_probe space.Data number known.paths.current.state) number packet.size
+
+module _ {F K Q S M P : Type 0} (beginning : Beginning F K Q S P) (past : History Q S M P) where
+  abbrev known : Known K P
+  known = known_by beginning (logs_of beginning past)
+
+  abbrev IsEntered : Event Q S M P → Answer Q → Type 0
+  IsEntered event given = EntersAsTold beginning past event (Ok given)
+
+  -- what happened on the paths up to here
+  abbrev log : List PathsEntry
+  log = (logs_of beginning past).paths
+
+  polled : (now : ℕ) (given : Answer Q) (size : Option ℕ) → poll_of now known.paths.current.state.discovery ≡ size → ProbeOutReply beginning.queue known now size (Ok given) → IsEntered (PollMtu now) given
+  polled now given None is told =
+      let entries = entries_on (pasts_of beginning past).current in
+      subst (IsEntered (PollMtu now)) (sym told) (ap (λ p. poll_entry now known.numbers.next p ∷ entries) is)
+  polled now given (Some size) is told =
+      let entries = entries_on (pasts_of beginning past).current in
+      subst (IsEntered (PollMtu now)) (sym told.1) (ap (λ p. poll_entry now known.numbers.next p ∷ entries) is)
+
+  answered_entered : (event : Event Q S M P) (given : Answer Q) → Told beginning past event (Ok given) → IsEntered event given
+  answered_entered (PollMtu now) given told = polled now given (poll_of now known.paths.current.state.discovery) refl told.1.1
+  answered_entered (PeerLimit size) given told = refl
+  answered_entered (Acked space.Initial now number app_limited) given told =
+      acked_seen (settings_of beginning) (first_path beginning) log known space.Initial now number app_limited (packet_at (tracked_known known space.Initial) number)
+  answered_entered (Acked space.Handshake now number app_limited) given told =
+      acked_seen (settings_of beginning) (first_path beginning) log known space.Handshake now number app_limited (packet_at (tracked_known known space.Handshake) number)
+  answered_entered (Acked space.Data now number app_limited) given told =
+      acked_seen (settings_of beginning) (first_path beginning) log known space.Data now number app_limited (data_packet beginning past number)
+  answered_entered (Lost space.Initial number) given told =
+      lost_unseen (settings_of beginning) (first_path beginning) log known space.Initial number (packet_at (tracked_known known space.Initial) number) refl
+  answered_entered (Lost space.Handshake number) given told =
+      lost_unseen (settings_of beginning) (first_path beginning) log known space.Handshake number (packet_at (tracked_known known space.Handshake) number) refl
+  answered_entered (Lost space.Data number) given told =
+      subst (IsEntered (Lost space.Data number)) (sym told.1.1)
+      (lost_data_seen (settings_of beginning) (first_path beginning) log known number (data_packet beginning past number))
+  answered_entered (LossesDone now) given told =
+      subst (IsEntered (LossesDone now)) (sym told)
+      (searched_seen (settings_of beginning) (first_path beginning) log known (reports known.paths.current.state.discovery) (losses_end now))
+  answered_entered (ResetPath now) given told = refl
+  answered_entered (NewPath now remote true) given told = refl
+  answered_entered (NewPath now remote false) given told = refl
+  answered_entered (Transmit now bytes true) Transmitted told = refl
+  answered_entered (Transmit now bytes true) (Delayed until) told = refl
+  answered_entered (Transmit now bytes true) given told = refl
+  answered_entered (Transmit now bytes false) given told = refl
+  answered_entered (DatagramIn Current bytes) given told = refl
+  answered_entered (DatagramIn Previous bytes) given told = refl
+  answered_entered (Validated Current) given told = refl
+  answered_entered (Validated Previous) given told = refl
+  answered_entered (Received space now number eliciting) (New arm) told = refl
+  answered_entered (Received space now number eliciting) given told = refl
+  answered_entered (AckFrequencyIn frame) (Flag true) told = refl
+  answered_entered (AckFrequencyIn frame) (Flag false) told = refl
+  answered_entered (AckFrequencyIn frame) given told = refl
+  answered_entered event given told = refl
+
+  refused_entered : (event : Event Q S M P) (refusal : Refusal) → EntersAsTold beginning past event (Err refusal)
+  refused_entered (NewPath now remote true) refusal = refl
+  refused_entered (NewPath now remote false) refusal = refl
+  refused_entered (AckFrequencyIn frame) DelayTooSmall = refl
+  refused_entered (AckFrequencyIn frame) refusal = refl
+  refused_entered event refusal = refl
+
+  entered_one : (event : Event Q S M P) (reply : Reply Q) → Told beginning past event reply → EntersAsTold beginning past event reply
+  entered_one event (Ok given) told = answered_entered event given told
+  entered_one event (Err refusal) told = refused_entered event refusal
+
+-- throughout a run
+pub entries_told : {F K Q S M P : Type 0} (beginning : Beginning F K Q S P) (events : List (Event Q S M P)) (replies : List (Reply Q)) → Throughout (Told beginning) events replies → Throughout (EntersAsTold beginning) events replies
+entries_told {F} {K} {Q} {S} {M} {P} beginning events replies told =
+    let always : History Q S M P → Type 0 = λ past. Unit {0} in
+    throughout_kept beginning always (EntersAsTold beginning) (λ past event reply told kept. tt) (λ past event reply told kept. entered_one beginning past event reply told) [] events replies told tt
