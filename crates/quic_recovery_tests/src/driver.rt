@@ -1,68 +1,30 @@
-//! What the events of a connection are replied, and what they leave.
+//! What the events of a connection are replied, and what they leave: its packets, ids and timers.
 ghost use Rattle.std.specs.Prelude.{◌≡◌, ◌<◌};
 ghost use Rattle.recovery_skips.specs.Skips.{IsSkips};
 
-use crate::driver::refusals::{Fault, Refusal, is};
-use crate::tally::Tally;
 use quic_recovery::config::TransportConfig;
-use quic_recovery::congestion::{ControllerFactory, NewRenoConfig};
+use quic_recovery::congestion::NewRenoConfig;
 use quic_recovery::driver::{Recovery, RecoveryConfig};
-use quic_recovery::event::PathName;
 use quic_recovery::spaces::PacketSpace;
-use rand_core::{Rng, SeedableRng};
+use rand_core::Rng;
 use rand_pcg::Pcg32;
-use recovery_base::below::{ConnectionId, SpaceId};
-use recovery_base::time::{Duration, Instant};
+use recovery_base::below::SpaceId;
 use recovery_base::timer::Timer;
+use recovery_rows::config::{settings, settings_with, words};
+use recovery_rows::events::*;
+use recovery_rows::refusals::Refusal;
+use recovery_rows::runs::{self, Wrong};
+use recovery_rows::tally::Tally;
 use recovery_skips::Skips;
 use std::alloc::Global;
-use std::net::{IpAddr, Ipv4Addr, SocketAddr};
 use std::process::Abort;
-use std::test::Fail;
 
 mod acks;
-mod discovery;
 mod ids;
 mod items;
-mod moves;
-mod paths;
-mod probes;
 mod refusals;
 mod refused_memory;
 mod skips;
-
-type Event = quic_recovery::event::Event<Tally>;
-
-type Answer = quic_recovery::event::Answer<Tally>;
-
-/// A recovery whose controllers are NewReno, and whose skips are drawn from the words of `Pcg32`.
-type Reno = Recovery<NewRenoConfig, Tally, Pcg32>;
-
-/// What an event is replied.
-type Given = Result<Answer, quic_recovery::event::Refusal>;
-
-/// What a row wants.
-type Reply = Result<Answer, Refusal>;
-
-const TOO_LARGE: Reply = Err(Refusal::NumberTooLarge);
-
-const NO_MEMORY: Reply = Err(Refusal::NoMemory);
-
-const DONE: Reply = Ok(Answer::Done);
-
-const DUPLICATE: Reply = Ok(Answer::Duplicate);
-
-const NO_TIMEOUT: Reply = Ok(Answer::Timeout(None));
-
-const ACKED: Reply = Ok(Answer::Acked { probe: false });
-
-const LOST: Reply = Ok(Answer::Lost { probe: false });
-
-const DISCARDED: Reply = Err(Refusal::SpaceDiscarded);
-
-const NOT_TRACKED: Reply = Err(Refusal::NotTracked);
-
-const NO_SUCH_PATH: Reply = Err(Refusal::NoSuchPath);
 
 const DISCARD_INITIAL: Event = Event::DiscardSpace {
     space: SpaceId::Initial,
@@ -73,130 +35,17 @@ const LOST_1: Event = Event::Lost {
     number: 1,
 };
 
-const CURRENT: Event = Event::InFlight {
-    path: PathName::Current,
-};
-
-const PREVIOUS: Event = Event::InFlight {
-    path: PathName::Previous,
-};
-
-fn at(nanos: u64) -> Instant {
-    Instant::from_nanos(nanos)
-}
-
-fn received(space: SpaceId, number: u64, ack_eliciting: bool) -> Event {
-    Event::Received {
-        space,
-        now: at(0),
-        number,
-        ack_eliciting,
+/// What went right, or the end of the test with what went wrong.
+fn right<T>(rt: &impl Abort, found: Result<T, Wrong>) -> T {
+    match found {
+        Ok(value) => value,
+        Err(wrong) => panic!(rt; "{wrong}"),
     }
-}
-
-fn set(timer: Timer, nanos: u64) -> Event {
-    Event::SetTimer {
-        timer,
-        time: at(nanos),
-    }
-}
-
-fn send(space: SpaceId, size: u16, ack_eliciting: bool) -> Event {
-    Event::Send {
-        space,
-        now: at(7),
-        size,
-        ack_eliciting,
-        largest_acked: None,
-        queue: Tally { bytes: 0 },
-        stream_frames: 0,
-    }
-}
-
-fn acked(space: SpaceId, number: u64) -> Event {
-    Event::Acked {
-        space,
-        now: at(9),
-        number,
-        app_limited: false,
-    }
-}
-
-fn in_flight(bytes: u64, ack_eliciting: u64) -> Reply {
-    Ok(Answer::InFlight {
-        bytes,
-        ack_eliciting,
-    })
-}
-
-fn sent(number: u64, forgotten: Option<u64>) -> Reply {
-    Ok(Answer::Sent { number, forgotten })
-}
-
-fn stop(timer: Timer) -> Event {
-    Event::StopTimer { timer }
-}
-
-fn new(arm: bool) -> Reply {
-    Ok(Answer::New { arm })
-}
-
-fn timeout(nanos: u64) -> Reply {
-    Ok(Answer::Timeout(Some(at(nanos))))
-}
-
-/// The settings of the replay program, but for the bytes of this end's ids, and that no number is skipped.
-fn settings(cid_len: usize) -> RecoveryConfig<NewRenoConfig>
-    ensures issued { result.issued ≡ 1 }
-    ensures skips { IsSkips result.skips }
-{
-    settings_with(TransportConfig::default(), cid_len, Skips::Disabled)
-}
-
-/// The same for any settings of paths and any skips.
-fn settings_with<F: Drop>(
-    transport: TransportConfig<F>,
-    cid_len: usize,
-    skips: Skips,
-) -> RecoveryConfig<F>
-    requires { IsSkips skips }
-    ensures issued { result.issued ≡ 1 }
-    ensures skips { IsSkips result.skips }
-{
-    RecoveryConfig {
-        transport,
-        remote: SocketAddr::new(IpAddr::V4(Ipv4Addr::new(192, 0, 2, 1)), 4433),
-        validated: false,
-        allow_mtud: true,
-        max_ack_delay: Duration::from_millis(25),
-        initial_cid: ConnectionId::new(&[0xFF; 8]),
-        cid_len,
-        cid_lifetime: Some(Duration::from_secs(10)),
-        issued: 1,
-        skips,
-    }
-}
-
-/// The words that skips are drawn from, where they are drawn.
-fn words() -> Pcg32 {
-    Pcg32::seed_from_u64(0)
 }
 
 /// A recovery to which nothing has happened yet.
 fn fresh(rt: &impl Abort, alloc: Global) -> Reno {
-    match Recovery::new(alloc, settings(8), words(), at(0)) {
-        Ok(recovery) => recovery,
-        Err(_) => panic!(rt; "NoMemory"),
-    }
-}
-
-/// Asserts that a row was replied what it wants.
-fn same(rt: &impl Abort, row: u64, reply: &Given, want: &Reply) {
-    assert!(rt;
-        !is(reply, &NO_MEMORY) || *want == NO_MEMORY,
-        "row {row}: NoMemory"
-    );
-    assert!(rt; is(reply, want), "row {row}");
+    right(rt, runs::fresh(alloc))
 }
 
 /// Asserts what one event is replied.
@@ -207,8 +56,7 @@ fn told<R: Rng + Drop>(
     event: Event,
     want: Reply,
 ) {
-    let reply = recovery.apply(event);
-    same(rt, row, &reply, &want);
+    right(rt, runs::told(recovery, row, event, want));
 }
 
 /// Asserts what the events of a run are replied, one a row.
@@ -233,44 +81,19 @@ fn check_left<const N: usize, F: FnOnce(&Reno) -> bool>(
     assert!(rt; is_wanted, "what is left");
 }
 
-fn walk<const N: usize, F, R>(
+/// Asserts what the events of a run with these settings are replied: what it leaves.
+fn walk<const N: usize>(
     rt: &impl Abort,
     alloc: Global,
-    config: RecoveryConfig<F>,
-    rng: R,
+    config: RecoveryConfig<NewRenoConfig>,
+    rng: Pcg32,
     rows: [(Event, Reply); N],
-) -> Recovery<F, Tally, R>
-where
-    F: ControllerFactory + Drop,
-    F::Controller: Drop,
-    R: Rng + Drop,
+) -> Reno
     requires rows { N < 1000 }
     requires issued { config.issued ≡ 1 }
     requires skips { IsSkips config.skips }
 {
-    let mut events = Vec::new(alloc);
-    let mut wanted = Vec::new(alloc);
-    for (event, want) in rows {
-        if events.push(event).is_err() || wanted.push(want).is_err() {
-            panic!(rt; "NoMemory");
-        }
-    }
-    match Recovery::run(alloc, config, rng, at(0), events) {
-        Ok((recovery, replies)) => {
-            compare(rt, replies.as_slice(), wanted.as_slice());
-            recovery
-        }
-        Err(_) => panic!(rt; "NoMemory"),
-    }
-}
-
-fn compare(rt: &impl Abort, replies: &[Given], wanted: &[Reply]) {
-    assert!(rt; replies.len() == wanted.len());
-    let mut row = 0u64;
-    for (reply, want) in replies.iter().zip(wanted) {
-        same(rt, row, reply, want);
-        row = row.saturating_add(1);
-    }
+    right(rt, runs::walk(alloc, config, rng, rows))
 }
 
 /// What is kept for a space that is not discarded.

@@ -2,7 +2,6 @@
 //! every state that stands there, and not run.
 ghost use Rattle.std.specs.Prelude.{◌≡◌, true};
 
-use crate::tally::Tally;
 use quic_recovery::congestion::{NewReno, NewRenoConfig};
 use quic_recovery::driver::Recovery;
 use quic_recovery::event::{Answer, Event, Refusal};
@@ -11,6 +10,7 @@ use quic_recovery::spaces::{NUMBER_LIMIT, PacketSpace, SentPacket};
 use rand_pcg::Pcg32;
 use recovery_base::below::{EcnCounts, IssuedCid};
 use recovery_base::time::Instant;
+use recovery_rows::tally::Tally;
 use std::alloc::Global;
 
 fn at(nanos: u64) -> Instant

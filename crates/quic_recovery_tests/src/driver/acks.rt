@@ -1,10 +1,7 @@
 //! What is to be acknowledged, and when.
 use super::*;
 use recovery_base::below::{AckFrequency, VarInt};
-
-const YES: Reply = Ok(Answer::Flag(true));
-
-const NO: Reply = Ok(Answer::Flag(false));
+use recovery_base::time::Duration;
 
 const TOO_SMALL: Reply = Err(Refusal::DelayTooSmall);
 
@@ -13,10 +10,6 @@ const SENT_DATA: Event = Event::AcksSent {
 };
 
 const LATE_DATA: Event = Event::AckDelayTimeout {
-    space: SpaceId::Data,
-};
-
-const DISCARD_DATA: Event = Event::DiscardSpace {
     space: SpaceId::Data,
 };
 

@@ -1,10 +1,6 @@
 //! The connection ids of both ends.
 use super::*;
-use recovery_base::below::{IssuedCid, NewConnectionId, ResetToken};
-
-const YES: Reply = Ok(Answer::Flag(true));
-
-const NO: Reply = Ok(Answer::Flag(false));
+use recovery_base::below::{ConnectionId, IssuedCid, NewConnectionId, ResetToken};
 
 const NOTHING: Reply = Ok(Answer::Retire(None));
 

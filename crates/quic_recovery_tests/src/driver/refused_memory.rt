@@ -3,6 +3,9 @@
 use super::*;
 use quic_recovery::spaces::SentPacket;
 use recovery_base::below::NoMemory;
+use recovery_base::time::Instant;
+use recovery_rows::refusals::is;
+use std::test::Fail;
 
 /// How a test ends that was refused memory, where nothing else was wrong.
 const LEFT_NO_TRACE: &str = "memory was refused, and that left no trace";

@@ -3,17 +3,12 @@ ghost use Rattle.std.specs.Prelude.{◌≡◌};
 ghost use Rattle.recovery_skips.specs.Skips.{IsSkips};
 
 use super::*;
+use rand_core::SeedableRng;
 use rand_pcg::Pcg64;
 
 const SKIPPED: Reply = Err(Refusal::SkippedAcked);
 
 const BAD_RANGE: Reply = Err(Refusal::BadRange);
-
-const DISCARD_DATA: Event = Event::DiscardSpace {
-    space: SpaceId::Data,
-};
-
-const PROBE_ACKED: Reply = Ok(Answer::Acked { probe: true });
 
 fn check_ack(space: SpaceId, low: u64, high: u64) -> Event {
     Event::CheckAck { space, low, high }

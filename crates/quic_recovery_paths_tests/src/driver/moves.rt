@@ -2,33 +2,12 @@
 use super::*;
 use quic_recovery::congestion::NewReno;
 use quic_recovery::paths::PathData;
+use std::net::{IpAddr, Ipv4Addr, SocketAddr};
 
 const DROP: Event = Event::DropPrevious;
 
-const NO_PROBE: Reply = Ok(Answer::NoProbe);
-
-const PROBE_ACKED: Reply = Ok(Answer::Acked { probe: true });
-
-const READY: Reply = Ok(Answer::Ready);
-
-const TRANSMITTED: Reply = Ok(Answer::Transmitted);
-
-const BLOCKED: Reply = Ok(Answer::Blocked);
-
-const SEARCHING: Reply = Err(Refusal::Searching);
-
-const VALIDATED: Event = Event::Validated {
-    path: PathName::Current,
-};
-
 const VALIDATED_BEFORE: Event = Event::Validated {
     path: PathName::Previous,
-};
-
-const NO_BLACK_HOLE: Reply = Ok(Answer::BlackHole(false));
-
-const DISCARD_DATA: Event = Event::DiscardSpace {
-    space: SpaceId::Data,
 };
 
 fn reset() -> Event {
@@ -69,24 +48,12 @@ fn poll() -> Event {
     Event::PollMtu { now: at(0) }
 }
 
-fn probe(number: u64, size: u16) -> Reply {
-    Ok(Answer::Probe { number, size })
-}
-
-fn limit(size: u16) -> Event {
-    Event::PeerLimit { size }
-}
-
 fn transmit(bytes: u16, checked: bool) -> Event {
     Event::Transmit {
         now: at(0),
         bytes,
         checked,
     }
-}
-
-fn datagram_in(path: PathName, bytes: u64) -> Event {
-    Event::DatagramIn { path, bytes }
 }
 
 fn sample(rtt: u64) -> Event {
@@ -98,10 +65,6 @@ fn sample(rtt: u64) -> Event {
 
 fn pacer_check(bytes: u64) -> Event {
     Event::PacerCheck { now: at(0), bytes }
-}
-
-fn delayed(nanos: u64) -> Reply {
-    Ok(Answer::Delayed(at(nanos)))
 }
 
 fn congestion() -> Event {

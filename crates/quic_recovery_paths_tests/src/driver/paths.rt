@@ -1,23 +1,13 @@
 //! Samples, datagrams, transmissions, the pacer and the controllers.
 use super::*;
+use quic_recovery::config::TransportConfig;
+use rand_core::SeedableRng;
 use rand_pcg::Pcg64;
 use recovery_halving::HalvingConfig;
-
-const TRANSMITTED: Reply = Ok(Answer::Transmitted);
-
-const BLOCKED: Reply = Ok(Answer::Blocked);
-
-const READY: Reply = Ok(Answer::Ready);
+use recovery_rows::config::settings_with;
+use recovery_skips::Skips;
 
 const OVERFLOW: Reply = Err(Refusal::Overflow);
-
-const VALIDATED: Event = Event::Validated {
-    path: PathName::Current,
-};
-
-fn delayed(nanos: u64) -> Reply {
-    Ok(Answer::Delayed(at(nanos)))
-}
 
 fn transmit(nanos: u64, bytes: u16, checked: bool) -> Event {
     Event::Transmit {
@@ -32,10 +22,6 @@ fn pacer_check(nanos: u64, bytes: u64) -> Event {
         now: at(nanos),
         bytes,
     }
-}
-
-fn datagram_in(path: PathName, bytes: u64) -> Event {
-    Event::DatagramIn { path, bytes }
 }
 
 fn sample(delay: u64, rtt: u64) -> Event {
@@ -148,5 +134,6 @@ fn a_controller_that_halves(rt: HostRuntime) {
         (pacer_check(0, 12001), delayed(44_400)),
     ];
     let config = settings_with(transport, 8, Skips::Drawn);
-    walk(&rt, rt.alloc(), config, Pcg64::seed_from_u64(1), rows);
+    let words = Pcg64::seed_from_u64(1);
+    right(&rt, runs::walk(rt.alloc(), config, words, rows));
 }

@@ -1,30 +1,14 @@
 //! The search for the MTU, the peer's limit and black holes.
 use super::*;
 
-const NO_PROBE: Reply = Ok(Answer::NoProbe);
-
-const NO_BLACK_HOLE: Reply = Ok(Answer::BlackHole(false));
-
 const BLACK_HOLE: Reply = Ok(Answer::BlackHole(true));
-
-const SEARCHING: Reply = Err(Refusal::Searching);
 
 const ZERO_MTU: Reply = Err(Refusal::ZeroMtu);
 
-const PROBE_ACKED: Reply = Ok(Answer::Acked { probe: true });
-
 const PROBE_LOST: Reply = Ok(Answer::Lost { probe: true });
-
-const DISCARD_DATA: Event = Event::DiscardSpace {
-    space: SpaceId::Data,
-};
 
 fn poll(nanos: u64) -> Event {
     Event::PollMtu { now: at(nanos) }
-}
-
-fn limit(size: u16) -> Event {
-    Event::PeerLimit { size }
 }
 
 fn losses_done(nanos: u64) -> Event {
@@ -36,10 +20,6 @@ fn lost(number: u64) -> Event {
         space: SpaceId::Data,
         number,
     }
-}
-
-fn probe(number: u64, size: u16) -> Reply {
-    Ok(Answer::Probe { number, size })
 }
 
 fn large(number: u64) -> (Event, Reply) {

@@ -2,19 +2,13 @@
 use super::*;
 use quic_recovery::spaces::SendableFrames;
 use recovery_base::below::EcnCounts;
-
-const YES: Reply = Ok(Answer::Flag(true));
-
-const NO: Reply = Ok(Answer::Flag(false));
+use recovery_rows::refusals::Fault;
+use recovery_rows::tally::Tally;
 
 const PING: Reply = Ok(Answer::Sendable(SendableFrames {
     acks: false,
     other: true,
 }));
-
-const DISCARD_DATA: Event = Event::DiscardSpace {
-    space: SpaceId::Data,
-};
 
 const TAKE: Event = Event::TakePending {
     space: SpaceId::Data,

@@ -1,0 +1,50 @@
+//! The settings of runs.
+ghost use Rattle.std.specs.Prelude.{◌≡◌};
+ghost use Rattle.recovery_skips.specs.Skips.{IsSkips};
+
+use quic_recovery::config::TransportConfig;
+use quic_recovery::congestion::NewRenoConfig;
+use quic_recovery::driver::RecoveryConfig;
+use rand_core::SeedableRng;
+use rand_pcg::Pcg32;
+use recovery_base::below::ConnectionId;
+use recovery_base::time::Duration;
+use recovery_skips::Skips;
+use std::net::{IpAddr, Ipv4Addr, SocketAddr};
+
+/// The settings of the replay program, but for the bytes of this end's ids, and that no number is skipped.
+pub fn settings(cid_len: usize) -> RecoveryConfig<NewRenoConfig>
+    ensures issued { result.issued ≡ 1 }
+    ensures skips { IsSkips result.skips }
+{
+    settings_with(TransportConfig::default(), cid_len, Skips::Disabled)
+}
+
+/// The same for any settings of paths and any skips.
+pub fn settings_with<F: Drop>(
+    transport: TransportConfig<F>,
+    cid_len: usize,
+    skips: Skips,
+) -> RecoveryConfig<F>
+    requires { IsSkips skips }
+    ensures issued { result.issued ≡ 1 }
+    ensures skips { IsSkips result.skips }
+{
+    RecoveryConfig {
+        transport,
+        remote: SocketAddr::new(IpAddr::V4(Ipv4Addr::new(192, 0, 2, 1)), 4433),
+        validated: false,
+        allow_mtud: true,
+        max_ack_delay: Duration::from_millis(25),
+        initial_cid: ConnectionId::new(&[0xFF; 8]),
+        cid_len,
+        cid_lifetime: Some(Duration::from_secs(10)),
+        issued: 1,
+        skips,
+    }
+}
+
+/// The words that skips are drawn from, where they are drawn.
+pub fn words() -> Pcg32 {
+    Pcg32::seed_from_u64(0)
+}

@@ -1,0 +1,153 @@
+//! Events and replies of rows, by short names.
+use crate::refusals::Refusal;
+use crate::tally::Tally;
+use quic_recovery::congestion::NewRenoConfig;
+use quic_recovery::driver::Recovery;
+use quic_recovery::event::PathName;
+use rand_pcg::Pcg32;
+use recovery_base::below::SpaceId;
+use recovery_base::time::Instant;
+use recovery_base::timer::Timer;
+
+/// What happens, where packets carry tallies.
+pub type Event = quic_recovery::event::Event<Tally>;
+
+/// What an event is answered, where packets carry tallies.
+pub type Answer = quic_recovery::event::Answer<Tally>;
+
+/// A recovery whose controllers are NewReno, and whose skips are drawn from the words of `Pcg32`.
+pub type Reno = Recovery<NewRenoConfig, Tally, Pcg32>;
+
+/// What an event is replied.
+pub type Given = Result<Answer, quic_recovery::event::Refusal>;
+
+/// What a row wants.
+pub type Reply = Result<Answer, Refusal>;
+
+/// A number is 2^62 or more.
+pub const TOO_LARGE: Reply = Err(Refusal::NumberTooLarge);
+
+/// The allocator refused memory.
+pub const NO_MEMORY: Reply = Err(Refusal::NoMemory);
+
+/// The event happened, and there is nothing to say.
+pub const DONE: Reply = Ok(Answer::Done);
+
+/// The packet came before, or is too old to be told from one that did.
+pub const DUPLICATE: Reply = Ok(Answer::Duplicate);
+
+/// No timer is set.
+pub const NO_TIMEOUT: Reply = Ok(Answer::Timeout(None));
+
+/// A packet that is no probe was acknowledged.
+pub const ACKED: Reply = Ok(Answer::Acked { probe: false });
+
+/// A probe of the MTU was acknowledged.
+pub const PROBE_ACKED: Reply = Ok(Answer::Acked { probe: true });
+
+/// A packet that is no probe was lost.
+pub const LOST: Reply = Ok(Answer::Lost { probe: false });
+
+/// Yes, to what the event asks.
+pub const YES: Reply = Ok(Answer::Flag(true));
+
+/// No, to what the event asks.
+pub const NO: Reply = Ok(Answer::Flag(false));
+
+/// The space is discarded.
+pub const DISCARDED: Reply = Err(Refusal::SpaceDiscarded);
+
+/// The packet is not tracked.
+pub const NOT_TRACKED: Reply = Err(Refusal::NotTracked);
+
+/// There is no previous path.
+pub const NO_SUCH_PATH: Reply = Err(Refusal::NoSuchPath);
+
+/// The space of Data is discarded.
+pub const DISCARD_DATA: Event = Event::DiscardSpace {
+    space: SpaceId::Data,
+};
+
+/// What is in flight on the path in use.
+pub const CURRENT: Event = Event::InFlight {
+    path: PathName::Current,
+};
+
+/// What is in flight on the path before it.
+pub const PREVIOUS: Event = Event::InFlight {
+    path: PathName::Previous,
+};
+
+/// The moment this many nanoseconds after the first one.
+pub fn at(nanos: u64) -> Instant {
+    Instant::from_nanos(nanos)
+}
+
+/// A packet comes in.
+pub fn received(space: SpaceId, number: u64, ack_eliciting: bool) -> Event {
+    Event::Received {
+        space,
+        now: at(0),
+        number,
+        ack_eliciting,
+    }
+}
+
+/// A packet goes out that carries nothing that is sent again.
+pub fn send(space: SpaceId, size: u16, ack_eliciting: bool) -> Event {
+    Event::Send {
+        space,
+        now: at(7),
+        size,
+        ack_eliciting,
+        largest_acked: None,
+        queue: Tally { bytes: 0 },
+        stream_frames: 0,
+    }
+}
+
+/// A packet is acknowledged.
+pub fn acked(space: SpaceId, number: u64) -> Event {
+    Event::Acked {
+        space,
+        now: at(9),
+        number,
+        app_limited: false,
+    }
+}
+
+/// A timer is set.
+pub fn set(timer: Timer, nanos: u64) -> Event {
+    Event::SetTimer {
+        timer,
+        time: at(nanos),
+    }
+}
+
+/// A timer is stopped.
+pub fn stop(timer: Timer) -> Event {
+    Event::StopTimer { timer }
+}
+
+/// So much is in flight.
+pub fn in_flight(bytes: u64, ack_eliciting: u64) -> Reply {
+    Ok(Answer::InFlight {
+        bytes,
+        ack_eliciting,
+    })
+}
+
+/// The packet went out under this number.
+pub fn sent(number: u64, forgotten: Option<u64>) -> Reply {
+    Ok(Answer::Sent { number, forgotten })
+}
+
+/// The packet is new, and the timer of delayed ACKs is to be armed, or not.
+pub fn new(arm: bool) -> Reply {
+    Ok(Answer::New { arm })
+}
+
+/// The next timer ends then.
+pub fn timeout(nanos: u64) -> Reply {
+    Ok(Answer::Timeout(Some(at(nanos))))
+}

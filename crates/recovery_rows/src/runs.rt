@@ -1,0 +1,104 @@
+//! Runs of rows, and what is wrong with them.
+ghost use Rattle.std.specs.Prelude.{◌≡◌, ◌<◌};
+ghost use Rattle.recovery_skips.specs.Skips.{IsSkips};
+
+use crate::config::{settings, words};
+use crate::events::{Event, Given, NO_MEMORY, Reno, Reply, at};
+use crate::refusals::is;
+use crate::tally::Tally;
+use quic_recovery::congestion::{ControllerFactory, NewRenoConfig};
+use quic_recovery::driver::{Recovery, RecoveryConfig};
+use rand_core::Rng;
+use std::alloc::Global;
+use thiserror::Error;
+
+/// What is wrong with the replies to rows.
+#[derive(Clone, Copy, Debug, Error)]
+pub enum Wrong {
+    /// A growth was refused by the allocator, outside of any event.
+    #[error("NoMemory")]
+    NoMemory,
+    /// An event was refused for want of memory, where this row wants something else.
+    #[error("row {0}: NoMemory")]
+    Refused(u64),
+    /// An event was replied something else than this row wants.
+    #[error("row {0}")]
+    Row(u64),
+    /// There are more replies than rows, or fewer.
+    #[error("not one reply for each row")]
+    Count,
+}
+
+/// A recovery to which nothing has happened yet.
+pub fn fresh(alloc: Global) -> Result<Reno, Wrong> {
+    match Recovery::new(alloc, settings(8), words(), at(0)) {
+        Ok(recovery) => Ok(recovery),
+        Err(_) => Err(Wrong::NoMemory),
+    }
+}
+
+/// Compares a reply with what its row wants.
+pub fn same(row: u64, reply: &Given, want: &Reply) -> Result<(), Wrong> {
+    if is(reply, want) {
+        Ok(())
+    } else if is(reply, &NO_MEMORY) {
+        Err(Wrong::Refused(row))
+    } else {
+        Err(Wrong::Row(row))
+    }
+}
+
+/// Compares replies with what their rows want, from row 0 on.
+pub fn compare(replies: &[Given], wanted: &[Reply]) -> Result<(), Wrong> {
+    if replies.len() != wanted.len() {
+        return Err(Wrong::Count);
+    }
+    let mut row = 0u64;
+    for (reply, want) in replies.iter().zip(wanted) {
+        same(row, reply, want)?;
+        row = row.saturating_add(1);
+    }
+    Ok(())
+}
+
+/// Lets one event happen, and compares the reply with what its row wants.
+pub fn told<R: Rng + Drop>(
+    recovery: &mut Recovery<NewRenoConfig, Tally, R>,
+    row: u64,
+    event: Event,
+    want: Reply,
+) -> Result<(), Wrong> {
+    let reply = recovery.apply(event);
+    same(row, &reply, &want)
+}
+
+/// Runs the events of rows, and compares the replies with what the rows want: what the run leaves.
+pub fn walk<const N: usize, F, R>(
+    alloc: Global,
+    config: RecoveryConfig<F>,
+    rng: R,
+    rows: [(Event, Reply); N],
+) -> Result<Recovery<F, Tally, R>, Wrong>
+where
+    F: ControllerFactory + Drop,
+    F::Controller: Drop,
+    R: Rng + Drop,
+    requires rows { N < 1000 }
+    requires issued { config.issued ≡ 1 }
+    requires skips { IsSkips config.skips }
+{
+    let mut events = Vec::new(alloc);
+    let mut wanted = Vec::new(alloc);
+    for (event, want) in rows {
+        if events.push(event).is_err() || wanted.push(want).is_err() {
+            return Err(Wrong::NoMemory);
+        }
+    }
+    match Recovery::run(alloc, config, rng, at(0), events) {
+        Ok((recovery, replies)) => match compare(replies.as_slice(), wanted.as_slice()) {
+            Ok(()) => Ok(recovery),
+            Err(wrong) => Err(wrong),
+        },
+        Err(_) => Err(Wrong::NoMemory),
+    }
+}
