@@ -531,7 +531,10 @@ impl<Q: RetransmitQueue> Model for PacketSpaces<Q> {
     ghost Value = { Spaces Q.Contents };
 
     ghost view = { λ spaces. record {
-        initial = spaces.initial; handshake = spaces.handshake; «data» = spaces.data } };
+      initial = spaces.initial;
+      handshake = spaces.handshake;
+      «data» = spaces.data;
+    } };
 }
 
 impl<Q> PacketSpaces<Q>
