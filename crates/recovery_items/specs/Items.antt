@@ -1,12 +1,6 @@
 -- The contents of a queue of item numbers: the items, in the order in which they came (RFC 9000, 13.3).
-use Rattle.std.specs.Prelude.{ℕ, List, [], ◌++◌, length, ◌==◌, Option, None, Some}
-use Rattle.std.specs.Global.{Vec}
+use Rattle.std.specs.Prelude.{ℕ, List, [], ◌++◌, length, ◌==◌}
 use Rattle.recovery_queue.specs.Queues.{QueueWords}
-
--- a queue with no vector has no items
-abbrev pub items_in : Option (Vec ℕ) → List ℕ
-items_in None = []
-items_in (Some items) = items.items
 
 -- those that come are put behind those that were there; streams are not asked
 abbrev pub item_words : {S : Type 0} → QueueWords (List ℕ) S

@@ -1,6 +1,6 @@
 //! A queue of item numbers.
 ghost use Rattle.std.specs.Prelude.{◌≡◌};
-ghost use Rattle.recovery_items.specs.Items.{item_words, items_in};
+ghost use Rattle.recovery_items.specs.Items.{item_words};
 
 use recovery_queue::queue::RetransmitQueue;
 use std::alloc::Global;
@@ -8,19 +8,18 @@ use std::marker::Model;
 
 /// The numbers of the items that a packet carries, in the order in which they came (RFC 9000, 13.3).
 ///
-/// Contracts see the list of the items: a queue with none is `[]`, whether it has memory or not.
+/// Contracts see the list of the items.
 #[derive(Drop)]
 pub struct ItemQueue {
-    items: Option<Vec<u64>>,
+    items: Vec<u64>,
 }
 
 impl Model for ItemQueue {
     ghost use Rattle.std.specs.Prelude.{ℕ, List};
-    ghost use Rattle.recovery_items.specs.Items.{items_in};
 
     ghost Value = { List ℕ };
 
-    ghost view = { λ queue. items_in queue.items };
+    ghost view = { λ queue. queue.items.items };
 }
 
 impl ItemQueue {
@@ -28,17 +27,14 @@ impl ItemQueue {
     pub fn from_items(items: Vec<u64>) -> Self
         ensures { result ≡ items.items }
     {
-        ItemQueue { items: Some(items) }
+        ItemQueue { items }
     }
 
     /// The items, in the order in which they came.
     pub fn items(&self) -> &[u64]
         ensures { result.now ≡ self.now }
     {
-        match &self.items {
-            Some(items) => items.as_slice(),
-            None => &[],
-        }
+        self.items.as_slice()
     }
 }
 
@@ -56,26 +52,25 @@ impl RetransmitQueue for ItemQueue {
 
     ghost words = { item_words };
 
-    fn empty(_alloc: Global) -> Self {
-        ItemQueue { items: None }
+    fn empty(alloc: Global) -> Self {
+        ItemQueue {
+            items: Vec::new(alloc),
+        }
     }
 
     fn is_empty(&self, _streams: &()) -> bool {
-        self.items().is_empty()
+        self.items.is_empty()
     }
 
     /// The other's items go behind these. Memory is asked for only where both queues have items.
     fn append(&mut self, mut other: Self) -> Result<(), Self> {
-        match (&mut self.items, &mut other.items) {
-            (_, None) => Ok(()),
-            (None, _) => {
-                *self = other;
-                Ok(())
-            }
-            (Some(items), Some(others)) => match items.append(others) {
-                Ok(()) => Ok(()),
-                Err(_) => Err(other),
-            },
+        if self.items.is_empty() {
+            *self = other;
+            return Ok(());
+        }
+        match self.items.append(&mut other.items) {
+            Ok(()) => Ok(()),
+            Err(_) => Err(other),
         }
     }
 

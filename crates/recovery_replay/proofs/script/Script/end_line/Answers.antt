@@ -1,11 +1,10 @@
-use Rattle.std.proofs.Common.{IsSomeAnd, ℕ, List, Option, refl, sym, subst}
-use Rattle.recovery_lines.specs.Lines.{ItemEvent, Spells, IsSame}
+use Rattle.std.proofs.Common.{refl, ap, ◌∙◌}
+use Rattle.recovery_replay.specs.declared.script.Script.{Script}
+use Rattle.recovery_replay.proofs.ScriptLaws.{taken_out}
 use Rattle.recovery_replay.proofs.script.Script.end_line.Goals as goal
 
-pub returns-in_default : goal.returns-in_default
-returns-in_default c = (
-  λ event spells.
-      subst (λ (read : Option ItemEvent). IsSomeAnd read (IsSame event)) c.in_default.is
-      (c.in_ok-event.ensures.only event (subst (λ (line : List ℕ). Spells line event) (sym c.deref.ensures.value) spells)),
-  refl,
-)
+pub returns : goal.returns
+returns c =
+    let mid : Script = record { events = c.args.self.now.events; line = c.replace-line.new.dest } in
+    taken_out c.deref.result.now c.args.self.now.line.items c.args.self.now mid c.end_whole.new.self c.end_whole.result
+    (c.deref.ensures.value ∙ ap (λ line. line.items) c.replace-line.ensures.value) refl c.end_whole.ensures
