@@ -62,6 +62,10 @@ impl RetransmitQueue for ItemQueue {
         self.items.is_empty()
     }
 
+    fn is_void(&self) -> bool {
+        self.items.is_empty()
+    }
+
     /// The other's items go behind these. Memory is asked for only where both queues have items.
     fn append(&mut self, mut other: Self) -> Result<(), Self> {
         if self.items.is_empty() {

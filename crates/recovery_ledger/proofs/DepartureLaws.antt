@@ -1,5 +1,5 @@
 -- A number that is acknowledged or lost was tracked, and then it is tracked no more: so it leaves once.
-use Rattle.std.proofs.Common.{◌≡◌, ℕ, ◌+◌, ◌≤◌, ◌==◌, ◌⊎◌, inl, inr, Bool, true, false, cond, List, [], ◌∷◌, Option, None, Some, refl, arith, eqb-true}
+use Rattle.std.proofs.Common.{◌≡◌, ℕ, ◌+◌, ◌≤◌, ◌==◌, ◌⊎◌, inl, inr, Bool, true, false, cond, List, [], ◌∷◌, Some, refl, arith, eqb-true}
 use Rattle.std.specs.Prelude.{sum_by}
 use Rattle.recovery_queue.specs.Queues.{QueueWords}
 use Rattle.recovery_ledger.specs.Departures.{one_if_same, departures, LeaveOnce}

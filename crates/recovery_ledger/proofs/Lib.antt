@@ -13,3 +13,4 @@ pub mod PacketLaws
 pub mod ProbeLaws
 pub mod ReceivedLaws
 pub mod SpaceLaws
+pub mod TrackedLaws

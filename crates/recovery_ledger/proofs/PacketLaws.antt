@@ -10,7 +10,7 @@ use Rattle.std.proofs.lemmas.Map.Lookups.{exact_unsigned}
 use Rattle.recovery_ledger.specs.Packets.{Packet, Packets, packet_at, without, without_some, with_contents, replaced, carrying, AreBelow, HasSize, is_above, is_silent_above, silent_above, least_number, forgotten_silent, forgotten_number, entry_at, entry_number, numbered}
 use Rattle.recovery_ledger.specs.Counts.{silent_count, eliciting_count, size_count}
 
-number_at : (number other : ℕ) → is_at (nat_cmp number) other ≡ true → other ≡ number
+pub number_at : (number other : ℕ) → is_at (nat_cmp number) other ≡ true → other ≡ number
 number_at number other e = sym (exact_unsigned number other ((Equal-is (nat_cmp number other)).0 e))
 
 at_itself : (number : ℕ) → is_at (nat_cmp number) number ≡ true
@@ -96,7 +96,7 @@ module _ {P : Type 0} where
   AllBelow-without_some packets None limit below = below
   AllBelow-without_some packets (Some number) limit below = AllBelow-without packets number limit below
 
-  AllBelow-replaced : (packets : Packets P) (number : ℕ) (packet : Packet P) (limit : ℕ) → AllBelow packets limit → AllBelow (replaced number (Some packet) packets) limit
+  pub AllBelow-replaced : (packets : Packets P) (number : ℕ) (packet : Packet P) (limit : ℕ) → AllBelow packets limit → AllBelow (replaced number (Some packet) packets) limit
   AllBelow-replaced [] number packet limit below = tt
   AllBelow-replaced (entry ∷ packets) number packet limit below = go (is_at (nat_cmp number) entry.0) (AllBelow-replaced packets number packet limit below.1)
     where

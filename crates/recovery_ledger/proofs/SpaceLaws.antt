@@ -15,7 +15,9 @@ use Rattle.recovery_ledger.specs.Probes.{ProbeFound, pending_stands, moves, noth
 use Rattle.recovery_ledger.specs.Queued.{Queued, marks_with, joined_with, has_other, pending_by, queued_by, IsSendable}
 use Rattle.recovery_ledger.specs.Received.{CameIn}
 use Rattle.recovery_ledger.specs.SpaceLog.{SpaceEntry, heard, heard_again, sends, acknowledged, loses, probes, takes_pending, feeds_back, emptied, ack_goes, ack_is_late, asked}
-use Rattle.recovery_ledger.specs.Spaces.{Space, tracking_of, queued_of, one_probe_more, space_probes, kept_of, acks_of, with_acks, sent_of, after_acknowledging, space_takes, next_number_of, heard_of, SpaceStep, AcksLeft, SpaceLeft}
+use Rattle.recovery_base.specs.declared.below.SpaceId.{SpaceId}
+use Rattle.recovery_base.specs.declared.below.SpaceId.TheVariants.{Initial, Handshake, Data}
+use Rattle.recovery_ledger.specs.Spaces.{Spaces, space_of, Space, tracking_of, queued_of, one_probe_more, space_probes, kept_of, acks_of, with_acks, sent_of, after_acknowledging, space_takes, next_number_of, heard_of, SpaceStep, AcksLeft, SpaceLeft}
 use Rattle.recovery_ledger.specs.Tracked.{Sent, sent_by, sent_more, sent_moved}
 use Rattle.recovery_ledger.proofs.HeardLaws.{none_is_some, waits_alike, heard_law, acknowledged_law, ack_goes_law, ack_is_late_law, asked_law}
 use Rattle.recovery_ledger.proofs.ReceivedLaws.{fails, came_greatest}
@@ -188,3 +190,9 @@ module _ {P S : Type 0} (words : QueueWords P S) where
         ap (λ (t : Tracking P). let s : Sent P = record { next = next_number_of fresh; last = t.last_eliciting; tracked = t.packets } in s) no_tracking
         ∙ ap (λ (n : ℕ). let s : Sent P = record { next = n; last = None; tracked = [] } in s) zero;
   }
+
+-- what holds of three spaces holds of each
+pub of_each : {P : Type 0} (Holds : Space P → Type 0) (spaces : Spaces P) → Holds spaces.initial → Holds spaces.handshake → Holds spaces.«data» → (space : SpaceId) → Holds (space_of space spaces)
+of_each {P} Holds spaces initial handshake other Initial = initial
+of_each {P} Holds spaces initial handshake other Handshake = handshake
+of_each {P} Holds spaces initial handshake other Data = other

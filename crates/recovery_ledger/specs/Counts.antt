@@ -1,6 +1,9 @@
 -- The counts that are kept beside the tracked packets.
-use Rattle.std.specs.Prelude.{◌≡◌, ℕ, ◌≤◌, ◌==◌, ◌&&◌, sum_by, Option, if◌then◌else◌}
-use Rattle.recovery_ledger.specs.Packets.{Packet, Packets, is_above, is_silent_above}
+use Rattle.std.specs.Prelude.{◌≡◌, ℕ, ◌^◌, ◌<◌, ◌≤◌, ◌==◌, ◌&&◌, sum_by, List, [], ◌∷◌, true, Option, if◌then◌else◌}
+use Rattle.recovery_slots.specs.declared.slots.Slot.{Slot}
+use Rattle.recovery_slots.specs.Slots.{entries_of, IsClosedUp}
+use Rattle.recovery_queue.specs.Queues.{QueueWords, IsVoid}
+use Rattle.recovery_ledger.specs.Packets.{Packet, Packets, AreBelow, is_above, is_silent_above}
 
 abbrev pub silent_count : {P : Type 0} → Option ℕ → ℕ × Packet P → ℕ
 silent_count last entry = if is_silent_above last entry then 1 else 0
@@ -19,3 +22,25 @@ pub record AreCounted {P : Type 0} (packets : Packets P) (last : Option ℕ)
   pub others : sum_by (eliciting_count last) packets ≡ 0
   pub sized_is : sized ≡ sum_by (λ entry. size_count entry.1) packets
   pub bound : silent ≤ 1001
+
+-- the packets above a number are not below another
+abbrev pub AreAboveFrom : {P : Type 0} → Option ℕ → ℕ → Packets P → Type 0
+AreAboveFrom last from [] = Unit {0}
+AreAboveFrom last from (entry ∷ packets) =
+    (is_above last entry.0 ≡ true → from ≤ entry.0) × AreAboveFrom last from packets
+
+-- the packets below a number have no contents, whatever they are asked with
+abbrev pub AreVoidBelow : {P S : Type 0} → QueueWords P S → ℕ → Packets P → Type 0
+AreVoidBelow words from [] = Unit {0}
+AreVoidBelow words from (entry ∷ packets) =
+    (entry.0 < from → IsVoid words entry.1.retransmits) × AreVoidBelow words from packets
+
+-- The packets are counted, their slots are closed up, and the silent ones and those with contents are found each from
+-- a number on.
+pub record AreTracked {P S : Type 0} (words : QueueWords P S) (slots : List (Slot (Packet P)))
+    (last : Option ℕ) (silent sized from filled_from : ℕ) : Type 0 where
+  pub counted : AreCounted (entries_of slots) last silent sized
+  pub closed : IsClosedUp slots
+  pub found : AreAboveFrom last from (entries_of slots)
+  pub small : AreBelow (entries_of slots) (2 ^ 64)
+  pub void : AreVoidBelow words filled_from (entries_of slots)

@@ -8,6 +8,7 @@ pub mod Ledger
 pub mod Lends
 pub mod Packets
 pub mod Paths
+pub mod Places
 pub mod Probes
 pub mod Queued
 pub mod Received

@@ -1,18 +1,20 @@
 //! The packets that a packet number space tracks (RFC 9002, A.1), by number.
-ghost use Rattle.std.specs.Prelude.{◌≡◌, Decides, ◌≤◌, [], ◌∷◌, IfOk, OnOk, OnErr, IfNone, MatchOption, length, filter};
+ghost use Rattle.std.specs.Prelude.{◌≡◌, Decides, ◌^◌, ◌<◌, ◌≤◌, [], ◌∷◌, IfSome, IfOk, OnOk, OnErr, IfNone, MatchOption, length, filter};
 ghost use Rattle.std.specs.Option.{is_some};
 ghost use Rattle.recovery_ledger.specs.Packets.{Tracking, no_packets, packet_at, AreBelow, IsAboveLast, HasSize, is_above, least_number, silent_in, forgotten_number, forgotten_entry, after_sending, after_taking, after_carrying, contents_or};
+ghost use Rattle.recovery_queue.specs.Queues.{IsVoid};
+ghost use Rattle.recovery_slots.specs.Slots.{entries_of};
+ghost use Rattle.recovery_ledger.specs.Places.{HasSlots, FindsPacket};
 ghost use Rattle.recovery_ledger.specs.Probes.{first_filled};
-ghost use Rattle.recovery_ledger.specs.Counts.{silent_count, size_count};
+ghost use Rattle.recovery_ledger.specs.Counts.{silent_count, size_count, AreAboveFrom, AreVoidBelow};
 
 use crate::spaces::SentPacket;
 use recovery_base::below::NoMemory;
 use recovery_queue::queue::RetransmitQueue;
+use recovery_slots::slots::SlotQueue;
 use std::alloc::Global;
-use std::collections::BTreeMap;
 use std::marker::Model;
 use std::mem;
-use std::ops::Bound;
 
 /// How many silent packets (RFC 9002, 2: not ack-eliciting) are tracked above the last ack-eliciting one: a peer need
 /// not acknowledge them (RFC 9000, 13.2.1), so that without a limit they would be kept for good. quinn-proto keeps 1000
@@ -20,23 +22,30 @@ use std::ops::Bound;
 pub const MAX_SILENT: u64 = 1001;
 
 /// Tracked packets in the order of their numbers, with what is known of them all.
+///
+/// The silent packets above the last ack-eliciting one are looked for from `silent_from` on: none stands below it, so
+/// that a slot which one of them left is passed over once. Packets with contents are looked for from `filled_from` on:
+/// those below have none, whatever they are asked with, and so are passed over once.
 #[derive(Drop)]
 pub struct SentPackets<Q: RetransmitQueue> {
-    packets: BTreeMap<u64, SentPacket<Q>>,
+    packets: SlotQueue<SentPacket<Q>>,
     last_eliciting: Option<u64>,
     silent: u64,
     sized: u64,
+    silent_from: u64,
+    filled_from: u64,
 }
 
 impl<Q: RetransmitQueue> Model for SentPackets<Q> {
+    ghost use Rattle.recovery_slots.specs.Slots.{entries_of};
     ghost use Rattle.recovery_ledger.specs.Packets.{Tracking};
-    ghost use Rattle.recovery_ledger.specs.Counts.{AreCounted};
+    ghost use Rattle.recovery_ledger.specs.Counts.{AreTracked};
 
     ghost Value = { Tracking Q.Contents };
 
-    ghost view = { λ a. record { packets = a.packets.entries; last_eliciting = a.last_eliciting } };
+    ghost view = { λ a. record { packets = entries_of a.packets; last_eliciting = a.last_eliciting } };
 
-    ghost invariant = { λ a. AreCounted a.packets.entries a.last_eliciting a.silent a.sized };
+    ghost invariant = { λ a. AreTracked Q.words a.packets a.last_eliciting a.silent a.sized a.silent_from a.filled_from };
 }
 
 impl<Q> SentPackets<Q>
@@ -48,11 +57,27 @@ where
         ensures { result ≡ no_packets }
     {
         SentPackets {
-            packets: BTreeMap::new(alloc),
+            packets: SlotQueue::new(alloc),
             last_eliciting: None,
             silent: 0,
             sized: 0,
+            silent_from: 0,
+            filled_from: 0,
         }
+    }
+
+    /// How many slots hold the packets, and were left empty by others.
+    pub fn slots(&self) -> usize
+        ensures { HasSlots self.now.packets result }
+    {
+        self.packets.len()
+    }
+
+    /// The place of a tracked packet, and how many slots were looked at for it.
+    pub fn find(&self, number: u64) -> (Option<usize>, u32)
+        ensures { FindsPacket self.now.packets number result }
+    {
+        self.packets.find(number)
     }
 
     /// The number of the last packet sent that elicits an ACK.
@@ -64,12 +89,13 @@ where
 
     /// The number that is forgotten when a packet is sent.
     fn forgotten(&self, packet: &SentPacket<Q>) -> Option<u64>
-        ensures { result ≡ forgotten_number self.now.last_eliciting packet.now self.now.packets }
+        ensures number { result ≡ forgotten_number self.now.last_eliciting packet.now self.now.packets }
+        ensures least { IfSome result (λ least. AreAboveFrom self.now.last_eliciting least self.now.packets) }
     {
         if packet.ack_eliciting || self.silent < MAX_SILENT {
             return None;
         }
-        first_above(&self.packets, self.last_eliciting)
+        first_silent(&self.packets, self.last_eliciting, self.silent_from)
     }
 
     /// Tracks a packet with a number above all others. A silent packet past the limit makes the least silent one be
@@ -89,10 +115,11 @@ where
         let least = self.forgotten(&packet);
         let is_eliciting = packet.ack_eliciting;
         let count = size_count(&packet);
-        // For the prover: that a length was read bounds the counts, which are at most that.
-        let _len = self.packets.len();
-        self.packets.insert(number, packet)?;
+        // For the prover: that a count was read bounds the others, which are at most that.
+        let _filled = self.packets.filled();
+        self.packets.push(number, packet)?;
         self.sized += count;
+        self.filled_from = self.filled_from.min(number);
         if is_eliciting {
             self.last_eliciting = Some(number);
             self.silent = 0;
@@ -100,11 +127,13 @@ where
         }
         let Some(least) = least else {
             self.silent += 1;
+            self.silent_from = self.silent_from.min(number);
             return Ok(None);
         };
-        let Some(gone) = self.packets.remove(&least) else {
+        let Some(gone) = self.packets.take(least) else {
             unreachable!();
         };
+        self.silent_from = least;
         self.sized -= size_count(&gone);
         Ok(Some((least, gone)))
     }
@@ -115,7 +144,7 @@ where
         ensures after { self.new ≡ after_taking number self.old }
         ensures none { IfNone result (self.new ≡ self.old) }
     {
-        let packet = self.packets.remove(&number)?;
+        let packet = self.packets.take(number)?;
         self.silent -= silent_count(self.last_eliciting, number, &packet);
         self.sized -= size_count(&packet);
         Some(packet)
@@ -141,20 +170,27 @@ where
         ensures queue { Q.contents queue.new
             ≡ contents_or (Q.contents queue.old) (packet_at self.old.packets number) }
     {
-        match self.packets.get_mut(&number) {
-            Some(packet) => {
-                mem::swap(&mut packet.retransmits, queue);
-                true
-            }
-            None => false,
-        }
+        let Some(place) = self.packets.find(number).0 else {
+            return false;
+        };
+        let Some(mut packet) = self.packets.replace(place, None) else {
+            unreachable!();
+        };
+        self.filled_from = filled_with(self.filled_from, number, queue);
+        mem::swap(&mut packet.retransmits, queue);
+        self.packets.replace(place, Some(packet));
+        true
     }
 
-    /// The least number of a packet whose queue has something to be sent. Cost: linear in the packets tracked.
-    pub fn first_filled(&self, streams: &Q::Streams) -> Option<u64>
-        ensures { result ≡ first_filled Q.words streams.now self.now.packets }
+    /// The least number of a packet whose queue has something to be sent. Cost: logarithmic in the packets tracked, beside
+    /// those that are passed over: a packet that is known to have nothing is passed over once.
+    pub fn first_filled(&mut self, streams: &Q::Streams) -> Option<u64>
+        ensures number { result ≡ first_filled Q.words streams.now self.old.packets }
+        ensures unchanged { self.new ≡ self.old }
     {
-        first_filled(&self.packets, streams)
+        let (found, from) = first_filled(&self.packets, self.filled_from, streams);
+        self.filled_from = from;
+        found
     }
 
     /// Whether some packet has a size. Constant cost.
@@ -187,34 +223,60 @@ fn silent_count<Q: RetransmitQueue>(last: Option<u64>, number: u64, packet: &Sen
     }
 }
 
-/// The least number above another, or of all where there is no other.
-fn first_above<Q: RetransmitQueue>(
-    packets: &BTreeMap<u64, SentPacket<Q>>,
-    last: Option<u64>,
-) -> Option<u64>
-    ensures { result ≡ least_number (filter (λ entry. is_above last entry.0) packets.now.entries) }
+/// The least number above another, or of all where there is no other. None of those stands below `from`.
+fn first_silent<Q>(packets: &SlotQueue<SentPacket<Q>>, last: Option<u64>, from: u64) -> Option<u64>
+where
+    Q: RetransmitQueue + Drop,
+    Q::Meta: Drop,
+    requires found { AreAboveFrom last from (entries_of packets.now) }
+    requires small { AreBelow (entries_of packets.now) (2 ^ 64) }
+    ensures first { result ≡ least_number (filter (λ entry. is_above last entry.0) (entries_of packets.now)) }
+    ensures least { IfSome result (λ least. AreAboveFrom last least (entries_of packets.now)) }
 {
-    let least = match last {
-        Some(last) => Bound::Excluded(last),
-        None => Bound::Unbounded,
-    };
-    match packets.range((least, Bound::Unbounded)).next() {
-        Some((number, _)) => Some(*number),
-        None => None,
+    match last {
+        Some(last) => packets.first_from(last.checked_add(1)?.max(from)),
+        None => packets.first_from(from),
     }
 }
 
-/// The least number of a packet whose queue has something to be sent.
-fn first_filled<Q: RetransmitQueue>(
-    packets: &BTreeMap<u64, SentPacket<Q>>,
-    streams: &Q::Streams,
-) -> Option<u64>
-    ensures { result ≡ first_filled Q.words streams.now packets.now.entries }
+/// Below which number no packet has contents, once the packet of a number has these.
+fn filled_with<Q: RetransmitQueue>(from: u64, number: u64, queue: &Q) -> u64
+    ensures below { result ≤ from }
+    ensures void { number < result → IsVoid Q.words (Q.contents queue.now) }
 {
-    for (number, packet) in packets.iter() {
+    if queue.is_void() {
+        from
+    } else {
+        from.min(number)
+    }
+}
+
+/// The least number of a packet whose queue has something to be sent, and a number below which no packet has anything,
+/// whatever it is asked with. None has below `from`.
+fn first_filled<Q>(
+    packets: &SlotQueue<SentPacket<Q>>,
+    mut from: u64,
+    streams: &Q::Streams,
+) -> (Option<u64>, u64)
+where
+    Q: RetransmitQueue + Drop,
+    Q::Meta: Drop,
+    requires { AreVoidBelow Q.words from (entries_of packets.now) }
+    ensures number { result.0 ≡ first_filled Q.words streams.now (entries_of packets.now) }
+    ensures void { AreVoidBelow Q.words result.1 (entries_of packets.now) }
+{
+    let mut are_void = true;
+    for place in packets.place_from(from)..packets.len() {
+        let Some((number, packet)) = packets.get(place) else {
+            continue;
+        };
+        if are_void {
+            from = number;
+            are_void = packet.retransmits.is_void();
+        }
         if !packet.retransmits.is_empty(streams) {
-            return Some(*number);
+            return (Some(number), from);
         }
     }
-    None
+    (None, from)
 }

@@ -8,6 +8,7 @@ ghost use Rattle.recovery_base.specs.Received.{Has};
 ghost use Rattle.recovery_acks.specs.Acks.{new_acks};
 ghost use Rattle.recovery_ledger.specs.Kept.{kept_by};
 ghost use Rattle.recovery_ledger.specs.Packets.{AreBelow, IsAboveLast, HasSize, IsTooLarge, silent_in, no_packets, packet_at, with_contents, forgotten_entry, after_sending};
+ghost use Rattle.recovery_ledger.specs.Places.{HasSlots, FindsPacket};
 ghost use Rattle.recovery_ledger.specs.Probes.{Moves, probe_found};
 ghost use Rattle.recovery_ledger.specs.Queued.{IsSendable, queued_by, no_ecn};
 ghost use Rattle.recovery_ledger.specs.SpaceLog.{loses, probes, takes_pending, feeds_back};
@@ -297,8 +298,8 @@ where
 
     /// Tracks a packet under a number above all that were sent. A silent one (RFC 9002, 2: it elicits no ACK) makes the
     /// space forget the least of 1001 silent packets that are tracked above the last one that elicits an ACK: that one
-    /// is handed back with its number. After `NoMemory` the space is as it was, and the packet dropped. Cost:
-    /// logarithmic in the packets tracked.
+    /// is handed back with its number. After `NoMemory`, which comes only where a slot was refused, the space is as it was, and
+    /// the packet dropped. Cost: constant over all calls, but for a forgotten packet that of `take`.
     pub fn sent(
         &mut self,
         number: u64,
@@ -315,7 +316,25 @@ where
         self.sent_packets.insert(number, packet)
     }
 
-    /// Takes out the packet of a number, if it is tracked. Cost: logarithmic in the packets tracked.
+    /// How many slots stand for the tracked packets: a packet that is taken leaves its slot empty. At most 64 are empty beside
+    /// as many as there are packets: past that they are closed up in place. Constant cost.
+    pub fn slots(&self) -> usize
+        ensures { HasSlots (packets_of self.now) result }
+    {
+        self.sent_packets.slots()
+    }
+
+    /// The place of the packet of a number among the slots, `None` where it is not tracked, and how many slots were looked
+    /// at: at most as many as the count of slots has binary digits.
+    pub fn find(&self, number: u64) -> (Option<usize>, u32)
+        ensures { FindsPacket (packets_of self.now) number result }
+    {
+        self.sent_packets.find(number)
+    }
+
+    /// Takes out the packet of a number, if it is tracked. It takes no memory. Cost: that of `find`, and constant beside it
+    /// over all calls: empty slots are closed up once there are more than 64 beside as many as there are packets, so that
+    /// at least half as many packets were taken since the last time as slots are gone over.
     pub fn take(&mut self, number: u64) -> Option<SentPacket<Q>>
         ensures packet { result ≡ packet_at (packets_of self.old) number }
         ensures after { self.new ≡ space_takes number self.old }
@@ -324,7 +343,7 @@ where
         self.sent_packets.remove(number)
     }
 
-    /// Takes out the packet with the least number, if any is tracked. Cost: logarithmic in the packets tracked.
+    /// Takes out the packet with the least number, if any is tracked. It takes no memory. Cost as of `take`.
     pub fn take_first(&mut self) -> Option<(u64, SentPacket<Q>)>
         ensures first { MatchOption result (packets_of self.old ≡ [])
             (λ entry. packets_of self.old ≡ entry ∷ packets_of self.new) }
@@ -419,7 +438,8 @@ where
     /// Looks for contents to be sent with a probe, where one is to be sent (RFC 9002, 6.2.4): what is pending serves;
     /// else the contents of the first packet by number that has some are moved to the pending ones; else a PING is
     /// marked, unless the peer is to be asked for an ACK at once. `request_immediate_ack` marks that it is. `NoMemory`,
-    /// only where contents are to be moved, changes nothing. Cost: linear in the packets tracked.
+    /// only where contents are to be moved, changes nothing. Cost: that of `find`, beside the packets that are passed over:
+    /// one that is known to have nothing (`RetransmitQueue::is_void`) once, another each time.
     pub fn maybe_queue_probe(
         &mut self,
         request_immediate_ack: bool,

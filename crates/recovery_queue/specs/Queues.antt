@@ -8,6 +8,10 @@ pub record QueueWords (P S : Type 0) : Type 0 where
   pub joined : P → P → P
   pub is_empty : P → S → Bool
 
+-- contents that are seen to be empty, whatever they are asked with
+abbrev pub IsVoid : {P S : Type 0} → QueueWords P S → P → Type 0
+IsVoid {P} {S} words contents = (s : S) → words.is_empty contents s ≡ true
+
 -- the empty contents add nothing on either side, and are seen to be empty
 pub record QueueLaws {P S : Type 0} (words : QueueWords P S) : Type 0 where
   pub unit_left : (p : P) → words.joined words.empty p ≡ p

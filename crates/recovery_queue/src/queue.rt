@@ -1,6 +1,6 @@
 //! Queues of what is sent again.
-ghost use Rattle.std.specs.Prelude.{◌≡◌, OnOk, OnErr, IfErr};
-ghost use Rattle.recovery_queue.specs.Queues.{QueueWords, QueueLaws};
+ghost use Rattle.std.specs.Prelude.{◌≡◌, IsTrue, OnOk, OnErr, IfErr};
+ghost use Rattle.recovery_queue.specs.Queues.{QueueWords, QueueLaws, IsVoid};
 
 use std::alloc::Global;
 
@@ -30,6 +30,14 @@ pub trait RetransmitQueue: Sized {
     /// Whether nothing is to be sent.
     fn is_empty(&self, streams: &Self::Streams) -> bool
         ensures { result ≡ words.is_empty (contents self.now) streams.now };
+
+    /// Whether nothing is to be sent, whatever `is_empty` is asked with. `false` may be answered always: then a probe
+    /// looks at the queue again each time, where one that is known to be void is passed over once.
+    fn is_void(&self) -> bool
+        ensures { IsTrue result → IsVoid words (contents self.now) }
+    {
+        false
+    }
 
     /// Joins the contents of another queue to these, as when its packet is lost.
     ///

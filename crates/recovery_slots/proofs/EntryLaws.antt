@@ -1,5 +1,5 @@
 -- What is filed, as slots are replaced, dropped and closed up, and from a number on.
-use Rattle.std.proofs.Common.{◌≡◌, ◌≢◌, ℕ, zero, suc, ◌+◌, ◌-◌, ◌*◌, ◌^◌, ◌<◌, ◌≤◌, Bool, true, false, not, cond, nat_lt, ◌==◌, List, [], ◌∷◌, ◌++◌, length, set, drop, filter, Option, None, Some, refl, sym, ap, subst, ◌∙◌, arith, get_or, lt-ltb, le-ltb, append-nil, length-append, reverse, MatchOption, IfNone, inl, inr, ◌⊎◌}
+use Rattle.std.proofs.Common.{◌≡◌, ℕ, zero, suc, ◌+◌, ◌*◌, ◌^◌, ◌<◌, ◌≤◌, Bool, true, false, not, cond, nat_lt, ◌==◌, List, [], ◌∷◌, ◌++◌, length, set, drop, filter, Option, None, Some, refl, sym, ap, subst, ◌∙◌, arith, get_or, lt-ltb, le-ltb, append-nil, length-append, reverse, MatchOption, IfNone, inl, inr, ◌⊎◌}
 use mir.Val.{bool_byte}
 use Rattle.std.specs.Option.{is_some, option_to_list}
 use Rattle.std.specs.Ordering.{nat_cmp}
@@ -8,7 +8,7 @@ use Rattle.std.specs.Map.{lookup, remove_entry, set_value}
 use Rattle.std.proofs.lemmas.Bool.{cases_lt}
 use Rattle.std.proofs.lemmas.List.{set_at, set-set, length-set, get_or-set_same, reverse-append}
 use Rattle.recovery_slots.specs.declared.slots.Slot.{Slot}
-use Rattle.recovery_slots.specs.Slots.{filed, entries_of, item_at, AreRising, IsSlotAt, Divides, IsHeldAt, IsAboveAll, IsFrontEmpty, IsBackFrom, Replaces, Finds, is_filled, is_from, first_number}
+use Rattle.recovery_slots.specs.Slots.{filed, entries_of, item_at, AreRising, IsSlotAt, Divides, IsHeldAt, IsAboveAll, IsFrontEmpty, IsBackFrom, Replaces, Finds, is_filled, is_from, first_number, AreFrom}
 use Rattle.recovery_slots.proofs.SlotLaws.{at_itself, slot_at, slot_within, one_slot}
 
 abbrev pub one_if : Bool → ℕ
@@ -310,15 +310,6 @@ module _ {T : Type 0} where
       at_most true = omega arith
       at_most false = omega arith
 
-  pub first_of : (slot : Slot T) (item : T) (entries : List (ℕ × T)) → first_number (filed slot.number (Some item) entries) ≡ Some slot.number
-  first_of slot item entries = refl
-
-  -- an empty slot is passed over
-  pub first_dropped : (slots : List (Slot T)) (place : ℕ) (slot : Slot T) → IsSlotAt slots place slot → slot.item ≡ None → first_number (entries_of (drop place slots)) ≡ first_number (entries_of (drop (place + 1) slots))
-  first_dropped slots place slot at empty =
-      ap (λ (ss : List (Slot T)). first_number (entries_of ss)) (drop_slot slots place slot at)
-      ∙ ap (λ (i : Option T). first_number (filed slot.number i (entries_of (drop (place + 1) slots)))) empty
-
   pub tail_empty : (old new : List (Slot T)) (popped : Option (Slot T)) → old ≡ option_to_list popped ++ new → IsFrontEmpty old → entries_of new ≡ entries_of old
   tail_empty old new None is empty = ap entries_of (sym is)
   tail_empty old new (Some slot) is empty = entries_tail slot new (subst IsFrontEmpty is empty) ∙ ap entries_of (sym is)
@@ -441,14 +432,14 @@ module _ {T : Type 0} where
       let mid_is = first.left ∙ ap (λ (s : Slot T). set old place (record { number = s.number; item = None })) same in
       let within = slot_within old place first.slot first.at in
       let there = slot_at mid place (record { number = number; item = None })
-          (let len = ap (λ (ss : List (Slot T)). length ss) mid_is in let kept = length-set old place (record { number = number; item = None }) in omega (arith, len, kept, within))
-          (sym (ap (λ (ss : List (Slot T)). get_or ss place (record { number = number; item = None })) mid_is ∙ get_or-set_same old place (record { number = number; item = None }) (record { number = number; item = None }) within)) in
+      (let len = ap (λ (ss : List (Slot T)). length ss) mid_is in let kept = length-set old place (record { number = number; item = None }) in omega (arith, len, kept, within))
+      (sym (ap (λ (ss : List (Slot T)). get_or ss place (record { number = number; item = None })) mid_is ∙ get_or-set_same old place (record { number = number; item = None }) (record { number = number; item = None }) within)) in
       let slot = one_slot mid place second.slot (record { number = number; item = None }) second.at there in
       ap entries_of (
-        second.left
-        ∙ ap (λ (s : Slot T). set mid place (record { number = s.number; item = Some other })) slot
-        ∙ ap (λ (ss : List (Slot T)). set ss place (record { number = number; item = Some other })) mid_is
-        ∙ set-set old place (record { number = number; item = None }) (record { number = number; item = Some other }))
+      second.left
+      ∙ ap (λ (s : Slot T). set mid place (record { number = s.number; item = Some other })) slot
+      ∙ ap (λ (ss : List (Slot T)). set ss place (record { number = number; item = Some other })) mid_is
+      ∙ set-set old place (record { number = number; item = None }) (record { number = number; item = Some other }))
       ∙ entries_changed old number place item held other
 
   pub replaced_length : (old new : List (Slot T)) (place : ℕ) (item found : Option T) → Replaces old place item found new → length new ≡ length old
@@ -515,3 +506,35 @@ module _ {T : Type 0} where
 
           at : is_at (nat_cmp number) entry.0 ≡ true
           at = ap (λ (n : ℕ). is_at (nat_cmp number) n) (sym (same number entry.0 e)) ∙ at_itself number
+
+  pub entries_dropped : (slots : List (Slot T)) (place : ℕ) (slot : Slot T) → IsSlotAt slots place slot → slot.item ≡ None → entries_of (drop place slots) ≡ entries_of (drop (place + 1) slots)
+  entries_dropped slots place slot at empty =
+      ap (λ (ss : List (Slot T)). entries_of ss) (drop_slot slots place slot at)
+      ∙ ap (λ (i : Option T). filed slot.number i (entries_of (drop (place + 1) slots))) empty
+
+  all_slots_from : (slots : List (Slot T)) (number : ℕ) → ((p : ℕ) (slot : Slot T) → IsSlotAt slots p slot → number ≤ slot.number) → AreFrom number (entries_of slots)
+  all_slots_from [] number all = tt
+  all_slots_from (slot ∷ slots) number all = go slot.item (all_slots_from slots number (λ p s at. all (suc p) s at))
+    where
+      go : (item : Option T) → AreFrom number (entries_of slots) → AreFrom number (filed slot.number item (entries_of slots))
+      go None later = later
+      go (Some item) later = (all zero slot refl, later)
+
+  -- what stands from the place of a number on is not below it
+  pub are_from : (slots : List (Slot T)) (number place : ℕ) → Divides slots number place → AreFrom number (entries_of (drop place slots))
+  are_from slots number zero divides = all_slots_from slots number (λ p slot at. divides.above p slot at (omega arith))
+  are_from [] number (suc place) divides = tt
+  are_from (slot ∷ slots) number (suc place) divides = are_from slots number place (record {
+    below = λ p s at under. divides.below (suc p) s at (omega (arith, under));
+    above = λ p s at over. divides.above (suc p) s at (omega (arith, over));
+  })
+
+  -- past the last slot nothing is filed
+  pub none_from : (slots : List (Slot T)) (entries : List (ℕ × T)) (place : ℕ) → length slots ≤ place → entries_of (drop place slots) ≡ entries → None ≡ first_number entries
+  none_from slots entries place past is = sym (ap first_number (sym is) ∙ ap (λ (ss : List (Slot T)). first_number (entries_of ss)) (none_behind slots place past))
+    where
+      none_behind : (ss : List (Slot T)) (p : ℕ) → length ss ≤ p → drop p ss ≡ []
+      none_behind [] zero le = refl
+      none_behind [] (suc p) le = refl
+      none_behind (s ∷ ss) zero le = absurd (omega (arith, le))
+      none_behind (s ∷ ss) (suc p) le = none_behind ss p (omega (arith, le))

@@ -1,5 +1,5 @@
 -- A queue of slots in the order of their numbers: what is filed in it, and what is found in it.
-use Rattle.std.specs.Prelude.{◌≡◌, ◌≢◌, ℕ, ◌+◌, ◌*◌, ◌^◌, ◌<◌, ◌≤◌, zero, suc, List, [], ◌∷◌, ◌++◌, length, Option, None, Some, MatchOption, set, slice_index_or, Bool, true, false, not, nat_lt}
+use Rattle.std.specs.Prelude.{◌≡◌, ℕ, ◌+◌, ◌*◌, ◌^◌, ◌<◌, ◌≤◌, zero, suc, List, [], ◌∷◌, ◌++◌, length, Option, None, Some, MatchOption, set, Bool, not, nat_lt}
 use Rattle.std.specs.Ordering.{nat_cmp}
 use Rattle.std.specs.BTreeMap.{is_at}
 use Rattle.std.specs.Map.{lookup}
@@ -106,3 +106,8 @@ is_from number entry = not (nat_lt entry.0 number)
 abbrev pub first_number : {T : Type 0} → List (ℕ × T) → Option ℕ
 first_number [] = None
 first_number (entry ∷ entries) = Some entry.0
+
+-- no number is below another
+abbrev pub AreFrom : {T : Type 0} → ℕ → List (ℕ × T) → Type 0
+AreFrom limit [] = Unit {0}
+AreFrom limit (entry ∷ entries) = (limit ≤ entry.0) × AreFrom limit entries

@@ -4,7 +4,7 @@ ghost use Rattle.std.specs.VecDeque.{deque_len, deque_capacity};
 ghost use Rattle.std.specs.Ordering.{nat_cmp};
 ghost use Rattle.std.specs.BTreeMap.{is_at};
 ghost use Rattle.std.specs.Map.{remove_entry};
-ghost use Rattle.recovery_slots.specs.Slots.{entries_of, item_at, AreRising, IsSlotAt, Divides, Encloses, IsHeldAt, IsEmptyAt, IsAboveAll, IsClosedUp, IsFrontEmpty, IsBackFrom, Replaces, Rises, Finds, IsWithinDigits, first_number, is_filled, is_from};
+ghost use Rattle.recovery_slots.specs.Slots.{entries_of, item_at, AreRising, IsSlotAt, Divides, Encloses, IsHeldAt, IsEmptyAt, IsAboveAll, IsClosedUp, IsFrontEmpty, IsBackFrom, Replaces, Rises, Finds, IsWithinDigits, AreFrom, first_number, is_filled, is_from};
 
 use std::alloc::{AllocError, Global};
 use std::collections::VecDeque;
@@ -71,7 +71,8 @@ impl<T: Drop> SlotQueue<T> {
 
     /// How many slots are filled.
     pub fn filled(&self) -> usize
-        ensures { result ≡ length (entries_of self.now) }
+        ensures count { result ≡ length (entries_of self.now) }
+        ensures few { length (entries_of self.now) < 2 ^ 63 }
     {
         self.filled
     }
@@ -79,8 +80,9 @@ impl<T: Drop> SlotQueue<T> {
     /// What is filed in the slot at a place, under which number.
     pub fn get(&self, place: usize) -> Option<(u64, &T)>
         requires { place < length self.now }
-        ensures { MatchOption result (IsEmptyAt self.now place)
+        ensures slot { MatchOption result (IsEmptyAt self.now place)
             (λ found. IsSlotAt self.now place (record { number = found.0; item = Some found.1.now })) }
+        ensures divides { IfSome result (λ found. Divides self.now found.0 place) }
     {
         let slot = &self.slots[place];
         match &slot.item {
@@ -159,7 +161,8 @@ impl<T: Drop> SlotQueue<T> {
 
     /// The first place whose number is not below this one; where there is none, how many slots there are, or more.
     pub fn place_from(&self, number: u64) -> usize
-        ensures { entries_of (drop result self.now) ≡ filter (is_from number) (entries_of self.now) }
+        ensures entries { entries_of (drop result self.now) ≡ filter (is_from number) (entries_of self.now) }
+        ensures divides { Divides self.now number result }
     {
         let mut looks = Looks { count: 0 };
         match self.search(number, &mut looks) {
@@ -226,7 +229,8 @@ impl<T: Drop> SlotQueue<T> {
 
     /// The first number under which something is filed, from another on.
     pub fn first_from(&self, number: u64) -> Option<u64>
-        ensures { result ≡ first_number (filter (is_from number) (entries_of self.now)) }
+        ensures first { result ≡ first_number (filter (is_from number) (entries_of self.now)) }
+        ensures lowest { IfSome result (λ found. AreFrom found (filter (is_from number) (entries_of self.now))) }
     {
         for place in self.place_from(number)..self.len() {
             if let Some((found, _)) = self.get(place) {

@@ -1,4 +1,4 @@
-use Rattle.std.proofs.Common.{◌≤◌, length, arith, sym, ap, subst, ◌∙◌}
+use Rattle.std.proofs.Common.{arith, sym, subst, ◌∙◌}
 use Rattle.recovery_slots.specs.Slots.{entries_of}
 use Rattle.recovery_slots.proofs.EntryLaws.{AllUnder, all_under, cut_empty, cut_rises, popped_len, rises_to, not_both}
 use Rattle.recovery_slots.proofs.slots.cut_back.Goals as goal

@@ -1,4 +1,4 @@
-use Rattle.std.proofs.Common.{arith, length, ◌<◌}
+use Rattle.std.proofs.Common.{arith}
 use Rattle.recovery_slots.proofs.EntryLaws.{first_fits, not_empty}
 use Rattle.recovery_slots.proofs.slots.first_with.Goals as goal
 

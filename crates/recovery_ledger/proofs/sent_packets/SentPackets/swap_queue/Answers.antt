@@ -1,23 +1,37 @@
-use Rattle.std.proofs.Common.{sym, ap}
+use Rattle.std.proofs.Common.{ap, ◌∙◌}
 use Rattle.recovery_ledger.specs.Packets.{Packet, with_contents}
-use Rattle.recovery_ledger.proofs.CountLaws.{counted_written}
+use Rattle.recovery_ledger.proofs.TrackedLaws.{exchanged, exchanged_some, tracked_carrying, carried, carried_found, carried_queue}
 use Rattle.recovery_ledger.proofs.sent_packets.SentPackets.swap_queue.Goals as goal
-use Rattle.recovery_ledger.proofs.sent_packets.SentPackets.swap_queue.Goals.{in-Some, in-None}
+
+pub unreachable-requires : goal.unreachable-requires
+unreachable-requires g c = exchanged_some c.self.inside.packets c.replace.new.self c.args.number c.in-Some.place c.find.result c.replace.result c.find.ensures c.in-Some.is c.replace.ensures c.in_default-replace.is
 
 pub invariant_of-self : goal.invariant_of-self
 invariant_of-self g c =
-    elim c.match-get_mut.branch [
-      | in-Some w ↦
-          let inside = w.packet.inside in
-          let found = c.get_mut.ensures.value in
-          let value : Packet g.row.Q-Contents.Denot = record {
-            path_generation = inside.path_generation;
-            time_sent = inside.time_sent;
-            size = inside.size;
-            ack_eliciting = inside.ack_eliciting;
-            largest_acked = inside.largest_acked;
-            retransmits = g.Q.RetransmitQueue.contents w.swap.new.x;
-          } in
-          rw w.self-inside-is (counted_written _ _ _ _ _ c.self.invariant c.args.number w.in-Some.packet.now value (g.Q.RetransmitQueue.contents w.swap.new.x) (sym (rw w.in-Some.is at found)) (ap (with_contents (g.Q.RetransmitQueue.contents w.swap.new.x)) w.packet.view_is) (c.get_mut.follows.holds value).0)
-      | in-None w ↦ rw (w.self-inside-is, c.get_mut.follows.holds-at-none) c.self.invariant
-    ]
+    let contents = g.Q.RetransmitQueue.contents in
+    let done = exchanged c.self.inside.packets c.replace.new.self c.replace-2.new.self c.args.number c.in-Some.place c.find.result c.in-Some-replace.packet _ c.replace.result c.replace-2.result (contents c.args.queue.now) c.find.ensures c.in-Some.is c.replace.ensures c.in-Some-replace.is c.replace-2.ensures
+    (ap (with_contents (contents c.swap.new.x)) c.packet.view_is ∙ ap (λ (q : g.row.Q.Denot). with_contents (contents q) c.in-Some-replace.packet) c.swap.ensures.x_after) in
+    tracked_carrying g.Q.RetransmitQueue.words c.self.inside.packets c.replace-2.new.self c.self.inside.last_eliciting c.self.inside.silent c.self.inside.sized c.self.inside.silent_from c.self.inside.filled_from c.filled_with-self-inside.result c.self.invariant c.args.number c.in-Some-replace.packet
+    (contents c.args.queue.now) done.found done.entries done.kept c.filled_with-self-inside.ensures.below c.filled_with-self-inside.ensures.void
+
+pub returns-clause-found : goal.returns-clause-found
+returns-clause-found g c =
+    let contents = g.Q.RetransmitQueue.contents in
+    let done = exchanged c.self.inside.packets c.replace.new.self c.replace-2.new.self c.args.number c.in-Some.place c.find.result c.in-Some-replace.packet _ c.replace.result c.replace-2.result (contents c.args.queue.now) c.find.ensures c.in-Some.is c.replace.ensures c.in-Some-replace.is c.replace-2.ensures
+    (ap (with_contents (contents c.swap.new.x)) c.packet.view_is ∙ ap (λ (q : g.row.Q.Denot). with_contents (contents q) c.in-Some-replace.packet) c.swap.ensures.x_after) in
+    carried_found c.self.inside.packets c.replace-2.new.self c.self.inside.last_eliciting c.args.self.now c.args.number c.in-Some-replace.packet (contents c.args.queue.now) done c.self.view_is
+
+pub returns-clause-after : goal.returns-clause-after
+returns-clause-after g c =
+    let contents = g.Q.RetransmitQueue.contents in
+    let done = exchanged c.self.inside.packets c.replace.new.self c.replace-2.new.self c.args.number c.in-Some.place c.find.result c.in-Some-replace.packet _ c.replace.result c.replace-2.result (contents c.args.queue.now) c.find.ensures c.in-Some.is c.replace.ensures c.in-Some-replace.is c.replace-2.ensures
+    (ap (with_contents (contents c.swap.new.x)) c.packet.view_is ∙ ap (λ (q : g.row.Q.Denot). with_contents (contents q) c.in-Some-replace.packet) c.swap.ensures.x_after) in
+    carried c.self.inside.packets c.replace-2.new.self c.self.inside.last_eliciting c.args.self.now c.args.number c.in-Some-replace.packet (contents c.args.queue.now) done c.self.view_is
+
+pub returns-clause-queue : goal.returns-clause-queue
+returns-clause-queue g c =
+    let contents = g.Q.RetransmitQueue.contents in
+    let done = exchanged c.self.inside.packets c.replace.new.self c.replace-2.new.self c.args.number c.in-Some.place c.find.result c.in-Some-replace.packet _ c.replace.result c.replace-2.result (contents c.args.queue.now) c.find.ensures c.in-Some.is c.replace.ensures c.in-Some-replace.is c.replace-2.ensures
+    (ap (with_contents (contents c.swap.new.x)) c.packet.view_is ∙ ap (λ (q : g.row.Q.Denot). with_contents (contents q) c.in-Some-replace.packet) c.swap.ensures.x_after) in
+    ap contents c.swap.ensures.y_after ∙ ap (λ (p : Packet g.row.Q-Contents.Denot). p.retransmits) c.packet.view_is
+    ∙ carried_queue c.self.inside.packets c.replace-2.new.self c.self.inside.last_eliciting c.args.self.now c.args.number c.in-Some-replace.packet (contents c.args.queue.now) done c.self.view_is (contents c.args.queue.now)

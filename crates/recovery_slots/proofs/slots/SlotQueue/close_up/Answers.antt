@@ -1,6 +1,5 @@
-use Rattle.std.proofs.Common.{◌≡◌, ◌+◌, length, List, sym, ap, subst, ◌∙◌, arith}
-use Rattle.recovery_slots.specs.declared.slots.Slot.{Slot}
-use Rattle.recovery_slots.specs.Slots.{entries_of, AreRising}
+use Rattle.std.proofs.Common.{◌+◌, length, sym, ap, ◌∙◌, arith}
+use Rattle.recovery_slots.specs.Slots.{entries_of}
 use Rattle.recovery_slots.proofs.EntryLaws.{filled_fits, filled_within, kept_entries, kept_rises, closed_kept}
 use Rattle.recovery_slots.proofs.slots.SlotQueue.close_up.Goals as goal
 

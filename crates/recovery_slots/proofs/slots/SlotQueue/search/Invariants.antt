@@ -1,5 +1,4 @@
-use Rattle.std.proofs.Common.{◌-◌, ℕ, ◌<◌, ◌≤◌, length}
-use Rattle.recovery_slots.specs.declared.slots.Slot.{Slot}
+use Rattle.std.proofs.Common.{◌-◌, length}
 use Rattle.recovery_slots.specs.Slots.{Encloses}
 use Rattle.recovery_slots.proofs.SlotLaws.{Halves}
 use Rattle.recovery_slots.proofs.slots.SlotQueue.search.Given as goal

@@ -1,4 +1,4 @@
-use Rattle.std.proofs.Common.{sym, ap, ◌∙◌}
+use Rattle.std.proofs.Common.{sym, ◌∙◌}
 use Rattle.recovery_slots.specs.Slots.{entries_of}
 use Rattle.recovery_slots.proofs.EntryLaws.{finds_some, finds_none, taken_entries, taken_item, taken_some, none_of_some, absent_removed}
 use Rattle.recovery_slots.proofs.slots.SlotQueue.take.Goals as goal

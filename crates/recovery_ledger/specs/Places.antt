@@ -1,0 +1,17 @@
+-- Where tracked packets stand, in slots of which some are empty, and what it takes to find one.
+use Rattle.std.specs.Prelude.{◌≡◌, ◌≢◌, ℕ, ◌+◌, ◌*◌, ◌^◌, ◌<◌, ◌≤◌, length, Option, None, MatchOption}
+use Rattle.recovery_ledger.specs.Packets.{Packets, packet_at}
+
+-- each packet has a slot, and beside as many as there are packets at most 64 are empty
+pub record HasSlots {P : Type 0} (packets : Packets P) (slots : ℕ) : Type 0 where
+  pub enough : length packets ≤ slots
+  pub bound : slots ≤ 2 * length packets + 64
+
+-- the place of a tracked packet, and how many slots were looked at for it: at most as many as the count
+-- of slots has binary digits
+pub record FindsPacket {P : Type 0} (packets : Packets P) (number : ℕ) (found : Option ℕ × ℕ) : Type 0 where
+  pub slots : ℕ
+  pub has : HasSlots packets slots
+  pub place : MatchOption found.0 (packet_at packets number ≡ None)
+      (λ place. (place < slots) × (packet_at packets number ≢ None))
+  pub looks : (digits : ℕ) → slots < 2 ^ digits → found.1 ≤ digits
