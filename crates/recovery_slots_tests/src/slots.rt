@@ -1,7 +1,6 @@
 //! Packets are acknowledged in some order, all but the first: that one is found, and few slots are left. The limit of the
 //! slots, and that few are looked at, is proved.
-ghost use Rattle.std.specs.Prelude.{◌≡◌};
-
+use recovery_base::below::NoMemory;
 use recovery_base::time::Instant;
 use recovery_items::items::ItemQueue;
 use recovery_ledger::spaces::{PacketSpace, SentPacket};
@@ -47,8 +46,10 @@ fn packet(alloc: Global) -> SentPacket<ItemQueue> {
 fn sent(rt: &impl Abort, alloc: Global, count: u64) -> PacketSpace<ItemQueue> {
     let mut space = PacketSpace::new(alloc, Instant::from_nanos(0));
     for number in 0..count {
-        let forgotten = space.sent(number, packet(alloc));
-        assert!(rt; forgotten.is_ok(), "{number}");
+        match space.sent(number, packet(alloc)) {
+            Ok(_) => {}
+            Err(NoMemory) => panic!(rt; "{number}"),
+        }
     }
     space
 }
