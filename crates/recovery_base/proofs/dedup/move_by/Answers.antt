@@ -1,5 +1,4 @@
 use Rattle.std.proofs.Common.{arith}
-use Rattle.recovery_base.specs.Received.{IsSet, MovesBy}
 use Rattle.recovery_base.proofs.PlaceLaws.{moved_words}
 use Rattle.recovery_base.proofs.dedup.move_by.Goals as goal
 
