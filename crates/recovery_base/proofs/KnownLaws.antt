@@ -204,7 +204,8 @@ module _ (Places : ℕ → Type 0) (next low high places : ℕ) (reached : high 
 
   is_missing : (place : ℕ) → IsHighestClear Places places place → IsMissing (IsKnown Places next) (next - 1 - 1 - place)
   is_missing place highest =
-      (none, λ m here. let h : m < next = known_below Places next m here in let k : place < places = highest.0 in omega arith)
+      let k : place < places = highest.0 in
+      (none, λ m here. let h : m < next = known_below Places next m here in omega arith)
     where
       none : ¬ IsKnown Places next (next - 1 - 1 - place)
       none (inl last) = let k : place < places = highest.0 in omega arith

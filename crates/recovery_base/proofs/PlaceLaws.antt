@@ -1,4 +1,5 @@
--- The bits of words of 32 at their places, the lowest word first: what moves them, sets one, and finds the highest that is clear.
+-- The bits of words of 32 at their places, the lowest word first: what moves them, sets one, and finds the highest that
+-- is clear.
 use Rattle.std.proofs.Common.{◌≡◌, ℕ, suc, zero, ◌+◌, ◌-◌, ◌*◌, ◌/◌, ◌%◌, ◌^◌, ◌<◌, ◌≤◌, min, max, inl, inr, ◌⊎◌}
 use Rattle.std.proofs.Common.{⊎_elim, List, [], ◌∷◌, length, slice_index, slice_set, sym, ◌∙◌, ap, ap₂, subst, refl}
 use Rattle.std.proofs.Common.{arith}
@@ -97,7 +98,9 @@ Moved word lower bits new =
 
 -- the four words, below them the greatest number as the top bit of a fifth, and nothing below that
 abbrev pub padded : List ℕ → List ℕ
-padded words = 0 ∷ 0 ∷ 0 ∷ 0 ∷ 2 ^ 31 ∷ slice_index words 0 ∷ slice_index words 1 ∷ slice_index words 2 ∷ slice_index words 3 ∷ []
+padded words =
+    0 ∷ 0 ∷ 0 ∷ 0 ∷ 2 ^ 31 ∷ slice_index words 0 ∷ slice_index words 1 ∷ slice_index words 2 ∷ slice_index words 3
+    ∷ []
 
 module _ (words : List ℕ) where
   below_greatest : (place : ℕ) → place < 159 → bit_of (padded words) place ≡ 0
