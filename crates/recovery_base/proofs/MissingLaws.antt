@@ -3,8 +3,8 @@ use Rattle.std.proofs.Common.{ℕ, ◌-◌, ◌<◌, ◌≤◌, ◌⊎◌, inl, 
 use Rattle.std.proofs.lemmas.Bool.{cases_lt}
 use Rattle.recovery_base.specs.declared.dedup.Dedup.{Dedup}
 use Rattle.recovery_base.specs.Numbers.{IsInWindow, IsMissing, IsLeastMissing, Recent, With, Exceeds}
-use Rattle.recovery_base.specs.Received.{Has}
-use Rattle.recovery_base.proofs.BitLaws.{known_below, known_greatest}
+use Rattle.recovery_base.specs.Received.{Has, IsSet}
+use Rattle.recovery_base.proofs.KnownLaws.{known_below, known_greatest}
 use Rattle.recovery_base.proofs.WindowLaws.{HasGreatest, window_of_all, greatest_with, missing_with}
 
 -- sets from which the same numbers are missing
@@ -47,8 +47,8 @@ unfolding Has
 has_greatest dedup = go (cases_lt 0 dedup.next)
   where
     go : (0 < dedup.next) ⊎ (dedup.next ≤ 0) → HasGreatest (Has dedup)
-    go (inl some) = inr (dedup.next - 1, known_greatest dedup.window dedup.next some, λ m here. let h : m < dedup.next = known_below dedup.window dedup.next m here in omega arith)
-    go (inr none) = inl (λ m here. let h : m < dedup.next = known_below dedup.window dedup.next m here in absurd (omega arith))
+    go (inl some) = inr (dedup.next - 1, known_greatest (IsSet dedup.window) dedup.next some, λ m here. let h : m < dedup.next = known_below (IsSet dedup.window) dedup.next m here in omega arith)
+    go (inr none) = inl (λ m here. let h : m < dedup.next = known_below (IsSet dedup.window) dedup.next m here in absurd (omega arith))
 
 -- a number that does not exceed a set with a greatest one is reached by it
 pub reached : (Numbers : ℕ → Type 0) → HasGreatest Numbers → (n : ℕ) → ¬ Exceeds Numbers n → (m : ℕ) × Numbers m × (n ≤ m)

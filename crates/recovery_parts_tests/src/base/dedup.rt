@@ -23,7 +23,7 @@ impl Plain {
     }
 
     fn insert(&mut self, number: u64) -> Result<bool, NoMemory> {
-        if self.is_too_old(number) || self.recent.contains(&number) {
+        if self.is_duplicate(number) {
             return Ok(true);
         }
         self.recent.insert(number)?;
@@ -33,6 +33,10 @@ impl Plain {
                 .retain(|number| greatest.saturating_sub(*number) <= 128);
         }
         Ok(false)
+    }
+
+    fn is_duplicate(&self, number: u64) -> bool {
+        self.is_too_old(number) || self.recent.contains(&number)
     }
 
     fn is_too_old(&self, number: u64) -> bool {
@@ -219,6 +223,74 @@ fn is_the_plain_program_around_each_boundary(rt: HostRuntime) -> Result<(), NoMe
     let mut random = 1u64;
     for start in [0u64, 1, 126, 127, 128, 129, 130, 1 << 32, BOUND - 400] {
         random = compare_around(&rt, rt.alloc(), start, random)?;
+    }
+    Ok(())
+}
+
+/// The greatest number before it moves.
+const START: u64 = 299;
+
+/// How far the greatest number moves, and one further: by whole words, by bits, and out of the window.
+const MOVES: [u64; 11] = [0, 1, 31, 32, 33, 63, 64, 96, 127, 128, 1 << 61];
+
+/// Of the numbers before, each that so many divide is left out.
+const LEFT_OUT: [u64; 7] = [1000, 2, 3, 32, 33, 64, 97];
+
+/// How far below the greatest number an interval begins or ends: at both sides of each word's edge.
+const EDGES: [u64; 19] = [
+    0, 1, 2, 31, 32, 33, 34, 63, 64, 65, 66, 95, 96, 97, 98, 127, 128, 129, 130,
+];
+
+/// Asserts what is a duplicate in and behind the window.
+fn compare_members(rt: &impl Abort, dedup: Dedup, plain: &Plain, greatest: u64) {
+    for below in 0..=131u64 {
+        let mut dedup = dedup;
+        let number = greatest.saturating_sub(below);
+        let is_same = insert(rt, &mut dedup, number) == plain.is_duplicate(number);
+        assert!(rt; is_same, "at {number}");
+    }
+}
+
+/// Asserts what is missing between any two edges, once the greatest number came.
+fn compare_intervals(rt: &impl Abort, before: Dedup, plain: &Plain, greatest: u64) {
+    assert!(rt; greatest < BOUND);
+    for first in EDGES {
+        for last in EDGES {
+            let low = greatest.saturating_sub(first.max(last));
+            let high = greatest.saturating_sub(first.min(last));
+            let missing = missing_after(before, greatest, low, high);
+            let is_same = missing == plain.smallest_missing(low, high);
+            assert!(rt; is_same, "between {low} and {high}");
+        }
+    }
+}
+
+/// The numbers before, then one so far above them.
+fn compare_moved(rt: &impl Abort, alloc: Global, left_out: u64, by: u64) -> Result<(), NoMemory> {
+    let mut dedup = Dedup::new();
+    let mut plain = Plain::new(alloc);
+    for number in 0..=START {
+        if number == START || number % left_out.max(1) != 0 {
+            compare(rt, &mut dedup, &mut plain, number, START)?;
+        }
+    }
+    let before = dedup;
+    let greatest = START.saturating_add(by);
+    compare(rt, &mut dedup, &mut plain, greatest, START)?;
+    compare_members(rt, dedup, &plain, greatest);
+    if by > 0 {
+        compare_intervals(rt, before, &plain, greatest);
+    }
+    Ok(())
+}
+
+#[test]
+fn is_the_plain_program_across_the_words(rt: HostRuntime) -> Result<(), NoMemory> {
+    for by in MOVES {
+        for left_out in LEFT_OUT {
+            compare_moved(&rt, rt.alloc(), left_out, by)?;
+            compare_moved(&rt, rt.alloc(), left_out, by + 1)?;
+        }
     }
     Ok(())
 }

@@ -1,9 +1,10 @@
-use Rattle.std.proofs.Common.{arith, lit<}
-use Rattle.recovery_base.proofs.BitLaws.{moved_by, moved_bits, moved_away}
+use Rattle.std.proofs.Common.{arith}
+use Rattle.recovery_base.proofs.PlaceLaws.{moved_stays, moved_carries}
 use Rattle.recovery_base.proofs.dedup.moved.Goals as goal
 
-pub returns-then-above-ge-WINDOW : goal.returns-then-above-ge-WINDOW
-returns-then-above-ge-WINDOW c = moved_by c.args.window 0 c.args.above (omega arith) (lit< tt) (λ i within. moved_away c.args.window c.args.above i (omega arith) within)
+pub returns-clause-stays : goal.returns-clause-stays
+returns-clause-stays c = λ i above within. moved_stays c.args.word c.args.lower c.args.bits i (omega arith)
+    (omega arith) above within
 
-pub returns : goal.returns
-returns c = moved_by c.args.window _ c.args.above (omega arith) (omega arith) (λ i within. moved_bits c.args.window c.args.above i (omega arith) within)
+pub returns-clause-carries : goal.returns-clause-carries
+returns-clause-carries c = λ i below. moved_carries c.args.word c.args.lower c.args.bits i (omega arith) below
