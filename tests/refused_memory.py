@@ -23,7 +23,7 @@ LIBRARY_REQUESTS = 420  # more than the script makes
 
 # each line of the program's script, and whether its event is refused where memory is
 SCRIPT = [("poll-mtu 0", True), ("send data 0 100 1 - 5 6 7 8", False), ("send data 0 100 1 - 9", False), ("received data 0 0 1", True),
-          ("lost data 1", False), ("lost data 2", True), ("take-pending data", False), ("issue-ids 0 1 2", True),
+          ("lost data 1", False), ("lost data 2", True), ("take-pending data", False), ("issue-ids 0 1 14", True),
           ("queue-probe data 0", False), ("new-path 0 1 0", False), ("new-path 0 2 1", False), ("send initial 0 100 1 - 5", True),
           ("queue-probe initial 0", False), ("take-pending initial", False), ("in-flight current", False), ("next-id", False)]
 PROGRAM_REQUESTS = 64  # more than the script makes

@@ -148,7 +148,9 @@ fn events_of(alloc: Global, hit: &mut Hit) -> Result<Vec<Event>, Wrong> {
         if events.push(event).is_err() {
             note(hit, Hit::Outside("a list of events"))?;
             let (_, again) = made(alloc, step, hit)?;
-            events.push(again).map_err(|_| Wrong::Twice)?;
+            if events.push(again).is_err() {
+                return Err(Wrong::Twice);
+            }
         }
     }
     Ok(events)

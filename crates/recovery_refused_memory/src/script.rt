@@ -89,7 +89,7 @@ fn send(
 
 fn issue(alloc: Global) -> Result<Event, NoMemory> {
     let mut ids = Vec::new(alloc);
-    for sequence in 1..3u64 {
+    for sequence in 1..15u64 {
         ids.push(IssuedCid {
             sequence,
             id: ConnectionId::new(&[0; 8]),
