@@ -1,7 +1,7 @@
-//! What a refused request for memory leaves behind: a script of events is played twice, handed in one by one and as one run.
+//! What a refused request for memory leaves behind: a script of events is played twice, one by one and as one run.
 //!
-//! `tests/refused_memory` has each request of it refused in turn. The number on standard input says how many requests are
-//! made first that are none of the script, so that one and the same refusal hits another request of it.
+//! `tests/refused_memory.py` has each request of it refused in turn. The number on standard input says how many
+//! requests are made first that are none of the script, so that one and the same refusal hits another request of it.
 #![tactic(auto)]
 
 mod play;
@@ -13,18 +13,17 @@ use play::{Hit, Wrong, play_each, play_run};
 use scarce::is_refused;
 use std::io;
 use std::io::Read;
-use std::process::ExitCode;
 
 /// The number that an input begins with.
 fn number_in(input: &mut impl Read) -> u64 {
     let mut block = [0u8; 8];
     let count = input.read(&mut block).unwrap_or(0);
     let mut number = 0u64;
-    for byte in block {
+    for byte in &block[..count] {
         if byte.is_ascii_digit() {
             number = number
                 .saturating_mul(10)
-                .saturating_add(u64::from(byte - b'0'));
+                .saturating_add(u64::from(*byte - b'0'));
         }
     }
     number

@@ -1,5 +1,5 @@
-//! What all readers of a recovery tell, as one number: two states that differ in a reading differ in it, but for a chance of
-//! one in 2^100. Nothing here asks for memory.
+//! What all readers of a recovery tell, as one number: two states that differ in a reading differ in it, but for a
+//! chance of one in 2^100. Nothing here asks for memory.
 use crate::scarce::{ScarceHalving, ScarceQueue};
 use crate::script::Scarce;
 use quic_recovery::acks::PendingAcks;
@@ -93,6 +93,9 @@ impl Readings {
         self.option(path.challenge);
         self.flag(path.challenge_pending);
         self.flag(path.first_packet_after_rtt_sample.is_some());
+        if let Some((_, number)) = path.first_packet_after_rtt_sample {
+            self.number(number);
+        }
         self.number(path.generation());
         self.number(path.in_flight().bytes);
         self.number(path.in_flight().ack_eliciting);

@@ -1,5 +1,5 @@
-//! A queue and a controller that ask for memory in each call that may be refused it, where those of the program seldom do or
-//! never.
+//! A queue and a controller that ask for memory in each call that may be refused it, where those of the program seldom
+//! do or never.
 ghost use Rattle.std.specs.Prelude.{◌≡◌, refl};
 ghost use Rattle.recovery_halving.specs.Halving.{halving_made, halving_words, IsHalvingSound, halving_laws};
 
