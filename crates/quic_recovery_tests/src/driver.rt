@@ -23,7 +23,6 @@ mod acks;
 mod ids;
 mod items;
 mod refusals;
-mod refused_memory;
 mod skips;
 
 const DISCARD_INITIAL: Event = Event::DiscardSpace {

@@ -137,3 +137,20 @@ fn a_controller_that_halves(rt: HostRuntime) {
     let words = Pcg64::seed_from_u64(1);
     right(&rt, runs::walk(rt.alloc(), config, words, rows));
 }
+
+/// A window past 32 bits is not paced.
+#[test]
+fn a_window_of_more_than_32_bits(rt: HostRuntime) {
+    for (window, want) in [(4_294_967_296, READY), (4_294_967_295, delayed(0))] {
+        let mut reno = NewRenoConfig::default();
+        reno.initial_window(window);
+        let config = settings_with(TransportConfig::with_factory(reno), 8, Skips::Disabled);
+        walk(
+            &rt,
+            rt.alloc(),
+            config,
+            words(),
+            [(pacer_check(0, 307_201), want)],
+        );
+    }
+}

@@ -8,10 +8,11 @@ use std::io::{ErrorKind, Read, Write};
 use std::process::Abort;
 use std::test::Fail;
 
+/// What is sent again, with a probe in between.
 const SCRIPT: &str =
-    "received data 0 0 1\nset-timer idle 50\nnext-timeout\nreceived data 0 4611686018427387904 1\n";
+    "send data 0 100 1 - 7 8\nqueue-probe data 0\ntake-pending data\nlost data 0\ntake-pending data\n";
 
-const ANSWERS: &str = "new arm\ndone\ntimeout 50\nrefused 2 NumberTooLarge\n";
+const ANSWERS: &str = "sent 0\nsendable no yes\nqueue 7 8\nlost\nqueue\n";
 
 /// Gives its bytes in small pieces, each after an interrupted read; then it fails or ends.
 #[derive(Drop)]

@@ -1,0 +1,227 @@
+//! The script is played, where one request for memory may be refused.
+ghost use Rattle.std.specs.Prelude.{◌≡◌};
+ghost use Rattle.recovery_skips.specs.Skips.{IsSkips};
+
+use crate::readings::{Readings, readings_of};
+use crate::scarce::ScarceConfig;
+use crate::script::{Event, Reply, STEPS, Said, Scarce, event_at, said_by, wanted_at};
+use quic_recovery::below::NoMemory;
+use quic_recovery::config::TransportConfig;
+use quic_recovery::driver::{Recovery, RecoveryConfig};
+use quic_recovery::time::Instant;
+use recovery_halving::HalvingConfig;
+use recovery_rows::config::{settings_with, words};
+use recovery_skips::Skips;
+use std::alloc::Global;
+use thiserror::Error;
+
+/// What was refused memory.
+#[derive(Clone, Copy)]
+pub enum Hit {
+    /// Nothing.
+    None,
+    /// What is no event: a recovery, a list, or what an event is made of.
+    Outside(&'static str),
+    /// The event of this step.
+    Event(u64, &'static str),
+}
+
+/// What is wrong.
+#[derive(Clone, Copy, Debug, Error)]
+pub enum Wrong {
+    /// Memory was refused again, where it is at hand.
+    #[error("memory was refused twice")]
+    Twice,
+    /// The event that was refused left a trace.
+    #[error("step {0}: the refused event left a trace")]
+    Trace(u64),
+    /// An event was answered something else than it is to be.
+    #[error("step {0}: another answer")]
+    Answer(u64),
+    /// A run has more or fewer replies than events.
+    #[error("not one reply for each event")]
+    Count,
+    /// A run with a refused event leaves something else than one without that event.
+    #[error("step {0}: a run leaves another state than one without that event")]
+    Left(u64),
+}
+
+impl From<NoMemory> for Wrong {
+    fn from(_refused: NoMemory) -> Self {
+        Wrong::Twice
+    }
+}
+
+fn start() -> Instant {
+    Instant::from_nanos(0)
+}
+
+fn config(alloc: Global) -> RecoveryConfig<ScarceConfig>
+    ensures issued { result.issued ≡ 1 }
+    ensures skips { IsSkips result.skips }
+{
+    let halving = HalvingConfig::new(12_000);
+    let transport = TransportConfig::with_factory(ScarceConfig { halving, alloc });
+    settings_with(transport, 8, Skips::Disabled)
+}
+
+fn fresh(alloc: Global) -> Result<Scarce, NoMemory> {
+    Recovery::new(alloc, config(alloc), words(), start())
+}
+
+fn note(hit: &mut Hit, found: Hit) -> Result<(), Wrong> {
+    match *hit {
+        Hit::None => {
+            *hit = found;
+            Ok(())
+        }
+        _ => Err(Wrong::Twice),
+    }
+}
+
+/// A recovery to which nothing has happened yet.
+fn begin(alloc: Global, hit: &mut Hit) -> Result<Scarce, Wrong> {
+    if let Ok(recovery) = fresh(alloc) {
+        return Ok(recovery);
+    }
+    note(hit, Hit::Outside("a recovery"))?;
+    Ok(fresh(alloc)?)
+}
+
+/// The event of a step, with its name.
+fn made(alloc: Global, step: u64, hit: &mut Hit) -> Result<(&'static str, Event), Wrong> {
+    if let Ok(made) = event_at(alloc, step) {
+        return Ok(made);
+    }
+    note(hit, Hit::Outside("what an event is made of"))?;
+    Ok(event_at(alloc, step)?)
+}
+
+/// What is read once the events before a step happened, each with memory.
+fn readings_before(alloc: Global, step: u64) -> Result<Readings, Wrong> {
+    let mut recovery = fresh(alloc)?;
+    for earlier in 0..step {
+        let (_, event) = event_at(alloc, earlier)?;
+        let said = said_by(&recovery.apply(event));
+        compare(earlier, said, wanted_at(earlier))?;
+    }
+    Ok(readings_of(&recovery))
+}
+
+/// Hands in the event of a step, and an equal one where that was refused memory.
+fn hand_in(alloc: Global, recovery: &mut Scarce, step: u64, hit: &mut Hit) -> Result<Said, Wrong> {
+    let (name, event) = made(alloc, step, hit)?;
+    let said = said_by(&recovery.apply(event));
+    if said != Said::NoMemory {
+        return Ok(said);
+    }
+    note(hit, Hit::Event(step, name))?;
+    if readings_of(recovery) != readings_before(alloc, step)? {
+        return Err(Wrong::Trace(step));
+    }
+    let (_, again) = made(alloc, step, hit)?;
+    Ok(said_by(&recovery.apply(again)))
+}
+
+fn compare(step: u64, said: Said, wanted: Said) -> Result<(), Wrong> {
+    if said == wanted {
+        Ok(())
+    } else {
+        Err(Wrong::Answer(step))
+    }
+}
+
+/// The events one by one: each is answered as it is to be, if need be when it is handed in anew.
+pub fn play_each(alloc: Global, hit: &mut Hit) -> Result<(), Wrong> {
+    let mut recovery = begin(alloc, hit)?;
+    for step in 0..STEPS {
+        let said = hand_in(alloc, &mut recovery, step, hit)?;
+        compare(step, said, wanted_at(step))?;
+    }
+    Ok(())
+}
+
+fn events_of(alloc: Global, hit: &mut Hit) -> Result<Vec<Event>, Wrong> {
+    let mut events = Vec::new(alloc);
+    for step in 0..STEPS {
+        let (_, event) = made(alloc, step, hit)?;
+        if events.push(event).is_err() {
+            note(hit, Hit::Outside("a list of events"))?;
+            let (_, again) = made(alloc, step, hit)?;
+            if events.push(again).is_err() {
+                return Err(Wrong::Twice);
+            }
+        }
+    }
+    Ok(events)
+}
+
+fn run(alloc: Global, hit: &mut Hit) -> Result<(Scarce, Vec<Reply>), Wrong> {
+    let events = events_of(alloc, hit)?;
+    if let Ok(run) = Recovery::run(alloc, config(alloc), words(), start(), events) {
+        return Ok(run);
+    }
+    note(hit, Hit::Outside("a run as a whole"))?;
+    let again = events_of(alloc, hit)?;
+    Ok(Recovery::run(alloc, config(alloc), words(), start(), again)?)
+}
+
+/// The step whose event was refused memory, if any; there is at most one.
+fn refused_in(replies: &[Reply]) -> Result<Option<u64>, Wrong> {
+    let mut found = None;
+    let mut step = 0u64;
+    for reply in replies {
+        if said_by(reply) == Said::NoMemory {
+            if found.is_some() {
+                return Err(Wrong::Twice);
+            }
+            found = Some(step);
+        }
+        step = step.saturating_add(1);
+    }
+    if step == STEPS {
+        Ok(found)
+    } else {
+        Err(Wrong::Count)
+    }
+}
+
+/// Compares a run with one that lacks the event that was refused.
+fn compare_without(
+    alloc: Global,
+    refused: u64,
+    replies: &[Reply],
+    readings: Readings,
+    hit: &mut Hit,
+) -> Result<(), Wrong> {
+    let mut recovery = begin(alloc, hit)?;
+    let mut step = 0u64;
+    for reply in replies {
+        if step != refused {
+            let said = hand_in(alloc, &mut recovery, step, hit)?;
+            compare(step, said_by(reply), said)?;
+        }
+        step = step.saturating_add(1);
+    }
+    if readings_of(&recovery) == readings {
+        Ok(())
+    } else {
+        Err(Wrong::Left(refused))
+    }
+}
+
+/// The events as one run: each is answered as it is to be, or all but one as if that one were not there.
+pub fn play_run(alloc: Global, hit: &mut Hit) -> Result<(), Wrong> {
+    let (left, replies) = run(alloc, hit)?;
+    if let Some(refused) = refused_in(&replies)? {
+        let (name, _) = made(alloc, refused, hit)?;
+        note(hit, Hit::Event(refused, name))?;
+        return compare_without(alloc, refused, &replies, readings_of(&left), hit);
+    }
+    let mut step = 0u64;
+    for reply in &replies {
+        compare(step, said_by(reply), wanted_at(step))?;
+        step = step.saturating_add(1);
+    }
+    Ok(())
+}

@@ -1,0 +1,198 @@
+//! A queue and a controller that ask for memory in each call that may be refused it, where those of the program seldom
+//! do or never.
+ghost use Rattle.std.specs.Prelude.{◌≡◌, refl};
+ghost use Rattle.recovery_halving.specs.Halving.{halving_made, halving_words, IsHalvingSound, halving_laws};
+
+use quic_recovery::below::NoMemory;
+use quic_recovery::congestion::{Controller, ControllerFactory, ControllerMetrics};
+use quic_recovery::rtt::RttEstimator;
+use quic_recovery::time::Instant;
+use recovery_halving::{Halving, HalvingConfig};
+use recovery_queue::queue::RetransmitQueue;
+use std::alloc::Global;
+use std::marker::Model;
+
+/// Asks for some memory, which is given back.
+pub fn is_refused(alloc: Global) -> bool {
+    let mut asked = Vec::new(alloc);
+    asked.push(0u64).is_err()
+}
+
+/// Numbers of items, as those of the program, but that each `append` asks for memory.
+///
+/// Contracts see the list of the items.
+#[derive(Drop)]
+pub struct ScarceQueue {
+    items: Vec<u64>,
+}
+
+impl Model for ScarceQueue {
+    ghost use Rattle.std.specs.Prelude.{ℕ, List};
+
+    ghost Value = { List ℕ };
+
+    ghost view = { λ queue. queue.items.items };
+}
+
+impl ScarceQueue {
+    /// A queue of these items.
+    pub fn from_items(items: Vec<u64>) -> Self
+        ensures { result ≡ items.items }
+    {
+        ScarceQueue { items }
+    }
+
+    /// The items, in the order in which they came.
+    pub fn items(&self) -> &[u64]
+        ensures { result.now ≡ self.now }
+    {
+        self.items.as_slice()
+    }
+}
+
+impl RetransmitQueue for ScarceQueue {
+    ghost use Rattle.std.proofs.Common.{append-nil};
+    ghost use Rattle.recovery_items.specs.Items.{item_words};
+
+    type Streams = ();
+
+    type Meta = ();
+
+    type Contents = ScarceQueue;
+
+    ghost contents = { λ queue. queue };
+
+    ghost words = { item_words };
+
+    fn empty(alloc: Global) -> Self {
+        ScarceQueue {
+            items: Vec::new(alloc),
+        }
+    }
+
+    fn is_empty(&self, _streams: &()) -> bool {
+        self.items.is_empty()
+    }
+
+    fn append(&mut self, mut other: Self) -> Result<(), Self> {
+        if is_refused(*self.items.allocator()) {
+            return Err(other);
+        }
+        match self.items.append(&mut other.items) {
+            Ok(()) => Ok(()),
+            Err(_) => Err(other),
+        }
+    }
+
+    ghost laws = { record {
+      unit_left = λ items. refl;
+      unit_right = λ items. append-nil items;
+      empty_is_empty = λ streams. refl;
+    } };
+}
+
+/// Makes controllers whose clones ask for memory.
+#[derive(Clone, Copy)]
+pub struct ScarceConfig {
+    /// What they are else.
+    pub halving: HalvingConfig,
+    /// Where they ask.
+    pub alloc: Global,
+}
+
+impl ControllerFactory for ScarceConfig {
+    type Controller = ScarceHalving;
+
+    ghost built = { λ factory now mtu. halving_made factory.halving.initial_window mtu };
+
+    fn build(&self, now: Instant, current_mtu: u16) -> ScarceHalving {
+        ScarceHalving {
+            halving: self.halving.build(now, current_mtu),
+            alloc: self.alloc,
+        }
+    }
+
+    ghost starts_at_initial = { λ factory now mtu. refl };
+}
+
+/// A window that congestion events halve, and whose clones ask for memory.
+#[derive(Drop)]
+pub struct ScarceHalving {
+    halving: Halving,
+    alloc: Global,
+}
+
+impl Controller for ScarceHalving {
+    type Content = Halving;
+
+    ghost content = { λ controller. controller.halving };
+
+    ghost words = { halving_words };
+
+    ghost is_sound = { IsHalvingSound };
+
+    fn on_sent(&mut self, now: Instant, bytes: u64, last_packet_number: u64) {
+        self.halving.on_sent(now, bytes, last_packet_number);
+    }
+
+    fn on_ack(
+        &mut self,
+        now: Instant,
+        sent: Instant,
+        bytes: u64,
+        app_limited: bool,
+        rtt: &RttEstimator,
+    ) {
+        self.halving.on_ack(now, sent, bytes, app_limited, rtt);
+    }
+
+    fn on_end_acks(
+        &mut self,
+        now: Instant,
+        in_flight: u64,
+        app_limited: bool,
+        largest_packet_num_acked: Option<u64>,
+    ) {
+        self.halving
+            .on_end_acks(now, in_flight, app_limited, largest_packet_num_acked);
+    }
+
+    fn on_congestion_event(
+        &mut self,
+        now: Instant,
+        sent: Instant,
+        is_persistent_congestion: bool,
+        lost_bytes: u64,
+    ) {
+        self.halving
+            .on_congestion_event(now, sent, is_persistent_congestion, lost_bytes);
+    }
+
+    fn on_mtu_update(&mut self, new_mtu: u16) {
+        self.halving.on_mtu_update(new_mtu);
+    }
+
+    fn window(&self) -> u64 {
+        self.halving.window()
+    }
+
+    fn metrics(&self) -> ControllerMetrics {
+        self.halving.metrics()
+    }
+
+    fn initial_window(&self) -> u64 {
+        self.halving.initial_window()
+    }
+
+    fn try_clone(&self) -> Result<Self, NoMemory> {
+        if is_refused(self.alloc) {
+            return Err(NoMemory);
+        }
+        Ok(ScarceHalving {
+            halving: self.halving.try_clone()?,
+            alloc: self.alloc,
+        })
+    }
+
+    ghost laws = { halving_laws };
+}
