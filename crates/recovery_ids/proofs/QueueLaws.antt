@@ -72,7 +72,8 @@ module _ (old lower mid new : Window) (frame : NewConnectionId) (token : List �
     least = λ m above below. moves.held m ∙ without_below-dropped new.start (held_at mid) m below;
   }
 
-  pub accepts_move : Repeats frame (held_at old) → (range : Range ℕ) → range.start ≡ old.start → range.end ≡ min new.start (old.start + LEN) →
+  pub accepts_move : Repeats frame (held_at old) → (range : Range ℕ) → range.start ≡ old.start →
+      range.end ≡ min new.start (old.start + LEN) →
       AcceptsFrame (remote_ids old) frame (Some (range, token)) (remote_ids new)
   accepts_move repeats range begins ends = record {
     in_window = (above, omega (arith, low_is));

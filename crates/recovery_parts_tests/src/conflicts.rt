@@ -37,7 +37,13 @@ enum Call {
 }
 
 /// Whether the queue takes a frame, or says that it conflicts.
-fn is_told(queue: &mut CidQueue, sequence: u64, id: Id, token: Token, wants_conflict: bool) -> bool {
+fn is_told(
+    queue: &mut CidQueue,
+    sequence: u64,
+    id: Id,
+    token: Token,
+    wants_conflict: bool,
+) -> bool {
     if sequence > 1 {
         return false;
     }

@@ -4,7 +4,8 @@ use Rattle.recovery_replay.proofs.replay.seed_in.Goals as goal
 
 pub returns-in_err-number_in : goal.returns-in_err-number_in
 returns-in_err-number_in c =
-    rw c.from_residual.ensures (no_seed c.args.word.now (sym c.number_in.ensures ∙ c.in_err-number_in.was) (search rules))
+    let unread = sym c.number_in.ensures ∙ c.in_err-number_in.was in
+    rw c.from_residual.ensures (no_seed c.args.word.now unread (search rules))
 
 pub returns : goal.returns
 returns c =
