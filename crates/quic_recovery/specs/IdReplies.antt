@@ -4,10 +4,10 @@ use Rattle.std.specs.List.{range_with_len}
 use Rattle.recovery_base.specs.declared.below.ids.IssuedCid.{IssuedCid}
 use Rattle.recovery_base.specs.declared.below.ids.NewConnectionId.{NewConnectionId}
 use Rattle.recovery_ids.specs.LocalIds.{LocalIds, holds_unretired, timed_out, without_number}
-use Rattle.recovery_ids.specs.RemoteIds.{Table, RemoteIds, IsLeastHeld, active_connection_id_limit, with_frame}
+use Rattle.recovery_ids.specs.RemoteIds.{Table, RemoteIds, IsLeastHeld, Repeats, active_connection_id_limit, with_frame}
 use Rattle.quic_recovery.specs.declared.event.Answer.{Answer}
 use Rattle.quic_recovery.specs.declared.event.Answer.TheVariants.{Retire, Flag, Done}
-use Rattle.quic_recovery.specs.declared.event.Refusal.TheVariants.{NumberTooLarge, BadRetirePriorTo, Retired, ExceedsLimit, NotInitialId, CidsNotInUse, UnissuedCid, BadRange}
+use Rattle.quic_recovery.specs.declared.event.Refusal.TheVariants.{NumberTooLarge, BadRetirePriorTo, Retired, ExceedsLimit, Conflict, NotInitialId, CidsNotInUse, UnissuedCid, BadRange}
 use Rattle.quic_recovery.specs.History.{Reply}
 use Rattle.quic_recovery.specs.Replies.{Refuses, Answers, AlwaysAnswers}
 
@@ -36,7 +36,8 @@ FrameReply ids frame =
     (Refuses Retired (frame.sequence < ids.active)
     (Refuses ExceedsLimit
     (max ids.active frame.retire_prior_to + active_connection_id_limit ≤ frame.sequence)
-    (AlwaysAnswers (IsFrameAnswer ids frame)))))
+    (Refuses Conflict (¬ Repeats frame ids.held)
+    (AlwaysAnswers (IsFrameAnswer ids frame))))))
 
 -- the next id is the least one held above the active one: the numbers from the active one up to it are retired, and its
 -- token is told; where none is held the active one stays

@@ -2,7 +2,7 @@
 use Rattle.std.specs.Prelude.{ℕ, List}
 use lib.Chars.{codes}
 use Rattle.quic_recovery.specs.declared.event.Refusal.{Refusal}
-use Rattle.quic_recovery.specs.declared.event.Refusal.TheVariants.{NoMemory, NumberTooLarge, NumbersExhausted, NotTracked, SpaceDiscarded, NoSuchPath, Searching, ZeroMtu, Overflow, Retired, ExceedsLimit, BadRetirePriorTo, CidsNotInUse, UnissuedCid, DelayTooSmall, SkippedAcked, Ecn, NotInitialId, BadRange}
+use Rattle.quic_recovery.specs.declared.event.Refusal.TheVariants.{NoMemory, NumberTooLarge, NumbersExhausted, NotTracked, SpaceDiscarded, NoSuchPath, Searching, ZeroMtu, Overflow, Retired, ExceedsLimit, BadRetirePriorTo, CidsNotInUse, UnissuedCid, DelayTooSmall, SkippedAcked, Ecn, NotInitialId, BadRange, Conflict}
 
 abbrev pub refusal_number : Refusal → ℕ
 refusal_number NoMemory = 1
@@ -24,6 +24,7 @@ refusal_number SkippedAcked = 16
 refusal_number (Ecn text) = 17
 refusal_number NotInitialId = 18
 refusal_number BadRange = 19
+refusal_number Conflict = 20
 
 abbrev pub refusal_name : Refusal → List ℕ
 refusal_name NoMemory = codes "NoMemory"
@@ -45,3 +46,4 @@ refusal_name SkippedAcked = codes "SkippedAcked"
 refusal_name (Ecn text) = codes "Ecn"
 refusal_name NotInitialId = codes "NotInitialId"
 refusal_name BadRange = codes "BadRange"
+refusal_name Conflict = codes "Conflict"

@@ -71,7 +71,7 @@ pub enum Event<Q: RetransmitQueue> {
         number: u64,
     },
     /// A NEW_CONNECTION_ID frame came in (RFC 9000, 19.15). Refused by `NumberTooLarge` where its number is 2^62 or more, by
-    /// `BadRetirePriorTo` where its retire-prior-to exceeds its number, by `Retired`, then by `ExceedsLimit`.
+    /// `BadRetirePriorTo` where its retire-prior-to exceeds its number, by `Retired`, by `ExceedsLimit`, then by `Conflict`.
     NewId(NewConnectionId),
     /// The next id of the peer is to be used, where one is held. Never refused.
     NextId,
@@ -398,6 +398,9 @@ pub enum Refusal {
     /// Numbers do not go on where they should, or a range ends before it begins.
     #[error("the range of numbers is wrong")]
     BadRange,
+    /// The number of the peer's id is held with another id, or with a token that is not the frame's (RFC 9000, 19.15).
+    #[error("the connection id conflicts with the one that is held")]
+    Conflict,
 }
 
 impl Refusal {
@@ -425,6 +428,7 @@ impl Refusal {
             Refusal::Ecn(_) => 17,
             Refusal::NotInitialId => 18,
             Refusal::BadRange => 19,
+            Refusal::Conflict => 20,
         }
     }
 
@@ -452,6 +456,7 @@ impl Refusal {
             Refusal::Ecn(_) => "Ecn",
             Refusal::NotInitialId => "NotInitialId",
             Refusal::BadRange => "BadRange",
+            Refusal::Conflict => "Conflict",
         }
     }
 }

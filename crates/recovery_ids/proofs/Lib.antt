@@ -5,6 +5,7 @@ mod LocalLogRows
 pub mod QueueLaws
 pub mod RemoteLogLaws
 mod RemoteLogRows
+mod RepeatLaws
 pub mod RiseLaws
 pub mod SetLaws
 pub mod StateLaws

@@ -5,7 +5,7 @@ use Rattle.std.proofs.lemmas.Bool.Decides.{nat_tests}
 use Rattle.recovery_base.specs.declared.below.ids.NewConnectionId.{NewConnectionId}
 use Rattle.recovery_ids.specs.declared.window.TheConstants.{LEN}
 use Rattle.recovery_ids.specs.declared.window.Window.{Window}
-use Rattle.recovery_ids.specs.RemoteIds.{HeldId, Table, IsLeastHeld, with_id, without_below, with_frame, AcceptsFrame, IsRetirement}
+use Rattle.recovery_ids.specs.RemoteIds.{HeldId, Table, IsLeastHeld, with_id, without_below, with_frame, Repeats, AcceptsFrame, IsRetirement}
 use Rattle.recovery_ids.specs.Window.{held_at, Advances}
 use Rattle.recovery_ids.specs.CidQueue.{remote_ids}
 
@@ -72,10 +72,12 @@ module _ (old lower mid new : Window) (frame : NewConnectionId) (token : List �
     least = λ m above below. moves.held m ∙ without_below-dropped new.start (held_at mid) m below;
   }
 
-  pub accepts_move : (range : Range ℕ) → range.start ≡ old.start → range.end ≡ min new.start (old.start + LEN) →
+  pub accepts_move : Repeats frame (held_at old) → (range : Range ℕ) → range.start ≡ old.start →
+      range.end ≡ min new.start (old.start + LEN) →
       AcceptsFrame (remote_ids old) frame (Some (range, token)) (remote_ids new)
-  accepts_move range begins ends = record {
+  accepts_move repeats range begins ends = record {
     in_window = (above, omega (arith, low_is));
+    repeats = repeats;
     held = held_after;
     active = least_after;
     stays = λ stays. absurd (omega (arith, low_is));

@@ -48,3 +48,13 @@ gap_is_passed = refl
 initial_is_replaced : (remote_ids_by initial (replaced (254 ∷ []) ∷ [])).held 0 ≡ Some (254 ∷ [], None)
 unfolding remote_ids_with
 initial_is_replaced = refl
+
+-- a frame that repeats the initial id brings its token
+token_is_kept : (remote_ids_by initial (given (frame 0 0 255) ∷ [])).held 0 ≡ Some (255 ∷ [], Some (255 ∷ []))
+unfolding remote_ids_with first_held
+token_is_kept = refl
+
+-- eight numbers are looked at: the last of them is found
+eighth_is_found : (remote_ids_by initial (used ∷ given (frame 7 0 7) ∷ [])).active ≡ 7
+unfolding remote_ids_with first_held
+eighth_is_found = refl

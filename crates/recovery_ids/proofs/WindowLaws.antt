@@ -1,15 +1,15 @@
 -- What a window holds once its lowest numbers are dropped.
 use Rattle.std.proofs.Common.{◌≡◌, ℕ, ◌+◌, ◌%◌, ◌<◌, ◌≤◌, max, None, get_or, arith}
 use Rattle.std.proofs.lemmas.Bool.Decides.{nat_tests}
-use Rattle.recovery_ids.specs.declared.window.TheConstants.{LEN, PLACES}
+use Rattle.recovery_ids.specs.declared.window.TheConstants.{LEN}
 use Rattle.recovery_ids.specs.declared.window.Window.{Window}
 use Rattle.recovery_ids.specs.RemoteIds.{without_below}
 use Rattle.recovery_ids.specs.Window.{held_at}
 
 -- numbers that come into the window find no entry, and the others find what they had
 pub drops_below : (old new : Window) → old.start ≤ new.start →
-    ((m : ℕ) → max (old.start + LEN) new.start ≤ m → m < new.start + LEN → get_or new.entries (m % PLACES) None ≡ None) →
-    ((m : ℕ) → new.start ≤ m → m < old.start + LEN → get_or new.entries (m % PLACES) None ≡ get_or old.entries (m % PLACES) None) →
+    ((m : ℕ) → max (old.start + LEN) new.start ≤ m → m < new.start + LEN → get_or new.entries (m % LEN) None ≡ None) →
+    ((m : ℕ) → new.start ≤ m → m < old.start + LEN → get_or new.entries (m % LEN) None ≡ get_or old.entries (m % LEN) None) →
     (n : ℕ) → held_at new n ≡ without_below new.start (held_at old) n
 drops_below old new ahead fresh kept n =
     let free = fresh n in

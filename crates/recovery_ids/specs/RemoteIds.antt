@@ -1,16 +1,16 @@
 -- The ids that the peer issued and that are held (RFC 9000, 5.1.1 and 19.15): a table from numbers to ids with their
 -- tokens, and the number of the active id.
-use Rattle.std.specs.Prelude.{ℕ, ◌≡◌, ◌+◌, ◌-◌, ◌<◌, ◌≤◌, ◌==◌, nat_lt, max, min, List, Option, Some, None, IsSome, IsSomeAnd, option_map, if◌then◌else◌}
+use Rattle.std.specs.Prelude.{ℕ, ◌≡◌, ◌+◌, ◌-◌, ◌<◌, ◌≤◌, ◌==◌, nat_lt, max, min, List, Option, Some, None, IsSome, IfSome, IsSomeAnd, option_map, if◌then◌else◌}
 use Rattle.std.specs.List.{filter_map, range_with_len}
 use Rattle.std.specs.declared.ops.Range.{Range}
 use Rattle.recovery_base.specs.declared.below.ids.NewConnectionId.{NewConnectionId}
 use Rattle.recovery_ids.specs.declared.queue.InsertError.{InsertError}
-use Rattle.recovery_ids.specs.declared.queue.InsertError.TheVariants.{Retired, ExceedsLimit}
+use Rattle.recovery_ids.specs.declared.queue.InsertError.TheVariants.{Retired, ExceedsLimit, Conflict}
 
 -- the most ids of the peer that this end is willing to store, as it tells the peer (RFC 9000, 18.2): the peer issues no
 -- more than it stores (5.1.1)
 abbrev pub active_connection_id_limit : ℕ
-active_connection_id_limit = 5
+active_connection_id_limit = 8
 
 -- an id, with its token where there is one
 abbrev pub HeldId : Type 0
@@ -55,11 +55,17 @@ pub record TellsMove (old : RemoteIds) (range : Range ℕ) (token : List ℕ) (n
   pub ends : range.end ≡ min new.active (old.active + active_connection_id_limit)
   pub token_held : (id : List ℕ) × (new.held new.active ≡ Some (id, Some token))
 
+-- a frame for a number that is held repeats it: its id is the one held, and its token too, where one is held
+abbrev pub Repeats : NewConnectionId → Table → Type 0
+Repeats frame held = IfSome (held frame.sequence)
+    (λ entry. (frame.id ≡ entry.0) × IfSome entry.1 (λ token. frame.reset_token ≡ token))
+
 -- what becomes of the ids where a frame is accepted: the active number is the least held one, and moves exactly where
 -- the frame retires it
 pub record AcceptsFrame (old : RemoteIds) (frame : NewConnectionId) (answer : Option (Range ℕ × List ℕ)) (new : RemoteIds) : Type 0 where
   pub in_window : (old.active ≤ frame.sequence)
       × (frame.sequence < max old.active frame.retire_prior_to + active_connection_id_limit)
+  pub repeats : Repeats frame old.held
   pub held : (n : ℕ) → new.held n ≡ with_frame frame old.held n
   pub active : IsLeastHeld new.held 0 new.active
   pub stays : frame.retire_prior_to ≤ old.active → (new.active ≡ old.active) × (answer ≡ None)
@@ -70,6 +76,7 @@ abbrev pub RefusesFrame : RemoteIds → NewConnectionId → InsertError → Type
 RefusesFrame old frame Retired = frame.sequence < old.active
 RefusesFrame old frame ExceedsLimit =
     max old.active frame.retire_prior_to + active_connection_id_limit ≤ frame.sequence
+RefusesFrame old frame Conflict = ¬ Repeats frame old.held
 
 -- a move to the next id: the active one is dropped, and the least number held above it is the new active one
 pub record TakesNext (old : RemoteIds) (token : List ℕ) (range : Range ℕ) (new : RemoteIds) : Type 0 where

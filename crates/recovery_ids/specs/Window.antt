@@ -1,7 +1,7 @@
 -- What a window holds for each number.
 use Rattle.std.specs.Prelude.{ℕ, ◌≡◌, ◌+◌, ◌%◌, ◌^◌, ◌<◌, ◌≤◌, ◌&&◌, nat_lt, nat_le, List, Option, None, Some, IsSome, IfSome, slice_index_or, if◌then◌else◌}
 use Rattle.recovery_ids.specs.RemoteIds.{HeldId, RemoteIds, IsLeastHeld, without_below}
-use Rattle.recovery_ids.specs.declared.window.TheConstants.{LEN, PLACES}
+use Rattle.recovery_ids.specs.declared.window.TheConstants.{LEN}
 use Rattle.recovery_ids.specs.declared.window.Window.{Window}
 
 -- the window has room for a number
@@ -11,7 +11,7 @@ IsWithin window n = (window.start ≤ n) × (n < window.start + LEN)
 -- what a window holds for a number: nothing outside
 abbrev pub held_at : Window → ℕ → Option HeldId
 held_at window n =
-    if nat_le window.start n && nat_lt n (window.start + LEN) then slice_index_or window.entries (n % PLACES) None else None
+    if nat_le window.start n && nat_lt n (window.start + LEN) then slice_index_or window.entries (n % LEN) None else None
 
 -- what a window holds, the active number being its start
 abbrev pub ids_in : Window → RemoteIds

@@ -1,7 +1,7 @@
 //! The ids of the peer that packets may be sent to.
-ghost use Rattle.std.specs.Prelude.{◌≡◌, ℕ, ◌+◌, ◌<◌, ◌≤◌, ◌^◌, ◌==◌, Some, None, IsSome, IfSome, IfOk, OnOk, OnErr, IfNone, IsSomeAnd, MatchOption, MatchResult, length, if◌then◌else◌};
+ghost use Rattle.std.specs.Prelude.{◌≡◌, ℕ, ◌+◌, ◌<◌, ◌≤◌, ◌^◌, ◌==◌, Some, None, IsSome, IfSome, IfOk, OnOk, OnErr, IfNone, IsSomeAnd, MatchOption, MatchResult, Decides, length, if◌then◌else◌};
 ghost use Rattle.recovery_ids.specs.CidQueue.{held, active_of, remote_ids};
-ghost use Rattle.recovery_ids.specs.RemoteIds.{AcceptsFrame, RefusesFrame, TakesNext, IsRetirement, AreInWindow, with_id, items_from, active_connection_id_limit};
+ghost use Rattle.recovery_ids.specs.RemoteIds.{AcceptsFrame, RefusesFrame, Repeats, TakesNext, IsRetirement, AreInWindow, with_id, items_from, active_connection_id_limit};
 ghost use Rattle.recovery_ids.specs.RemoteLog.{RemoteStep, given, used, replaced, initial_ids};
 ghost use Rattle.recovery_ids.specs.Window.{held_at, Advances, IsWindowSound};
 
@@ -43,6 +43,9 @@ pub enum InsertError {
     /// The number lies past the window.
     #[error("the connection id exceeds the limit")]
     ExceedsLimit,
+    /// The number is held with another id, or with a token that is not the frame's.
+    #[error("the connection id conflicts with the one that is held")]
+    Conflict,
 }
 
 impl CidQueue {
@@ -63,12 +66,14 @@ impl CidQueue {
     }
 
     /// Takes the id of a NEW_CONNECTION_ID frame (RFC 9000, 19.15). It is accepted where its number lies in the window
-    /// of `LEN` numbers that begins at the active number or, where that is greater, at the frame's retire-prior-to;
-    /// it replaces what was held for its number. Where the frame retires the active id, the least number held is the
-    /// new active one, and the answer is the range of numbers to be retired, at most `LEN` of them, with the new
-    /// active id's token.
+    /// of `LEN` numbers that begins at the active number or, where that is greater, at the frame's retire-prior-to,
+    /// and where the frame repeats what is held for its number, if anything is: the id, and the token where one is
+    /// held. The initial id has none, so a frame for it brings one, which is kept. Where the frame retires the active
+    /// id, the least number held is the new active one, and the answer is the range of numbers to be retired, at most
+    /// `LEN` of them, with the new active id's token.
     ///
-    /// A refusal changes nothing: `Retired` below the active number, `ExceedsLimit` past the window.
+    /// A refusal changes nothing: `Retired` below the active number, `ExceedsLimit` past the window, `Conflict` where
+    /// the number is held with another id or another token.
     pub fn insert(
         &mut self,
         cid: NewConnectionId,
@@ -92,6 +97,9 @@ impl CidQueue {
         }
         if cid.sequence - low >= Self::LEN as u64 {
             return Err(InsertError::ExceedsLimit);
+        }
+        if !repeats(&cid, self.window.get(cid.sequence)) {
+            return Err(InsertError::Conflict);
         }
         self.window.drop_below(low);
         self.window
@@ -164,6 +172,30 @@ impl CidQueue {
     {
         self.window.start()
     }
+}
+
+/// Whether a frame says of its number what is held for it, if anything is: the id, and the token where one is held.
+fn repeats(frame: &NewConnectionId, held: Option<CidData>) -> bool
+    ensures { Decides result (Repeats frame.now (λ n. held)) }
+{
+    match held {
+        Some((id, token)) => is_same_id(&frame.id, &id) && is_same_token(&frame.reset_token, token),
+        None => true,
+    }
+}
+
+/// Whether two ids have the same bytes.
+fn is_same_id(one: &ConnectionId, other: &ConnectionId) -> bool
+    ensures { Decides result (one.now ≡ other.now) }
+{
+    one == other
+}
+
+/// Whether a token is the one held, where one is held.
+fn is_same_token(given: &ResetToken, held: Option<ResetToken>) -> bool
+    ensures { Decides result (IfSome held (λ token. given.now ≡ token)) }
+{
+    held.is_none_or(|token| *given == token)
 }
 
 /// Moves to the least number held at or above another, where there is one, and answers its token.

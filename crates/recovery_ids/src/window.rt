@@ -8,24 +8,21 @@ use recovery_base::below::{ConnectionId, ResetToken};
 /// An id, with its token where there is one.
 pub type CidData = (ConnectionId, Option<ResetToken>);
 
-/// The most ids of the peer that are held.
-pub const LEN: usize = 5;
+/// The most ids of the peer that are held. A power of two, so that no division finds a number's place.
+pub const LEN: usize = 8;
 
-/// The places for entries: more than are needed, so that no division finds a number's place.
-const PLACES: usize = 8;
-
-/// What is held for each of `LEN` numbers from `start` on. The entry of a number stands at its rest by `PLACES`.
+/// What is held for each of `LEN` numbers from `start` on. The entry of a number stands at its rest by `LEN`.
 #[derive(Drop)]
 pub struct Window {
-    entries: [Option<CidData>; PLACES],
+    entries: [Option<CidData>; LEN],
     start: u64,
 }
 
 /// Where a number's entry stands.
 fn slot(number: u64) -> usize
-    ensures { result ≡ number % PLACES }
+    ensures { result ≡ number % LEN }
 {
-    (number % PLACES as u64) as usize
+    (number % LEN as u64) as usize
 }
 
 impl Window {
@@ -34,7 +31,7 @@ impl Window {
         ensures start { result.start ≡ 0 }
         ensures entries { (n : ℕ) → held_at result n ≡ (if n == 0 then Some entry else None) }
     {
-        let mut entries = [None; PLACES];
+        let mut entries = [None; LEN];
         entries[0] = Some(entry);
         Window { entries, start: 0 }
     }
@@ -46,11 +43,13 @@ impl Window {
         self.start
     }
 
-    /// What is held for a number of the window.
+    /// What is held for a number: nothing outside the window.
     pub fn get(&self, number: u64) -> Option<CidData>
-        requires { IsWithin self.now number }
         ensures { result ≡ held_at self.now number }
     {
+        if number < self.start || number - self.start >= LEN as u64 {
+            return None;
+        }
         self.entries[slot(number)]
     }
 

@@ -35,6 +35,7 @@ enum Answer {
     Retires(u64, u64, u8),
     Retired,
     ExceedsLimit,
+    Conflict,
 }
 
 /// A range that is to be retired, with the token of this byte.
@@ -67,6 +68,7 @@ fn insert(
         Ok(Some((range, given))) => retires(range.start, range.end, &given, active),
         Err(InsertError::Retired) => Some(Answer::Retired),
         Err(InsertError::ExceedsLimit) => Some(Answer::ExceedsLimit),
+        Err(InsertError::Conflict) => Some(Answer::Conflict),
     }
 }
 
@@ -126,7 +128,7 @@ fn a_range_is_cut_at_the_window(rt: HostRuntime) {
             (Call::Insert(2, 0, 7), Answer::Stays, 0, 255),
             (
                 Call::Insert(1_000_000, 1_000_000, 8),
-                Answer::Retires(0, 5, 8),
+                Answer::Retires(0, 8, 8),
                 1_000_000,
                 8,
             ),
@@ -141,12 +143,48 @@ fn the_window_ends_and_the_next_id_comes(rt: HostRuntime) {
         &mut CidQueue::new(cid(255)),
         &[
             (Call::Next, Answer::Stays, 0, 255),
-            (Call::Insert(4, 0, 7), Answer::Stays, 0, 255),
-            (Call::Insert(5, 0, 8), Answer::ExceedsLimit, 0, 255),
-            (Call::Next, Answer::Retires(0, 4, 7), 4, 7),
-            (Call::Insert(0, 0, 9), Answer::Retired, 4, 7),
+            (Call::Insert(7, 0, 7), Answer::Stays, 0, 255),
+            (Call::Insert(8, 0, 8), Answer::ExceedsLimit, 0, 255),
+            (Call::Next, Answer::Retires(0, 7, 7), 7, 7),
+            (Call::Insert(0, 0, 9), Answer::Retired, 7, 7),
         ],
     );
+}
+
+#[test]
+fn a_frame_for_a_number_that_is_held_repeats_it(rt: HostRuntime) {
+    play(
+        &rt,
+        &mut CidQueue::new(cid(255)),
+        &[
+            (Call::Insert(0, 0, 255), Answer::Stays, 0, 255),
+            (Call::Insert(0, 0, 255), Answer::Stays, 0, 255),
+            (Call::Insert(0, 0, 7), Answer::Conflict, 0, 255),
+            (Call::Next, Answer::Stays, 0, 255),
+            (Call::Insert(1, 0, 7), Answer::Stays, 0, 255),
+            (Call::Insert(1, 1, 8), Answer::Conflict, 0, 255),
+            (Call::Insert(1, 1, 7), Answer::Retires(0, 1, 7), 1, 7),
+            (Call::Insert(0, 0, 255), Answer::Retired, 1, 7),
+        ],
+    );
+}
+
+#[test]
+fn eight_ids_are_held(rt: HostRuntime) {
+    let mut queue = CidQueue::new(cid(0));
+    for number in 1..8 {
+        let found = insert(&mut queue, number, 0, number as u8, 0);
+        assert!(rt; found == Some(Answer::Stays), "number {number}");
+    }
+    let mut ids = queue.iter();
+    for wanted in 0..8 {
+        let is_wanted = match ids.next() {
+            Some((step, (id, _))) => step == wanted && id == cid(wanted as u8),
+            None => false,
+        };
+        assert!(rt; is_wanted, "number {wanted}");
+    }
+    assert!(rt; ids.next().is_none());
 }
 
 #[test]

@@ -7,6 +7,8 @@ mod acks;
 #[cfg(test)]
 mod base;
 #[cfg(test)]
+mod conflicts;
+#[cfg(test)]
 mod ecn;
 #[cfg(test)]
 mod ids;

@@ -6,15 +6,14 @@ use Rattle.rand_core.specs.Pcg32Seed.{pcg32_seed}
 use Rattle.rand_core.specs.Steps.{stream_of, steps_u32}
 use Rattle.rand_core.specs.Stream.{Stream}
 use Rattle.rand_pcg.specs.Pcg.{pcg32, pcg32_of_seed}
-use Rattle.recovery_congestion.specs.NewReno.{reno_made, reno_words}
-use Rattle.recovery_congestion.specs.RenoSettings.{RenoSettings}
+use Rattle.recovery_congestion.specs.Controllers.{ControllerWords}
 use Rattle.quic_recovery.specs.declared.driver.RecoveryConfig.{RecoveryConfig}
 use Rattle.recovery_items.specs.Items.{item_words}
 use Rattle.quic_recovery.specs.History.{begins, queue_meaning, Throughout}
 use Rattle.quic_recovery.specs.Told.{Told}
 use Rattle.recovery_lines.specs.Answers.{Reply, answer_lines}
 use Rattle.recovery_lines.specs.Lines.{ItemEvent, IsAt}
-use Rattle.recovery_replay.specs.Replay.{Session, settings, skips_with, words_with}
+use Rattle.recovery_replay.specs.Replay.{RunsOver, Session, settings, skips_with, words_with}
 
 -- the generator of a seed gives its words
 pub words_of_seed : (seed : Option ℕ) → stream_of (steps_u32 pcg32) (pcg32_of_seed (pcg32_seed 16 (unwrap_or seed 0))) ≡ words_with seed
@@ -22,14 +21,20 @@ words_of_seed None = refl
 words_of_seed (Some seed) = refl
 
 -- a run that begins with these settings, and of whose replies the lines were written
-pub session : {Z E : Type 0} (seed : Option ℕ) (said : List ItemEvent) (replies : List Reply) (remote : SocketAddr) (config : RecoveryConfig RenoSettings) (start : ℕ) (random : Stream)
-    → IsAt 4433 remote → config ≡ settings remote (skips_with seed) → start ≡ 0 → random ≡ words_with seed
-    → Throughout (Told (begins reno_made reno_words (queue_meaning (λ items. items) item_words) config start random)) said replies
-    → (result : Result (String Z) E) → IfOk result (λ text. string_bytes text ≡ answer_lines replies) → IfOk result (λ text. Session seed (λ events. events ≡ said) (λ lines. string_bytes text ≡ lines))
-session seed said replies remote config start random at is_config is_start is_random told (Ok text) written =
-    let Begun : RecoveryConfig RenoSettings → Type 0 = λ c. Throughout (Told (begins reno_made reno_words (queue_meaning (λ items. items) item_words) c start random)) said replies in
-    let Started : ℕ → Type 0 = λ s. Throughout (Told (begins reno_made reno_words (queue_meaning (λ items. items) item_words) (settings remote (skips_with seed)) s random)) said replies in
-    let Drawn : Stream → Type 0 = λ r. Throughout (Told (begins reno_made reno_words (queue_meaning (λ items. items) item_words) (settings remote (skips_with seed)) 0 r)) said replies in
+pub session : {Z E F K : Type 0} (built : F → ℕ → ℕ → K) (words : ControllerWords K) (factory : F) (seed : Option ℕ)
+    (said : List ItemEvent) (replies : List Reply) (remote : SocketAddr) (config : RecoveryConfig F) (start : ℕ)
+    (random : Stream)
+    → IsAt 4433 remote → config ≡ settings factory remote (skips_with seed) → start ≡ 0 → random ≡ words_with seed
+    → Throughout (Told (begins built words (queue_meaning (λ items. items) item_words) config start random)) said replies
+    → (result : Result (String Z) E) → IfOk result (λ text. string_bytes text ≡ answer_lines replies)
+    → IfOk result (λ text. Session (RunsOver built words factory seed) (λ events. events ≡ said)
+    (λ lines. string_bytes text ≡ lines))
+session built words factory seed said replies remote config start random at is_config is_start is_random told (Ok text) written =
+    let queues = queue_meaning (λ (items : List ℕ). items) item_words in
+    let Begun : RecoveryConfig _ → Type 0 = λ c. Throughout (Told (begins built words queues c start random)) said replies in
+    let chosen = settings factory remote (skips_with seed) in
+    let Started : ℕ → Type 0 = λ s. Throughout (Told (begins built words queues chosen s random)) said replies in
+    let Drawn : Stream → Type 0 = λ r. Throughout (Told (begins built words queues chosen 0 r)) said replies in
     record {
       events = said;
       replies = replies;
@@ -39,4 +44,5 @@ session seed said replies remote config start random at is_config is_start is_ra
       told = subst Drawn is_random (subst Started is_start (subst Begun is_config told));
       written = written;
     }
-session seed said replies remote config start random at is_config is_start is_random told (Err error) written = tt
+session built words factory seed said replies remote config start random at is_config is_start is_random told
+    (Err error) written = tt

@@ -1,17 +1,19 @@
 //! Events in, answers out.
-ghost use Rattle.std.specs.Prelude.{◌≡◌, IfOk, OnOk, OnErr, string_bytes};
+ghost use Rattle.std.specs.Prelude.{◌≡◌, ℕ, Option, IfOk, OnOk, OnErr, MatchOption, string_bytes};
 ghost use Rattle.std.specs.Io.KnownBytes.{Appends};
 ghost use Rattle.recovery_replay.specs.Script.{Hears};
 ghost use Rattle.recovery_replay.specs.Replay.{status_of, error_text, settings, skips_with};
-ghost use Rattle.recovery_replay.specs.Replay.{AreArguments, AreRead, Session, PlaysBytes, Plays};
+ghost use Rattle.recovery_replay.specs.Replay.{AreArguments, AreRead, IsSeed, IsWindow};
+ghost use Rattle.recovery_replay.specs.Replay.{Runs, RunsOver, Session, PlaysBytes, Plays};
 ghost use Rattle.recovery_replay.specs.Replay.{Tells, EndsSo};
 
+use crate::fixed_window::FixedWindowConfig;
 use crate::script::{Ending, read_bytes, read_script};
 use crate::writing::deliver;
 use arrayvec::ArrayString;
 use itoa::Buffer;
 use quic_recovery::config::TransportConfig;
-use quic_recovery::congestion::NewRenoConfig;
+use quic_recovery::congestion::{ControllerFactory, NewRenoConfig};
 use quic_recovery::driver::{Recovery, RecoveryConfig};
 use quic_recovery::event::Event;
 use rand_core::SeedableRng;
@@ -72,7 +74,7 @@ impl Outcome {
             Outcome::Ended(Ending::ReadFailed) => text.push_str("replay: read failed\n"),
             Outcome::WriteFailed => text.push_str("replay: write failed\n"),
             Outcome::OutOfMemory => text.push_str("replay: out of memory\n"),
-            Outcome::WrongArguments => text.push_str("usage: recovery-replay [SEED]\n"),
+            Outcome::WrongArguments => text.push_str("usage: recovery-replay [SEED [WINDOW]]\n"),
         }
         text
     }
@@ -87,12 +89,21 @@ impl Outcome {
     }
 }
 
-/// What a run with the peer at an address starts with.
-fn config(remote: SocketAddr, skips: Skips) -> RecoveryConfig<NewRenoConfig>
-    ensures { result ≡ settings remote skips }
+/// What the arguments choose.
+#[derive(Clone, Copy)]
+struct Choice {
+    /// What skipped numbers are drawn by; without it none is skipped.
+    seed: Option<u64>,
+    /// The window of each controller, in bytes; without it they are NewReno's.
+    fixed: Option<FixedWindowConfig>,
+}
+
+/// What a run over these controllers, with the peer at an address, starts with.
+fn config<F>(factory: F, remote: SocketAddr, skips: Skips) -> RecoveryConfig<F>
+    ensures { result ≡ settings factory remote skips }
 {
     RecoveryConfig {
-        transport: TransportConfig::default(),
+        transport: TransportConfig::with_factory(factory),
         remote,
         validated: false,
         allow_mtud: true,
@@ -115,28 +126,74 @@ fn skips(seed: Option<u64>) -> Skips
     }
 }
 
-/// The lines that are written for events, where the run begins with a seed or with none.
-fn answers(
+/// The lines that are written for events, in a run over these controllers that begins with a seed or with none.
+fn answers_over<F>(
     alloc: Global,
+    factory: F,
     seed: Option<u64>,
     events: Vec<Event<ItemQueue>>,
 ) -> Result<String, NoMemory>
-    ensures { IfOk result (λ text.
-        Session seed (λ said. said ≡ events.items) (λ lines. string_bytes text ≡ lines)) }
+where
+    F: ControllerFactory + Drop,
+    F::Controller: Drop,
+    ensures { IfOk result (λ text. Session (RunsOver F.built F.Controller.words factory seed)
+        (λ said. said ≡ events.items) (λ lines. string_bytes text ≡ lines)) }
 {
-    let config = config(peer_at(FIRST_PORT), skips(seed));
+    let config = config(factory, peer_at(FIRST_PORT), skips(seed));
     let rng = Pcg32::seed_from_u64(seed.unwrap_or(0));
     let (_, replies) = Recovery::run(alloc, config, rng, Instant::from_nanos(0), events)?;
     render(alloc, &replies)
 }
 
-/// The seed that the arguments of a run give, if they are such: nothing, or a number.
-fn seed_in(words: &[String]) -> Option<Option<u64>>
+/// The lines that are written for events, in the run that is chosen.
+fn answers(alloc: Global, choice: Choice, events: Vec<Event<ItemQueue>>) -> Result<String, NoMemory>
+    ensures { IfOk result (λ text. Session (Runs choice)
+        (λ said. said ≡ events.items) (λ lines. string_bytes text ≡ lines)) }
+{
+    match choice.fixed {
+        Some(factory) => answers_over(alloc, factory, choice.seed, events),
+        None => answers_over(alloc, NewRenoConfig::default(), choice.seed, events),
+    }
+}
+
+/// The seed that a word says, if it says one: a number, or none by `-`.
+fn seed_in(word: &[u8]) -> Option<Option<u64>>
+    ensures { MatchOption result ((seed : Option ℕ) → ¬ IsSeed word.now seed) (IsSeed word.now) }
+{
+    if word == "-".as_bytes() {
+        return Some(None);
+    }
+    Some(Some(number_in(word)?))
+}
+
+/// The window that a word says, if it says one: a number above zero.
+fn window_in(word: &[u8]) -> Option<FixedWindowConfig>
+    ensures { MatchOption result ((factory : FixedWindowConfig) → ¬ IsWindow word.now factory)
+        (IsWindow word.now) }
+{
+    match number_in(word)? {
+        0 => None,
+        window => Some(FixedWindowConfig::new(window)),
+    }
+}
+
+/// What the arguments of a run choose, if they are such: nothing, a seed, or a seed and a window.
+fn choice_in(words: &[String]) -> Option<Choice>
     ensures { AreRead words.now result }
 {
     match words {
-        [] => Some(None),
-        [seed] => Some(Some(number_in(seed.as_bytes())?)),
+        [] => Some(Choice {
+            seed: None,
+            fixed: None,
+        }),
+        [seed] => Some(Choice {
+            seed: seed_in(seed.as_bytes())?,
+            fixed: None,
+        }),
+        [seed, window] => Some(Choice {
+            seed: seed_in(seed.as_bytes())?,
+            fixed: Some(window_in(window.as_bytes())?),
+        }),
         _ => None,
     }
 }
@@ -145,7 +202,9 @@ fn seed_in(words: &[String]) -> Option<Option<u64>>
 /// the answers. The one refusal is `NoMemory`.
 ///
 /// `words` are the arguments behind the program's name: nothing, or a seed (0 to `u64::MAX`, without sign or leading
-/// zeros). With a seed numbers of 1-RTT packets are skipped, as `Pcg32::seed_from_u64` draws them; without one none is.
+/// zeros, or `-` for none), and behind it a window in bytes or nothing (1 to `u64::MAX`, the same). With a seed numbers of
+/// 1-RTT packets are skipped, as `Pcg32::seed_from_u64` draws them; without one none is. With a window it is that of each
+/// path's controller for good; without one they are NewReno's.
 pub fn play_bytes(
     alloc: Global,
     words: &[String],
@@ -155,25 +214,25 @@ pub fn play_bytes(
         PlaysBytes words.now input.now played.0 (string_bytes played.1)) }
     ensures memory { OnErr result (AreArguments words.now) }
 {
-    let Some(seed) = seed_in(words) else {
+    let Some(choice) = choice_in(words) else {
         return Ok((Outcome::WrongArguments, String::new(alloc)));
     };
     let (events, ending) = read_bytes(alloc, input)?;
-    Ok((Outcome::Ended(ending), answers(alloc, seed, events)?))
+    Ok((Outcome::Ended(ending), answers(alloc, choice, events)?))
 }
 
 /// The answers to an input that is read as it comes, and how it ended.
 fn answer_all<R: Read>(
     alloc: Global,
-    seed: Option<u64>,
+    choice: Choice,
     input: &mut R,
 ) -> Result<(Ending, String), NoMemory>
-    ensures { IfOk result (λ all. Session seed
+    ensures { IfOk result (λ all. Session (Runs choice)
         (λ events. Hears (R.remaining input.old) (R.remaining input.new) events all.0)
         (λ lines. string_bytes all.1 ≡ lines)) }
 {
     let (events, ending) = read_script(alloc, input)?;
-    Ok((ending, answers(alloc, seed, events)?))
+    Ok((ending, answers(alloc, choice, events)?))
 }
 
 /// Reads events and writes their answers.
@@ -186,10 +245,10 @@ fn play<R: Read, W: Write>(
     ensures { Plays words.now (R.remaining input.old) (R.remaining input.new)
         (W.contents output.old) (W.contents output.new) result }
 {
-    let Some(seed) = seed_in(words) else {
+    let Some(choice) = choice_in(words) else {
         return Outcome::WrongArguments;
     };
-    let Ok((ending, text)) = answer_all(alloc, seed, input) else {
+    let Ok((ending, text)) = answer_all(alloc, choice, input) else {
         return Outcome::OutOfMemory;
     };
     match deliver(output, text.as_bytes()) {

@@ -41,6 +41,8 @@ pub enum Refusal {
     NotInitialId,
     /// The numbers are no range that fits.
     BadRange,
+    /// The connection id conflicts with the one that is held.
+    Conflict,
     /// The counts of ECN cannot be right.
     Ecn(Fault),
 }
@@ -89,6 +91,7 @@ fn name_of(refusal: &Cause) -> Refusal {
         Cause::SkippedAcked => Refusal::SkippedAcked,
         Cause::NotInitialId => Refusal::NotInitialId,
         Cause::BadRange => Refusal::BadRange,
+        Cause::Conflict => Refusal::Conflict,
         Cause::Ecn(text) => Refusal::Ecn(fault_of(text)),
     }
 }

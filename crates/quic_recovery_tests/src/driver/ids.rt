@@ -10,6 +10,8 @@ const BAD_RETIRE_PRIOR_TO: Reply = Err(Refusal::BadRetirePriorTo);
 
 const CIDS_NOT_IN_USE: Reply = Err(Refusal::CidsNotInUse);
 
+const CONFLICT: Reply = Err(Refusal::Conflict);
+
 const EXCEEDS_LIMIT: Reply = Err(Refusal::ExceedsLimit);
 
 const NOT_INITIAL_ID: Reply = Err(Refusal::NotInitialId);
@@ -81,7 +83,7 @@ fn ids_of_the_peer_come_and_go(rt: HostRuntime) {
             (new_id(3, 1, 8), retire(0, 2, 7)),
             (Event::NextId, retire(2, 3, 8)),
             (Event::NextId, NOTHING),
-            (new_id(1_000_000, 1_000_000, 9), retire(3, 8, 9)),
+            (new_id(1_000_000, 1_000_000, 9), retire(3, 11, 9)),
             (initial_id(1), NOT_INITIAL_ID),
             (new_id(3, 4, 1), BAD_RETIRE_PRIOR_TO),
         ],
@@ -98,9 +100,9 @@ fn ids_of_the_peer_have_bounds(rt: HostRuntime) {
             (initial_id(1), DONE),
             (new_id(1 << 62, 0, 1), TOO_LARGE),
             (new_id((1 << 62) - 1, 0, 1), EXCEEDS_LIMIT),
-            (new_id(4, 0, 4), NOTHING),
-            (new_id(5, 0, 5), EXCEEDS_LIMIT),
-            (Event::NextId, retire(0, 4, 4)),
+            (new_id(7, 0, 4), NOTHING),
+            (new_id(8, 0, 5), EXCEEDS_LIMIT),
+            (Event::NextId, retire(0, 7, 4)),
             (new_id(3, 0, 3), RETIRED),
             (new_id(8, 3, 8), NOTHING),
         ],
@@ -114,6 +116,9 @@ fn tokens_are_not_ids(rt: HostRuntime) {
         &rt,
         rt.alloc(),
         [
+            (new_id_with(1, 0, 7, 9), NOTHING),
+            (new_id_with(1, 0, 7, 10), CONFLICT),
+            (new_id_with(1, 1, 8, 9), CONFLICT),
             (new_id_with(1, 0, 7, 9), NOTHING),
             (new_id_with(2, 2, 8, 10), retire(0, 2, 10)),
         ],

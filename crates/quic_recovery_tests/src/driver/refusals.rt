@@ -5,7 +5,7 @@ use std::process::Abort;
 use std::test::Fail;
 
 /// Refusals with their numbers, names and texts.
-const TEXTS: [(Refusal, u8, &str, &str); 9] = [
+const TEXTS: [(Refusal, u8, &str, &str); 10] = [
     (Refusal::NoMemory, 1, "NoMemory", "out of memory"),
     (
         Refusal::NumberTooLarge,
@@ -50,6 +50,12 @@ const TEXTS: [(Refusal, u8, &str, &str); 9] = [
         "a skipped packet number is acknowledged",
     ),
     (Refusal::Ecn("ECN bleaching"), 17, "Ecn", "ECN bleaching"),
+    (
+        Refusal::Conflict,
+        20,
+        "Conflict",
+        "the connection id conflicts with the one that is held",
+    ),
 ];
 
 /// Asserts the number, the name and the text of each refusal.

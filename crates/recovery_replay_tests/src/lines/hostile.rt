@@ -8,7 +8,7 @@ fn a_hostile_peer_and_clock(rt: HostRuntime) -> Result<(), Fail> {
     let rows = [
         (
             "new-id 1000000 1000000 9\nnew-id 4611686018427387903 4611686018427387903 9\nnew-id 4611686018427387904 0 1\nnew-id 5 0 1\nnext-id\n",
-            "retire 0 5\nretire 1000000 1000005\nrefused 2 NumberTooLarge\nrefused 10 Retired\nretire none\n",
+            "retire 0 8\nretire 1000000 1000008\nrefused 2 NumberTooLarge\nrefused 10 Retired\nretire none\n",
         ),
         (
             "pacer-check 18446744073709551615 12001\npacer-check 0 12001\n",

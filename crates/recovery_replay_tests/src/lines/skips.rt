@@ -23,8 +23,9 @@ fn assert_left_out(rt: &impl Abort, alloc: Global, row: &LeftOut<'_>) -> Result<
 
 #[test]
 fn numbers_that_are_left_out(rt: HostRuntime) -> Result<(), Fail> {
-    let rows: [LeftOut<'_>; 4] = [
+    let rows: [LeftOut<'_>; 5] = [
         (&[], 200, &[]),
+        (&["-"], 200, &[]),
         (&["0"], 100, &[63, 80]),
         (&["1"], 200, &[31, 68, 148]),
         (&["7"], 200, &[6, 116, 168]),

@@ -6,20 +6,37 @@ use Rattle.recovery_ids.proofs.queue.CidQueue.insert.Goals as goal
 
 pub returns-then-low-active-clause-step : goal.returns-then-low-active-clause-step
 returns-then-low-active-clause-step c =
-    record { same = gives (remote_ids c.args.self.now) (remote_ids c.set.new.self) c.args.cid None c.requires.ordered (search rules) (search rules); window = search rules }
+    record {
+      same =
+          gives (remote_ids c.args.self.now) (remote_ids c.set.new.self) c.args.cid None c.requires.ordered
+          (search rules) (search rules);
+      window = search rules;
+    }
 
 pub returns-clause-reply : goal.returns-clause-reply
 returns-clause-reply c =
-    accepts_move c.args.self.now c.drop_below.new.self c.set.new.self c.advance.new.window c.args.cid c.in-Some.token c.max-low.result
-    c.requires.ordered (search rules) (search rules) (search rules) (search rules) (search rules) (search rules) (search rules) record { start = c.start-active.result; end = c.min-end.result } (search rules) (search rules)
+    accepts_move c.args.self.now c.drop_below.new.self c.set.new.self c.advance.new.window c.args.cid
+    c.in-Some.token c.max-low.result c.requires.ordered (search rules) (search rules) (search rules)
+    (search rules) (search rules) (search rules) (search rules) (search rules)
+    record { start = c.start-active.result; end = c.min-end.result } (search rules) (search rules)
 
 pub returns-clause-range : goal.returns-clause-range
 returns-clause-range c =
-    retires_move c.args.self.now c.drop_below.new.self c.set.new.self c.advance.new.window c.args.cid c.in-Some.token c.max-low.result
-    c.requires.ordered (search rules) (search rules) (search rules) (search rules) (search rules) (search rules) (search rules) record { start = c.start-active.result; end = c.min-end.result } (search rules) (search rules)
+    retires_move c.args.self.now c.drop_below.new.self c.set.new.self c.advance.new.window c.args.cid
+    c.in-Some.token c.max-low.result c.requires.ordered (search rules) (search rules) (search rules)
+    (search rules) (search rules) (search rules) (search rules)
+    record { start = c.start-active.result; end = c.min-end.result } (search rules) (search rules)
 
 pub returns-clause-step : goal.returns-clause-step
 returns-clause-step c =
-    let accepts = accepts_move c.args.self.now c.drop_below.new.self c.set.new.self c.advance.new.window c.args.cid c.in-Some.token c.max-low.result
-    c.requires.ordered (search rules) (search rules) (search rules) (search rules) (search rules) (search rules) (search rules) record { start = c.start-active.result; end = c.min-end.result } (search rules) (search rules) in
-    record { same = gives (remote_ids c.args.self.now) (remote_ids c.advance.new.window) c.args.cid _ c.requires.ordered accepts (search rules); window = search rules }
+    let accepts =
+    accepts_move c.args.self.now c.drop_below.new.self c.set.new.self c.advance.new.window c.args.cid
+    c.in-Some.token c.max-low.result c.requires.ordered (search rules) (search rules) (search rules)
+    (search rules) (search rules) (search rules) (search rules) (search rules)
+    record { start = c.start-active.result; end = c.min-end.result } (search rules) (search rules) in
+    record {
+      same =
+          gives (remote_ids c.args.self.now) (remote_ids c.advance.new.window) c.args.cid _ c.requires.ordered
+          accepts (search rules);
+      window = search rules;
+    }

@@ -1,0 +1,139 @@
+//! Frames for a number of the peer's ids that is held, with ids and tokens that lines cannot spell.
+ghost use Rattle.std.specs.Prelude.{◌≤◌};
+
+use recovery_base::below::{ConnectionId, NewConnectionId, ResetToken};
+use recovery_parts::cids::{CidQueue, InsertError};
+use std::process::Abort;
+
+/// An id: how many bytes it has, and which all of them are.
+type Id = (usize, u8);
+
+/// A token: which byte all of its bytes are, but for the one at this place, which is another one.
+type Token = (u8, usize);
+
+/// No byte of a token stands there.
+const NOWHERE: usize = 16;
+
+fn id_of(id: Id) -> ConnectionId {
+    let (length, byte) = id;
+    ConnectionId::new(&[byte; 20][..length.min(20)])
+}
+
+fn token_of(token: Token) -> ResetToken {
+    let (byte, other) = token;
+    let mut bytes = [byte; 16];
+    if other < bytes.len() {
+        bytes[other] = !byte;
+    }
+    ResetToken::from(bytes)
+}
+
+/// What happens: a frame comes for the number 0 or 1, and is taken or conflicts; or the initial id is replaced.
+#[derive(Clone, Copy)]
+enum Call {
+    Taken(u64, Id, Token),
+    Conflicts(u64, Id, Token),
+    Replaced(Id),
+}
+
+/// Whether the queue takes a frame, or says that it conflicts.
+fn is_told(
+    queue: &mut CidQueue,
+    sequence: u64,
+    id: Id,
+    token: Token,
+    wants_conflict: bool,
+) -> bool {
+    if sequence > 1 {
+        return false;
+    }
+    let frame = NewConnectionId {
+        sequence,
+        retire_prior_to: 0,
+        id: id_of(id),
+        reset_token: token_of(token),
+    };
+    match queue.insert(frame) {
+        Ok(None) => !wants_conflict,
+        Err(InsertError::Conflict) => wants_conflict,
+        _ => false,
+    }
+}
+
+/// Whether a call is told what its row says.
+fn is_right(queue: &mut CidQueue, call: Call) -> bool {
+    match call {
+        Call::Taken(sequence, id, token) => is_told(queue, sequence, id, token, false),
+        Call::Conflicts(sequence, id, token) => is_told(queue, sequence, id, token, true),
+        Call::Replaced(id) => {
+            if queue.active_seq() != 0 {
+                return false;
+            }
+            queue.update_initial_cid(id_of(id));
+            true
+        }
+    }
+}
+
+/// Asserts that each call is told what its row says, where the initial id has eight bytes 255.
+fn play(rt: &impl Abort, calls: &[Call]) {
+    let mut queue = CidQueue::new(id_of((8, 255)));
+    let mut row = 0u64;
+    for call in calls {
+        assert!(rt; is_right(&mut queue, *call), "row {row}");
+        row = row.saturating_add(1);
+    }
+}
+
+#[test]
+fn ids_that_differ_in_length_conflict(rt: HostRuntime) {
+    play(
+        &rt,
+        &[
+            Call::Conflicts(0, (7, 255), (1, NOWHERE)),
+            Call::Conflicts(0, (9, 255), (1, NOWHERE)),
+            Call::Conflicts(0, (0, 255), (1, NOWHERE)),
+            Call::Taken(0, (8, 255), (1, NOWHERE)),
+            // Bytes 0 are not what stands behind an id.
+            Call::Taken(1, (4, 0), (1, NOWHERE)),
+            Call::Conflicts(1, (5, 0), (1, NOWHERE)),
+            Call::Conflicts(1, (20, 0), (1, NOWHERE)),
+            Call::Conflicts(1, (3, 0), (1, NOWHERE)),
+            Call::Conflicts(1, (0, 0), (1, NOWHERE)),
+            Call::Taken(1, (4, 0), (1, NOWHERE)),
+        ],
+    );
+}
+
+#[test]
+fn tokens_that_differ_in_one_byte_conflict(rt: HostRuntime) {
+    play(
+        &rt,
+        &[
+            Call::Taken(1, (8, 7), (1, NOWHERE)),
+            Call::Conflicts(1, (8, 7), (1, 0)),
+            Call::Conflicts(1, (8, 7), (1, 7)),
+            Call::Conflicts(1, (8, 7), (1, 15)),
+            Call::Conflicts(1, (8, 8), (1, NOWHERE)),
+            Call::Taken(1, (8, 7), (1, NOWHERE)),
+        ],
+    );
+}
+
+#[test]
+fn the_initial_id_gets_its_token_from_a_frame(rt: HostRuntime) {
+    play(
+        &rt,
+        &[
+            Call::Taken(0, (8, 255), (1, 15)),
+            Call::Conflicts(0, (8, 255), (1, NOWHERE)),
+            Call::Taken(0, (8, 255), (1, 15)),
+            Call::Replaced((8, 7)),
+            Call::Conflicts(0, (8, 255), (1, 15)),
+            Call::Taken(0, (8, 7), (2, NOWHERE)),
+            Call::Conflicts(0, (8, 7), (1, 15)),
+            Call::Replaced((8, 7)),
+            Call::Taken(0, (8, 7), (1, 15)),
+        ],
+    );
+}
