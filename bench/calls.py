@@ -1,13 +1,15 @@
 #!/usr/bin/env python3
-"""Counts the instructions (valgrind's callgrind) of one call of `Dedup`, beside those of an earlier revision.
+"""Counts the instructions (valgrind's callgrind) of single calls, beside those of an earlier revision.
 
-Two trees are made in a temporary folder: the crate `recovery_base` as it is here, and as it was, each with the program
-`calls/`. A figure is what twice as many calls take more than once as many, divided by the calls: the start cancels. Both
-must print the same sums.
+A program of `bench/` is built over the crates as they are here, and over those of a revision. A figure is what twice as many calls
+take more than once as many, divided by the calls: the start cancels. All must print the same sums.
 
-    bench/calls.py                    each kind of call, beside the last revision whose window was one number of 128 bits
-    bench/calls.py in_order gaps      these kinds
-    bench/calls.py --against HEAD~3   beside another revision
+    bench/calls.py                    each kind of call of `Dedup`, and each kind of step over tracked packets
+    bench/calls.py in_order tracked   these kinds; `calls` and `tracked` stand for all of a program
+    bench/calls.py --against HEAD~3   beside another revision than the last of the old form
+
+Where rustc is there, a step over tracked packets is counted for a queue of options in plain Rust too. The old revision is proved
+from nothing: some minutes.
 """
 import argparse
 import pathlib
@@ -16,89 +18,159 @@ import shutil
 import subprocess
 import sys
 import tempfile
+from dataclasses import dataclass, field
 
 ROOT = pathlib.Path(__file__).resolve().parent.parent
-CRATE = pathlib.Path("crates/recovery_base")
-WHOLE_WINDOW = "ddbca9f"
-CALLS = 100_000
-
-KINDS = {
-    "in_order": "insert, each number one above the last",
-    "gaps": "insert, each two above",
-    "wide_gaps": "insert, each 100 above",
-    "far_ahead": "insert, each 300 above",
-    "shuffled": "insert, in blocks of 64 that are shuffled",
-    "near_none_missing": "look, intervals of 1 to 8, none missing",
-    "wide_none_missing": "look, intervals of 1 to 256, none missing",
-    "near_some_missing": "look, intervals of 1 to 8, one of five missing",
-    "wide_some_missing": "look, intervals of 1 to 256, one of five missing",
-}
+OLD_FORM = "ddbca9f"  # one number of 128 bits for the window, an ordered map for the packets
 
 
-def copy_now(tree):
-    """The crate of the working tree, with what was proved of it, so that it is not proved again."""
-    shutil.copytree(ROOT / CRATE, tree / CRATE, symlinks=True)
+@dataclass
+class Program:
+    """A program over some crates, with its kinds of calls: what each is, the program's arguments, and how many calls."""
+    needs: list
+    kinds: dict = field(default_factory=dict)
 
 
-def copy_of(revision):
-    def copy(tree):
-        archive = subprocess.run(["git", "-C", ROOT, "archive", revision, CRATE], stdout=subprocess.PIPE, check=True)
-        subprocess.run(["tar", "-x", "-C", tree], input=archive.stdout, check=True)
-    return copy
+def calls_of_dedup():
+    texts = {
+        "in_order": "insert, each number one above the last",
+        "gaps": "insert, each two above",
+        "wide_gaps": "insert, each 100 above",
+        "far_ahead": "insert, each 300 above",
+        "shuffled": "insert, in blocks of 64 that are shuffled",
+        "near_none_missing": "look, intervals of 1 to 8, none missing",
+        "wide_none_missing": "look, intervals of 1 to 256, none missing",
+        "near_some_missing": "look, intervals of 1 to 8, one of five missing",
+        "wide_some_missing": "look, intervals of 1 to 256, one of five missing",
+    }
+    return Program(["recovery_base"], {name: (text, [name], 100_000) for name, text in texts.items()})
 
 
-def build(tree, copy):
-    """The program over a crate."""
-    tree.mkdir()
-    copy(tree)
-    calls = tree / "crates" / "calls"
-    shutil.copytree(ROOT / "bench" / "calls", calls)
-    for source in list(calls.rglob("*.txt")):  # the gate takes no source that none of its crates reads
-        source.rename(source.with_suffix(""))
-    (tree / "crates.txt").write_text("recovery_base: thiserror\ncalls: recovery_base anyhow\n")
-    run = subprocess.run(["rt", "run"], cwd=calls, stdin=subprocess.DEVNULL, capture_output=True, text=True)
-    program = calls / "out" / "calls"
-    if run.returncode or not program.exists():
-        sys.exit(run.stdout + run.stderr + "bench/calls.py: the build failed")
+def steps_over_packets():
+    program = Program(["recovery_ledger", "recovery_items", "recovery_queue", "recovery_base"])
+    for window in (1, 100, 10**4, 10**6):
+        for order in ("in_order", "reversed", "shuffled"):
+            text = f"acknowledge and send, {window} tracked, {order}"
+            program.kinds[f"tracked_{window}_{order}"] = (text, [order, str(window)], max(window, 20_000))
     return program
 
 
-def taken(program, kind, calls):
+PROGRAMS = {"calls": calls_of_dedup(), "tracked": steps_over_packets()}
+
+
+def text_of(name, revision):
+    """A file as it is here, or as it was."""
+    if revision is None:
+        return (ROOT / name).read_text()
+    return subprocess.run(["git", "-C", ROOT, "show", f"{revision}:{name}"], stdout=subprocess.PIPE, text=True, check=True).stdout
+
+
+def crates_below(needs, revision):
+    """The lines of crates.txt of these crates and all below them."""
+    lines = {}
+    for line in text_of("crates.txt", revision).splitlines():
+        if line.strip() and not line.startswith("#"):
+            lines[line.split(":")[0]] = line
+    found, waiting = {}, list(needs)
+    while waiting:
+        name = waiting.pop()
+        if name in lines and name not in found:
+            found[name] = lines[name]
+            waiting += lines[name].split(":")[1].split()
+    return found
+
+
+def copy(tree, crates, revision):
+    """The crates of the working tree, with what was proved of them, or those of a revision."""
+    folders = [f"crates/{name}" for name in crates]
+    if revision is None:
+        for folder in folders:
+            shutil.copytree(ROOT / folder, tree / folder, symlinks=True)
+        return
+    archive = subprocess.run(["git", "-C", ROOT, "archive", revision, *folders], stdout=subprocess.PIPE, check=True)
+    subprocess.run(["tar", "-x", "-C", tree], input=archive.stdout, check=True)
+
+
+def build(tree, name, revision):
+    """The program over the crates of a revision."""
+    tree.mkdir()
+    program = PROGRAMS[name]
+    crates = crates_below(program.needs, revision)
+    copy(tree, crates, revision)
+    folder = tree / "crates" / name
+    shutil.copytree(ROOT / "bench" / name, folder, ignore=shutil.ignore_patterns("*.rs"))
+    for source in list(folder.rglob("*.txt")):  # the gate takes no source that none of its crates reads
+        source.rename(source.with_suffix(""))
+    (tree / "crates.txt").write_text("\n".join([*crates.values(), f"{name}: {' '.join(program.needs)} anyhow"]) + "\n")
+    run = subprocess.run(["rt", "run"], cwd=folder, stdin=subprocess.DEVNULL, capture_output=True, text=True)
+    built = folder / "out" / name
+    if run.returncode or not built.exists():
+        sys.exit(run.stdout + run.stderr + "bench/calls.py: the build failed")
+    return built
+
+
+def build_plain(tree, name):
+    """The same job in plain Rust, where it and rustc are there."""
+    source = ROOT / "bench" / name / "plain.rs"
+    if not source.exists() or not shutil.which("rustc"):
+        return None
+    tree.mkdir()
+    subprocess.run(["rustc", "-C", "opt-level=3", "-o", tree / "plain", source], check=True)
+    return tree / "plain"
+
+
+def taken(program, words, calls):
     """The instructions of the whole run, and what it prints."""
-    report = program.parent / "callgrind.out"
-    command = ["valgrind", "--tool=callgrind", f"--callgrind-out-file={report}", program, kind, str(calls)]
+    command = ["valgrind", "--tool=callgrind", "--callgrind-out-file=/dev/null", program, *words, str(calls)]
     run = subprocess.run(command, capture_output=True, text=True, check=True)
     return int(re.search(r"Collected : (\d+)", run.stderr).group(1)), run.stdout
 
 
-def cost(program, kind):
+def cost(program, words, calls):
     """The instructions of a call, and the sum that tells the answers."""
-    once, _ = taken(program, kind, CALLS)
-    twice, told = taken(program, kind, 2 * CALLS)
-    return (twice - once) / CALLS, told
+    once, _ = taken(program, words, calls)
+    twice, told = taken(program, words, 2 * calls)
+    return (twice - once) / calls, told
+
+
+def count(folder, name, kinds, revision):
+    """Prints the figures of some kinds of a program; what is wrong, if anything."""
+    before, now = build(folder / f"{name}_before", name, revision), build(folder / f"{name}_now", name, None)
+    plain = build_plain(folder / f"{name}_plain", name)
+    width = max(len(text) for text, _, _ in PROGRAMS[name].kinds.values())
+    print(f"{'instructions of a call':{width}}   before      now   ratio" + ("    plain   ratio" if plain else ""))
+    for kind in kinds:
+        text, words, calls = PROGRAMS[name].kinds[kind]
+        (old, wanted), (new, told) = cost(before, words, calls), cost(now, words, calls)
+        row = f"{text:{width}} {old:8.1f} {new:8.1f} {new / old:7.2f}"
+        if plain:
+            rust, said = cost(plain, words, calls)
+            row += f" {rust:8.1f} {new / rust:7.2f}"
+            told = told if said == wanted else said
+        if told != wanted:
+            return f"bench/calls.py: {kind}: {told.strip()} and not {wanted.strip()}"
+        print(row, flush=True)
+    return 0
 
 
 def main():
     options = argparse.ArgumentParser(description=__doc__, formatter_class=argparse.RawDescriptionHelpFormatter)
-    options.add_argument("kinds", nargs="*", metavar="KIND", help=f"none: all of {', '.join(KINDS)}")
-    options.add_argument("--against", default=WHOLE_WINDOW, metavar="REVISION")
+    options.add_argument("kinds", nargs="*", metavar="KIND")
+    options.add_argument("--against", default=OLD_FORM, metavar="REVISION")
     chosen = options.parse_args()
     if not shutil.which("valgrind"):
         return "bench/calls.py: valgrind is not installed"
-    unknown = set(chosen.kinds) - set(KINDS)
+    wanted = chosen.kinds or list(PROGRAMS)
+    known = {kind for program in PROGRAMS.values() for kind in program.kinds} | set(PROGRAMS)
+    unknown = sorted(set(wanted) - known)
     if unknown:
-        return f"bench/calls.py: no kind has the name {', '.join(sorted(unknown))}"
-    with tempfile.TemporaryDirectory() as name:
-        folder = pathlib.Path(name)
-        before = build(folder / "before", copy_of(chosen.against))
-        now = build(folder / "now", copy_now)
-        width = max(map(len, KINDS.values()))
-        print(f"{'instructions of a call':{width}}   before      now   ratio")
-        for kind in chosen.kinds or KINDS:
-            (old, wanted), (new, told) = cost(before, kind), cost(now, kind)
-            if told != wanted:
-                return f"bench/calls.py: {kind}: {told.strip()} and not {wanted.strip()}"
-            print(f"{KINDS[kind]:{width}} {old:8.1f} {new:8.1f} {new / old:7.2f}", flush=True)
+        return f"bench/calls.py: no kind has the name {', '.join(unknown)}; there are {', '.join(sorted(known))}"
+    with tempfile.TemporaryDirectory() as folder:
+        for name, program in PROGRAMS.items():
+            kinds = [kind for kind in program.kinds if name in wanted or kind in wanted]
+            wrong = count(pathlib.Path(folder), name, kinds, chosen.against) if kinds else 0
+            if wrong:
+                return wrong
     return 0
 
 
