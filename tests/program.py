@@ -11,7 +11,7 @@ import time
 
 ROOT = pathlib.Path(__file__).resolve().parent.parent
 PROGRAM = ROOT / "crates" / "recovery_program" / "out" / "recovery_program"
-USAGE = b"usage: recovery-replay [SEED]\n"
+USAGE = b"usage: recovery-replay [SEED [WINDOW]]\n"
 LINE, ANSWER = b"next-timeout\n", b"timeout none\n"
 UNPROVED = b"recovery-replay: not proved yet, so this runs the same sources compiled without proof; ./prove proves them\n"
 # stands for the toolchain where it is only to be seen whether that is asked
@@ -38,9 +38,9 @@ def ran(words, **how):
 
 
 def arguments():
-    for words in [], ["0"], ["18446744073709551615"]:
+    for words in [], ["0"], ["18446744073709551615"], ["-"], ["1", "2"], ["-", "18446744073709551615"]:
         expect(f"arguments {words}", ran([PROGRAM, *words]), (0, ANSWER, b""))
-    for words in ["18446744073709551616"], ["01"], ["+1"], [""], ["1", "2"], [b"\xff"]:
+    for words in ["18446744073709551616"], ["01"], ["+1"], [""], ["--"], ["1", "0"], ["-", "02"], ["1", ""], ["1", "2", "3"], [b"\xff"]:
         for program in PROGRAM, ROOT / "recovery-replay":
             expect(f"{program.name} with arguments {words}", ran([program, *words]), (2, b"", USAGE))
 
