@@ -1,3 +1,4 @@
+pub mod Above
 pub mod Amplification
 pub mod Bursts
 pub mod Departures
@@ -9,6 +10,7 @@ pub mod Logs
 pub mod Numbers
 pub mod Pacing
 pub mod Parts
+pub mod Past
 pub mod Refusals
 pub mod Replies
 pub mod Search

@@ -153,7 +153,14 @@ module _ {P S : Type 0} (words : QueueWords P S) where
       subst Holds (sym step) (record { numbers = left.numbers; acks = left.acks; greatest = left.greatest; sent = left.sent; kept = left.kept; queued = ap (λ (q : Queued P). let k : Queued P = record q { ecn = counts } in k) left.queued })
   space_law start emptied log old new left step =
       let Holds : Space P → Type 0 = SpaceLeft words start (emptied ∷ log) in
-      subst Holds (sym step) (record { numbers = left.numbers; acks = left.acks; greatest = left.greatest; sent = ap (λ (s : Sent P). record s { tracked = [] }) left.sent; kept = left.kept; queued = left.queued })
+      subst Holds (sym step) (record {
+        numbers = left.numbers;
+        acks = left.acks;
+        greatest = left.greatest;
+        sent = ap (λ (s : Sent P). record s { tracked = [] }) left.sent;
+        kept = left.kept;
+        queued = ap (λ (q : Queued P). let k : Queued P = record q { pending = words.empty } in k) left.queued;
+      })
   space_law start ack_goes log old new left step =
       let Holds : Space P → Type 0 = SpaceLeft words start (ack_goes ∷ log) in
       subst Holds (sym step) (record { numbers = left.numbers; acks = ack_goes_law words log (acks_of old) left.acks; greatest = left.greatest; sent = left.sent; kept = left.kept; queued = left.queued })

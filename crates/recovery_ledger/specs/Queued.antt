@@ -7,7 +7,7 @@ use Rattle.recovery_ledger.specs.declared.spaces.SendableFrames.{SendableFrames}
 use Rattle.recovery_ledger.specs.Acks.{Heard}
 use Rattle.recovery_ledger.specs.Packets.{Packet, Packets, packet_at}
 use Rattle.recovery_ledger.specs.Probes.{ProbeFound, pending_stands, moves, nothing_found, is_nothing}
-use Rattle.recovery_ledger.specs.SpaceLog.{SpaceEntry, loses, probes, takes_pending, feeds_back}
+use Rattle.recovery_ledger.specs.SpaceLog.{SpaceEntry, loses, probes, takes_pending, feeds_back, emptied}
 use Rattle.recovery_ledger.specs.Tracked.{sent_by}
 
 -- ---- what probes ask for
@@ -60,7 +60,7 @@ module _ {P S : Type 0} (words : QueueWords P S) where
   joined_found pending pending_stands packets = pending
   joined_found pending nothing_found packets = pending
 
-  -- what was lost or found by a probe, since all was handed out
+  -- what was lost or found by a probe, since all was handed out; a space that is discarded has nothing to send
   abbrev pub pending_by : List (SpaceEntry P) → P
   pending_by [] = words.empty
   pending_by (loses number ∷ earlier) =
@@ -68,6 +68,7 @@ module _ {P S : Type 0} (words : QueueWords P S) where
   pending_by (probes immediate found ∷ earlier) =
       joined_found (pending_by earlier) found (sent_by words earlier).tracked
   pending_by (takes_pending ∷ earlier) = words.empty
+  pending_by (emptied ∷ earlier) = words.empty
   pending_by (entry ∷ earlier) = pending_by earlier
 
   abbrev pub queued_by : List (SpaceEntry P) → Queued P

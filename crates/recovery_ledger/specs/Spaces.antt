@@ -271,6 +271,10 @@ module _ {P S : Type 0} (words : QueueWords P S) where
   abbrev pub space_hands_out : Space P → Space P
   space_hands_out space = record space { pending = words.empty }
 
+  -- the space is discarded: nothing is tracked any more, and nothing is to be sent again
+  abbrev pub space_discards : Space P → Space P
+  space_discards space = space_hands_out (space_empties space)
+
 -- a packet came in
 abbrev pub came : {P : Type 0} → ℕ → ℕ → Bool → Receipt → SpaceEntry P
 came now number ack_eliciting (New arm) = heard now number ack_eliciting
@@ -313,7 +317,7 @@ module _ {P S : Type 0} (words : QueueWords P S) where
       new ≡ space_probes words immediate found (one_probe_more old)
   SpaceStep takes_pending old new = new ≡ space_hands_out words old
   SpaceStep (feeds_back counts) old new = new ≡ space_fed_back counts old
-  SpaceStep emptied old new = new ≡ space_empties old
+  SpaceStep emptied old new = new ≡ space_discards words old
   SpaceStep ack_goes old new = new ≡ space_acked old
   SpaceStep ack_is_late old new = new ≡ space_late old
   SpaceStep (asked frame) old new = new ≡ space_asked frame old

@@ -571,6 +571,9 @@ where
         ensures queued { (space : SpaceId) → queued_of (space_of space result) ≡ queued_by Q.words [] }
         ensures packets { (space : SpaceId) → tracking_of (space_of space result) ≡ no_packets }
         ensures next { (space : SpaceId) → next_number_of (space_of space result) ≡ 0 }
+        ensures ecn { (space : SpaceId) → (space_of space result).ecn_counters ≡ no_ecn }
+        ensures loss_time { (space : SpaceId) → (space_of space result).loss_time ≡ None }
+        ensures crypto_offset { (space : SpaceId) → (space_of space result).crypto_offset ≡ 0 }
     {
         PacketSpaces {
             initial: PacketSpace::new(alloc, now),

@@ -9,7 +9,7 @@ use Rattle.recovery_rtt.specs.Rtt.{rtt_by}
 use Rattle.recovery_paths.specs.declared.live_paths.PathName.{PathName}
 use Rattle.recovery_paths.specs.declared.live_paths.PathName.TheVariants.{Current, Previous}
 use Rattle.recovery_paths.specs.PathMaking.{PathMaking, PathSettings, bucket_of, making_fresh, pacer_at_first, pacer_going_on, reset_call, state_made, state_going_on, state_reset}
-use Rattle.recovery_paths.specs.PathStates.{PathState, Path, pacer_call, after_asking, after_transmitting, after_receiving, after_sample, after_searching, after_telling, after_validation}
+use Rattle.recovery_paths.specs.PathStates.{PathState, PathMarks, Path, pacer_call, after_asking, after_transmitting, after_receiving, after_sample, after_searching, after_telling, after_validation}
 
 -- ---- the paths, whatever is kept for each
 
@@ -262,3 +262,7 @@ path_known path = record { generation = path.ledger.generation; state = path.sta
 
 abbrev pub paths_known : {K : Type 0} → OfPaths (Path K) → OfPaths (PathKnown K)
 paths_known paths = each_path path_known paths
+
+-- what the layer above keeps with them
+abbrev pub paths_marks : {K : Type 0} → OfPaths (Path K) → OfPaths PathMarks
+paths_marks paths = each_path (λ path. path.marks) paths

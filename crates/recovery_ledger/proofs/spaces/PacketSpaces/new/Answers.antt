@@ -1,9 +1,9 @@
-use Rattle.std.proofs.Common.{◌≡◌, ℕ, []}
+use Rattle.std.proofs.Common.{◌≡◌, ℕ, [], None}
 use Rattle.recovery_base.specs.Received.{Has}
 use Rattle.recovery_acks.specs.Acks.{new_acks}
 use Rattle.recovery_ledger.specs.Kept.{kept_by}
 use Rattle.recovery_ledger.specs.Packets.{no_packets}
-use Rattle.recovery_ledger.specs.Queued.{queued_by}
+use Rattle.recovery_ledger.specs.Queued.{no_ecn, queued_by}
 use Rattle.recovery_ledger.specs.Spaces.{Space, acks_of, kept_of, queued_of, tracking_of, next_number_of}
 use Rattle.recovery_ledger.proofs.SpaceLaws.{of_each}
 use Rattle.recovery_ledger.proofs.spaces.PacketSpaces.new.Goals as goal
@@ -28,3 +28,13 @@ returns-clause-packets g c = of_each (λ (space : Space g.row.Q-Contents.Denot).
 
 pub returns-clause-next : goal.returns-clause-next
 returns-clause-next g c = of_each (λ (space : Space g.row.Q-Contents.Denot). next_number_of space ≡ 0) _ c.new.ensures.next c.new-2.ensures.next c.new-3.ensures.next
+
+pub returns-clause-ecn : goal.returns-clause-ecn
+returns-clause-ecn g c = of_each (λ (space : Space g.row.Q-Contents.Denot). space.ecn_counters ≡ no_ecn) _ c.new.ensures.ecn c.new-2.ensures.ecn c.new-3.ensures.ecn
+
+pub returns-clause-loss_time : goal.returns-clause-loss_time
+returns-clause-loss_time g c = of_each (λ (space : Space g.row.Q-Contents.Denot). space.loss_time ≡ None) _ c.new.ensures.loss_time c.new-2.ensures.loss_time c.new-3.ensures.loss_time
+
+pub returns-clause-crypto_offset : goal.returns-clause-crypto_offset
+returns-clause-crypto_offset g c =
+    of_each (λ (space : Space g.row.Q-Contents.Denot). space.crypto_offset ≡ 0) _ c.new.ensures.crypto_offset c.new-2.ensures.crypto_offset c.new-3.ensures.crypto_offset
