@@ -48,6 +48,10 @@ pub record Path (K : Type 0) : Type 0 where
 abbrev pub on_state : {K : Type 0} → (PathState K → PathState K) → Path K → Path K
 on_state change path = record path { state = change path.state }
 
+-- the layer above keeps something else with it
+abbrev pub with_marks : {K : Type 0} → PathMarks → Path K → Path K
+with_marks marks path = record path { marks = marks }
+
 -- the probe in flight is lost, or another packet
 abbrev pub loss_call : ℕ → ℕ → Discovery → MtuCall
 loss_call number bytes discovery = if is_probe number discovery then loses_probe else loses number bytes

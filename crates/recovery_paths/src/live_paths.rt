@@ -9,9 +9,9 @@ ghost use Rattle.recovery_ledger.specs.Spaces.{tracking_of, with_tracking, packe
 ghost use Rattle.recovery_paths.specs.LivePaths.{IsCountedOnEach, AreCountedOnEach, CanTrackOn, paths_after_sending, paths_without, paths_losing, paths_acking, left_by};
 ghost use Rattle.recovery_paths.specs.PathLog.{path_of, on_path_of, moved_to, each_path};
 ghost use Rattle.recovery_paths.specs.declared.live_paths.PathName.TheVariants.{Current};
-ghost use Rattle.recovery_paths.specs.PathStates.{on_state, after_receiving, after_telling, after_validation, is_path_probe};
+ghost use Rattle.recovery_paths.specs.PathStates.{on_state, with_marks, after_receiving, after_telling, after_validation, is_path_probe};
 
-use crate::paths::{InFlight, LedgerError, PathData, TotalOverflow};
+use crate::paths::{InFlight, LedgerError, PathData, PathMarks, TotalOverflow};
 use recovery_base::below::SpaceId;
 use recovery_base::time::Instant;
 use recovery_congestion::congestion::Controller;
@@ -127,6 +127,18 @@ impl<C: Controller + Drop> LivePaths<C> {
                 }
                 None => false,
             },
+        }
+    }
+
+    /// The layer above keeps this with a path from now on; what it kept before is handed back. `None`, and nothing, where no
+    /// path of the name lives.
+    pub fn set_marks(&mut self, name: PathName, marks: PathMarks) -> Option<PathMarks>
+        ensures before { result ≡ option_map (λ path. path.marks) (path_of name self.old) }
+        ensures after { self.new ≡ on_path_of name (with_marks marks) self.old }
+    {
+        match name {
+            PathName::Current => Some(self.current.set_marks(marks)),
+            PathName::Previous => Some(self.previous.as_mut()?.set_marks(marks)),
         }
     }
 

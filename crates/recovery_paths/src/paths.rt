@@ -10,7 +10,7 @@ ghost use Rattle.recovery_ledger.specs.Spaces.{tracking_of, with_tracking};
 ghost use Rattle.recovery_mtud.specs.Discovery.{is_probe, is_searching_of, reports};
 ghost use Rattle.recovery_mtud.specs.DiscoveryLog.{losses_end, is_limited};
 ghost use Rattle.recovery_paths.specs.PathMaking.{marks_made, path_settings, making_fresh, state_made, state_going_on, state_reset, first_discovery};
-ghost use Rattle.recovery_paths.specs.PathStates.{Path, on_state, with_discovery, is_blocked, after_receiving, after_validation, after_sample, after_searching, after_transmitting, loss_call};
+ghost use Rattle.recovery_paths.specs.PathStates.{Path, on_state, with_discovery, with_marks, is_blocked, after_receiving, after_validation, after_sample, after_searching, after_transmitting, loss_call};
 ghost use Rattle.recovery_paths.specs.PathStates.{after_telling, after_search, path_acked, is_path_probe, path_lost, after_asking, path_delay};
 
 use recovery_base::below::{NoMemory, SpaceId};
@@ -26,6 +26,7 @@ use recovery_queue::queue::RetransmitQueue;
 use recovery_responses::responses::PathResponses;
 use recovery_rtt::rtt::RttEstimator;
 use std::marker::Model;
+use std::mem;
 use std::net::SocketAddr;
 use thiserror::Error;
 
@@ -33,6 +34,35 @@ use thiserror::Error;
 #[derive(Clone, Copy, Debug, PartialEq, Eq, Error)]
 #[error("the total passes 2^64 - 1 bytes")]
 pub struct TotalOverflow;
+
+/// What the layer above keeps with a path: no event changes it.
+#[derive(Drop)]
+pub struct PathMarks {
+    /// Whether packets are marked on the path (RFC 9000, 13.4).
+    pub sending_ecn: bool,
+    /// What its PATH_CHALLENGE frame says, where one was sent (RFC 9000, 8.2.1).
+    pub challenge: Option<u64>,
+    /// Whether a PATH_CHALLENGE frame is to be sent.
+    pub challenge_pending: bool,
+    /// The PATH_RESPONSE frames that are to be sent (RFC 9000, 8.2.2).
+    pub path_responses: PathResponses,
+    /// Space and number of the first packet that was sent after a sample of the round-trip time (RFC 9002, 7.6.2).
+    pub first_packet_after_rtt_sample: Option<(SpaceId, u64)>,
+}
+
+impl Model for PathMarks {
+    ghost use Rattle.recovery_paths.specs.PathStates.{PathMarks};
+
+    ghost Value = { PathMarks };
+
+    ghost view = { λ marks. record {
+      challenge = marks.challenge;
+      challenge_pending = marks.challenge_pending;
+      responses = marks.path_responses;
+      sending_ecn = marks.sending_ecn;
+      first_after_sample = marks.first_packet_after_rtt_sample;
+    } };
+}
 
 /// What is kept for one path, with a congestion controller `C`.
 ///
@@ -55,7 +85,8 @@ pub struct PathData<C: Controller> {
     pub total_recvd: u64,
     /// The MTU in use, and the search for it (RFC 9000, 14.3).
     pub mtud: MtuDiscovery,
-    /// Whether packets are marked on the path (RFC 9000, 13.4). This and the four fields below are the layer's above.
+    /// Whether packets are marked on the path (RFC 9000, 13.4). This and the four fields below are the layer's above
+    /// ([`PathMarks`]).
     pub sending_ecn: bool,
     /// What its PATH_CHALLENGE frame says, where one was sent (RFC 9000, 8.2.1).
     pub challenge: Option<u64>,
@@ -426,6 +457,23 @@ impl<C: Controller + Drop> PathData<C> {
         ensures { self.new ≡ on_state (after_searching (is_limited size)) self.old }
     {
         self.mtud.on_peer_max_udp_payload_size_received(size);
+    }
+
+    /// The layer above keeps this with the path from now on; what it kept before is handed back. Nothing else changes.
+    pub fn set_marks(&mut self, marks: PathMarks) -> PathMarks
+        ensures before { result ≡ self.old.marks }
+        ensures after { self.new ≡ with_marks marks self.old }
+    {
+        PathMarks {
+            sending_ecn: mem::replace(&mut self.sending_ecn, marks.sending_ecn),
+            challenge: mem::replace(&mut self.challenge, marks.challenge),
+            challenge_pending: mem::replace(&mut self.challenge_pending, marks.challenge_pending),
+            path_responses: mem::replace(&mut self.path_responses, marks.path_responses),
+            first_packet_after_rtt_sample: mem::replace(
+                &mut self.first_packet_after_rtt_sample,
+                marks.first_packet_after_rtt_sample,
+            ),
+        }
     }
 
     /// The search for the MTU goes on from here.
