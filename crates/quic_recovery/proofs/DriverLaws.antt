@@ -18,7 +18,7 @@ use Rattle.recovery_ledger.specs.SpaceLog.{SpaceEntry, heard, heard_again, sends
 use Rattle.recovery_ledger.specs.Spaces.{Space, Spaces, space_of, with_space, tracking_of, acks_of, counts_of, next_number_of, HasGreatestCome, ReceiveReply, heard_of, SpaceStep, came}
 use Rattle.recovery_ledger.proofs.AckLaws.{heard_greatest}
 use Rattle.recovery_ledger.proofs.ReceivedLaws.{fails}
-use Rattle.recovery_paths.specs.PathLog.{PathsEntry, OfPaths, PathsStep, paths_known, on_current, tells}
+use Rattle.recovery_paths.specs.PathLog.{PathsEntry, OfPaths, PathsStep, paths_known, paths_marks, on_current, tells}
 use Rattle.recovery_paths.specs.PathStates.{Path}
 use Rattle.recovery_queue.specs.Queues.{QueueWords}
 use Rattle.recovery_skips.specs.Filters.{Skipping}
@@ -102,11 +102,13 @@ module _ {K Q S M P : Type 0} (q : QueueMeaning Q S P) (old : Parts K P) (space 
   kept_changes NumberTooLarge large same = record {
     told = (fails _ live, large);
     steps = nothing_changes q.words old (record old { spaces = with_space old.spaces space there }) same;
+    marks = refl;
     refused = same;
   }
   kept_changes NoMemory grows same = record {
     told = (fails _ live, ((λ most. absurd (omega (arith, grows.0))), grows.1));
     steps = nothing_changes q.words old (record old { spaces = with_space old.spaces space there }) same;
+    marks = refl;
     refused = same;
   }
 
@@ -117,11 +119,13 @@ module _ {K Q S M P : Type 0} (q : QueueMeaning Q S P) (old : Parts K P) (space 
   received_changes (Ok (New arm)) is step kept = record {
     told = (fails _ live, ((λ most. absurd (omega (arith, is.0))), is.1));
     steps = space_changes q.words old space (heard now number ack_eliciting) there old.skipping [] old.paths step (skips_nothing space (heard now number ack_eliciting) _ old.skipping refl) refl;
+    marks = refl;
     refused = tt;
   }
   received_changes (Ok Duplicate) is step kept = record {
     told = (fails _ live, ((λ most. absurd (omega (arith, is.0))), is.1));
     steps = space_changes q.words old space (heard_again number) there old.skipping [] old.paths step (skips_nothing space (heard_again number) _ old.skipping refl) refl;
+    marks = refl;
     refused = tt;
   }
   received_changes (Err error) is step kept =
@@ -145,10 +149,11 @@ module _ {K Q S M P : Type 0} (q : QueueMeaning Q S P) (old : Parts K P) (space 
       → number ≡ number_in (known_to old) space → forgotten ≡ forgotten_number (tracking_of (space_of space old.spaces)).last_eliciting packet_then (tracked_by old.spaces space)
       → SpaceStep q.words (sends (number_in (known_to old) space) packet_then) (space_of space old.spaces) there
       → SkippingStep (here space Data (sends (number_in (known_to old) space) packet_then)) (next_number_of (space_of Data old.spaces)) old.skipping skipping
-      → PathsStep old.settings (on_current (tells (sends_bytes now size (number_in (known_to old) space))) ∷ []) (paths_known old.paths) (paths_known paths)
+      → PathsStep old.settings (on_current (tells (sends_bytes now size (number_in (known_to old) space))) ∷ []) (paths_known old.paths) (paths_known paths) → paths_marks paths ≡ paths_marks old.paths
       → Changes q old (Send space now size ack_eliciting largest_acked queue frames) (Ok (Sent number forgotten)) (record old { spaces = with_space old.spaces space there; skipping = skipping; paths = paths })
-  sent_changes there skipping paths number forgotten live small left fits is_next is_forgotten step skips told = record {
+  sent_changes there skipping paths number forgotten live small left fits is_next is_forgotten step skips told marked = record {
     told = (fails _ live, (small, ((λ most. absurd (omega (arith, most, left))), (fits, ap₂ (λ n f. Sent n f) is_next is_forgotten))));
     steps = space_changes q.words old space (sends (number_in (known_to old) space) packet_then) there skipping (on_current (tells (sends_bytes now size (number_in (known_to old) space))) ∷ []) paths step skips told;
+    marks = marked;
     refused = tt;
   }

@@ -12,7 +12,7 @@ use Rattle.recovery_ledger.proofs.ReceivedLaws.{fails}
 use Rattle.recovery_mtud.specs.Discovery.{is_data}
 use Rattle.recovery_mtud.specs.DiscoveryLog.{MtuCall, acks as acks_packet}
 use Rattle.recovery_paths.specs.LivePaths.{left_by, paths_acking, paths_losing}
-use Rattle.recovery_paths.specs.PathLog.{OfPaths, PathKnown, PathsStep, paths_after, known_with, known_following, paths_known, path_known, on_current, tells, searches}
+use Rattle.recovery_paths.specs.PathLog.{OfPaths, PathKnown, PathsStep, paths_after, known_with, known_following, paths_known, path_known, paths_marks, on_current, tells, searches}
 use Rattle.recovery_paths.specs.PathStates.{Path, PathState, after_telling, after_searching, is_path_probe, loss_call}
 use Rattle.quic_recovery.specs.declared.event.Event.TheVariants.{Acked, Lost}
 use Rattle.quic_recovery.specs.declared.event.Answer.TheVariants as answer
@@ -20,6 +20,7 @@ use Rattle.quic_recovery.specs.Entries.{acked_entry, acked_search, lost_search}
 use Rattle.quic_recovery.specs.History.{QueueMeaning}
 use Rattle.quic_recovery.specs.Parts.{Parts}
 use Rattle.quic_recovery.specs.State.{Changes, known_to}
+use Rattle.quic_recovery.proofs.AboveLaws.{both_marks}
 use Rattle.quic_recovery.proofs.DriverLaws.{space_changes, skips_nothing}
 
 -- what leaves a path changes nothing that is known of it
@@ -93,6 +94,7 @@ module _ {K Q S M P : Type 0} (q : QueueMeaning Q S P) (old : Parts K P) (space 
       record {
         told = (fails _ live, ((λ none. some_is_not_none packet (sym found ∙ none)), ap (λ b. answer.Acked b) is_probe));
         steps = space_changes q.words old space (acknowledged number) there old.skipping entries paths step (skips_nothing space (acknowledged number) _ old.skipping refl) path_step;
+        marks = ap (λ (p : OfPaths (Path K)). paths_marks p) is ∙ both_marks (left_by packet) (λ path. refl) (paths_acking old.settings.words space number now app_limited packet old.paths).current old.paths refl;
         refused = tt;
       }
 
@@ -107,5 +109,6 @@ module _ {K Q S M P : Type 0} (q : QueueMeaning Q S P) (old : Parts K P) (space 
       record {
         told = (fails _ live, ((λ none. some_is_not_none packet (sym found ∙ none)), ap (λ b. answer.Lost b) is_probe));
         steps = space_changes q.words old space (loses number) there old.skipping (lost_search known space number (packet_at (tracked_by old.spaces space) number)) paths step (skips_nothing space (loses number) _ old.skipping refl) path_step;
+        marks = ap (λ (p : OfPaths (Path K)). paths_marks p) is ∙ both_marks (left_by lost) (λ path. refl) (paths_losing space number lost old.paths).current old.paths refl;
         refused = tt;
       }

@@ -45,6 +45,7 @@ use Rattle.quic_recovery.specs.Known.{SpaceKnown, Numbering, Known, Logs, known_
 use Rattle.quic_recovery.specs.Logs.{onto}
 use Rattle.quic_recovery.specs.Parts.{Parts}
 use Rattle.quic_recovery.specs.State.{InFlightLeft, LeftBy, LimitStep, SkippingStep, Steps, ChangesBy, Changes, known_to, numbering_of}
+use Rattle.quic_recovery.proofs.AboveLaws.{beside_stays}
 use Rattle.quic_recovery.proofs.LogLaws.{left_by}
 use Rattle.quic_recovery.proofs.PartLaws.{discarded_law}
 
@@ -167,6 +168,7 @@ module _ {F K Q S P : Type 0} (beginning : Beginning F K Q S P) where
   left_after logs entries old new left steps balanced = record {
     settings = steps.settings ∙ left.settings;
     spaces = spaces;
+    beside = λ space. beside_stays beginning.queue.words (entries.spaces space) _ _ (steps.spaces space) ∙ left.beside space;
     discarded = left_by DiscardedStep DiscardedLeft discarded_law entries.discarded logs.discarded _ _ left.discarded steps.discarded;
     skipping = skipping_law (entries.spaces Data) (logs.spaces Data) (next_number_of (space_of Data old.spaces)) old.skipping new.skipping (ap (λ (s : Sent P). s.next) (left.spaces Data).sent) left.skipping steps.skipping;
     frequency = left_by RequestStep (FrequencyLeft first) (request_law first) entries.requests logs.requests _ _ left.frequency steps.frequency;

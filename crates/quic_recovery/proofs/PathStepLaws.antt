@@ -10,13 +10,13 @@ use Rattle.recovery_ledger.specs.Ledger.{tracked_by}
 use Rattle.recovery_ledger.specs.Packets.{Packet, Packets}
 use Rattle.recovery_ledger.specs.Paths.{generation_of, after_leaving}
 use Rattle.recovery_ledger.specs.SpaceLog.{emptied}
-use Rattle.recovery_ledger.specs.Spaces.{Space, space_of, with_space, space_empties}
+use Rattle.recovery_ledger.specs.Spaces.{Space, space_of, with_space, space_discards}
 use Rattle.recovery_ledger.specs.Tracked.{forgotten_by}
 use Rattle.recovery_ledger.proofs.ReceivedLaws.{fails}
 use Rattle.recovery_mtud.specs.Discovery.{Discovery, poll_of}
 use Rattle.recovery_mtud.specs.DiscoveryLog.{polls, discovery_after}
 use Rattle.recovery_paths.specs.LivePaths.{on_ledger, ledger_without, paths_without}
-use Rattle.recovery_paths.specs.PathLog.{OfPaths, PathKnown, path_known, paths_known, paths_after, known_with, known_following, on_current, tells}
+use Rattle.recovery_paths.specs.PathLog.{OfPaths, PathKnown, path_known, paths_known, paths_marks, paths_after, known_with, known_following, on_current, tells}
 use Rattle.recovery_paths.specs.PathStates.{Path, on_state, with_discovery}
 use Rattle.quic_recovery.specs.declared.event.Event.TheVariants.{DiscardSpace, PollMtu, Send}
 use Rattle.quic_recovery.specs.declared.event.Answer.{Answer}
@@ -30,6 +30,7 @@ use Rattle.quic_recovery.specs.Parts.{Parts}
 use Rattle.quic_recovery.specs.Replies.{Answers, Refuses, same_refusal}
 use Rattle.quic_recovery.specs.State.{Changes, Steps, known_to}
 use Rattle.quic_recovery.specs.Told.{InSpace, SendReply, ProbeOutReply}
+use Rattle.quic_recovery.proofs.AboveLaws.{both_marks}
 use Rattle.quic_recovery.proofs.DriverLaws.{spaces_step, skips_nothing}
 
 -- ---- packets leave the paths: what is known of a path holds no counters
@@ -58,9 +59,9 @@ module _ {K P : Type 0} (packets : Packets P) where
 -- ---- a space is discarded
 
 module _ {K Q S M P : Type 0} (q : QueueMeaning Q S P) (old : Parts K P) (space : SpaceId) where
-  -- its packets leave it and the paths, and it is noted
+  -- its packets leave it and the paths, nothing is to be sent again, and it is noted
   pub discard_changes : (there : Space P) (discarded : DiscardedSpaces) (paths : OfPaths (Path K)) → is_discarded space old.discarded ≡ false
-      → there ≡ space_empties (space_of space old.spaces) → DiscardedStep space old.discarded discarded → paths ≡ paths_without (tracked_by old.spaces space) old.paths
+      → there ≡ space_discards q.words (space_of space old.spaces) → DiscardedStep space old.discarded discarded → paths ≡ paths_without (tracked_by old.spaces space) old.paths
       → Changes {M = M} q old (DiscardSpace space) (Ok Done) (record old { spaces = with_space old.spaces space there; discarded = discarded; paths = paths })
   discard_changes there discarded paths live empty noted left = record {
     told = (fails _ live, refl);
@@ -76,6 +77,7 @@ module _ {K Q S M P : Type 0} (q : QueueMeaning Q S P) (old : Parts K P) (space 
       paths = ap (λ (p : OfPaths (Path K)). paths_known p) left ∙ paths_known_without (tracked_by old.spaces space) old.paths;
       limits = refl;
     };
+    marks = ap (λ (p : OfPaths (Path K)). paths_marks p) left ∙ both_marks (on_ledger (ledger_without (tracked_by old.spaces space))) (λ path. refl) (paths_without (tracked_by old.spaces space) old.paths).current old.paths refl;
     refused = tt;
   }
 
@@ -118,6 +120,7 @@ module _ {K Q S M P : Type 0} (q : QueueMeaning Q S P) (old then : Parts K P) (n
         told = subst Out (sym due) (but_second _ _ _ (Over q.words.empty) _ _ (λ large. large) (refused_alike (Unit {0}) (λ answer. answer ≡ sent_as) (λ answer. answer ≡ Probe known.numbers.next size) refusal)
             (same_refusal refusal SpaceDiscarded) (same_refusal refusal NumberTooLarge) (same_refusal refusal NumbersExhausted) (same_refusal refusal Overflow) (subst Told empty sent.told));
         steps = sent.steps;
+        marks = sent.marks;
         refused = sent.refused;
       }
 
@@ -146,5 +149,6 @@ module _ {K Q S M P : Type 0} (q : QueueMeaning Q S P) (old then : Parts K P) (n
           paths = ap (λ (p : Path K). let all : OfPaths (Path K) = record then.paths { current = p } in paths_known all) goes_on ∙ ap (seen discovery) steps.paths ∙ ap (λ found. seen found told) polled;
           limits = steps.limits;
         };
+        marks = ap (λ (p : Path K). let all : OfPaths (Path K) = record then.paths { current = p } in paths_marks all) goes_on ∙ sent.marks;
         refused = tt;
       }

@@ -13,7 +13,7 @@ use Rattle.recovery_ledger.specs.SpaceLog.{probes, feeds_back}
 use Rattle.recovery_ledger.specs.Spaces.{Space, Spaces, space_of, with_space, tracking_of, acks_of, next_number_of, SpaceStep}
 use Rattle.recovery_ledger.proofs.CoherentLaws.{coherent_kept, come_kept}
 use Rattle.recovery_paths.specs.Balance.{AreBalanced}
-use Rattle.recovery_paths.specs.PathLog.{OfPaths}
+use Rattle.recovery_paths.specs.PathLog.{OfPaths, paths_marks}
 use Rattle.recovery_paths.specs.PathStates.{Path}
 use Rattle.recovery_paths.proofs.BalanceLaws.{kept, probed}
 use Rattle.recovery_queue.specs.Queues.{QueueWords}
@@ -26,6 +26,7 @@ use Rattle.quic_recovery.specs.Known.{Known}
 use Rattle.quic_recovery.specs.Parts.{Parts}
 use Rattle.quic_recovery.specs.State.{Changes, Steps, heard_to, known_to}
 use Rattle.quic_recovery.specs.Told.{ToldBy, skipped_in}
+use Rattle.quic_recovery.proofs.AboveLaws.{marks_refused}
 use Rattle.quic_recovery.proofs.DriverLaws.{nothing_changes, with_same_space}
 
 -- nothing that is tracked or was received changes
@@ -66,7 +67,7 @@ put_back {K} {Q} {S} {M} {P} q old event refusal space there same is_nothing tol
     let new : Parts K P = record old { spaces = with_space old.spaces space there } in
     let kept : new ≡ old = ap (λ (spaces : Spaces P). record old { spaces = spaces }) (with_same_space old.spaces space there same) in
     let Stepped : Entries P → Type 0 = λ entries. Steps q.words entries old new in
-    record { told = told; steps = subst Stepped (sym is_nothing) (nothing_changes q.words old new kept); refused = kept }
+    record { told = told; steps = subst Stepped (sym is_nothing) (nothing_changes q.words old new kept); marks = sym (marks_refused event refusal (paths_marks old.paths)); refused = kept }
 
 -- ---- acknowledgements of skipped numbers
 

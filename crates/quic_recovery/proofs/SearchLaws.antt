@@ -1,5 +1,5 @@
 -- Searches for the MTU take few probes and end near the best size, throughout a run.
-use Rattle.std.proofs.Common.{ℕ, ◌≡◌, ◌<◌, ◌^◌, Bool, true, false, if◌then◌else◌, List, [], ◌∷◌, Option, None, Some, Ok, refl, subst, ◌∙◌}
+use Rattle.std.proofs.Common.{ℕ, ◌≡◌, ◌<◌, ◌^◌, Bool, true, false, ◌&&◌, if◌then◌else◌, List, [], ◌∷◌, Option, None, Some, Ok, Err, refl, sym, ap, subst, ◌∙◌}
 use Rattle.std.specs.Prelude.{IsSomeAnd}
 use Rattle.std.specs.Option.{ForSome}
 use Rattle.std.specs.contracts.option.Option.{the_type}
@@ -7,26 +7,35 @@ use Rattle.recovery_mtud.specs.contracts.config.MtuDiscoveryConfig.{the_row}
 use denote.Enum.Declared.{row}
 use denote.Laws.{Is}
 use mir.Val.{Val}
+use Rattle.recovery_base.specs.declared.below.SpaceId.{SpaceId}
 use Rattle.recovery_mtud.specs.declared.config.MtuDiscoveryConfig.{MtuDiscoveryConfig}
-use Rattle.recovery_mtud.specs.Discovery.{poll_of}
+use Rattle.recovery_mtud.specs.Discovery.{is_data, poll_of}
 use Rattle.recovery_mtud.specs.DiscoveryLog.{polls}
 use Rattle.recovery_mtud.specs.MtuEntries.{MtuEntry, poll_entry, probed, unprobed}
 use Rattle.recovery_mtud.specs.SearchRuns.{EndsNearBest, ProbesInSearch, TakesFew}
-use Rattle.recovery_mtud.proofs.SearchRunLaws.{search_takes_few, search_ends_near, probes_in_search, mtu_by, limits_outside_after}
+use Rattle.recovery_mtud.proofs.EntryLaws.{is_probe_by}
+use Rattle.recovery_mtud.proofs.SearchRunLaws.{search_takes_few, search_ends_near, probes_in_search, mtu_by, search_runs_by, limits_outside_after}
 use Rattle.recovery_mtud.proofs.UnsearchedLaws.{unsearched}
 use Rattle.recovery_paths.specs.PathLog.{OnEachPath, PathPast, pasts_by, state_of}
+use Rattle.recovery_paths.specs.PathStates.{is_path_probe}
 use Rattle.recovery_paths.proofs.SearchedLaws.{IsSearchedBy, IsPathSearchedBy, first_searched, searched_over, searched_at_first}
 use Rattle.quic_recovery.specs.declared.event.Event.{Event}
-use Rattle.quic_recovery.specs.declared.event.Event.TheVariants.{PollMtu}
+use Rattle.quic_recovery.specs.declared.event.Event.TheVariants.{Acked, Lost, PeerLimit, PollMtu}
 use Rattle.quic_recovery.specs.declared.event.Answer.{Answer}
 use Rattle.quic_recovery.specs.declared.event.Answer.TheVariants.{Probe, NoProbe}
+use Rattle.quic_recovery.specs.declared.event.Answer.TheVariants as answer
+use Rattle.quic_recovery.specs.declared.event.Refusal.TheVariants.{Searching}
 use Rattle.quic_recovery.specs.Amplification.{pasts_of}
 use Rattle.quic_recovery.specs.Entries.{entries_of, logs_of}
 use Rattle.quic_recovery.specs.History.{Beginning, History, QueueMeaning, Reply, Throughout}
 use Rattle.quic_recovery.specs.Known.{Known, known_by, first_path, settings_of}
-use Rattle.quic_recovery.specs.Search.{entries_on, discovery_settings, SearchesFew, ProbesInTurn, EndsNear, UsesMtu}
+use Rattle.quic_recovery.specs.Search.{entries_on, discovery_settings, is_in_flight, LimitsOutside, SearchesFew, ProbesInTurn, EndsNear, TellsProbes, UsesMtu}
 use Rattle.quic_recovery.specs.Told.{Told, ProbeOutReply}
 use Rattle.quic_recovery.proofs.AmplificationLaws.{is_allowed, throughout_kept}
+
+not_true : (b : Bool) → (¬ (b ≡ true)) → b ≡ false
+not_true true is_not = absurd (is_not refl)
+not_true false is_not = refl
 
 some_same : {A : Type 0} {a b : A} → Some a ≡ Some b → a ≡ b
 some_same e = cc
@@ -138,6 +147,28 @@ module _ {F K Q S M P : Type 0} (beginning : Beginning F K Q S P) where
           (probes_in_search past.making.discovery settings searched.0.untold (searched.0.settings_are ∙ is) (polls now next ∷ past.searched))
   probes_one before event reply told searched = tt
 
+  -- a search runs on the path in use exactly where its entries say so
+  limits_one : (before : History Q S M P) (event : Event Q S M P) (reply : Reply Q) → Told beginning before event reply → AreSearched before → LimitsOutside beginning before event reply
+  limits_one before (PeerLimit size) (Err Searching) told searched =
+      let past = (pasts_of beginning before).current in
+      sym (search_runs_by past.making.discovery searched.0.untold past.searched) ∙ told.1
+  limits_one before (PeerLimit size) (Ok given) told searched =
+      let past = (pasts_of beginning before).current in
+      sym (search_runs_by past.making.discovery searched.0.untold past.searched) ∙ not_true _ told.1.0
+  limits_one before event reply told searched = tt
+
+  -- the packet that is a probe by the state is the one in flight by the entries
+  probe_same : (before : History Q S M P) → AreSearched before → (space : SpaceId) (number : ℕ)
+      → is_path_probe space number (state_of (settings_of beginning) (pasts_of beginning before).current) ≡ is_in_flight beginning before space number
+  probe_same before searched space number =
+      let past = (pasts_of beginning before).current in
+      ap (λ probe. is_data space && probe) (is_probe_by past.making.discovery searched.0.untold past.searched number)
+
+  tells_one : (before : History Q S M P) (event : Event Q S M P) (reply : Reply Q) → Told beginning before event reply → AreSearched before → TellsProbes beginning before event reply
+  tells_one before (Acked space now number app_limited) (Ok given) told searched = told.1.1 ∙ ap (λ probe. answer.Acked probe) (probe_same before searched space number)
+  tells_one before (Lost space number) (Ok given) told searched = told.1.1 ∙ ap (λ probe. answer.Lost probe) (probe_same before searched space number)
+  tells_one before event reply told searched = tt
+
   mtu_one : (before : History Q S M P) (event : Event Q S M P) (reply : Reply Q) → Told beginning before event reply → AreSearched before → UsesMtu beginning before event reply
   mtu_one before event reply told searched =
       let after = searched_one before event reply told searched in
@@ -146,6 +177,12 @@ module _ {F K Q S M P : Type 0} (beginning : Beginning F K Q S P) where
 
   pub probes : (events : List (Event Q S M P)) (replies : List (Reply Q)) → Throughout (Told beginning) events replies → Throughout (ProbesInTurn beginning) events replies
   probes events replies told = throughout_kept beginning AreSearched (ProbesInTurn beginning) searched_one probes_one [] events replies told (first_is beginning)
+
+  pub limits : (events : List (Event Q S M P)) (replies : List (Reply Q)) → Throughout (Told beginning) events replies → Throughout (LimitsOutside beginning) events replies
+  limits events replies told = throughout_kept beginning AreSearched (LimitsOutside beginning) searched_one limits_one [] events replies told (first_is beginning)
+
+  pub tells : (events : List (Event Q S M P)) (replies : List (Reply Q)) → Throughout (Told beginning) events replies → Throughout (TellsProbes beginning) events replies
+  tells events replies told = throughout_kept beginning AreSearched (TellsProbes beginning) searched_one tells_one [] events replies told (first_is beginning)
 
   pub mtu : (events : List (Event Q S M P)) (replies : List (Reply Q)) → Throughout (Told beginning) events replies → Throughout (UsesMtu beginning) events replies
   mtu events replies told = throughout_kept beginning AreSearched (UsesMtu beginning) searched_one mtu_one [] events replies told (first_is beginning)

@@ -13,7 +13,7 @@ use Rattle.recovery_ledger.proofs.LedgerLaws.{generation_after_forgetting, gener
 use Rattle.recovery_ledger.proofs.PacketLaws.{entry_number_of}
 use Rattle.recovery_paths.specs.Balance.{AreBalanced}
 use Rattle.recovery_paths.specs.LivePaths.{on_ledger, CanTrackOn, paths_after_sending}
-use Rattle.recovery_paths.specs.PathLog.{OfPaths, PathKnown, on_path_of, path_known, paths_known}
+use Rattle.recovery_paths.specs.PathLog.{OfPaths, PathKnown, on_path_of, path_known, paths_known, paths_marks}
 use Rattle.recovery_paths.specs.PathStates.{PathState, Path, on_state, after_telling}
 use Rattle.recovery_paths.specs.declared.live_paths.PathName.TheVariants.{Current}
 use Rattle.recovery_paths.proofs.BalanceLaws.{can_track, sent}
@@ -25,6 +25,7 @@ use Rattle.quic_recovery.specs.Known.{number_in}
 use Rattle.quic_recovery.specs.Numbers.{number_behind, skipping_behind}
 use Rattle.quic_recovery.specs.Parts.{Parts}
 use Rattle.quic_recovery.specs.State.{Changes, known_to}
+use Rattle.quic_recovery.proofs.AboveLaws.{both_marks}
 use Rattle.quic_recovery.proofs.DriverLaws.{sent_changes}
 use Rattle.quic_recovery.proofs.NumberLaws.{number_above, number_known, number_skips}
 
@@ -59,6 +60,10 @@ module _ {K P : Type 0} (packet : Packet P) (there : Space P) (change : PathStat
   telling_known =
       ap (λ (g : ℕ). known_as g (option_map path_known (option_map (on_ledger (λ ledger. after_forgetting ledger forgotten)) paths.previous))) (generation_after_sending paths.current.ledger packet forgotten)
       ∙ ap (known_as (generation_of paths.current.ledger)) (previous_known paths.previous)
+
+  -- what the layer above keeps with the paths stays
+  pub telling_marks : paths_marks (paths_telling packet there change paths) ≡ paths_marks paths
+  telling_marks = both_marks (on_ledger (λ ledger. after_forgetting ledger forgotten)) (λ path. refl) (paths_telling packet there change paths).current paths refl
 
 -- what the event comes to
 module _ {K Q S M P : Type 0} (q : QueueMeaning Q S P) (old : Parts K P) (balanced : AreBalanced old.spaces old.paths) (space : SpaceId) (now size : ℕ) (ack_eliciting : Bool) (largest_acked : Option ℕ) (queue : Q) (frames : M)
@@ -100,3 +105,4 @@ module _ {K Q S M P : Type 0} (q : QueueMeaning Q S P) (old : Parts K P) (balanc
           sent_changes q old space now size ack_eliciting largest_acked queue frames there skipping paths number forgotten live small small_number
           (subst Fits balanced.current fits) is_known (gone ∙ entry_number_of (tracking_of here_then).last_eliciting packet (packets_of here_then)) (above_known, step)
           (number_skips old.spaces space (number_in (known_to old) space) packet old.skipping skipping (sym (number_known old space)) draws) told
+          (ap (λ (p : OfPaths (Path K)). paths_marks p) tells ∙ telling_marks (packet_at_generation (generation_of old.paths.current.ledger)) here_then (after_telling old.settings.words (sends_bytes now size number)) old.paths)

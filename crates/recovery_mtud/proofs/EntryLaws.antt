@@ -9,7 +9,7 @@ use Rattle.recovery_mtud.specs.declared.search.Phase.TheVariants.{Initial, Searc
 use Rattle.recovery_mtud.specs.declared.search.Probing.{Probing}
 use Rattle.recovery_mtud.specs.Search.{MtuSearch, begun, size_to_probe, later, probing_in, answer_in, phase_with, phase_after, is_running, is_number, phase_lost, search_reported}
 use Rattle.recovery_mtud.specs.Bursts.{LossBursts, bursts_acked, is_suspicious, with_suspicious, closing, bursts_closed, joins, burst_with, bursts_lost, is_black_hole, bursts_ended}
-use Rattle.recovery_mtud.specs.Discovery.{Discovery, discovery_made, discovery_disabled, is_searching_of, size_in, poll_of, taking, within}
+use Rattle.recovery_mtud.specs.Discovery.{Discovery, discovery_made, discovery_disabled, flight_of, is_probe, is_searching_of, size_in, poll_of, taking, within}
 use Rattle.recovery_mtud.specs.DiscoveryLog.{MtuCall, polls, is_limited, acks, loses_probe, loses, losses_end, resets, discovery_after, discovery_by, kept_limit}
 use Rattle.recovery_mtud.specs.MtuEntries.{IsUntold, MtuEntry, reported, losses_over, poll_entry, entry_of, entries_by, AtEach, MtuProbe, unless_number, probe_in_flight, size_at, limit_in_use, min_mtu_in_use, mtu_in_use}
 use Rattle.recovery_mtud.specs.SearchRuns.{search_runs}
@@ -42,6 +42,25 @@ size_in_held number (Some search) = go search.phase
     flying last (Some own) = refl
 
     go : (phase : Phase) → size_in number (Some (record search { phase = phase })) ≡ size_at number (held_in phase)
+    go Initial = refl
+    go (Searching p) = flying p.last p.in_flight
+    go (Complete activation) = refl
+
+-- a test of an Option that a test gives is that test
+some_if : {A : Type 0} (b : Bool) (a : A) → is_some (if b then Some a else None) ≡ b
+some_if true a = refl
+some_if false a = refl
+
+-- a number is that of the state's probe exactly where it is that of the probe held
+is_number_held : (number : ℕ) (search : Option MtuSearch) → is_number number (flight_of search) ≡ is_some (size_at number (held search))
+is_number_held number None = refl
+is_number_held number (Some search) = go search.phase
+  where
+    flying : (last : ℕ) (flight : Option ℕ) → is_number number flight ≡ is_some (size_at number (option_map (λ own. record { number = own; size = last }) flight))
+    flying last None = refl
+    flying last (Some own) = sym (some_if (number == own) last)
+
+    go : (phase : Phase) → is_number number (flight_of (Some (record search { phase = phase }))) ≡ is_some (size_at number (held_in phase))
     go Initial = refl
     go (Searching p) = flying p.last p.in_flight
     go (Complete activation) = refl
@@ -294,6 +313,12 @@ holds_made made new = go made.search new.search
 pub holds_by : (made : Discovery) → IsUntold made → (calls : List MtuCall) → Holds made (entries_by made calls) (discovery_by made calls)
 holds_by made new [] = holds_made made new
 holds_by made new (call ∷ earlier) = holds_after made (entries_by made earlier) call (discovery_by made earlier) (holds_by made new earlier)
+
+-- a number is that of the probe in flight exactly where the entries say so
+pub is_probe_by : (made : Discovery) → IsUntold made → (calls : List MtuCall) (number : ℕ)
+    → is_probe number (discovery_by made calls) ≡ is_some (size_at number (probe_in_flight (entries_by made calls)))
+is_probe_by made new calls number =
+    is_number_held number (discovery_by made calls).search ∙ ap (λ probe. is_some (size_at number probe)) (holds_by made new calls).probe
 
 -- what holds whatever is told holds at each moment
 pub at_each : (made : Discovery) (P : List MtuEntry → Type 0) → ((calls : List MtuCall) → P (entries_by made calls)) → (calls : List MtuCall) → AtEach P (entries_by made calls)

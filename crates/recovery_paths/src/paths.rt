@@ -23,7 +23,7 @@ use recovery_ledger::spaces::{PacketSpace, SentPacket};
 use recovery_mtud::mtud::MtuDiscovery;
 use recovery_pacing::pacing::Pacer;
 use recovery_queue::queue::RetransmitQueue;
-use recovery_responses::responses::PathResponses;
+pub use recovery_responses::responses::PathResponses;
 use recovery_rtt::rtt::RttEstimator;
 use std::marker::Model;
 use std::mem;

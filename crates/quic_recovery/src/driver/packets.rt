@@ -140,7 +140,10 @@ where
         if self.discarded.contains(space) {
             return Err(Refusal::SpaceDiscarded);
         }
-        self.paths.forget_all(&mut self.spaces[space]);
+        let alloc = self.alloc;
+        let here = &mut self.spaces[space];
+        self.paths.forget_all(here);
+        here.take_pending(alloc);
         self.discarded.insert(space);
         Ok(Answer::Done)
     }

@@ -1,5 +1,5 @@
-use Rattle.std.proofs.Common.{sym, ap, subst, ◌∙◌}
-use Rattle.recovery_ledger.specs.Spaces.{Space, space_of, with_space, tracking_of, packets_of, next_number_of, HasGreatestCome, space_empties}
+use Rattle.std.proofs.Common.{◌≡◌, sym, ap, subst, ◌∙◌}
+use Rattle.recovery_ledger.specs.Spaces.{Space, space_of, with_space, tracking_of, packets_of, next_number_of, HasGreatestCome, space_empties, space_hands_out, space_discards}
 use Rattle.recovery_ledger.proofs.CoherentLaws.{coherent_emptied}
 use Rattle.recovery_paths.specs.Balance.{AreBalanced}
 use Rattle.recovery_paths.specs.LivePaths.{paths_without}
@@ -13,15 +13,17 @@ use Rattle.quic_recovery.proofs.driver.Recovery.discard.Goals as goal
 
 pub invariant_of-self-2 : goal.invariant_of-self-2
 invariant_of-self-2 g c =
+    let words = g.Q.RetransmitQueue.words in
     let now = c.args.self.now in
     let balanced = now.balanced in
     let old = space_of c.args.space now.spaces in
-    let here = c.forget_all.new.space in
-    let empty = c.forget_all.ensures.space ∙ ap (λ (s : Space _). space_empties s) c.index_mut.ensures.value in
+    let here = c.take_pending.new.self in
+    let there = c.index_mut-here.ensures.value in
+    let empty : here ≡ space_discards words old = c.take_pending.ensures.step ∙ ap (space_hands_out words) (c.forget_all.ensures.space ∙ ap (λ (s : Space _). space_empties s) there) in
     let Holds : Space _ → Type 0 = HasGreatestCome in
     let come = subst Holds (sym empty) (balanced.coherent c.args.space).received in
     let coherent = coherent_emptied old here (balanced.coherent c.args.space) come (ap tracking_of empty) (ap next_number_of empty) in
-    let left = c.forget_all.ensures.paths ∙ ap (λ (s : Space _). paths_without (packets_of s) now.paths) c.index_mut.ensures.value in
+    let left = c.forget_all.ensures.paths ∙ ap (λ (s : Space _). paths_without (packets_of s) now.paths) there in
     let Balanced : OfPaths (Path _) → Type 0 = AreBalanced (with_space now.spaces c.args.space here) in
     record {
       balanced = subst Balanced (sym left) (emptied now.spaces now.paths balanced c.args.space here (ap packets_of empty) coherent);
@@ -30,8 +32,10 @@ invariant_of-self-2 g c =
 
 pub returns : goal.returns
 returns g c =
+    let words = g.Q.RetransmitQueue.words in
     let now = parts_of c.args.self.now in
-    let there = c.index_mut.ensures.value in
-    discard_changes (queue_meaning g.Q.RetransmitQueue.contents g.Q.RetransmitQueue.words) now c.args.space c.forget_all.new.space c.insert.new.self c.forget_all.new.self (sym c.if-contains.ensures)
-    (c.forget_all.ensures.space ∙ ap (λ (s : Space _). space_empties s) there) c.insert.ensures
-    (c.forget_all.ensures.paths ∙ ap (λ (s : Space _). paths_without (packets_of s) now.paths) there)
+    let there = c.index_mut-here.ensures.value in
+    let empty = c.take_pending.ensures.step ∙ ap (space_hands_out words) (c.forget_all.ensures.space ∙ ap (λ (s : Space _). space_empties s) there) in
+    let left = c.forget_all.ensures.paths ∙ ap (λ (s : Space _). paths_without (packets_of s) now.paths) there in
+    discard_changes (queue_meaning g.Q.RetransmitQueue.contents words) now c.args.space c.take_pending.new.self c.insert.new.self c.forget_all.new.self
+    (sym c.if-contains.ensures) empty c.insert.ensures left

@@ -1,10 +1,14 @@
 use Rattle.std.proofs.Common.{rules, arith, ◌≡◌, ◌+◌, ◌<◌, ◌^◌, refl, ap, subst, sym, ◌∙◌}
 use Rattle.recovery_ledger.specs.Paths.{fresh_ledger, generation_of}
 use Rattle.recovery_paths.specs.Balance.{AreBalanced}
-use Rattle.recovery_paths.specs.PathLog.{OfPaths}
+use Rattle.recovery_paths.specs.PathLog.{OfPaths, paths_marks}
 use Rattle.recovery_paths.specs.PathStates.{Path}
 use Rattle.recovery_paths.proofs.BalanceLaws.{moved}
+use Rattle.quic_recovery.specs.declared.event.Event.{Event}
+use Rattle.quic_recovery.specs.declared.event.Event.TheVariants.{NewPath}
+use Rattle.quic_recovery.specs.declared.event.Refusal.TheVariants.{NoMemory}
 use Rattle.quic_recovery.specs.State.{parts_of}
+use Rattle.quic_recovery.proofs.AboveLaws.{marks_refused}
 use Rattle.quic_recovery.proofs.DriverLaws.{nothing_changes}
 use Rattle.quic_recovery.proofs.driver.Recovery.new_path.Goals.{then-fresh, else-fresh+in-Ok}
 use Rattle.quic_recovery.proofs.driver.Recovery.new_path.Goals as goal
@@ -14,9 +18,11 @@ pub returns-in-Err : goal.returns-in-Err
 returns-in-Err g c =
     let now = c.args.self.now in
     let room : generation_of now.paths.current.ledger + 1 < 2 ^ 64 = search (rules, c.in-Some.ensures) in
+    let event : Event g.row.Q.Denot g.row.Q-Streams.Denot g.row.Q-Meta.Denot g.row.Q-Contents.Denot = NewPath c.args.now c.args.remote c.args.fresh in
     record {
       told = ((λ most. absurd (omega (arith, most, room))), search (rules, c.if-fresh.false));
       steps = nothing_changes g.Q.RetransmitQueue.words (parts_of now) (parts_of now) refl;
+      marks = sym (marks_refused event NoMemory (paths_marks now.paths));
       refused = refl;
     }
 

@@ -1,0 +1,90 @@
+-- What the layer above keeps with paths and spaces stays as events go by.
+use Rattle.std.proofs.Common.{◌≡◌, ℕ, true, false, Option, None, Some, option_map, Ok, Err, refl, sym, ap, subst, ◌∙◌}
+use Rattle.std.proofs.lemmas.Option.{none-some, same_Some}
+use Rattle.recovery_base.specs.declared.below.frames.EcnCounts.{EcnCounts}
+use Rattle.recovery_base.specs.declared.below.SpaceId.{SpaceId}
+use Rattle.recovery_ledger.specs.Probes.{pending_stands, moves, nothing_found}
+use Rattle.recovery_ledger.specs.SpaceLog.{SpaceEntry, heard, heard_again, sends, acknowledged, loses, probes, takes_pending, feeds_back, emptied, ack_goes, ack_is_late, asked}
+use Rattle.recovery_ledger.specs.Spaces.{Space, SpaceStep}
+use Rattle.recovery_ledger.specs.Queued.{no_ecn}
+use Rattle.recovery_paths.specs.PathLog.{OfPaths, paths_marks}
+use Rattle.recovery_paths.specs.PathMaking.{marks_made}
+use Rattle.recovery_paths.specs.PathStates.{Path, PathMarks}
+use Rattle.recovery_queue.specs.Queues.{QueueWords}
+use Rattle.quic_recovery.specs.declared.event.Event.{Event}
+use Rattle.quic_recovery.specs.declared.event.Event.TheVariants.{NewPath, DropPrevious}
+use Rattle.quic_recovery.specs.declared.event.Refusal.{Refusal}
+use Rattle.quic_recovery.specs.Above.{AreFresh, Beside, beside_of, marks_after, nothing_beside}
+use Rattle.quic_recovery.specs.History.{Reply}
+use Rattle.quic_recovery.specs.Logs.{StepBy}
+
+-- ---- paths
+
+-- the marks of the path that was in use go with it
+left_fresh : (marks : PathMarks) → marks ≡ marks_made None → (left : PathMarks) → Some marks ≡ Some left → left ≡ marks_made None
+left_fresh marks fresh left is = sym (same_Some marks left is) ∙ fresh
+
+-- fresh marks stay fresh
+pub fresh_after : {Q S M P : Type 0} (event : Event Q S M P) (reply : Reply Q) (marks : OfPaths PathMarks) → AreFresh marks → AreFresh (marks_after event reply marks)
+fresh_after (NewPath now remote true) (Ok given) marks fresh = (refl, left_fresh marks.current fresh.0)
+fresh_after (NewPath now remote false) (Ok given) marks fresh =
+    (ap (λ (m : PathMarks). marks_made m.first_after_sample) fresh.0, left_fresh marks.current fresh.0)
+fresh_after DropPrevious (Ok given) marks fresh = (fresh.0, λ left is. absurd (none-some left is))
+fresh_after event reply marks fresh = fresh
+
+-- a refused event leaves them
+pub marks_refused : {Q S M P : Type 0} (event : Event Q S M P) (refusal : Refusal) (marks : OfPaths PathMarks) → marks_after {Q = Q} event (Err refusal) marks ≡ marks
+marks_refused (NewPath now remote true) refusal marks = refl
+marks_refused (NewPath now remote false) refusal marks = refl
+marks_refused event refusal marks = refl
+
+-- what leaves the marks of a path leaves those of the previous one
+module _ {K : Type 0} (change : Path K → Path K) (keeps : (path : Path K) → (change path).marks ≡ path.marks) where
+  pub previous_marks : (previous : Option (Path K)) → option_map (λ path. path.marks) (option_map change previous) ≡ option_map (λ path. path.marks) previous
+  previous_marks None = refl
+  previous_marks (Some path) = ap (λ (m : PathMarks). Some m) (keeps path)
+
+  pub both_marks : (current : Path K) (paths : OfPaths (Path K)) → current.marks ≡ paths.current.marks
+      → (let new : OfPaths (Path K) = record { current = current; previous = option_map change paths.previous } in paths_marks new) ≡ paths_marks paths
+  both_marks current paths same =
+      let old = paths.previous in
+      ap (λ (m : PathMarks). let all : OfPaths PathMarks = record { current = m; previous = option_map (λ path. path.marks) (option_map change old) } in all) same
+      ∙ ap (λ (o : Option PathMarks). let all : OfPaths PathMarks = record { current = paths.current.marks; previous = o } in all) (previous_marks old)
+
+-- a path alone, as it is made
+pub fresh_first : {K : Type 0} (path : Path K) (paths : OfPaths (Path K)) → paths ≡ record { current = path; previous = None } → path.marks ≡ marks_made None → AreFresh (paths_marks paths)
+fresh_first path paths is fresh =
+    let Fresh : OfPaths (Path _) → Type 0 = λ all. AreFresh (paths_marks all) in
+    subst Fresh (sym is) (fresh, λ left lives. absurd (none-some left lives))
+
+-- ---- spaces
+
+-- a space as it is made
+pub beside_made : (ecn : EcnCounts) (loss_time : Option ℕ) (offset : ℕ) → ecn ≡ no_ecn → loss_time ≡ None → offset ≡ 0
+    → (let found : Beside = record { ecn = ecn; loss_time = loss_time; crypto_offset = offset } in found) ≡ nothing_beside
+beside_made ecn loss_time offset no_counts no_loss none =
+    ap (λ (e : EcnCounts). let b : Beside = record { ecn = e; loss_time = loss_time; crypto_offset = offset } in b) no_counts
+    ∙ ap (λ (l : Option ℕ). let b : Beside = record { ecn = no_ecn; loss_time = l; crypto_offset = offset } in b) no_loss
+    ∙ ap (λ (o : ℕ). let b : Beside = record { ecn = no_ecn; loss_time = None; crypto_offset = o } in b) none
+
+module _ {P S : Type 0} (words : QueueWords P S) where
+  -- no entry touches what is kept beside
+  beside_step : (entry : SpaceEntry P) (old new : Space P) → SpaceStep words entry old new → beside_of new ≡ beside_of old
+  beside_step (heard now number eliciting) old new step = ap beside_of step.others
+  beside_step (heard_again number) old new step = ap beside_of step.1
+  beside_step (sends number packet) old new step = ap beside_of step.1
+  beside_step (acknowledged number) old new step = ap beside_of step.others
+  beside_step (loses number) old new step = ap beside_of step
+  beside_step (probes immediate pending_stands) old new step = ap beside_of step
+  beside_step (probes immediate (moves number)) old new step = ap beside_of step
+  beside_step (probes immediate nothing_found) old new step = ap beside_of step
+  beside_step takes_pending old new step = ap beside_of step
+  beside_step (feeds_back counts) old new step = ap beside_of step
+  beside_step emptied old new step = ap beside_of step
+  beside_step ack_goes old new step = ap beside_of step
+  beside_step ack_is_late old new step = ap beside_of step
+  beside_step (asked frame) old new step = ap beside_of step
+
+  pub beside_stays : (entry : Option (SpaceEntry P)) (old new : Space P) → StepBy (SpaceStep words) entry old new → beside_of new ≡ beside_of old
+  beside_stays None old new step = ap beside_of step
+  beside_stays (Some entry) old new step = beside_step entry old new step

@@ -1,0 +1,13 @@
+use Rattle.quic_recovery.specs.Past.{no_past}
+use Rattle.quic_recovery.proofs.live.LiveRecovery.new.Goals as goal
+
+pub invariant_of-result : goal.invariant_of-result
+invariant_of-result g c = record {
+  came = ∣ record {
+    config = c.args.config;
+    start = c.args.now;
+    random = g.R.Rng.stream c.args.rng;
+    past = no_past;
+    came = c.in_ok-recovery.ensures.came;
+  } ∣₁;
+}

@@ -1,0 +1,97 @@
+-- The past of a live recovery: the events by which it came to be what it is, and what one event more keeps.
+use Rattle.std.specs.Prelude.{◌≡◌, ℕ, List, [], ◌∷◌, ◌++◌, ◌<◌, ◌^◌, None, if◌then◌else◌}
+use Rattle.std.specs.Option.{ForSome}
+use Rattle.rand_core.specs.Stream.{Stream}
+use Rattle.recovery_congestion.specs.Controllers.{ControllerWords}
+use Rattle.quic_recovery.specs.declared.driver.RecoveryConfig.{RecoveryConfig}
+use Rattle.quic_recovery.specs.declared.event.Event.{Event}
+use Rattle.quic_recovery.specs.Amplification.{KeepsThreefold}
+use Rattle.quic_recovery.specs.Bursts.{ComesAtFourBursts, NeedsFourBursts}
+use Rattle.quic_recovery.specs.Departures.{PacketsLeaveOnce}
+use Rattle.quic_recovery.specs.History.{Beginning, History, Reply, QueueMeaning, Throughout, begins, history}
+use Rattle.quic_recovery.specs.Pacing.{DelaysByBalance, KeepsPace, PassesSoon}
+use Rattle.quic_recovery.specs.Parts.{Parts}
+use Rattle.quic_recovery.specs.Search.{EndsNear, EntersAsTold, LimitsOutside, ProbesInTurn, SearchesFew, TellsProbes, UsesMtu}
+use Rattle.quic_recovery.specs.State.{Left}
+use Rattle.quic_recovery.specs.Told.{Told}
+
+-- the events so far with their replies, the oldest first
+pub record Past (Q S M P : Type 0) : Type 0 where
+  pub events : List (Event Q S M P)
+  pub replies : List (Reply Q)
+
+module _ {Q S M P : Type 0} where
+  abbrev pub no_past : Past Q S M P
+  no_past = record { events = []; replies = [] }
+
+  abbrev pub more : Past Q S M P → Event Q S M P → Reply Q → Past Q S M P
+  more past event reply = record { events = past.events ++ event ∷ []; replies = past.replies ++ reply ∷ [] }
+
+  -- the newest first
+  abbrev pub history_of : Past Q S M P → History Q S M P
+  history_of past = history past.events past.replies
+
+module _ {F K Q S M P : Type 0} (beginning : Beginning F K Q S P) where
+  -- by these events a recovery came here, from that beginning: each was told what the history before it says, and the
+  -- recovery is what the whole history leaves
+  pub record Came (past : Past Q S M P) (recovery : Parts K P) : Type 0 where
+    pub told : Throughout (Told beginning) past.events past.replies
+    pub left : Left beginning (history_of past) recovery
+    -- the bound of a search is a `u16`
+    pub small : ForSome (if beginning.config.allow_mtud then beginning.config.transport.mtu_discovery_config else None)
+        (λ settings. settings.upper_bound < 2 ^ 16)
+
+  -- all that is promised of an event and its reply, by the history before it
+  pub record Keeps (before : History Q S M P) (event : Event Q S M P) (reply : Reply Q) : Type 0 where
+    pub told : Told beginning before event reply
+    pub threefold : KeepsThreefold beginning before event reply
+    pub delayed : DelaysByBalance beginning before event reply
+    pub rate : KeepsPace beginning before event reply
+    pub soon : PassesSoon beginning before event reply
+    pub entries : EntersAsTold beginning before event reply
+    pub searches : SearchesFew beginning before event reply
+    pub ends : EndsNear beginning before event reply
+    pub probes : ProbesInTurn beginning before event reply
+    pub limits : LimitsOutside beginning before event reply
+    pub tells : TellsProbes beginning before event reply
+    pub mtu : UsesMtu beginning before event reply
+    pub needs_four : NeedsFourBursts beginning before event reply
+    pub comes_at_four : ComesAtFourBursts beginning before event reply
+    pub once : PacketsLeaveOnce beginning ((event, reply) ∷ before)
+
+  -- from a past to that past with one event more
+  pub record GoesOnFrom (past : Past Q S M P) (event : Event Q S M P) (reply : Reply Q) (new : Parts K P) : Type 0 where
+    pub history : history_of (more past event reply) ≡ (event, reply) ∷ history_of past
+    pub keeps : Keeps (history_of past) event reply
+    pub came : Came (more past event reply) new
+
+-- whatever the beginning and the past by which the recovery came here
+module _ {F K Q S M P : Type 0} (built : F → ℕ → ℕ → K) (words : ControllerWords K) (queue : QueueMeaning Q S P) where
+  abbrev pub GoesOn : Parts K P → Event Q S M P → Reply Q → Parts K P → Type 0
+  GoesOn old event reply new = (config : RecoveryConfig F) (start : ℕ) (random : Stream) (past : Past Q S M P) →
+      let beginning = begins built words queue config start random in
+      Came beginning past old → GoesOnFrom beginning past event reply new
+
+  -- from some past by which it came here it went on
+  pub record WentOn (old : Parts K P) (event : Event Q S M P) (reply : Reply Q) (new : Parts K P) : Type 0 where
+    pub config : RecoveryConfig F
+    pub start : ℕ
+    pub random : Stream
+    pub past : Past Q S M P
+    pub came : Came (begins built words queue config start random) past old
+    pub goes : GoesOnFrom (begins built words queue config start random) past event reply new
+
+module _ {F K Q S P : Type 0} (built : F → ℕ → ℕ → K) (words : ControllerWords K) (queue : QueueMeaning Q S P) where
+  -- by some past it came here
+  pub record CameSomehow (M : Type 0) (recovery : Parts K P) : Type 0 where
+    pub config : RecoveryConfig F
+    pub start : ℕ
+    pub random : Stream
+    pub past : Past Q S M P
+    pub came : Came (begins built words queue config start random) past recovery
+
+  -- it is all the same for its past
+  abbrev pub StaysOn : (M : Type 0) → Parts K P → Parts K P → Type 0
+  StaysOn M old new = (config : RecoveryConfig F) (start : ℕ) (random : Stream) (past : Past Q S M P) →
+      let beginning = begins built words queue config start random in
+      Came beginning past old → Came beginning past new

@@ -1,0 +1,88 @@
+//! The recovery of a connection that lives: its events come one at a time, and each finds the whole past behind it.
+ghost use Rattle.std.specs.Prelude.{◌≡◌, ◌≤◌, ◌^◌, IfOk, option_map};
+ghost use Rattle.recovery_paths.specs.PathLog.{on_path_of, path_of};
+ghost use Rattle.recovery_paths.specs.PathStates.{with_marks};
+ghost use Rattle.recovery_skips.specs.Skips.{IsSkips};
+ghost use Rattle.quic_recovery.specs.History.{begins, queue_meaning};
+ghost use Rattle.quic_recovery.specs.Past.{Came, CameSomehow, GoesOn, WentOn, no_past};
+ghost use Rattle.quic_recovery.specs.State.{parts_of};
+
+use crate::driver::{Recovery, RecoveryConfig};
+use crate::event::{Answer, Event, PathName, Refusal};
+use rand_core::Rng;
+use recovery_base::below::NoMemory;
+use recovery_base::time::Instant;
+use recovery_congestion::congestion::ControllerFactory;
+use recovery_paths::paths::PathMarks;
+use recovery_queue::queue::RetransmitQueue;
+use std::alloc::Global;
+
+/// A [`Recovery`] that carries its past: there are a beginning and a list of events with their replies by which it came to be
+/// what it is, and each was replied what the events before it say.
+///
+/// No list is kept: that there is one is proved of every value of this type, and costs nothing at run time. So what
+/// [`LiveRecovery::apply`] promises holds at each call of a connection that never ends, with no premise.
+#[derive(Drop)]
+pub struct LiveRecovery<F: ControllerFactory, Q: RetransmitQueue, R: Rng> {
+    recovery: Recovery<F, Q, R>,
+    ghost came: { ∥ CameSomehow F.built F.Controller.words (queue_meaning Q.contents Q.words) Q.Meta (parts_of recovery) ∥₁ },
+}
+
+impl<F, Q, R> LiveRecovery<F, Q, R>
+where
+    F: ControllerFactory + Drop,
+    F::Controller: Drop,
+    Q: RetransmitQueue + Drop,
+    Q::Meta: Drop,
+    Q::Streams: Drop,
+    R: Rng + Drop,
+{
+    /// A recovery to which nothing has happened yet, made at the moment `now`, as [`Recovery::new`] makes it. `NoMemory` as
+    /// there.
+    pub fn new(
+        alloc: Global,
+        config: RecoveryConfig<F>,
+        rng: R,
+        now: Instant,
+    ) -> Result<Self, NoMemory>
+        requires issued { config.issued ≤ 2 ^ 62 }
+        requires skips { IsSkips config.skips }
+        ensures came { let queues = queue_meaning Q.contents Q.words in
+            let begun = begins F.built F.Controller.words queues config now (R.stream rng) in
+            IfOk result (λ live. Came {M = Q.Meta} begun no_past (parts_of live.recovery)) }
+    {
+        let recovery = Recovery::new(alloc, config, rng, now)?;
+        Ok(LiveRecovery { recovery })
+    }
+
+    /// The recovery, to look at.
+    pub fn recovery(&self) -> &Recovery<F, Q, R>
+        ensures { result.now ≡ self.now.recovery }
+    {
+        &self.recovery
+    }
+
+    /// One event, as [`Recovery::apply`] does it. There are a beginning and a past by which the recovery came here; the reply
+    /// is what that past says, every promise of whole runs holds at this moment, and from that past the recovery has gone on by
+    /// this event and this reply.
+    pub fn apply(&mut self, event: Event<Q>) -> Result<Answer<Q>, Refusal>
+        // So it is for whatever beginning and past it came by,
+        ensures goes_on { let queues = queue_meaning Q.contents Q.words in
+            GoesOn F.built F.Controller.words queues (parts_of self.old.recovery) event result (parts_of self.new.recovery) }
+
+        // and there is one.
+        ensures went_on { let queues = queue_meaning Q.contents Q.words in
+            ∥ WentOn F.built F.Controller.words queues (parts_of self.old.recovery) event result (parts_of self.new.recovery) ∥₁ }
+    {
+        self.recovery.apply(event)
+    }
+
+    /// The layer above keeps this with a path from now on, as [`Recovery::set_marks`] says. No event is told of it.
+    pub fn set_marks(&mut self, path: PathName, marks: PathMarks) -> Option<PathMarks>
+        ensures before { result ≡ option_map (λ path. path.marks) (path_of path (parts_of self.old.recovery).paths) }
+        ensures after { let old = parts_of self.old.recovery in
+            parts_of self.new.recovery ≡ record old { paths = on_path_of path (with_marks marks) old.paths } }
+    {
+        self.recovery.set_marks(path, marks)
+    }
+}
