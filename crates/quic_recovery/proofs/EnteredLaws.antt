@@ -4,17 +4,16 @@ use Rattle.recovery_base.specs.declared.below.SpaceId.{SpaceId}
 use Rattle.recovery_base.specs.declared.below.SpaceId.TheVariants as space
 use Rattle.recovery_congestion.specs.Calls.{ControllerCall}
 use Rattle.recovery_ledger.specs.Packets.{Packet, packet_at}
-use Rattle.recovery_mtud.specs.Discovery.{is_data, is_probe, poll_of, reports}
+use Rattle.recovery_mtud.specs.Discovery.{is_data, poll_of, reports}
 use Rattle.recovery_mtud.specs.DiscoveryLog.{MtuCall, acks as acks_packet, loses, loses_probe, losses_end, discovery_by}
-use Rattle.recovery_mtud.specs.MtuEntries.{MtuEntry, acked, lost, probe_lost, losses_over, reported, poll_entry, entry_of}
+use Rattle.recovery_mtud.specs.MtuEntries.{MtuEntry, acked, lost, probe_lost, poll_entry, entry_of}
 use Rattle.recovery_paths.specs.PathMaking.{PathMaking, PathSettings}
-use Rattle.recovery_paths.specs.PathLog.{PathsEntry, PathPast, on_current, pasts_by, state_of, tells}
+use Rattle.recovery_paths.specs.PathLog.{PathsEntry, PathPast, on_current, pasts_by, tells}
 use Rattle.recovery_paths.specs.PathStates.{is_path_probe, loss_call}
 use Rattle.quic_recovery.specs.declared.event.Event.{Event}
-use Rattle.quic_recovery.specs.declared.event.Event.TheVariants.{Received, Send, Acked, Lost, NewId, NextId, InitialId, IssueIds, IdTimeout, PeerRetired, AckFrequencyIn, AcksSent, AckDelayTimeout, SetTimer, StopTimer, DiscardSpace, DatagramIn, Validated, Sample, Transmit, PacerCheck, Congestion, EndAcks, PollMtu, PeerLimit, LossesDone, Ecn, QueueProbe, TakePending, NewPath, ResetPath, DropPrevious}
+use Rattle.quic_recovery.specs.declared.event.Event.TheVariants.{Received, Acked, Lost, AckFrequencyIn, DatagramIn, Validated, Transmit, PollMtu, PeerLimit, LossesDone, NewPath, ResetPath}
 use Rattle.quic_recovery.specs.declared.event.Answer.{Answer}
-use Rattle.quic_recovery.specs.declared.event.Answer.TheVariants as answer
-use Rattle.quic_recovery.specs.declared.event.Answer.TheVariants.{New, Flag, Transmitted, Delayed, Probe, NoProbe, BlackHole}
+use Rattle.quic_recovery.specs.declared.event.Answer.TheVariants.{New, Flag, Transmitted, Delayed}
 use Rattle.recovery_paths.specs.declared.live_paths.PathName.TheVariants.{Current, Previous}
 use Rattle.quic_recovery.specs.declared.event.Refusal.{Refusal}
 use Rattle.quic_recovery.specs.declared.event.Refusal.TheVariants.{DelayTooSmall}
@@ -22,7 +21,7 @@ use Rattle.quic_recovery.specs.Amplification.{pasts_of}
 use Rattle.quic_recovery.specs.Entries.{acked_entry, acked_search, is_own, logs_of, lost_search, searched}
 use Rattle.quic_recovery.specs.History.{Beginning, History, Reply, Throughout}
 use Rattle.quic_recovery.specs.Known.{Known, first_path, known_by, settings_of, tracked_known}
-use Rattle.quic_recovery.specs.Search.{EntersAsTold, data_packet, entered, entries_on, of_packet}
+use Rattle.quic_recovery.specs.Search.{EntersAsTold, data_packet, entries_on, of_packet}
 use Rattle.quic_recovery.specs.Told.{Told, ProbeOutReply}
 use Rattle.quic_recovery.proofs.AmplificationLaws.{throughout_kept}
 

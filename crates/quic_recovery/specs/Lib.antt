@@ -13,6 +13,7 @@ pub mod Parts
 pub mod Past
 pub mod Refusals
 pub mod Replies
+pub mod Same
 pub mod Search
 pub mod State
 pub mod Told

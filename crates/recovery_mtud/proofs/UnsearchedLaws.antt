@@ -1,5 +1,5 @@
 -- A discovery that is disabled stays so, and its polls give no probe.
-use Rattle.std.proofs.Common.{◌≡◌, ℕ, Option, Some, None, Bool, true, false, if◌then◌else◌, List, [], ◌∷◌, refl, sym, ap, subst}
+use Rattle.std.proofs.Common.{◌≡◌, ℕ, Some, None, Bool, true, false, if◌then◌else◌, List, [], ◌∷◌, refl, sym, ap, subst}
 use Rattle.std.specs.Option.{option_map}
 use Rattle.recovery_mtud.specs.Search.{search_reported}
 use Rattle.recovery_mtud.specs.Bursts.{LossBursts, bursts_ended}
