@@ -20,11 +20,13 @@ use Rattle.quic_recovery.specs.Logs.{StepBy}
 -- ---- paths
 
 -- the marks of the path that was in use go with it
-left_fresh : (marks : PathMarks) → marks ≡ marks_made None → (left : PathMarks) → Some marks ≡ Some left → left ≡ marks_made None
+left_fresh : (marks : PathMarks) → marks ≡ marks_made None → (left : PathMarks) → Some marks ≡ Some left
+    → left ≡ marks_made None
 left_fresh marks fresh left is = sym (same_Some marks left is) ∙ fresh
 
 -- fresh marks stay fresh
-pub fresh_after : {Q S M P : Type 0} (event : Event Q S M P) (reply : Reply Q) (marks : OfPaths PathMarks) → AreFresh marks → AreFresh (marks_after event reply marks)
+pub fresh_after : {Q S M P : Type 0} (event : Event Q S M P) (reply : Reply Q) (marks : OfPaths PathMarks)
+    → AreFresh marks → AreFresh (marks_after event reply marks)
 fresh_after (NewPath now remote true) (Ok given) marks fresh = (refl, left_fresh marks.current fresh.0)
 fresh_after (NewPath now remote false) (Ok given) marks fresh =
     (ap (λ (m : PathMarks). marks_made m.first_after_sample) fresh.0, left_fresh marks.current fresh.0)
@@ -32,14 +34,16 @@ fresh_after DropPrevious (Ok given) marks fresh = (fresh.0, λ left is. absurd (
 fresh_after event reply marks fresh = fresh
 
 -- a refused event leaves them
-pub marks_refused : {Q S M P : Type 0} (event : Event Q S M P) (refusal : Refusal) (marks : OfPaths PathMarks) → marks_after {Q = Q} event (Err refusal) marks ≡ marks
+pub marks_refused : {Q S M P : Type 0} (event : Event Q S M P) (refusal : Refusal) (marks : OfPaths PathMarks)
+    → marks_after {Q = Q} event (Err refusal) marks ≡ marks
 marks_refused (NewPath now remote true) refusal marks = refl
 marks_refused (NewPath now remote false) refusal marks = refl
 marks_refused event refusal marks = refl
 
 -- what leaves the marks of a path leaves those of the previous one
 module _ {K : Type 0} (change : Path K → Path K) (keeps : (path : Path K) → (change path).marks ≡ path.marks) where
-  pub previous_marks : (previous : Option (Path K)) → option_map (λ path. path.marks) (option_map change previous) ≡ option_map (λ path. path.marks) previous
+  pub previous_marks : (previous : Option (Path K))
+      → option_map (λ path. path.marks) (option_map change previous) ≡ option_map (λ path. path.marks) previous
   previous_marks None = refl
   previous_marks (Some path) = ap (λ (m : PathMarks). Some m) (keeps path)
 
@@ -51,7 +55,8 @@ module _ {K : Type 0} (change : Path K → Path K) (keeps : (path : Path K) → 
       ∙ ap (λ (o : Option PathMarks). let all : OfPaths PathMarks = record { current = paths.current.marks; previous = o } in all) (previous_marks old)
 
 -- a path alone, as it is made
-pub fresh_first : {K : Type 0} (path : Path K) (paths : OfPaths (Path K)) → paths ≡ record { current = path; previous = None } → path.marks ≡ marks_made None → AreFresh (paths_marks paths)
+pub fresh_first : {K : Type 0} (path : Path K) (paths : OfPaths (Path K))
+    → paths ≡ record { current = path; previous = None } → path.marks ≡ marks_made None → AreFresh (paths_marks paths)
 fresh_first path paths is fresh =
     let Fresh : OfPaths (Path _) → Type 0 = λ all. AreFresh (paths_marks all) in
     subst Fresh (sym is) (fresh, λ left lives. absurd (none-some left lives))
@@ -68,7 +73,8 @@ beside_made ecn loss_time offset no_counts no_loss none =
 
 module _ {P S : Type 0} (words : QueueWords P S) where
   -- no entry touches what is kept beside
-  beside_step : (entry : SpaceEntry P) (old new : Space P) → SpaceStep words entry old new → beside_of new ≡ beside_of old
+  beside_step : (entry : SpaceEntry P) (old new : Space P) → SpaceStep words entry old new
+      → beside_of new ≡ beside_of old
   beside_step (heard now number eliciting) old new step = ap beside_of step.others
   beside_step (heard_again number) old new step = ap beside_of step.1
   beside_step (sends number packet) old new step = ap beside_of step.1
@@ -84,6 +90,7 @@ module _ {P S : Type 0} (words : QueueWords P S) where
   beside_step ack_is_late old new step = ap beside_of step
   beside_step (asked frame) old new step = ap beside_of step
 
-  pub beside_stays : (entry : Option (SpaceEntry P)) (old new : Space P) → StepBy (SpaceStep words) entry old new → beside_of new ≡ beside_of old
+  pub beside_stays : (entry : Option (SpaceEntry P)) (old new : Space P) → StepBy (SpaceStep words) entry old new
+      → beside_of new ≡ beside_of old
   beside_stays None old new step = ap beside_of step
   beside_stays (Some entry) old new step = beside_step entry old new step
