@@ -71,9 +71,9 @@ beside_made ecn loss_time offset no_counts no_loss none =
     ∙ ap (λ (l : Option ℕ). let b : Beside = record { ecn = no_ecn; loss_time = l; crypto_offset = offset } in b) no_loss
     ∙ ap (λ (o : ℕ). let b : Beside = record { ecn = no_ecn; loss_time = None; crypto_offset = o } in b) none
 
-module _ {P S : Type 0} (words : QueueWords P S) where
+module _ {P M S : Type 0} (words : QueueWords P S) where
   -- no entry touches what is kept beside
-  beside_step : (entry : SpaceEntry P) (old new : Space P) → SpaceStep words entry old new
+  beside_step : (entry : SpaceEntry P M) (old new : Space P M) → SpaceStep words entry old new
       → beside_of new ≡ beside_of old
   beside_step (heard now number eliciting) old new step = ap beside_of step.others
   beside_step (heard_again number) old new step = ap beside_of step.1
@@ -90,7 +90,7 @@ module _ {P S : Type 0} (words : QueueWords P S) where
   beside_step ack_is_late old new step = ap beside_of step
   beside_step (asked frame) old new step = ap beside_of step
 
-  pub beside_stays : (entry : Option (SpaceEntry P)) (old new : Space P) → StepBy (SpaceStep words) entry old new
+  pub beside_stays : (entry : Option (SpaceEntry P M)) (old new : Space P M) → StepBy (SpaceStep words) entry old new
       → beside_of new ≡ beside_of old
   beside_stays None old new step = ap beside_of step
   beside_stays (Some entry) old new step = beside_step entry old new step

@@ -36,9 +36,9 @@ module _ {Q S M C : Type 0} (P H : History Q S M C → Event Q S M C → Reply Q
   last_of before [] (r ∷ replies) all more = absurd all
   last_of before (e ∷ events) [] all more = absurd all
 
-module _ {F K Q S M P : Type 0} (beginning : Beginning F K Q S P) where
+module _ {F K Q S M P : Type 0} (beginning : Beginning F K Q S M P) where
   -- from every past by which it came here it goes on: each clause of whole runs, at the event that is put behind it
-  pub goes_on : (past : Past Q S M P) (old : Parts K P) (event : Event Q S M P) (reply : Reply Q) (new : Parts K P)
+  pub goes_on : (past : Past Q S M P) (old : Parts K P M) (event : Event Q S M P) (reply : Reply Q) (new : Parts K P M)
       → Came beginning past old → Changes beginning.queue old event reply new → AreBalanced new.spaces new.paths
       → GoesOnFrom beginning past event reply new
   goes_on past old event reply new came changes balanced =
@@ -82,10 +82,10 @@ module _ {F K Q S M P : Type 0} (beginning : Beginning F K Q S P) where
         };
       }
 
-module _ {F K Q S M P : Type 0} (built : F → ℕ → ℕ → K) (words : ControllerWords K) (queue : QueueMeaning Q S P) (old : Parts K P)
-    (event : Event Q S M P) (reply : Reply Q) (new : Parts K P) (on : GoesOn built words queue old event reply new) where
+module _ {F K Q S M P : Type 0} (built : F → ℕ → ℕ → K) (words : ControllerWords K) (queue : QueueMeaning Q S M P) (old : Parts K P M)
+    (event : Event Q S M P) (reply : Reply Q) (new : Parts K P M) (on : GoesOn built words queue old event reply new) where
   -- from a past by which it came here it went on
-  went : CameSomehow built words queue M old → WentOn built words queue old event reply new
+  went : CameSomehow built words queue old → WentOn built words queue old event reply new
   went by = record {
     config = by.config;
     start = by.start;
@@ -95,11 +95,11 @@ module _ {F K Q S M P : Type 0} (built : F → ℕ → ℕ → K) (words : Contr
     goes = on by.config by.start by.random by.past by.came;
   }
 
-  pub went_on : ∥ CameSomehow built words queue M old ∥₁ → ∥ WentOn built words queue old event reply new ∥₁
+  pub went_on : ∥ CameSomehow built words queue old ∥₁ → ∥ WentOn built words queue old event reply new ∥₁
   went_on by = ∥∥₁_map by went
 
   -- and came on
-  came_on : CameSomehow built words queue M old → CameSomehow built words queue M new
+  came_on : CameSomehow built words queue old → CameSomehow built words queue new
   came_on by = record {
     config = by.config;
     start = by.start;
@@ -108,12 +108,12 @@ module _ {F K Q S M P : Type 0} (built : F → ℕ → ℕ → K) (words : Contr
     came = (on by.config by.start by.random by.past by.came).came;
   }
 
-  pub still_came : ∥ CameSomehow built words queue M old ∥₁ → ∥ CameSomehow built words queue M new ∥₁
+  pub still_came : ∥ CameSomehow built words queue old ∥₁ → ∥ CameSomehow built words queue new ∥₁
   still_came by = ∥∥₁_map by came_on
 
-module _ {F K Q S M P : Type 0} (built : F → ℕ → ℕ → K) (words : ControllerWords K) (queue : QueueMeaning Q S P) (old new : Parts K P)
-    (stays : StaysOn built words queue M old new) where
-  stays_by : CameSomehow built words queue M old → CameSomehow built words queue M new
+module _ {F K Q S M P : Type 0} (built : F → ℕ → ℕ → K) (words : ControllerWords K) (queue : QueueMeaning Q S M P) (old new : Parts K P M)
+    (stays : StaysOn built words queue old new) where
+  stays_by : CameSomehow built words queue old → CameSomehow built words queue new
   stays_by by = record {
     config = by.config;
     start = by.start;
@@ -123,5 +123,5 @@ module _ {F K Q S M P : Type 0} (built : F → ℕ → ℕ → K) (words : Contr
   }
 
   -- what is all the same for every past leaves that there is one
-  pub stays_come : ∥ CameSomehow built words queue M old ∥₁ → ∥ CameSomehow built words queue M new ∥₁
+  pub stays_come : ∥ CameSomehow built words queue old ∥₁ → ∥ CameSomehow built words queue new ∥₁
   stays_come by = ∥∥₁_map by stays_by

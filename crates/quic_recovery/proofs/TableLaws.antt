@@ -104,7 +104,7 @@ same_refusals e f of no_text is_e is_f =
     let Same : Refusal → Type 0 = SameRefusal e in
     subst Same equal (same_as_itself e)
 
-module _ {Q S P : Type 0} (q : QueueMeaning Q S P) where
+module _ {Q S M P : Type 0} (q : QueueMeaning Q S M P) where
   -- of two replies that may be given, neither of which says that memory was refused, both are the same
   abbrev Decides : (Reply Q → Type 0) → Type 0
   Decides Replies =
@@ -168,7 +168,7 @@ module _ {Q S P : Type 0} (q : QueueMeaning Q S P) where
   is_decided : (given : Answer Q) → Decides (AlwaysAnswers (Is given))
   is_decided given = always_decide (Is given) (is_agree given)
 
-  in_space : (here : SpaceKnown P) (Replies : Reply Q → Type 0) → Decides Replies → Decides (InSpace here Replies)
+  in_space : (here : SpaceKnown P M) (Replies : Reply Q → Type 0) → Decides Replies → Decides (InSpace here Replies)
   in_space here Replies decides = refuses_decide refusal.SpaceDiscarded _ Replies refl decides
 
   on_path : {K : Type 0} (path : Option (PathKnown K)) (Replies : PathKnown K → Reply Q → Type 0)
@@ -215,12 +215,12 @@ module _ {Q S P : Type 0} (q : QueueMeaning Q S P) where
   timeout_agree moment_of (answer.Timeout one) other is_one is_other = absurd is_other
   timeout_agree moment_of one other is_one is_other = absurd is_one
 
-  pending_agree : (here : SpaceKnown P) → Agree (IsPending q here)
+  pending_agree : (here : SpaceKnown P M) → Agree (IsPending q here)
   pending_agree here (answer.Queue one) (answer.Queue other) is_one is_other = is_one ∙ sym is_other
   pending_agree here (answer.Queue one) other is_one is_other = absurd is_other
   pending_agree here one other is_one is_other = absurd is_one
 
-  probe_agree : (here : SpaceKnown P) (streams : S) (heard : Heard) (immediate : Bool) (found : ProbeFound)
+  probe_agree : (here : SpaceKnown P M) (streams : S) (heard : Heard) (immediate : Bool) (found : ProbeFound)
       → Agree (IsProbeAnswer q here streams heard immediate found)
   probe_agree here streams heard immediate found (answer.Sendable one) (answer.Sendable other) is_one is_other =
       let frames : Bool → Bool → Answer Q = λ acks more. answer.Sendable (record { acks = acks; other = more }) in
@@ -228,7 +228,7 @@ module _ {Q S P : Type 0} (q : QueueMeaning Q S P) where
   probe_agree here streams heard immediate found (answer.Sendable one) other is_one is_other = absurd is_other
   probe_agree here streams heard immediate found one other is_one is_other = absurd is_one
 
-  ecn_decides : (here : SpaceKnown P) (newly : ℕ) (counts : EcnCounts) → Decides (EcnAnswer here newly counts)
+  ecn_decides : (here : SpaceKnown P M) (newly : ℕ) (counts : EcnCounts) → Decides (EcnAnswer here newly counts)
   ecn_decides here newly counts (Ok one) (Ok other) m n is_one is_other =
       equal_agree one other (is_one.1 ∙ sym is_other.1)
   ecn_decides here newly counts (Ok one) (Err (refusal.Ecn text)) m n is_one is_other =
@@ -312,12 +312,12 @@ module _ {Q S P : Type 0} (q : QueueMeaning Q S P) where
 
   -- ---- the table
 
-  probe_out : {K : Type 0} (known : Known K P) (now : ℕ) (due : Option ℕ) → Decides (ProbeOutReply q known now due)
+  probe_out : {K : Type 0} (known : Known K P M) (now : ℕ) (due : Option ℕ) → Decides (ProbeOutReply q known now due)
   probe_out known now None = is_decided answer.NoProbe
   probe_out known now (Some size) =
       refuses_decide refusal.Overflow _ _ refl (answers_decide (Unit {0}) _ (is_agree (answer.Probe known.numbers.next size)))
 
-  pub decides : {K M : Type 0} (words : ControllerWords K) (heard : SpaceId → Heard) (known : Known K P) (event : Event Q S M P)
+  pub decides : {K : Type 0} (words : ControllerWords K) (heard : SpaceId → Heard) (known : Known K P M) (event : Event Q S M P)
       → Decides (ToldBy q words heard known event)
   decides words heard known (Received space now number eliciting) =
       in_space (known.spaces space) _ (refuses_decide refusal.NumberTooLarge _ _ refl (answers_decide _ _ (received_agree (heard space) (known.spaces space).counts number eliciting)))
@@ -381,7 +381,7 @@ module _ {Q S P : Type 0} (q : QueueMeaning Q S P) where
 
 -- ---- what a history decides
 
-module _ {K P : Type 0} (known : Known K P) where
+module _ {K P M : Type 0} (known : Known K P M) where
   -- what is in flight on the previous path, by what is known of it
   previous_in_flight : (path : Option (Path K))
       → ForSome path (λ p. counters_of p.ledger ≡ in_flight_on known (path_known p))
@@ -401,7 +401,7 @@ module _ {K P : Type 0} (known : Known K P) where
   in_flight_alike one other left too same =
       in_flight_known one left ∙ ap (λ (all : OfPaths (PathKnown K)). each_path (in_flight_on known) all) same ∙ sym (in_flight_known other too)
 
-module _ {F K Q S M P : Type 0} (beginning : Beginning F K Q S P) (history : History Q S M P) where
+module _ {F K Q S M P : Type 0} (beginning : Beginning F K Q S M P) (history : History Q S M P) where
   pub one_reply_to : (event : Event Q S M P) (one other : Reply Q) → Told beginning history event one
       → Told beginning history event other
       → one ≢ Err refusal.NoMemory → other ≢ Err refusal.NoMemory → SameReply beginning.queue.contents one other
@@ -428,7 +428,7 @@ module _ {F K Q S M P : Type 0} (beginning : Beginning F K Q S P) (history : His
     largest = left.largest ∙ sym too.largest;
   }
 
-  pub one_state_left : (one other : Parts K P) → Left beginning history one → Left beginning history other
+  pub one_state_left : (one other : Parts K P M) → Left beginning history one → Left beginning history other
       → LooksAlike one other
   one_state_left one other left too = record {
     settings = left.settings ∙ sym too.settings;
@@ -456,5 +456,5 @@ module _ {F K Q S M P : Type 0} (beginning : Beginning F K Q S P) (history : His
     local_ids = left.local_ids.same ∙ sym too.local_ids.same;
   }
     where
-      known : Known K P
+      known : Known K P M
       known = known_by beginning (logs_of beginning history)

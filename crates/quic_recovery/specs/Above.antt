@@ -32,7 +32,7 @@ pub record Beside : Type 0 where
   pub loss_time : Option ℕ
   pub crypto_offset : ℕ
 
-abbrev pub beside_of : {P : Type 0} → Space P → Beside
+abbrev pub beside_of : {P M : Type 0} → Space P M → Beside
 beside_of space = record { ecn = space.ecn_counters; loss_time = space.loss_time; crypto_offset = space.crypto_offset }
 
 -- as a space is made

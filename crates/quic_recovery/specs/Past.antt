@@ -31,10 +31,10 @@ module _ {Q S M P : Type 0} where
   abbrev pub history_of : Past Q S M P → History Q S M P
   history_of past = history past.events past.replies
 
-module _ {F K Q S M P : Type 0} (beginning : Beginning F K Q S P) where
+module _ {F K Q S M P : Type 0} (beginning : Beginning F K Q S M P) where
   -- by these events a recovery came here, from that beginning: each was told what the history before it says, and the
   -- recovery is what the whole history leaves
-  pub record Came (past : Past Q S M P) (recovery : Parts K P) : Type 0 where
+  pub record Came (past : Past Q S M P) (recovery : Parts K P M) : Type 0 where
     pub told : Throughout (Told beginning) past.events past.replies
     pub left : Left beginning (history_of past) recovery
     -- the bound of a search is a `u16`
@@ -60,20 +60,20 @@ module _ {F K Q S M P : Type 0} (beginning : Beginning F K Q S P) where
     pub once : PacketsLeaveOnce beginning ((event, reply) ∷ before)
 
   -- from a past to that past with one event more
-  pub record GoesOnFrom (past : Past Q S M P) (event : Event Q S M P) (reply : Reply Q) (new : Parts K P) : Type 0 where
+  pub record GoesOnFrom (past : Past Q S M P) (event : Event Q S M P) (reply : Reply Q) (new : Parts K P M) : Type 0 where
     pub history : history_of (more past event reply) ≡ (event, reply) ∷ history_of past
     pub keeps : Keeps (history_of past) event reply
     pub came : Came (more past event reply) new
 
 -- whatever the beginning and the past by which the recovery came here
-module _ {F K Q S M P : Type 0} (built : F → ℕ → ℕ → K) (words : ControllerWords K) (queue : QueueMeaning Q S P) where
-  abbrev pub GoesOn : Parts K P → Event Q S M P → Reply Q → Parts K P → Type 0
+module _ {F K Q S M P : Type 0} (built : F → ℕ → ℕ → K) (words : ControllerWords K) (queue : QueueMeaning Q S M P) where
+  abbrev pub GoesOn : Parts K P M → Event Q S M P → Reply Q → Parts K P M → Type 0
   GoesOn old event reply new = (config : RecoveryConfig F) (start : ℕ) (random : Stream) (past : Past Q S M P) →
       let beginning = begins built words queue config start random in
       Came beginning past old → GoesOnFrom beginning past event reply new
 
   -- from some past by which it came here it went on
-  pub record WentOn (old : Parts K P) (event : Event Q S M P) (reply : Reply Q) (new : Parts K P) : Type 0 where
+  pub record WentOn (old : Parts K P M) (event : Event Q S M P) (reply : Reply Q) (new : Parts K P M) : Type 0 where
     pub config : RecoveryConfig F
     pub start : ℕ
     pub random : Stream
@@ -81,9 +81,8 @@ module _ {F K Q S M P : Type 0} (built : F → ℕ → ℕ → K) (words : Contr
     pub came : Came (begins built words queue config start random) past old
     pub goes : GoesOnFrom (begins built words queue config start random) past event reply new
 
-module _ {F K Q S P : Type 0} (built : F → ℕ → ℕ → K) (words : ControllerWords K) (queue : QueueMeaning Q S P) where
   -- by some past it came here
-  pub record CameSomehow (M : Type 0) (recovery : Parts K P) : Type 0 where
+  pub record CameSomehow (recovery : Parts K P M) : Type 0 where
     pub config : RecoveryConfig F
     pub start : ℕ
     pub random : Stream
@@ -91,7 +90,7 @@ module _ {F K Q S P : Type 0} (built : F → ℕ → ℕ → K) (words : Control
     pub came : Came (begins built words queue config start random) past recovery
 
   -- it is all the same for its past
-  abbrev pub StaysOn : (M : Type 0) → Parts K P → Parts K P → Type 0
-  StaysOn M old new = (config : RecoveryConfig F) (start : ℕ) (random : Stream) (past : Past Q S M P) →
+  abbrev pub StaysOn : Parts K P M → Parts K P M → Type 0
+  StaysOn old new = (config : RecoveryConfig F) (start : ℕ) (random : Stream) (past : Past Q S M P) →
       let beginning = begins built words queue config start random in
       Came beginning past old → Came beginning past new

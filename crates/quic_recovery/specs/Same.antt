@@ -53,7 +53,7 @@ pub record AcksAlike (one other : Acks) : Type 0 where
   pub silent : one.silent ≡ other.silent
   pub largest : one.largest ≡ other.largest
 
-pub record SpacesAlike {P : Type 0} (one other : Space P) : Type 0 where
+pub record SpacesAlike {P M : Type 0} (one other : Space P M) : Type 0 where
   pub numbers : (n : ℕ) → Has one.dedup n ↔ Has other.dedup n
   pub acks : AcksAlike (acks_of one) (acks_of other)
   pub greatest : one.rx_packet ≡ other.rx_packet
@@ -63,7 +63,7 @@ pub record SpacesAlike {P : Type 0} (one other : Space P) : Type 0 where
   pub beside : beside_of one ≡ beside_of other
 
 -- two states that look alike to every reader, but for what the layer above sets with the paths
-pub record LooksAlike {K P : Type 0} (one other : Parts K P) : Type 0 where
+pub record LooksAlike {K P M : Type 0} (one other : Parts K P M) : Type 0 where
   pub settings : one.settings ≡ other.settings
   pub spaces : (space : SpaceId) → SpacesAlike (space_of space one.spaces) (space_of space other.spaces)
   pub discarded : (space : SpaceId) → is_discarded space one.discarded ≡ is_discarded space other.discarded
@@ -78,7 +78,7 @@ pub record LooksAlike {K P : Type 0} (one other : Parts K P) : Type 0 where
 
 -- ---- nothing is left open
 
-module _ {F K Q S P : Type 0} (built : F → ℕ → ℕ → K) (words : ControllerWords K) (queue : QueueMeaning Q S P) (M : Type 0) where
+module _ {F K Q S M P : Type 0} (built : F → ℕ → ℕ → K) (words : ControllerWords K) (queue : QueueMeaning Q S M P) where
   -- two replies that may be given to one event after one history are the same, unless memory was refused
   abbrev pub DecidesReplies : Type 0
   DecidesReplies = (config : RecoveryConfig F) (start : ℕ) (random : Stream) (history : History Q S M P) (event : Event Q S M P) (one other : Reply Q) →
@@ -88,6 +88,6 @@ module _ {F K Q S P : Type 0} (built : F → ℕ → ℕ → K) (words : Control
 
   -- two states that one history may leave look alike
   abbrev pub DecidesStates : Type 0
-  DecidesStates = (config : RecoveryConfig F) (start : ℕ) (random : Stream) (history : History Q S M P) (one other : Parts K P) →
+  DecidesStates = (config : RecoveryConfig F) (start : ℕ) (random : Stream) (history : History Q S M P) (one other : Parts K P M) →
       let beginning = begins built words queue config start random in
       Left beginning history one → Left beginning history other → LooksAlike one other

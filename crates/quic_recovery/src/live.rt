@@ -25,7 +25,7 @@ use std::alloc::Global;
 #[derive(Drop)]
 pub struct LiveRecovery<F: ControllerFactory, Q: RetransmitQueue, R: Rng> {
     recovery: Recovery<F, Q, R>,
-    ghost came: { ∥ CameSomehow F.built F.Controller.words (queue_meaning Q.contents Q.words) Q.Meta (parts_of recovery) ∥₁ },
+    ghost came: { ∥ CameSomehow F.built F.Controller.words (queue_meaning Q.contents Q.words Q.blank) (parts_of recovery) ∥₁ },
 }
 
 impl<F, Q, R> LiveRecovery<F, Q, R>
@@ -47,9 +47,9 @@ where
     ) -> Result<Self, NoMemory>
         requires issued { config.issued ≤ 2 ^ 62 }
         requires skips { IsSkips config.skips }
-        ensures came { let queues = queue_meaning Q.contents Q.words in
+        ensures came { let queues = queue_meaning Q.contents Q.words Q.blank in
             let begun = begins F.built F.Controller.words queues config now (R.stream rng) in
-            IfOk result (λ live. Came {M = Q.Meta} begun no_past (parts_of live.recovery)) }
+            IfOk result (λ live. Came begun no_past (parts_of live.recovery)) }
     {
         let recovery = Recovery::new(alloc, config, rng, now)?;
         Ok(LiveRecovery { recovery })
@@ -67,11 +67,11 @@ where
     /// this event and this reply.
     pub fn apply(&mut self, event: Event<Q>) -> Result<Answer<Q>, Refusal>
         // So it is for whatever beginning and past it came by,
-        ensures goes_on { let queues = queue_meaning Q.contents Q.words in
+        ensures goes_on { let queues = queue_meaning Q.contents Q.words Q.blank in
             GoesOn F.built F.Controller.words queues (parts_of self.old.recovery) event result (parts_of self.new.recovery) }
 
         // and there is one.
-        ensures went_on { let queues = queue_meaning Q.contents Q.words in
+        ensures went_on { let queues = queue_meaning Q.contents Q.words Q.blank in
             ∥ WentOn F.built F.Controller.words queues (parts_of self.old.recovery) event result (parts_of self.new.recovery) ∥₁ }
     {
         self.recovery.apply(event)

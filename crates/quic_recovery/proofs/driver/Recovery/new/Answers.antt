@@ -21,7 +21,7 @@ pub returns-clause-left : goal.returns-clause-left
 returns-clause-left g c =
     let words = g.Q.RetransmitQueue.words in
     let random = g.R.Rng.stream c.args.rng in
-    let queues = queue_meaning g.Q.RetransmitQueue.contents words in
+    let queues = queue_meaning g.Q.RetransmitQueue.contents words g.Q.RetransmitQueue.blank in
     let beginning = begins g.F.ControllerFactory.built g.F.Controller.Controller.words queues c.args.config c.args.now random in
     let made = c.new-2.ensures in
     let balanced = balanced_first c.new-2.result c.first_path.result c.new-4.result c.new-4.ensures made.packets made.acks c.first_path.ensures.ledger in
