@@ -22,12 +22,16 @@ from dataclasses import dataclass, field
 
 ROOT = pathlib.Path(__file__).resolve().parent.parent
 OLD_FORM = "ddbca9f"  # one number of 128 bits for the window, an ordered map for the packets
+LAWS_OF_PACKETS = ["crates/recovery_slots_tests/proofs/Sending.antt"]
+OLD_LAWS = "611d23d"  # the first revision that has these; they are proved over the crates of OLD_FORM too
 
 
 @dataclass
 class Program:
-    """A program over some crates, with its kinds of calls: what each is, the program's arguments, and how many calls."""
+    """A program over some crates, with its kinds of calls: what each is, the program's arguments, and how many calls. Its proof
+    may need laws that the tests of a crate have."""
     needs: list
+    laws: list = field(default_factory=list)
     kinds: dict = field(default_factory=dict)
 
 
@@ -43,11 +47,11 @@ def calls_of_dedup():
         "near_some_missing": "look, intervals of 1 to 8, one of five missing",
         "wide_some_missing": "look, intervals of 1 to 256, one of five missing",
     }
-    return Program(["recovery_base"], {name: (text, [name], 100_000) for name, text in texts.items()})
+    return Program(["recovery_base"], kinds={name: (text, [name], 100_000) for name, text in texts.items()})
 
 
 def steps_over_packets():
-    program = Program(["recovery_ledger", "recovery_items", "recovery_queue", "recovery_base"])
+    program = Program(["recovery_ledger", "recovery_items", "recovery_queue", "recovery_base"], LAWS_OF_PACKETS)
     for window in (1, 100, 10**4, 10**6):
         for order in ("in_order", "reversed", "shuffled"):
             text = f"acknowledge and send, {window} tracked, {order}"
@@ -63,6 +67,12 @@ def text_of(name, revision):
     if revision is None:
         return (ROOT / name).read_text()
     return subprocess.run(["git", "-C", ROOT, "show", f"{revision}:{name}"], stdout=subprocess.PIPE, text=True, check=True).stdout
+
+
+def laws_of(name, revision):
+    """A file of laws of the tests as it is here, or as it was; where it was not there yet, as it was first."""
+    there = revision is None or subprocess.run(["git", "-C", ROOT, "cat-file", "-e", f"{revision}:{name}"], stderr=subprocess.DEVNULL).returncode == 0
+    return text_of(name, revision if there else OLD_LAWS)
 
 
 def crates_below(needs, revision):
@@ -101,6 +111,8 @@ def build(tree, name, revision):
     shutil.copytree(ROOT / "bench" / name, folder, ignore=shutil.ignore_patterns("*.rs"))
     for source in list(folder.rglob("*.txt")):  # the gate takes no source that none of its crates reads
         source.rename(source.with_suffix(""))
+    for laws in program.laws:
+        (folder / "proofs" / pathlib.Path(laws).name).write_text(laws_of(laws, revision))
     (tree / "crates.txt").write_text("\n".join([*crates.values(), f"{name}: {' '.join(program.needs)} anyhow"]) + "\n")
     run = subprocess.run(["rt", "run"], cwd=folder, stdin=subprocess.DEVNULL, capture_output=True, text=True)
     built = folder / "out" / name

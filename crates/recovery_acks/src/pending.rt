@@ -3,7 +3,7 @@ ghost use Rattle.std.specs.Prelude.{◌≡◌, ◌≢◌, ℕ, ◌<◌, ◌≤�
 ghost use Rattle.recovery_base.specs.Numbers.{With};
 ghost use Rattle.recovery_base.specs.Received.{Has};
 ghost use Rattle.recovery_base.specs.Ranges.{InRanges, AreApart};
-ghost use Rattle.recovery_acks.specs.Acks.{IsPending, CanSend, new_acks, with_thresholds, with_required, acks_sent, Receives, AddsPending, SubtractsBelow, delay_at, timeout_at, HasReached, IsOutOfOrder, IsReported, IsUpTo, largest_with, most_ranges};
+ghost use Rattle.recovery_acks.specs.Acks.{IsPending, CanSend, new_acks, with_thresholds, with_required, acks_sent, Receives, AddsPending, SubtractsBelow, delay_at, timeout_at, HasReached, IsOutOfOrder, IsReported, IsUpTo, AreAcksSound, largest_with, most_ranges};
 ghost use Rattle.recovery_acks.specs.Runs.{IsInHighest};
 
 use recovery_base::below::{AckFrequency, ArrayRangeSet, NoMemory};
@@ -50,6 +50,7 @@ impl PendingAcks {
     /// Nothing is to be acknowledged; both thresholds are 1. It takes no memory.
     pub fn new(alloc: Global) -> Self
         ensures value { result ≡ new_acks [] }
+        ensures sound { AreAcksSound result }
     {
         PendingAcks {
             immediate_ack_required: false,
@@ -67,9 +68,10 @@ impl PendingAcks {
 
     /// Takes both thresholds of an ACK_FREQUENCY frame.
     pub fn set_ack_frequency_params(&mut self, frame: &AckFrequency)
-        ensures { self.new
+        ensures takes { self.new
             ≡ with_thresholds frame.now.ack_eliciting_threshold frame.now.reordering_threshold
             self.old }
+        ensures sound { AreAcksSound self.new }
     {
         self.ack_eliciting_threshold = frame.ack_eliciting_threshold.into_inner();
         self.reordering_threshold = frame.reordering_threshold.into_inner();
@@ -77,7 +79,8 @@ impl PendingAcks {
 
     /// From now on an ACK is required at once.
     pub fn set_immediate_ack_required(&mut self)
-        ensures { self.new ≡ with_required true self.old }
+        ensures required { self.new ≡ with_required true self.old }
+        ensures sound { AreAcksSound self.new }
     {
         self.immediate_ack_required = true;
     }
@@ -138,6 +141,7 @@ impl PendingAcks {
         ensures noticed { IsTrue ack_eliciting → IsSome self.new.base ⊎ IsTrue self.new.required }
         ensures within_threshold { IsTrue ack_eliciting → ¬ IsTrue self.new.required
             → self.new.eliciting ≤ self.new.threshold }
+        ensures sound { AreAcksSound self.new }
     {
         if !ack_eliciting {
             self.non_ack_eliciting_since_last_ack_sent = self
@@ -188,6 +192,7 @@ impl PendingAcks {
         ensures inserts { OnOk result (AddsPending self.old packet now self.new) }
         ensures only_new_takes_memory { IsErr result → ¬ IsPending self.old packet }
         ensures err { OnErr result (self.new ≡ self.old) }
+        ensures sound { AreAcksSound self.new }
     {
         insert(&mut self.ranges, packet)?;
         self.largest_packet = Some(larger(self.largest_packet, packet, now));
@@ -197,7 +202,8 @@ impl PendingAcks {
     /// The numbers up to `max`, below 2^62, need no acknowledgement any more. It takes no memory.
     pub fn subtract_below(&mut self, max: u64)
         requires { max < 2 ^ 62 }
-        ensures { SubtractsBelow self.old max self.new }
+        ensures subtracts { SubtractsBelow self.old max self.new }
+        ensures sound { AreAcksSound self.new }
     {
         let _ = self.ranges.remove(0..max + 1);
     }
@@ -216,6 +222,7 @@ impl PendingAcks {
     pub fn maybe_ack_non_eliciting(&mut self)
         ensures many { 10 < self.old.silent → self.new ≡ with_required true self.old }
         ensures few { self.old.silent ≤ 10 → self.new ≡ self.old }
+        ensures sound { AreAcksSound self.new }
     {
         if self.non_ack_eliciting_since_last_ack_sent > LAZY_ACK_THRESHOLD {
             self.set_immediate_ack_required();

@@ -1,6 +1,6 @@
 //! Spreads packets over time, so that a window is not sent in one burst (RFC 9002, 7.7).
 ghost use Rattle.std.specs.Prelude.{◌≡◌, ℕ, ◌+◌, ◌-◌, ◌*◌, ◌/◌, ◌^◌, ◌<◌, ◌≤◌, min, max};
-ghost use Rattle.recovery_pacing.specs.Pacing.{capacity_of, credit_of, wait_of, bucket_made, resized, refilled, paced, delay_of, less_tokens};
+ghost use Rattle.recovery_pacing.specs.Pacing.{capacity_of, credit_of, wait_of, bucket_made, resized, refilled, paced, delay_of, less_tokens, IsBucketSound};
 
 use recovery_base::time::{Duration, Instant};
 use std::marker::Model;
@@ -44,7 +44,8 @@ impl Pacer {
     pub fn new(rtt: Duration, window: u64, mtu: u16, now: Instant) -> Self
         requires window { 0 < window }
         requires mtu { 0 < mtu }
-        ensures { result ≡ bucket_made rtt window mtu now }
+        ensures made { result ≡ bucket_made rtt window mtu now }
+        ensures sound { IsBucketSound result }
     {
         let capacity = optimal_capacity(rtt, window, mtu);
         Pacer {
@@ -58,7 +59,8 @@ impl Pacer {
 
     /// A packet of so many bytes was sent. Where fewer tokens are left, none are.
     pub fn on_transmit(&mut self, packet_length: u16)
-        ensures { self.new ≡ less_tokens packet_length self.old }
+        ensures leaves { self.new ≡ less_tokens packet_length self.old }
+        ensures sound { IsBucketSound self.new }
     {
         self.tokens = self.tokens.saturating_sub(u64::from(packet_length));
     }
@@ -84,6 +86,7 @@ impl Pacer {
         ensures delays { result
             ≡ delay_of (record { bytes = bytes; rtt = rtt; mtu = mtu; window = window; now = now })
             self.new }
+        ensures sound { IsBucketSound self.new }
     {
         self.resize(rtt, window, mtu);
         if self.tokens >= bytes || window > u64::from(u32::MAX) || rtt.as_nanos() == 0 {

@@ -1,7 +1,7 @@
 //! PATH_RESPONSE frames that are to be sent.
 ghost use Rattle.std.specs.Prelude.{◌≡◌, ⊤, length, map, [], ◌==◌};
 ghost use Rattle.std.specs.List.{list_any};
-ghost use Rattle.recovery_responses.specs.Responses.{goes_to, renewed, with_response, last_of, sent_off_path, sent_on_path, left_after};
+ghost use Rattle.recovery_responses.specs.Responses.{goes_to, renewed, with_response, last_of, sent_off_path, sent_on_path, left_after, AreSound};
 
 use arrayvec::ArrayVec;
 use std::marker::Model;
@@ -63,7 +63,8 @@ impl PathResponses {
     /// None is to be sent.
     #[tactic(auto, using(crate::proofs::ResponseLaws::none_sound))]
     pub fn new() -> Self
-        ensures { result ≡ [] }
+        ensures none { result ≡ [] }
+        ensures sound { AreSound result }
     {
         PathResponses {
             pending: ArrayVec::new(),
@@ -76,8 +77,9 @@ impl PathResponses {
     /// packet. A response to a new address is the last; where 16 wait already it is left out, since no well-behaved
     /// peer probes from so many.
     pub fn push(&mut self, packet: u64, token: u64, remote: SocketAddr)
-        ensures { self.new
+        ensures kept { self.new
             ≡ with_response (record { packet = packet; token = token; remote = remote }) self.old }
+        ensures sound { AreSound self.new }
     {
         let response = PathResponse {
             packet,
@@ -94,6 +96,7 @@ impl PathResponses {
     pub fn pop_off_path(&mut self, remote: SocketAddr) -> Option<(u64, SocketAddr)>
         ensures answer { result ≡ sent_off_path remote (last_of self.old) }
         ensures rest { self.new ≡ left_after result self.old }
+        ensures sound { AreSound self.new }
     {
         let response = *self.pending.last()?;
         if response.remote == remote {
@@ -110,6 +113,7 @@ impl PathResponses {
     pub fn pop_on_path(&mut self, remote: SocketAddr) -> Option<u64>
         ensures answer { result ≡ sent_on_path remote (last_of self.old) }
         ensures rest { self.new ≡ left_after result self.old }
+        ensures sound { AreSound self.new }
     {
         let response = *self.pending.last()?;
         if response.remote != remote {

@@ -1,5 +1,5 @@
 -- The estimate of the round-trip time, in nanoseconds (RFC 9002, 5).
-use Rattle.std.specs.Prelude.{ℕ, ◌+◌, ◌-◌, ◌*◌, ◌/◌, ◌≤◌, ◌^◌, ⊤, min, max, List, [], ◌∷◌, Option, None, Some, nat_le, if◌then◌else◌}
+use Rattle.std.specs.Prelude.{ℕ, ◌≡◌, ◌+◌, ◌-◌, ◌*◌, ◌/◌, ◌≤◌, ◌^◌, min, max, List, [], ◌∷◌, Option, None, Some, nat_le, if◌then◌else◌}
 use Rattle.std.specs.Option.{unwrap_or}
 
 pub record Rtt : Type 0 where
@@ -72,10 +72,14 @@ granularity = 10 ^ 6
 abbrev pub pto_base_of : Rtt → ℕ
 pto_base_of rtt = min (rtt_get rtt + max (4 * rtt.variance) granularity) longest
 
--- what holds of every estimate: the smoothed value, where there is one, is no less than the least
-abbrev pub IsAboveLeast : Option ℕ → ℕ → Type 0
-IsAboveLeast None least = ⊤
-IsAboveLeast (Some smoothed) least = least ≤ smoothed
+-- what holds of every estimate: it is never below the least sample (RFC 9002, 5.3), or the initial RTT before the first one
+abbrev pub IsAboveLeast : Rtt → Type 0
+IsAboveLeast rtt = rtt.least ≤ rtt_get rtt
+
+-- one more sample after any others leaves the least of them all as the least RTT (RFC 9002, 5.2)
+abbrev pub KeepsLeast : Rtt → ℕ × ℕ → Rtt → Type 0
+KeepsLeast old sample new = (initial : ℕ) (earlier : List (ℕ × ℕ)) → old ≡ rtt_by initial earlier
+    → new.least ≡ least_of initial (sample ∷ earlier)
 
 -- the greater of a sample and the smoothed value, where there is one
 abbrev pub greatest_of : Option ℕ → ℕ → ℕ

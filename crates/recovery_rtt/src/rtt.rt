@@ -1,6 +1,6 @@
 //! The estimate of the round-trip time (RFC 9002, 5).
 ghost use Rattle.std.specs.Prelude.{◌≡◌, ◌<◌, ◌≤◌, ◌*◌, ◌^◌, min, max, IsSomeAnd};
-ghost use Rattle.recovery_rtt.specs.Rtt.{rtt_made, rtt_updated, rtt_get, rtt_conservative, pto_base_of, adjusted_rtt, distance, greatest_of};
+ghost use Rattle.recovery_rtt.specs.Rtt.{rtt_made, rtt_updated, rtt_get, rtt_conservative, pto_base_of, adjusted_rtt, distance, greatest_of, IsAboveLeast, KeepsLeast};
 
 use recovery_base::time::Duration;
 use std::marker::Model;
@@ -29,7 +29,7 @@ impl Model for RttEstimator {
 
     ghost view = { rtt_in };
 
-    ghost invariant = { λ rtt. IsAboveLeast rtt.smoothed rtt.min };
+    ghost invariant = { λ rtt. IsAboveLeast (rtt_in rtt) };
 
     ghost inverse = { rtt_back };
 }
@@ -37,7 +37,8 @@ impl Model for RttEstimator {
 impl RttEstimator {
     /// No sample was taken yet: the RTT counts as this one, and half of it as its variance (RFC 9002, 6.2.2).
     pub fn new(initial_rtt: Duration) -> Self
-        ensures { result ≡ rtt_made initial_rtt }
+        ensures value { result ≡ rtt_made initial_rtt }
+        ensures above_least { IsAboveLeast result }
     {
         RttEstimator {
             latest: initial_rtt,
@@ -49,7 +50,8 @@ impl RttEstimator {
 
     /// The best estimate: the smoothed RTT, or the initial one before the first sample.
     pub fn get(&self) -> Duration
-        ensures { result ≡ rtt_get self.now }
+        ensures value { result ≡ rtt_get self.now }
+        ensures above_least { self.now.least ≤ result }
     {
         match self.smoothed {
             Some(smoothed) => smoothed,
@@ -92,6 +94,8 @@ impl RttEstimator {
         ensures value { self.new ≡ rtt_updated ack_delay rtt self.old }
         ensures between { IsSomeAnd self.new.smoothed (λ smoothed.
             (self.new.least ≤ smoothed) × (smoothed ≤ greatest_of self.old.smoothed rtt)) }
+        ensures above_least { IsAboveLeast self.new }
+        ensures least { KeepsLeast self.old (ack_delay, rtt) self.new }
     {
         self.latest = rtt;
         match self.smoothed {

@@ -1,5 +1,5 @@
 -- A queue of slots in the order of their numbers: what is filed in it, and what is found in it.
-use Rattle.std.specs.Prelude.{◌≡◌, ℕ, ◌+◌, ◌*◌, ◌^◌, ◌<◌, ◌≤◌, zero, suc, List, [], ◌∷◌, ◌++◌, length, Option, None, Some, MatchOption, set, Bool, not, nat_lt}
+use Rattle.std.specs.Prelude.{◌≡◌, ℕ, ◌+◌, ◌*◌, ◌^◌, ◌<◌, ◌≤◌, zero, suc, List, [], ◌∷◌, ◌++◌, length, Option, None, Some, MatchOption, IfSome, filter, set, Bool, not, nat_lt}
 use Rattle.std.specs.Ordering.{nat_cmp}
 use Rattle.std.specs.BTreeMap.{is_at}
 use Rattle.std.specs.Map.{lookup}
@@ -29,11 +29,25 @@ AreRising first (slot ∷ slots) end =
 abbrev pub Rises : {T : Type 0} → List (Slot T) → Type 0
 Rises slots = (first : ℕ) × (end : ℕ) × AreRising first slots end
 
+-- so many slots are filled, and the numbers rise from the first to the last
+abbrev pub IsSound : {T : Type 0} → List (Slot T) → ℕ → ℕ → ℕ → Type 0
+IsSound slots filled first last =
+    (filled ≡ length (entries_of slots)) × AreRising first slots (last + 1)
+
+-- numbers between two bounds still rise between them
+abbrev pub StaysRising : {T : Type 0} → List (Slot T) → List (Slot T) → Type 0
+StaysRising old new = (first end : ℕ) → AreRising first old end → AreRising first new end
+
 -- the slot at a place
 abbrev pub IsSlotAt : {T : Type 0} → List (Slot T) → ℕ → Slot T → Type 0
 IsSlotAt [] place slot = ⊥
 IsSlotAt (first ∷ slots) zero slot = first ≡ slot
 IsSlotAt (first ∷ slots) (suc place) slot = IsSlotAt slots place slot
+
+-- an item is filed under a number in the slot at a place
+abbrev pub IsFiledAt : {T : Type 0} → List (Slot T) → ℕ → ℕ → T → Type 0
+IsFiledAt slots number place item =
+    IsSlotAt slots place (record { number = number; item = Some item })
 
 -- numbers below another stand before a place, and the others from it on
 pub record Divides {T : Type 0} (slots : List (Slot T)) (number place : ℕ) : Type 0 where
@@ -58,11 +72,13 @@ pub record IsHeldAt {T : Type 0} (slots : List (Slot T)) (number place : ℕ) (i
 abbrev pub IsWithinDigits : ℕ → ℕ → Type 0
 IsWithinDigits looks slots = (digits : ℕ) → slots < 2 ^ digits → looks ≤ digits
 
--- a number's place, and how many slots were looked at for it
+-- a number's place among the slots, and how many were looked at for it: one at least, where it was found
 pub record Finds {T : Type 0} (slots : List (Slot T)) (number : ℕ) (found : Option ℕ × ℕ) : Type 0 where
   pub place : MatchOption found.0 (item_at slots number ≡ None)
       (λ place. (item : T) × IsHeldAt slots number place item)
+  pub divides : IfSome found.0 (Divides slots number)
   pub looks : IsWithinDigits found.1 (length slots)
+  pub seen : IfSome found.0 (λ _. 0 < found.1)
 
 -- the slot at a place is empty
 abbrev pub IsEmptyAt : {T : Type 0} → List (Slot T) → ℕ → Type 0
@@ -71,7 +87,8 @@ IsEmptyAt {T} slots place = (slot : Slot T) × IsSlotAt slots place slot × (slo
 -- ---- what changes
 
 -- another item, or none, is put into the slot at a place
-pub record Replaces {T : Type 0} (old : List (Slot T)) (place : ℕ) (item found : Option T) (new : List (Slot T)) : Type 0 where
+pub record Replaces {T : Type 0} (old : List (Slot T)) (place : ℕ) (item found : Option T)
+    (new : List (Slot T)) : Type 0 where
   pub slot : Slot T
   pub at : IsSlotAt old place slot
   pub found_is : found ≡ slot.item
@@ -92,7 +109,9 @@ IsFrontEmpty (slot ∷ slots) = slot.item ≡ None
 
 -- the last slot has this number or one above
 abbrev pub IsBackFrom : {T : Type 0} → ℕ → List (Slot T) → Type 0
-IsBackFrom {T} number slots = (before : List (Slot T)) × (slot : Slot T) × (slots ≡ before ++ slot ∷ []) × (number ≤ slot.number)
+IsBackFrom {T} number slots =
+    (before : List (Slot T)) × (slot : Slot T) × (slots ≡ before ++ slot ∷ [])
+    × (number ≤ slot.number)
 
 abbrev pub is_filled : {T : Type 0} → Slot T → Bool
 is_filled slot = is_some slot.item
@@ -102,6 +121,10 @@ is_filled slot = is_some slot.item
 -- the number is not below another
 abbrev pub is_from : {T : Type 0} → ℕ → ℕ × T → Bool
 is_from number entry = not (nat_lt entry.0 number)
+
+-- what is filed from a number on
+abbrev pub entries_from : {T : Type 0} → ℕ → List (Slot T) → List (ℕ × T)
+entries_from number slots = filter (is_from number) (entries_of slots)
 
 abbrev pub first_number : {T : Type 0} → List (ℕ × T) → Option ℕ
 first_number [] = None

@@ -1,10 +1,10 @@
 //! A queue of slots in the order of their numbers.
-ghost use Rattle.std.specs.Prelude.{◌≡◌, ℕ, ◌+◌, ◌*◌, ◌^◌, ◌<◌, ◌≤◌, ◌∷◌, ◌++◌, [], length, drop, filter, set, slice_index_or, Some, None, Decides, IfSome, IfNone, OnOk, OnErr, MatchOption, MatchResult};
+ghost use Rattle.std.specs.Prelude.{◌≡◌, ℕ, ◌+◌, ◌*◌, ◌^◌, ◌<◌, ◌≤◌, ◌∷◌, ◌++◌, [], length, drop, filter, set, slice_index_or, Some, None, Decides, IfSome, IfNone, IfOk, OnOk, OnErr, MatchOption, MatchResult};
 ghost use Rattle.std.specs.VecDeque.{deque_len, deque_capacity};
 ghost use Rattle.std.specs.Ordering.{nat_cmp};
 ghost use Rattle.std.specs.BTreeMap.{is_at};
 ghost use Rattle.std.specs.Map.{remove_entry};
-ghost use Rattle.recovery_slots.specs.Slots.{entries_of, item_at, AreRising, IsSlotAt, Divides, Encloses, IsHeldAt, IsEmptyAt, IsAboveAll, IsClosedUp, IsFrontEmpty, IsBackFrom, Replaces, Rises, Finds, IsWithinDigits, AreFrom, first_number, is_filled, is_from};
+ghost use Rattle.recovery_slots.specs.Slots.{entries_of, item_at, AreRising, IsFiledAt, Divides, Encloses, IsHeldAt, IsEmptyAt, IsAboveAll, IsClosedUp, IsFrontEmpty, IsBackFrom, Replaces, Rises, Finds, IsWithinDigits, AreFrom, StaysRising, entries_from, first_number, is_filled, is_from};
 
 use std::alloc::{AllocError, Global};
 use std::collections::VecDeque;
@@ -39,15 +39,15 @@ pub struct SlotQueue<T> {
 }
 
 impl<T> Model for SlotQueue<T> {
-    ghost use Rattle.std.specs.Prelude.{◌≡◌, ◌+◌, List, length};
+    ghost use Rattle.std.specs.Prelude.{List};
     ghost use Rattle.recovery_slots.specs.declared.slots.Slot.{Slot};
-    ghost use Rattle.recovery_slots.specs.Slots.{AreRising, entries_of};
+    ghost use Rattle.recovery_slots.specs.Slots.{IsSound};
 
     ghost Value = { List (Slot T) };
 
     ghost view = { λ a. a.slots.items };
 
-    ghost invariant = { λ a. (a.filled ≡ length (entries_of a.slots.items)) × AreRising a.first a.slots.items (a.last + 1) };
+    ghost invariant = { λ a. IsSound a.slots.items a.filled a.first a.last };
 }
 
 impl<T: Drop> SlotQueue<T> {
@@ -81,7 +81,7 @@ impl<T: Drop> SlotQueue<T> {
     pub fn get(&self, place: usize) -> Option<(u64, &T)>
         requires { place < length self.now }
         ensures slot { MatchOption result (IsEmptyAt self.now place)
-            (λ found. IsSlotAt self.now place (record { number = found.0; item = Some found.1.now })) }
+            (λ found. IsFiledAt self.now found.0 place found.1.now) }
         ensures divides { IfSome result (λ found. Divides self.now found.0 place) }
     {
         let slot = &self.slots[place];
@@ -124,6 +124,7 @@ impl<T: Drop> SlotQueue<T> {
     }
 
     /// The place of what is filed under a number, or, in `Err`, the first place whose number is not below it.
+    #[inline(always)]
     fn search(&self, number: u64, looks: &mut Looks) -> Result<usize, usize>
         requires { looks.old.count ≡ 0 }
         ensures held { MatchResult result
@@ -131,6 +132,7 @@ impl<T: Drop> SlotQueue<T> {
             (λ place. item_at self.now number ≡ None) }
         ensures divides { MatchResult result (Divides self.now number) (Divides self.now number) }
         ensures looks { IsWithinDigits looks.new.count (length self.now) }
+        ensures seen { IfOk result (λ _. 0 < looks.new.count) }
     {
         let (mut low, mut high) = self.range_of(number);
         while low < high {
@@ -161,7 +163,7 @@ impl<T: Drop> SlotQueue<T> {
 
     /// The first place whose number is not below this one; where there is none, how many slots there are, or more.
     pub fn place_from(&self, number: u64) -> usize
-        ensures entries { entries_of (drop result self.now) ≡ filter (is_from number) (entries_of self.now) }
+        ensures entries { entries_of (drop result self.now) ≡ entries_from number self.now }
         ensures divides { Divides self.now number result }
     {
         let mut looks = Looks { count: 0 };
@@ -172,6 +174,7 @@ impl<T: Drop> SlotQueue<T> {
     }
 
     /// Puts another item, or none, into the slot at a place, and hands out what was in it.
+    #[inline(always)]
     pub fn replace(&mut self, place: usize, item: Option<T>) -> Option<T>
         requires { place < length self.old }
         ensures { Replaces self.old place item result self.new }
@@ -186,7 +189,8 @@ impl<T: Drop> SlotQueue<T> {
     /// Files an item under a number above all others.
     pub fn push(&mut self, number: u64, item: T) -> Result<(), AllocError>
         requires { IsAboveAll (entries_of self.old) number }
-        ensures ok { OnOk result (entries_of self.new ≡ entries_of self.old ++ (number, item) ∷ []) }
+        ensures ok { OnOk result
+            (entries_of self.new ≡ entries_of self.old ++ (number, item) ∷ []) }
         ensures one_more { OnOk result (length self.new ≤ length self.old + 1) }
         ensures err { OnErr result (self.new ≡ self.old) }
     {
@@ -203,9 +207,11 @@ impl<T: Drop> SlotQueue<T> {
     }
 
     /// Takes out what is filed under a number. Empty slots are closed up where they are too many.
+    #[inline(always)]
     pub fn take(&mut self, number: u64) -> Option<T>
         ensures value { result ≡ item_at self.old number }
-        ensures entries { entries_of self.new ≡ remove_entry (is_at (nat_cmp number)) (entries_of self.old) }
+        ensures entries { entries_of self.new
+            ≡ remove_entry (is_at (nat_cmp number)) (entries_of self.old) }
         ensures bound { IfSome result (λ _. IsClosedUp self.new) }
         ensures none { IfNone result (self.new ≡ self.old) }
     {
@@ -229,8 +235,8 @@ impl<T: Drop> SlotQueue<T> {
 
     /// The first number under which something is filed, from another on.
     pub fn first_from(&self, number: u64) -> Option<u64>
-        ensures first { result ≡ first_number (filter (is_from number) (entries_of self.now)) }
-        ensures lowest { IfSome result (λ found. AreFrom found (filter (is_from number) (entries_of self.now))) }
+        ensures first { result ≡ first_number (entries_from number self.now) }
+        ensures lowest { IfSome result (λ found. AreFrom found (entries_from number self.now)) }
     {
         for place in self.place_from(number)..self.len() {
             if let Some((found, _)) = self.get(place) {
@@ -241,6 +247,7 @@ impl<T: Drop> SlotQueue<T> {
     }
 
     /// Closes up empty slots: those before the first filled one always, the others where they are too many.
+    #[inline(always)]
     fn close_up(&mut self)
         ensures entries { entries_of self.new ≡ entries_of self.old }
         ensures bound { IsClosedUp self.new }
@@ -256,7 +263,7 @@ impl<T: Drop> SlotQueue<T> {
 /// Drops the empty slots before the first filled one.
 fn trim<T: Drop>(slots: &mut VecDeque<Slot<T>>)
     ensures entries { entries_of slots.new.items ≡ entries_of slots.old.items }
-    ensures rising { (first end : ℕ) → AreRising first slots.old.items end → AreRising first slots.new.items end }
+    ensures rising { StaysRising slots.old.items slots.new.items }
 {
     while is_front_empty(slots) {
         slots.pop_front();
@@ -282,7 +289,8 @@ fn keep_filled<T: Drop>(slots: &mut VecDeque<Slot<T>>)
 
 /// The number of the first slot; another, where there is none.
 fn first_of<T>(slots: &VecDeque<Slot<T>>, first: u64) -> u64
-    ensures { (end : ℕ) → AreRising first slots.now.items end → AreRising result slots.now.items end }
+    ensures { (end : ℕ) → AreRising first slots.now.items end
+        → AreRising result slots.now.items end }
 {
     match slots.front() {
         Some(slot) => slot.number,
@@ -292,7 +300,8 @@ fn first_of<T>(slots: &VecDeque<Slot<T>>, first: u64) -> u64
 
 /// From which number on slots stand, once one more stands behind them.
 fn first_with<T>(slots: &VecDeque<Slot<T>>, first: u64, number: u64) -> u64
-    ensures { AreRising first slots.now.items number → (result ≤ number) × AreRising result slots.now.items number }
+    ensures { AreRising first slots.now.items number
+        → (result ≤ number) × AreRising result slots.now.items number }
 {
     if slots.is_empty() { number } else { first }
 }
@@ -301,7 +310,8 @@ fn first_with<T>(slots: &VecDeque<Slot<T>>, first: u64, number: u64) -> u64
 fn cut<T: Drop>(slots: &mut VecDeque<Slot<T>>, last: u64, number: u64)
     requires { IsAboveAll (entries_of slots.old.items) number }
     ensures entries { entries_of slots.new.items ≡ entries_of slots.old.items }
-    ensures rising { (first : ℕ) → AreRising first slots.old.items (last + 1) → AreRising first slots.new.items number }
+    ensures rising { (first : ℕ) → AreRising first slots.old.items (last + 1)
+        → AreRising first slots.new.items number }
     ensures fewer { deque_len slots.new ≤ deque_len slots.old }
     ensures capacity { deque_capacity slots.new ≡ deque_capacity slots.old }
 {
@@ -314,7 +324,8 @@ fn cut<T: Drop>(slots: &mut VecDeque<Slot<T>>, last: u64, number: u64)
 fn cut_back<T: Drop>(slots: &mut VecDeque<Slot<T>>, number: u64)
     requires { IsAboveAll (entries_of slots.old.items) number }
     ensures entries { entries_of slots.new.items ≡ entries_of slots.old.items }
-    ensures rising { (first end : ℕ) → AreRising first slots.old.items end → AreRising first slots.new.items number }
+    ensures rising { (first end : ℕ) → AreRising first slots.old.items end
+        → AreRising first slots.new.items number }
     ensures fewer { deque_len slots.new ≤ deque_len slots.old }
     ensures capacity { deque_capacity slots.new ≡ deque_capacity slots.old }
 {

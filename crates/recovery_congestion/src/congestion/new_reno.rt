@@ -86,7 +86,7 @@ impl ControllerFactory for NewRenoConfig {
 
 /// A window that grows by the bytes acknowledged up to a threshold, above it by one MTU for each window of them, and falls
 /// by a fixed factor at a loss, once in a recovery (RFC 9002, 7.3).
-#[derive(Drop)]
+#[derive(Clone, Drop)]
 pub struct NewReno {
     config: NewRenoConfig,
     current_mtu: u16,

@@ -5,3 +5,6 @@ use Rattle.recovery_responses.proofs.responses.PathResponses.push.Goals as goal
 
 pub invariant_of-self : goal.invariant_of-self
 invariant_of-self c = subst AreSound (sym c.put.ensures) (with_response_sound _ _ c.self.invariant)
+
+pub returns-clause-sound : goal.returns-clause-sound
+returns-clause-sound c = subst AreSound (sym c.put.ensures) (with_response_sound _ _ c.self.invariant)

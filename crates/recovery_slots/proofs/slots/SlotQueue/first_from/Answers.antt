@@ -10,7 +10,8 @@ returns-in-Some-clause-first g c =
 
 pub returns-in-Some-clause-lowest : goal.returns-in-Some-clause-lowest
 returns-in-Some-clause-lowest g c =
-    subst (AreFrom {T = g.row.T.Denot} c.in-Some.found) (c.loop-place.invariant ∙ c.place_from-place.ensures.entries) (are_from c.args.self.now c.in-Some.found c.loop-place.place c.in-Some.ensures.divides)
+    subst (AreFrom {T = g.row.T.Denot} c.in-Some.found) (c.loop-place.invariant ∙ c.place_from-place.ensures.entries)
+    (are_from c.args.self.now c.in-Some.found c.loop-place.place c.in-Some.ensures.divides)
 
 pub loop-place-preserved : goal.loop-place-preserved
 loop-place-preserved g c =
@@ -19,4 +20,6 @@ loop-place-preserved g c =
 
 pub returns-clause-first : goal.returns-clause-first
 returns-clause-first g c =
-    none_from c.args.self.now (filter (is_from {T = g.row.T.Denot} c.args.number) (entries_of c.args.self.now)) c.loop-place.place (omega (arith, c.loop-place-test.false, c.len-place-end.ensures)) (c.loop-place.invariant ∙ c.place_from-place.ensures.entries)
+    none_from c.args.self.now (filter (is_from {T = g.row.T.Denot} c.args.number) (entries_of c.args.self.now))
+    c.loop-place.place (omega (arith, c.loop-place-test.false, c.len-place-end.ensures))
+    (c.loop-place.invariant ∙ c.place_from-place.ensures.entries)

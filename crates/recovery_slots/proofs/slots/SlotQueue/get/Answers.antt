@@ -5,14 +5,25 @@ use Rattle.recovery_slots.proofs.slots.SlotQueue.get.Goals as goal
 pub returns-in-Some-clause-slot : goal.returns-in-Some-clause-slot
 returns-in-Some-clause-slot g c =
     let within : c.args.place < length c.self.inside.slots.items = rw c.self.view_is c.requires in
-    rw (← c.self.view_is) (with_item c.self.inside.slots.items c.args.place c.index-slot.result.now c.in-Some.item (slot_at c.self.inside.slots.items c.args.place c.index-slot.result.now within c.index-slot.ensures) c.in-Some.is)
+    rw (← c.self.view_is)
+    (with_item c.self.inside.slots.items c.args.place c.index-slot.result.now c.in-Some.item
+    (slot_at c.self.inside.slots.items c.args.place c.index-slot.result.now within c.index-slot.ensures)
+    c.in-Some.is)
 
 pub returns-in-Some-clause-divides : goal.returns-in-Some-clause-divides
 returns-in-Some-clause-divides g c =
     let within : c.args.place < length c.self.inside.slots.items = rw c.self.view_is c.requires in
-    rw (← c.self.view_is) (divides_at c.self.inside.slots.items c.index-slot.result.now.number c.args.place c.index-slot.result.now (c.self.inside.first, c.self.inside.last + 1, c.self.invariant.1) (slot_at c.self.inside.slots.items c.args.place c.index-slot.result.now within c.index-slot.ensures) refl)
+    rw (← c.self.view_is)
+    (divides_at c.self.inside.slots.items c.index-slot.result.now.number c.args.place c.index-slot.result.now
+    (c.self.inside.first, c.self.inside.last + 1, c.self.invariant.1)
+    (slot_at c.self.inside.slots.items c.args.place c.index-slot.result.now within c.index-slot.ensures) refl)
 
 pub returns-in-None-clause-slot : goal.returns-in-None-clause-slot
 returns-in-None-clause-slot g c =
     let within : c.args.place < length c.self.inside.slots.items = rw c.self.view_is c.requires in
-    rw (← c.self.view_is) (c.index-slot.result.now, slot_at c.self.inside.slots.items c.args.place c.index-slot.result.now within c.index-slot.ensures, c.in-None.is)
+    rw (← c.self.view_is) (
+      c.index-slot.result.now,
+      slot_at c.self.inside.slots.items c.args.place c.index-slot.result.now within
+          c.index-slot.ensures,
+      c.in-None.is,
+    )
