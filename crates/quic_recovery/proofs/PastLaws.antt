@@ -21,9 +21,11 @@ use Rattle.quic_recovery.proofs.BurstLaws.{comes_at_four, needs_four}
 use Rattle.quic_recovery.proofs.DepartureLaws.{leave_once_in}
 use Rattle.quic_recovery.proofs.EnteredLaws.{entries_told}
 use Rattle.quic_recovery.proofs.LeftLaws.{changes_by_logs, left_after}
+use Rattle.quic_recovery.proofs.NewNumbersLaws.{numbers_told}
 use Rattle.quic_recovery.proofs.PacingLaws.{delayed, rate, soon}
 use Rattle.quic_recovery.proofs.Runs.{history_from-push, throughout_push}
 use Rattle.quic_recovery.proofs.SearchLaws.{searches, ends, probes, limits, tells, mtu}
+use Rattle.quic_recovery.proofs.TimeoutsLaws.{timers_told}
 use Rattle.quic_recovery.proofs.ToldLaws.{told_by_logs}
 
 module _ {Q S M C : Type 0} (P H : History Q S M C → Event Q S M C → Reply Q → Type 0) (event : Event Q S M C) (reply : Reply Q) where
@@ -59,6 +61,8 @@ module _ {F K Q S M P : Type 0} (beginning : Beginning F K Q S M P) where
         history = longer;
         keeps = record {
           told = here;
+          new = numbers_told beginning before event reply here;
+          timers = timers_told beginning before event reply here;
           threefold = last (KeepsThreefold beginning) (threefold beginning events replies all);
           delayed = last (DelaysByBalance beginning) (delayed beginning events replies all);
           rate = last (KeepsPace beginning) (rate beginning events replies all);

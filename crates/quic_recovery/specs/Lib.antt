@@ -11,6 +11,7 @@ pub mod Numbers
 pub mod Pacing
 pub mod Parts
 pub mod Past
+pub mod Promises
 pub mod Refusals
 pub mod Replies
 pub mod Same

@@ -11,6 +11,8 @@ use Rattle.quic_recovery.specs.Departures.{PacketsLeaveOnce}
 use Rattle.quic_recovery.specs.History.{Beginning, History, Reply, QueueMeaning, Throughout, begins, history}
 use Rattle.quic_recovery.specs.Pacing.{DelaysByBalance, KeepsPace, PassesSoon}
 use Rattle.quic_recovery.specs.Parts.{Parts}
+use Rattle.quic_recovery.specs.Promises.NewNumbers.{CallsNew}
+use Rattle.quic_recovery.specs.Promises.Timeouts.{TellsTimers}
 use Rattle.quic_recovery.specs.Search.{EndsNear, EntersAsTold, LimitsOutside, ProbesInTurn, SearchesFew, TellsProbes, UsesMtu}
 use Rattle.quic_recovery.specs.State.{Left}
 use Rattle.quic_recovery.specs.Told.{Told}
@@ -44,6 +46,8 @@ module _ {F K Q S M P : Type 0} (beginning : Beginning F K Q S M P) where
   -- all that is promised of an event and its reply, by the history before it
   pub record Keeps (before : History Q S M P) (event : Event Q S M P) (reply : Reply Q) : Type 0 where
     pub told : Told beginning before event reply
+    pub new : CallsNew before event reply
+    pub timers : TellsTimers before event reply
     pub threefold : KeepsThreefold beginning before event reply
     pub delayed : DelaysByBalance beginning before event reply
     pub rate : KeepsPace beginning before event reply

@@ -1,0 +1,278 @@
+-- A number is called new exactly where the history itself says so.
+use Rattle.std.proofs.Common.{◌≡◌, ◌≤◌, ◌+◌, ◌^◌, ℕ, Bool, true, false, not, ◌&&◌, ◌||◌, cond, nat_eq, nat_lt, nat_le, List, [], ◌∷◌, None, Some, Ok, Err, ◌⊎◌, inl, inr, ◌↔◌, refl, sym, ap, subst}
+use Rattle.std.specs.List.{list_all, list_any}
+use Rattle.std.proofs.lemmas.Bool.{false_from_ne_true, ltb-true, lt-ltb, leb-true, le-leb}
+use Rattle.std.proofs.lemmas.Bool.Decides.{eqb_tells}
+use Rattle.recovery_base.specs.declared.below.SpaceId.{SpaceId}
+use Rattle.recovery_base.specs.declared.below.SpaceId.TheVariants.{Data}
+use Rattle.recovery_base.specs.Numbers.{IsNew}
+use Rattle.recovery_base.specs.Spaces.{same_space}
+use Rattle.recovery_ledger.specs.Discarded.{was_discarded}
+use Rattle.recovery_ledger.specs.Received.{CameIn}
+use Rattle.recovery_ledger.specs.SpaceLog.{SpaceEntry, heard, heard_again}
+use Rattle.quic_recovery.specs.declared.event.Event.{Event}
+use Rattle.quic_recovery.specs.declared.event.Event.TheVariants.{Received, Send, Acked, Lost, AckFrequencyIn, AcksSent, AckDelayTimeout, DiscardSpace, PollMtu, Transmit, Ecn, QueueProbe, TakePending}
+use Rattle.quic_recovery.specs.declared.event.Answer.{Answer}
+use Rattle.quic_recovery.specs.declared.event.Answer.TheVariants.{New, Duplicate, Flag, Probe, Transmitted, Delayed}
+use Rattle.quic_recovery.specs.declared.event.Refusal.{Refusal}
+use Rattle.quic_recovery.specs.declared.event.Refusal.TheVariants.{NoMemory, NumberTooLarge, SpaceDiscarded, DelayTooSmall}
+use Rattle.quic_recovery.specs.Entries.{answered, refused, entries_of, logs_of}
+use Rattle.quic_recovery.specs.History.{Beginning, History, Reply, QueueMeaning}
+use Rattle.quic_recovery.specs.Known.{SpaceKnown, Known, known_by}
+use Rattle.quic_recovery.specs.Logs.{onto}
+use Rattle.quic_recovery.specs.Replies.{Refuses, Answers}
+use Rattle.quic_recovery.specs.Told.{Told, ReceivedAnswer}
+use Rattle.recovery_ledger.specs.Acks.{Heard, heard_by}
+use Rattle.quic_recovery.specs.Promises.NewNumbers.{is_new, came_in, is_discarded, IsVerdict, CallsNew}
+
+-- ---- lists of numbers and sets of numbers
+
+abbrev In : ℕ → List ℕ → Type 0
+In n [] = ⊥
+In n (m ∷ ms) = (n ≡ m) ⊎ In n ms
+
+or_right : (a b : Bool) → a ≡ false → (a || b) ≡ true → b ≡ true
+or_right true b e is = cc
+or_right false b e is = is
+
+or_one : (a b : Bool) → b ≡ true → (a || b) ≡ true
+or_one true b e = refl
+or_one false b e = e
+
+and_both : (a b : Bool) → a ≡ true → b ≡ true → (a && b) ≡ true
+and_both true b e is = is
+and_both false b e is = cc
+
+and_first : (a b : Bool) → (a && b) ≡ true → a ≡ true
+and_first true b is = refl
+and_first false b is = is
+
+and_second : (a b : Bool) → (a && b) ≡ true → b ≡ true
+and_second true b is = is
+and_second false b is = cc
+
+abbrev Told-eq : ℕ → ℕ → Type 0
+Told-eq n m = ((nat_eq n m ≡ true) × (n ≡ m)) ⊎ ((nat_eq n m ≡ false) × ¬ (n ≡ m))
+
+to_first : (n m : ℕ) (ms : List ℕ) → (list_any (nat_eq n) ms ≡ true → In n ms) → Told-eq n m
+    → (nat_eq n m || list_any (nat_eq n) ms) ≡ true → In n (m ∷ ms)
+to_first n m ms rest (inl is) e = inl is.1
+to_first n m ms rest (inr other) e = inr (rest (or_right _ _ other.0 e))
+
+member_to : (n : ℕ) (ms : List ℕ) → list_any (nat_eq n) ms ≡ true → In n ms
+member_to n [] e = cc
+member_to n (m ∷ ms) e = to_first n m ms (member_to n ms) (eqb_tells n m) e
+
+or_first : (a b : Bool) → a ≡ true → (a || b) ≡ true
+or_first true b is = refl
+or_first false b is = cc
+
+from_first : (n m : ℕ) (ms : List ℕ) → (In n ms → list_any (nat_eq n) ms ≡ true) → Told-eq n m → In n (m ∷ ms)
+    → (nat_eq n m || list_any (nat_eq n) ms) ≡ true
+from_first n m ms rest (inl is) there = or_first _ _ is.0
+from_first n m ms rest (inr other) (inl is) = absurd (other.1 is)
+from_first n m ms rest (inr other) (inr there) = or_one _ _ (rest there)
+
+member_from : (n : ℕ) (ms : List ℕ) → In n ms → list_any (nat_eq n) ms ≡ true
+member_from n [] there = absurd there
+member_from n (m ∷ ms) there = from_first n m ms (member_from n ms) (eqb_tells n m) there
+
+module _ (test : ℕ → Bool) where
+  all_to : (ms : List ℕ) → list_all test ms ≡ true → (m : ℕ) → In m ms → test m ≡ true
+  all_to (first ∷ ms) all m (inl is) = subst (λ k. test k ≡ true) (sym is) (and_first _ _ all)
+  all_to (first ∷ ms) all m (inr there) = all_to ms (and_second _ _ all) m there
+  all_to [] all m there = absurd there
+
+  all_from : (ms : List ℕ) → ((m : ℕ) → In m ms → test m ≡ true) → list_all test ms ≡ true
+  all_from [] each = refl
+  all_from (m ∷ ms) each = and_both _ _ (each m (inl refl)) (all_from ms (λ k there. each k (inr there)))
+
+parts : (a b c : Bool) → (a || (not b && c)) ≡ true → (a ≡ true) ⊎ ((b ≡ false) × (c ≡ true))
+parts true b c e = inl refl
+parts false true c e = cc
+parts false false c e = inr (refl, e)
+
+joined : (a b c : Bool) → b ≡ false → c ≡ true → (a || (not b && c)) ≡ true
+joined a true c e is = cc
+joined a false c e is = or_one a c is
+
+module _ (Numbers : ℕ → Type 0) (came : List ℕ) (same : (m : ℕ) → In m came ↔ Numbers m) (n : ℕ) where
+  new_from : IsNew Numbers n → is_new came n ≡ true
+  new_from (inl exceeds) =
+      or_first _ _ (all_from (λ m. nat_lt m n) came (λ m there. lt-ltb m n (exceeds m ((same m).0 there))))
+  new_from (inr other) =
+      joined (list_all (λ m. nat_lt m n) came) _ _ (false_from_ne_true _ (λ member. other.0 ((same n).0 (member_to n came member))))
+      (all_from (λ m. nat_le m (n + 128)) came (λ m there. le-leb m (n + 128) (other.1 m ((same m).0 there))))
+
+  new_to : is_new came n ≡ true → IsNew Numbers n
+  new_to e = go (parts (list_all (λ m. nat_lt m n) came) (list_any (nat_eq n) came) _ e)
+    where
+      go : (list_all (λ m. nat_lt m n) came ≡ true) ⊎ ((list_any (nat_eq n) came ≡ false) × (list_all (λ m. nat_le m (n + 128)) came ≡ true))
+          → IsNew Numbers n
+      go (inl all) = inl (λ m in_set. ltb-true m n (all_to _ came all m ((same m).1 in_set)))
+      go (inr other) =
+          inr ((λ in_set. let is = member_from n came ((same n).1 in_set) in cc (is, other.0)), λ m in_set. leb-true m (n + 128) (all_to _ came other.1 m ((same m).1 in_set)))
+
+-- ---- what came, and which spaces were discarded
+
+abbrev Alike : {P M : Type 0} → List ℕ → List (SpaceEntry P M) → Type 0
+Alike came log = (m : ℕ) → In m came ↔ CameIn log m
+
+module _ {P M : Type 0} (came : List ℕ) (log : List (SpaceEntry P M)) (alike : Alike came log) where
+  one_more : (n m : ℕ) → In m (n ∷ came) ↔ ((m ≡ n) ⊎ CameIn log m)
+  one_more n m = (there, back)
+    where
+      there : In m (n ∷ came) → (m ≡ n) ⊎ CameIn log m
+      there (inl is) = inl is
+      there (inr other) = inr ((alike m).0 other)
+
+      back : (m ≡ n) ⊎ CameIn log m → In m (n ∷ came)
+      back (inl is) = inl is
+      back (inr other) = inr ((alike m).1 other)
+
+  pick : (b : Bool) (entry : SpaceEntry P M) → Alike came (entry ∷ log)
+      → Alike came (onto (cond b (Some entry) None) log)
+  pick true entry first = first
+  pick false entry first = alike
+
+  arrive : (b c : Bool) (n : ℕ) (entry : SpaceEntry P M) → b ≡ c → Alike (n ∷ came) (entry ∷ log)
+      → Alike (cond b (n ∷ came) came) (onto (cond c (Some entry) None) log)
+  arrive true true n entry is first = first
+  arrive false false n entry is first = alike
+  arrive true false n entry is first = cc
+  arrive false true n entry is first = cc
+
+module _ {K Q S M P : Type 0} (q : QueueMeaning Q S M P) (known : Known K P M) (earlier : History Q S M P) (space : SpaceId) where
+  module _ (log : List (SpaceEntry P M)) (alike : Alike (came_in space earlier) log) where
+    answer_came : (event : Event Q S M P) (answer : Answer Q)
+        → Alike (came_in space ((event, Ok answer) ∷ earlier)) (onto ((answered q known event answer).spaces space) log)
+    answer_came (Received there now number eliciting) (New arm) =
+        arrive _ log alike _ _ number (heard now number eliciting) refl (one_more _ log alike number)
+    answer_came (Received there now number eliciting) answer =
+        arrive _ log alike _ _ number (heard_again number) refl (one_more _ log alike number)
+    answer_came (Send there now size eliciting largest queue frames) answer =
+        pick _ log alike (same_space there space) _ alike
+    answer_came (Acked there now number app_limited) answer = pick _ log alike (same_space there space) _ alike
+    answer_came (Lost there number) answer = pick _ log alike (same_space there space) _ alike
+    answer_came (AckFrequencyIn frame) (Flag true) = pick _ log alike (same_space Data space) _ alike
+    answer_came (AckFrequencyIn frame) (Flag false) = alike
+    answer_came (AckFrequencyIn frame) answer = alike
+    answer_came (AcksSent there) answer = pick _ log alike (same_space there space) _ alike
+    answer_came (AckDelayTimeout there) answer = pick _ log alike (same_space there space) _ alike
+    answer_came (DiscardSpace there) answer = pick _ log alike (same_space there space) _ alike
+    answer_came (PollMtu now) (Probe number size) = pick _ log alike (same_space Data space) _ alike
+    answer_came (PollMtu now) answer = alike
+    answer_came (Ecn there newly counts) answer = pick _ log alike (same_space there space) _ alike
+    answer_came (QueueProbe there immediate streams) answer = pick _ log alike (same_space there space) _ alike
+    answer_came (TakePending there) answer = pick _ log alike (same_space there space) _ alike
+    answer_came (Transmit now bytes true) Transmitted = alike
+    answer_came (Transmit now bytes true) (Delayed until) = alike
+    answer_came (Transmit now bytes true) answer = alike
+    answer_came (Transmit now bytes false) answer = alike
+    answer_came event answer = alike
+
+    refusal_came : (event : Event Q S M P) (refusal : Refusal)
+        → Alike (came_in space ((event, Err refusal) ∷ earlier)) (onto ((refused event refusal).spaces space) log)
+    refusal_came (AckFrequencyIn frame) DelayTooSmall = alike
+    refusal_came (AckFrequencyIn frame) refusal = alike
+    refusal_came event refusal = alike
+
+    reply_came : (event : Event Q S M P) (reply : Reply Q)
+        → Alike (came_in space ((event, reply) ∷ earlier)) (onto ((entries_of q known event reply).spaces space) log)
+    reply_came event (Ok answer) = answer_came event answer
+    reply_came event (Err refusal) = refusal_came event refusal
+
+  module _ (log : List SpaceId) (same : is_discarded space earlier ≡ was_discarded space log) where
+    answer_drops : (event : Event Q S M P) (answer : Answer Q)
+        → is_discarded space ((event, Ok answer) ∷ earlier) ≡ was_discarded space (onto (answered q known event answer).discarded log)
+    answer_drops (DiscardSpace there) answer = ap (λ b. same_space there space || b) same
+    answer_drops (Received there now number eliciting) (New arm) = same
+    answer_drops (Received there now number eliciting) answer = same
+    answer_drops (AckFrequencyIn frame) (Flag true) = same
+    answer_drops (AckFrequencyIn frame) (Flag false) = same
+    answer_drops (AckFrequencyIn frame) answer = same
+    answer_drops (PollMtu now) (Probe number size) = same
+    answer_drops (PollMtu now) answer = same
+    answer_drops (Transmit now bytes true) Transmitted = same
+    answer_drops (Transmit now bytes true) (Delayed until) = same
+    answer_drops (Transmit now bytes true) answer = same
+    answer_drops (Transmit now bytes false) answer = same
+    answer_drops event answer = same
+
+    refusal_drops : (event : Event Q S M P) (refusal : Refusal)
+        → is_discarded space ((event, Err refusal) ∷ earlier) ≡ was_discarded space (onto (refused event refusal).discarded log)
+    refusal_drops (AckFrequencyIn frame) DelayTooSmall = same
+    refusal_drops (AckFrequencyIn frame) refusal = same
+    refusal_drops event refusal = same
+
+    reply_drops : (event : Event Q S M P) (reply : Reply Q)
+        → is_discarded space ((event, reply) ∷ earlier) ≡ was_discarded space (onto (entries_of q known event reply).discarded log)
+    reply_drops event (Ok answer) = answer_drops event answer
+    reply_drops event (Err refusal) = refusal_drops event refusal
+
+module _ {F K Q S M P : Type 0} (beginning : Beginning F K Q S M P) where
+  all_came : (history : History Q S M P) (space : SpaceId)
+      → Alike (came_in space history) ((logs_of beginning history).spaces space)
+  all_came [] space = λ m. (λ there. there, λ there. there)
+  all_came (happened ∷ earlier) space =
+      let logs = logs_of beginning earlier in
+      reply_came beginning.queue (known_by beginning logs) earlier space (logs.spaces space) (all_came earlier space) happened.0 happened.1
+
+  all_dropped : (history : History Q S M P) (space : SpaceId)
+      → is_discarded space history ≡ was_discarded space (logs_of beginning history).discarded
+  all_dropped [] space = refl
+  all_dropped (happened ∷ earlier) space =
+      let logs = logs_of beginning earlier in
+      reply_drops beginning.queue (known_by beginning logs) earlier space logs.discarded (all_dropped earlier space) happened.0 happened.1
+
+-- ---- the verdict
+
+module _ {Q P M : Type 0} (known : SpaceKnown P M) (heard : Heard) (number : ℕ) (eliciting : Bool) (new : Bool) (yes : IsNew heard.came number → new ≡ true) (no : ¬ IsNew heard.came number → new ≡ false) where
+  fine : (reply : Reply Q)
+      → Answers (IsNew heard.came number) (ReceivedAnswer heard known.counts number eliciting) reply
+      → IsVerdict false false new reply
+  fine (Ok (New arm)) told = yes told.0
+  fine (Ok Duplicate) told = no told
+  fine (Ok answer) told = absurd told
+  fine (Err NoMemory) told = yes told
+  fine (Err refusal) told = absurd told
+
+  sized : (large : Bool) → (2 ^ 62 ≤ number → large ≡ true) → (large ≡ true → 2 ^ 62 ≤ number) → (reply : Reply Q)
+      → Refuses NumberTooLarge (2 ^ 62 ≤ number) (Answers (IsNew heard.came number) (ReceivedAnswer heard known.counts number eliciting)) reply → IsVerdict false large new reply
+  sized true is to (Ok answer) told = absurd (told.0 (to refl))
+  sized true is to (Err NumberTooLarge) told = refl
+  sized true is to (Err refusal) told = absurd (told.0 (to refl))
+  sized false is to (Ok answer) told = fine (Ok answer) told.1
+  sized false is to (Err NumberTooLarge) told = let wrong = is told in cc
+  sized false is to (Err refusal) told = fine (Err refusal) told.1
+
+  opened : (discarded large : Bool) → (2 ^ 62 ≤ number → large ≡ true) → (large ≡ true → 2 ^ 62 ≤ number)
+      → (reply : Reply Q)
+      → Refuses SpaceDiscarded (discarded ≡ true) (Refuses NumberTooLarge (2 ^ 62 ≤ number) (Answers (IsNew heard.came number) (ReceivedAnswer heard known.counts number eliciting))) reply → IsVerdict discarded large new reply
+  opened true large is to (Ok answer) told = absurd (told.0 refl)
+  opened true large is to (Err SpaceDiscarded) told = refl
+  opened true large is to (Err refusal) told = absurd (told.0 refl)
+  opened false large is to (Ok answer) told = sized large is to (Ok answer) told.1
+  opened false large is to (Err SpaceDiscarded) told = cc
+  opened false large is to (Err refusal) told = sized large is to (Err refusal) told.1
+
+module _ {F K Q S M P : Type 0} (beginning : Beginning F K Q S M P) where
+  received_told : (history : History Q S M P) (space : SpaceId) (now number : ℕ) (eliciting : Bool) (reply : Reply Q)
+      → Told beginning history (Received space now number eliciting) reply → CallsNew history (Received space now number eliciting) reply
+  received_told history space now number eliciting reply told =
+      let logs = logs_of beginning history in
+      let heard = heard_by beginning.queue.words (logs.spaces space) in
+      let came = came_in space history in
+      let same = all_came beginning history space in
+      let new = is_new came number in
+      let yes = new_from (CameIn (logs.spaces space)) came same number in
+      let no : ¬ IsNew (CameIn (logs.spaces space)) number → new ≡ false = λ other. false_from_ne_true new (λ is. other (new_to (CameIn (logs.spaces space)) came same number is)) in
+      let verdict = opened ((known_by beginning logs).spaces space) heard number eliciting new yes no (was_discarded space logs.discarded) (nat_le (2 ^ 62) number) (le-leb (2 ^ 62) number) (leb-true (2 ^ 62) number) reply told in
+      subst (λ d. IsVerdict d (nat_le (2 ^ 62) number) new reply) (sym (all_dropped beginning history space)) verdict
+
+  -- what an event is told, it is told of new numbers
+  pub numbers_told : (history : History Q S M P) (event : Event Q S M P) (reply : Reply Q)
+      → Told beginning history event reply → CallsNew history event reply
+  numbers_told history (Received space now number eliciting) reply told =
+      received_told history space now number eliciting reply told
+  numbers_told history event reply told = tt

@@ -1,0 +1,56 @@
+-- Worked rows of the promises of events and answers alone, computed: with the right answer each holds, and with a wrong one it does not.
+use Rattle.std.proofs.Common.{ℕ, ◌^◌, true, false, [], ◌∷◌, Some, Ok, Err, refl}
+use Rattle.recovery_base.specs.declared.below.SpaceId.TheVariants.{Initial, Data}
+use Rattle.recovery_base.specs.declared.timer.Timer.TheVariants.{Idle, Pacing}
+use Rattle.quic_recovery.specs.declared.event.Event.{Event}
+use Rattle.quic_recovery.specs.declared.event.Event.TheVariants as event
+use Rattle.quic_recovery.specs.declared.event.Answer.TheVariants as answer
+use Rattle.quic_recovery.specs.declared.event.Refusal.TheVariants as refusal
+use Rattle.quic_recovery.specs.History.{History, Reply}
+use Rattle.quic_recovery.specs.Promises.NewNumbers.{CallsNew}
+use Rattle.quic_recovery.specs.Promises.Timeouts.{TellsTimers}
+
+module _ (Q S M P : Type 0) where
+  abbrev came : ℕ → Event Q S M P × Reply Q
+  came n = (event.Received Data 5 n true, Ok (answer.New true))
+
+  -- ---- new numbers: 200 and 100 came, and Initial was discarded
+
+  abbrev numbers : History Q S M P
+  numbers = (event.DiscardSpace Initial, Ok answer.Done) ∷ came 100 ∷ came 200 ∷ []
+
+  window_end : CallsNew numbers (event.Received Data 7 72 true) (Ok (answer.New false))
+  window_end = refl
+
+  too_old : CallsNew numbers (event.Received Data 7 71 true) (Ok answer.Duplicate)
+  too_old = refl
+
+  too_old_is_not_new : ¬ CallsNew numbers (event.Received Data 7 71 true) (Ok (answer.New true))
+  too_old_is_not_new = λ e. cc
+
+  again_is_not_new : ¬ CallsNew numbers (event.Received Data 7 100 true) (Ok (answer.New true))
+  again_is_not_new = λ e. cc
+
+  discarded : CallsNew numbers (event.Received Initial 7 0 true) (Err refusal.SpaceDiscarded)
+  discarded = refl
+
+  large : CallsNew numbers (event.Received Data 7 (2 ^ 62) true) (Err refusal.NumberTooLarge)
+  large = refl
+
+  -- ---- timers: Idle was set to 50 and Pacing to 20, and then Pacing was stopped
+
+  abbrev timers : History Q S M P
+  timers =
+      (event.StopTimer Pacing, Ok answer.Done)
+      ∷ (event.SetTimer Pacing 20, Ok answer.Done)
+      ∷ (event.SetTimer Idle 50, Ok answer.Done)
+      ∷ []
+
+  least_is_told : TellsTimers timers event.NextTimeout (Ok (answer.Timeout (Some 50)))
+  least_is_told = refl
+
+  first_set_is_wrong : ¬ TellsTimers timers event.NextTimeout (Ok (answer.Timeout (Some 20)))
+  first_set_is_wrong = λ e. cc
+
+  both_set : TellsTimers ((event.SetTimer Pacing 30, Ok answer.Done) ∷ timers) event.NextTimeout (Ok (answer.Timeout (Some 30)))
+  both_set = refl

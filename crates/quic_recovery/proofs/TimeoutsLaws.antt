@@ -1,0 +1,173 @@
+-- The next timeout is the least moment that the history itself says is set.
+use Rattle.std.proofs.Common.{◌≡◌, ◌≤◌, ◌<◌, ℕ, min, map, true, false, List, [], ◌∷◌, Option, None, Some, Ok, Err, ◌⊎◌, inl, inr, refl, sym, ◌∙◌, ap, subst, arith}
+use Rattle.std.specs.Prelude.{if◌then◌else◌}
+use Rattle.std.proofs.lemmas.Bool.{cases_lt}
+use Rattle.recovery_base.specs.declared.timer.Timer.{Timer}
+use Rattle.recovery_base.specs.declared.timer.Timer.TheVariants.{LossDetection, Idle, Close, KeyDiscard, PathValidation, KeepAlive, Pacing, PushNewCid, MaxAckDelay}
+use Rattle.recovery_base.specs.TimerLog.{TimerEntry, last_set}
+use Rattle.recovery_base.specs.Timers.{same_timer, IsLeastMoment}
+use Rattle.quic_recovery.specs.declared.event.Event.{Event}
+use Rattle.quic_recovery.specs.declared.event.Event.TheVariants.{Received, AckFrequencyIn, PollMtu, Transmit, SetTimer, StopTimer, NextTimeout}
+use Rattle.quic_recovery.specs.declared.event.Answer.{Answer}
+use Rattle.quic_recovery.specs.declared.event.Answer.TheVariants.{New, Flag, Probe, Transmitted, Delayed, Timeout}
+use Rattle.quic_recovery.specs.declared.event.Refusal.{Refusal}
+use Rattle.quic_recovery.specs.declared.event.Refusal.TheVariants.{NoMemory, DelayTooSmall}
+use Rattle.quic_recovery.specs.Entries.{answered, refused, entries_of, logs_of}
+use Rattle.quic_recovery.specs.History.{Beginning, History, Reply, QueueMeaning}
+use Rattle.quic_recovery.specs.Known.{Known, known_by}
+use Rattle.quic_recovery.specs.Logs.{onto}
+use Rattle.quic_recovery.specs.Told.{Told}
+use Rattle.quic_recovery.specs.Promises.Timeouts.{earlier_of, every_timer, least, moment_of, TellsTimers}
+
+-- ---- the moments are those of the log
+
+module _ {K Q S M P : Type 0} (q : QueueMeaning Q S M P) (known : Known K P M) (earlier : History Q S M P) (log : List TimerEntry) (timer : Timer) (same : moment_of earlier timer ≡ last_set timer log) where
+  answer_same : (event : Event Q S M P) (answer : Answer Q)
+      → moment_of ((event, Ok answer) ∷ earlier) timer ≡ last_set timer (onto (answered q known event answer).timers log)
+  answer_same (SetTimer other time) answer = ap (λ o. if same_timer timer other then Some time else o) same
+  answer_same (StopTimer other) answer = ap (λ o. if same_timer timer other then None else o) same
+  answer_same (Received space now number eliciting) (New arm) = same
+  answer_same (Received space now number eliciting) answer = same
+  answer_same (AckFrequencyIn frame) (Flag true) = same
+  answer_same (AckFrequencyIn frame) (Flag false) = same
+  answer_same (AckFrequencyIn frame) answer = same
+  answer_same (PollMtu now) (Probe number size) = same
+  answer_same (PollMtu now) answer = same
+  answer_same (Transmit now bytes true) Transmitted = same
+  answer_same (Transmit now bytes true) (Delayed until) = same
+  answer_same (Transmit now bytes true) answer = same
+  answer_same (Transmit now bytes false) answer = same
+  answer_same event answer = same
+
+  refusal_same : (event : Event Q S M P) (refusal : Refusal)
+      → moment_of ((event, Err refusal) ∷ earlier) timer ≡ last_set timer (onto (refused event refusal).timers log)
+  refusal_same (AckFrequencyIn frame) DelayTooSmall = same
+  refusal_same (AckFrequencyIn frame) refusal = same
+  refusal_same event refusal = same
+
+  reply_same : (event : Event Q S M P) (reply : Reply Q)
+      → moment_of ((event, reply) ∷ earlier) timer ≡ last_set timer (onto (entries_of q known event reply).timers log)
+  reply_same event (Ok answer) = answer_same event answer
+  reply_same event (Err refusal) = refusal_same event refusal
+
+module _ {F K Q S M P : Type 0} (beginning : Beginning F K Q S M P) where
+  all_same : (history : History Q S M P) (timer : Timer)
+      → moment_of history timer ≡ last_set timer (logs_of beginning history).timers
+  all_same [] timer = refl
+  all_same (happened ∷ earlier) timer =
+      let logs = logs_of beginning earlier in
+      reply_same beginning.queue (known_by beginning logs) earlier logs.timers timer (all_same earlier timer) happened.0 happened.1
+
+-- ---- the least of them
+
+abbrev In : Option ℕ → List (Option ℕ) → Type 0
+In m [] = ⊥
+In m (n ∷ ms) = (m ≡ n) ⊎ In m ms
+
+abbrev IsLeast : List (Option ℕ) → Option ℕ → Type 0
+IsLeast ms None = (y : ℕ) → ¬ In (Some y) ms
+IsLeast ms (Some x) = In (Some x) ms × ((y : ℕ) → In (Some y) ms → x ≤ y)
+
+none_is_some : {A : Type 0} {y : ℕ} → (let none : Option ℕ = None in Some y ≡ none) → A
+none_is_some e = cc
+
+same_some : {x y : ℕ} → (let some : Option ℕ = Some x in some ≡ Some y) → x ≡ y
+same_some e = cc
+
+skip_in : (ms : List (Option ℕ)) (y : ℕ) → In (Some y) (None ∷ ms) → In (Some y) ms
+skip_in ms y (inl is) = none_is_some is
+skip_in ms y (inr there) = there
+
+skips : (ms : List (Option ℕ)) (m : Option ℕ) → IsLeast ms m → IsLeast (None ∷ ms) m
+skips ms None none = λ y there. none y (skip_in ms y there)
+skips ms (Some x) is = (inr is.0, λ y there. is.1 y (skip_in ms y there))
+
+below_first : (ms : List (Option ℕ)) (n y : ℕ) → ((z : ℕ) → ¬ In (Some z) ms) → In (Some y) (Some n ∷ ms) → n ≤ y
+below_first ms n y none (inl is) = let e = same_some is in omega (arith, e)
+below_first ms n y none (inr there) = absurd (none y there)
+
+below_both : (ms : List (Option ℕ)) (n x y : ℕ) → ((z : ℕ) → In (Some z) ms → x ≤ z) → In (Some y) (Some n ∷ ms)
+    → min n x ≤ y
+below_both ms n x y least_there (inl is) = let e = same_some is in omega (arith, e)
+below_both ms n x y least_there (inr there) = let b = least_there y there in omega (arith, b)
+
+min_in : (ms : List (Option ℕ)) (n x : ℕ) → In (Some x) ms → (min n x ≡ n) ⊎ (min n x ≡ x)
+    → In (Some (min n x)) (Some n ∷ ms)
+min_in ms n x there (inl first) = inl (ap Some first)
+min_in ms n x there (inr second) = inr (subst (λ m. In (Some m) ms) (sym second) there)
+
+min_is : (n x : ℕ) → (min n x ≡ n) ⊎ (min n x ≡ x)
+min_is n x = either (cases_lt n x)
+  where
+    either : (n < x) ⊎ (x ≤ n) → (min n x ≡ n) ⊎ (min n x ≡ x)
+    either (inl less) = inl (omega (arith, less))
+    either (inr more) = inr (omega (arith, more))
+
+takes : (ms : List (Option ℕ)) (n : ℕ) (m : Option ℕ) → IsLeast ms m → IsLeast (Some n ∷ ms) (Some (earlier_of n m))
+takes ms n None none = (inl refl, λ y there. below_first ms n y none there)
+takes ms n (Some x) is = (min_in ms n x is.0 (min_is n x), λ y there. below_both ms n x y is.1 there)
+
+least_is : (ms : List (Option ℕ)) → IsLeast ms (least ms)
+least_is [] = λ y there. absurd there
+least_is (None ∷ ms) = skips ms (least ms) (least_is ms)
+least_is (Some n ∷ ms) = takes ms n (least ms) (least_is ms)
+
+module _ (f : Timer → Option ℕ) where
+  from_timer : (timers : List Timer) (m : Option ℕ) → In m (map f timers) → (timer : Timer) × (m ≡ f timer)
+  from_timer [] m there = absurd there
+  from_timer (timer ∷ timers) m (inl is) = (timer, is)
+  from_timer (timer ∷ timers) m (inr there) = from_timer timers m there
+
+  each_in : (timer : Timer) → In (f timer) (map f every_timer)
+  each_in LossDetection = inl refl
+  each_in Idle = inr (inl refl)
+  each_in Close = inr (inr (inl refl))
+  each_in KeyDiscard = inr (inr (inr (inl refl)))
+  each_in PathValidation = inr (inr (inr (inr (inl refl))))
+  each_in KeepAlive = inr (inr (inr (inr (inr (inl refl)))))
+  each_in Pacing = inr (inr (inr (inr (inr (inr (inl refl))))))
+  each_in PushNewCid = inr (inr (inr (inr (inr (inr (inr (inl refl)))))))
+  each_in MaxAckDelay = inr (inr (inr (inr (inr (inr (inr (inr (inl refl))))))))
+
+  set_in : (timer : Timer) (time : ℕ) → f timer ≡ Some time → In (Some time) (map f every_timer)
+  set_in timer time is = subst (λ m. In m (map f every_timer)) is (each_in timer)
+
+  one_least : (told found : Option ℕ) → IsLeastMoment f told → IsLeast (map f every_timer) found → told ≡ found
+  one_least None None told is = refl
+  one_least None (Some x) told is = let t = from_timer every_timer (Some x) is.0 in none_is_some (t.1 ∙ told t.0)
+  one_least (Some y) None told is = absurd (is y (set_in told.0.0 y told.0.1))
+  one_least (Some y) (Some x) told is =
+      let t = from_timer every_timer (Some x) is.0 in
+      let above = told.1 t.0 x (sym t.1) in
+      let below = is.1 y (set_in told.0.0 y told.0.1) in
+      ap Some (omega (arith, above, below))
+
+-- ---- throughout a run
+
+module _ {F K Q S M P : Type 0} (beginning : Beginning F K Q S M P) where
+  same_least : (history : History Q S M P) (timers : List Timer)
+      → map (moment_of history) timers ≡ map (known_by beginning (logs_of beginning history)).moment_of timers
+  same_least history [] = refl
+  same_least history (timer ∷ timers) = cc (all_same beginning history timer, same_least history timers)
+
+  timeout_told : (history : History Q S M P) (reply : Reply Q) → Told beginning history NextTimeout reply
+      → TellsTimers history NextTimeout reply
+  timeout_told history (Ok (Timeout told)) is =
+      let f = (known_by beginning (logs_of beginning history)).moment_of in
+      let found = one_least f told (least (map f every_timer)) is (least_is (map f every_timer)) in
+      ap (λ (m : Option ℕ). Ok (Timeout m)) (found ∙ ap least (sym (same_least history every_timer)))
+  timeout_told history (Ok answer) is = absurd is
+  timeout_told history (Err NoMemory) is = absurd is
+  timeout_told history (Err refusal) is = absurd is
+
+  -- what an event is told, it is told of timers
+  pub timers_told : (history : History Q S M P) (event : Event Q S M P) (reply : Reply Q)
+      → Told beginning history event reply → TellsTimers history event reply
+  timers_told history NextTimeout reply told = timeout_told history reply told
+  timers_told history (SetTimer timer time) (Ok answer) told = ap Ok told
+  timers_told history (SetTimer timer time) (Err NoMemory) told = absurd told
+  timers_told history (SetTimer timer time) (Err refusal) told = absurd told
+  timers_told history (StopTimer timer) (Ok answer) told = ap Ok told
+  timers_told history (StopTimer timer) (Err NoMemory) told = absurd told
+  timers_told history (StopTimer timer) (Err refusal) told = absurd told
+  timers_told history event reply told = tt

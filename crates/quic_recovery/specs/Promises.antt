@@ -1,0 +1,3 @@
+-- Promises of events and answers alone: each is read without any other.
+pub mod NewNumbers
+pub mod Timeouts
