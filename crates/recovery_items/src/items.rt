@@ -52,6 +52,8 @@ impl RetransmitQueue for ItemQueue {
 
     ghost words = { item_words };
 
+    ghost blank = { tt };
+
     fn empty(alloc: Global) -> Self {
         ItemQueue {
             items: Vec::new(alloc),
@@ -83,4 +85,6 @@ impl RetransmitQueue for ItemQueue {
       unit_right = λ items. append-nil items;
       empty_is_empty = λ streams. refl;
     } };
+
+    ghost is_blank = { λ meta here. refl };
 }

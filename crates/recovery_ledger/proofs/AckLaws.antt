@@ -145,7 +145,7 @@ still_reached Old New number greatest numbers earlier (Some n) same within =
     after (inr g) = inr (g.0, (numbers g.0).1 (g.1, λ m there. let h : m ≤ g.0 = g.2 m there in omega arith), λ m here. g.2 m ((numbers m).0 here).0)
 
 -- the greatest ack-eliciting number was received, also when one more came
-pub heard_greatest : {P : Type 0} → (old new : Space P) (now number : ℕ) (ack_eliciting : Bool) → HasGreatestCome old → ReceivesNew old now number ack_eliciting new → HasGreatestCome new
+pub heard_greatest : {P M : Type 0} → (old new : Space P M) (now number : ℕ) (ack_eliciting : Bool) → HasGreatestCome old → ReceivesNew old now number ack_eliciting new → HasGreatestCome new
 heard_greatest old new now number ack_eliciting come step n is exceeds = go ack_eliciting (sym (ap (λ (c : AckCounts). c.greatest) step.hears.counts) ∙ is)
   where
     below : (k : ℕ) → (acks_of old).greatest ≡ Some k → ¬ Exceeds (Has new.dedup) k
@@ -178,7 +178,7 @@ subtracted_greatest None old new step = ap (λ (a : Acks). a.greatest) step
 subtracted_greatest (Some last) old new step = step.others.7
 
 -- what is acknowledged leaves the greatest ack-eliciting number
-pub acked_greatest : {P : Type 0} → (number : ℕ) (packet : Packet P) (old new : Space P) → HasGreatestCome old → SubtractsLargest packet.largest_acked (acks_of old) (acks_of new) → new ≡ with_acks (acks_of new) (after_acknowledging number packet.time_sent old) → HasGreatestCome new
-acked_greatest {P} number packet old new come subtracts others = λ n is.
+pub acked_greatest : {P M : Type 0} → (number : ℕ) (packet : Packet P M) (old new : Space P M) → HasGreatestCome old → SubtractsLargest packet.largest_acked (acks_of old) (acks_of new) → new ≡ with_acks (acks_of new) (after_acknowledging number packet.time_sent old) → HasGreatestCome new
+acked_greatest {P} {M} number packet old new come subtracts others = λ n is.
     let Holds : Dedup → Type 0 = λ d. ¬ Exceeds (Has d) n in
-    subst Holds (sym (ap (λ (s : Space P). s.dedup) others)) (come n (sym (subtracted_greatest packet.largest_acked (acks_of old) (acks_of new) subtracts) ∙ is))
+    subst Holds (sym (ap (λ (s : Space P M). s.dedup) others)) (come n (sym (subtracted_greatest packet.largest_acked (acks_of old) (acks_of new) subtracts) ∙ is))

@@ -5,22 +5,22 @@ use Rattle.std.specs.Ordering.{nat_cmp}
 use Rattle.std.specs.BTreeMap.{is_at}
 use Rattle.recovery_ledger.specs.Packets.{Packet, Packets, packet_at, without, without_some, with_contents, replaced, carrying, sent_onto, forgotten_number, IsAmong, AreAcknowledging, IsTooLarge}
 
-module _ {P : Type 0} where
-  pub among_found : (packets : Packets P) (number : ℕ) (packet : Packet P) → packet_at packets number ≡ Some packet → IsAmong packets packet
+module _ {P M : Type 0} where
+  pub among_found : (packets : Packets P M) (number : ℕ) (packet : Packet P M) → packet_at packets number ≡ Some packet → IsAmong packets packet
   among_found [] number packet found = none packet found
     where
-      none : (p : Packet P) → None ≡ Some p → ⊥
+      none : (p : Packet P M) → None ≡ Some p → ⊥
       none p e = cc
   among_found (entry ∷ packets) number packet found = go (is_at (nat_cmp number) entry.0) found (among_found packets number packet)
     where
-      some : (p q : Packet P) → Some p ≡ Some q → p ≡ q
+      some : (p q : Packet P M) → Some p ≡ Some q → p ≡ q
       some p q e = cc
 
       go : (b : Bool) → cond b (Some entry.1) (packet_at packets number) ≡ Some packet → (packet_at packets number ≡ Some packet → IsAmong packets packet) → (entry.1 ≡ packet) ⊎ IsAmong packets packet
       go true e later = inl (some entry.1 packet e)
       go false e later = inr (later e)
 
-  among_without : (packets : Packets P) (number : ℕ) (packet : Packet P) → IsAmong (without packets number) packet → IsAmong packets packet
+  among_without : (packets : Packets P M) (number : ℕ) (packet : Packet P M) → IsAmong (without packets number) packet → IsAmong packets packet
   among_without [] number packet among = among
   among_without (entry ∷ packets) number packet among = go (is_at (nat_cmp number) entry.0) among (among_without packets number packet)
     where
@@ -29,13 +29,13 @@ module _ {P : Type 0} where
       go false (inl same) later = inl same
       go false (inr among) later = inr (later among)
 
-  among_push : (packets : Packets P) (number : ℕ) (more packet : Packet P) → IsAmong (packets ++ (number, more) ∷ []) packet → IsAmong packets packet ⊎ (more ≡ packet)
+  among_push : (packets : Packets P M) (number : ℕ) (more packet : Packet P M) → IsAmong (packets ++ (number, more) ∷ []) packet → IsAmong packets packet ⊎ (more ≡ packet)
   among_push [] number more packet (inl same) = inr same
   among_push [] number more packet (inr among) = absurd among
   among_push (entry ∷ packets) number more packet (inl same) = inl (inl same)
   among_push (entry ∷ packets) number more packet (inr among) = elim (among_push packets number more packet among) [ inl there ↦ inl (inr there) | inr same ↦ inr same ]
 
-  among_replaced : (packets : Packets P) (number : ℕ) (other packet : Packet P) → IsAmong (replaced number (Some other) packets) packet → IsAmong packets packet ⊎ (other ≡ packet)
+  among_replaced : (packets : Packets P M) (number : ℕ) (other packet : Packet P M) → IsAmong (replaced number (Some other) packets) packet → IsAmong packets packet ⊎ (other ≡ packet)
   among_replaced [] number other packet among = absurd among
   among_replaced (entry ∷ packets) number other packet among = go (is_at (nat_cmp number) entry.0) among (among_replaced packets number other packet)
     where
@@ -48,29 +48,29 @@ module _ {P : Type 0} where
 
 -- ---- what holds of every packet
 
-module _ {P : Type 0} (Holds : Packet P → Type 0) where
+module _ {P M : Type 0} (Holds : Packet P M → Type 0) where
   -- it holds of all packets
-  abbrev pub OfAll : Packets P → Type 0
-  OfAll packets = (packet : Packet P) → IsAmong packets packet → Holds packet
+  abbrev pub OfAll : Packets P M → Type 0
+  OfAll packets = (packet : Packet P M) → IsAmong packets packet → Holds packet
 
-  pub all_without : (packets : Packets P) (number : ℕ) → OfAll packets → OfAll (without packets number)
+  pub all_without : (packets : Packets P M) (number : ℕ) → OfAll packets → OfAll (without packets number)
   all_without packets number all packet among = all packet (among_without packets number packet among)
 
-  all_without_some : (packets : Packets P) (forgotten : Option ℕ) → OfAll packets → OfAll (without_some packets forgotten)
+  all_without_some : (packets : Packets P M) (forgotten : Option ℕ) → OfAll packets → OfAll (without_some packets forgotten)
   all_without_some packets None all = all
   all_without_some packets (Some number) all = all_without packets number all
 
-  pub all_sent : (last : Option ℕ) (number : ℕ) (sent : Packet P) (packets : Packets P) → OfAll packets → Holds sent → OfAll (sent_onto last number sent packets)
+  pub all_sent : (last : Option ℕ) (number : ℕ) (sent : Packet P M) (packets : Packets P M) → OfAll packets → Holds sent → OfAll (sent_onto last number sent packets)
   all_sent last number sent packets all one packet among = go (among_push (without_some packets (forgotten_number last sent packets)) number sent packet among)
     where
       go : IsAmong (without_some packets (forgotten_number last sent packets)) packet ⊎ (sent ≡ packet) → Holds packet
       go (inl there) = all_without_some packets (forgotten_number last sent packets) all packet there
       go (inr same) = subst Holds same one
 
-  pub all_carrying : (packets : Packets P) (number : ℕ) (contents : P) → ((packet : Packet P) → Holds packet → Holds (with_contents contents packet)) → OfAll packets → OfAll (carrying number contents packets)
+  pub all_carrying : (packets : Packets P M) (number : ℕ) (contents : P) → ((packet : Packet P M) → Holds packet → Holds (with_contents contents packet)) → OfAll packets → OfAll (carrying number contents packets)
   all_carrying packets number contents alike all = go (packet_at packets number) (λ packet found. all packet (among_found packets number packet found))
     where
-      go : (found : Option (Packet P)) → ((packet : Packet P) → found ≡ Some packet → Holds packet) → OfAll (replaced number (option_map (with_contents contents) found) packets)
+      go : (found : Option (Packet P M)) → ((packet : Packet P M) → found ≡ Some packet → Holds packet) → OfAll (replaced number (option_map (with_contents contents) found) packets)
       go None none packet among = all packet among
       go (Some old) one packet among = elim (among_replaced packets number (with_contents contents old) packet among) [
         | inl there ↦ all packet there
@@ -79,10 +79,10 @@ module _ {P : Type 0} (Holds : Packet P → Type 0) where
 
 -- ---- what packets acknowledge
 
-module _ {P : Type 0} where
+module _ {P M : Type 0} where
   -- it acknowledges numbers of packets
-  abbrev pub Acknowledges : Packet P → Type 0
+  abbrev pub Acknowledges : Packet P M → Type 0
   Acknowledges packet = ¬ IsTooLarge packet.largest_acked
 
-  pub acknowledging_found : (packets : Packets P) → AreAcknowledging packets → (number : ℕ) (packet : Packet P) → packet_at packets number ≡ Some packet → ¬ IsTooLarge packet.largest_acked
+  pub acknowledging_found : (packets : Packets P M) → AreAcknowledging packets → (number : ℕ) (packet : Packet P M) → packet_at packets number ≡ Some packet → ¬ IsTooLarge packet.largest_acked
   acknowledging_found packets all number packet found = all packet (among_found packets number packet found)

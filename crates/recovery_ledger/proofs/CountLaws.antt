@@ -12,20 +12,20 @@ above_last (Some last) number above = lt-ltb last number (above last refl)
 none_is_not_some : {A : Type 0} (number : ℕ) → None ≡ Some number → A
 none_is_not_some number e = cc
 
-module _ {P : Type 0} where
-  not_silent_above : (last number : ℕ) (packet : Packet P) → number ≤ last → silent_count (Some last) (number, packet) ≡ 0
+module _ {P M : Type 0} where
+  not_silent_above : (last number : ℕ) (packet : Packet P M) → number ≤ last → silent_count (Some last) (number, packet) ≡ 0
   not_silent_above last number packet below = ap (λ b. cond (b && not packet.ack_eliciting) 1 0) (le-ltb last number below)
 
-  not_eliciting_above : (last number : ℕ) (packet : Packet P) → number ≤ last → eliciting_count (Some last) (number, packet) ≡ 0
+  not_eliciting_above : (last number : ℕ) (packet : Packet P M) → number ≤ last → eliciting_count (Some last) (number, packet) ≡ 0
   not_eliciting_above last number packet below = ap (λ b. cond (b && packet.ack_eliciting) 1 0) (le-ltb last number below)
 
-  module _ (packets : Packets P) (last : Option ℕ) (silent sized : ℕ) (counted : AreCounted packets last silent sized) where
+  module _ (packets : Packets P M) (last : Option ℕ) (silent sized : ℕ) (counted : AreCounted packets last silent sized) where
     -- one more packet that elicits an ACK
-    pub counted_eliciting : (number : ℕ) (packet : Packet P) → AllBelow packets number → AreCounted (packets ++ (number, packet) ∷ []) (Some number) 0 (sized + size_count packet)
+    pub counted_eliciting : (number : ℕ) (packet : Packet P M) → AllBelow packets number → AreCounted (packets ++ (number, packet) ∷ []) (Some number) 0 (sized + size_count packet)
     counted_eliciting number packet below =
         let silent_push = sum_by_push (silent_count (Some number)) packets (number, packet) in
         let eliciting_push = sum_by_push (eliciting_count (Some number)) packets (number, packet) in
-        let size_push = sum_by_push (λ (entry : ℕ × Packet P). size_count entry.1) packets (number, packet) in
+        let size_push = sum_by_push (λ (entry : ℕ × Packet P M). size_count entry.1) packets (number, packet) in
         let no_silent = none_counted (silent_count (Some number)) packets number (λ n p h. not_silent_above number n p (omega arith)) below in
         let no_eliciting = none_counted (eliciting_count (Some number)) packets number (λ n p h. not_eliciting_above number n p (omega arith)) below in
         let here = not_silent_above number number packet (omega arith) in
@@ -39,11 +39,11 @@ module _ {P : Type 0} where
         }
 
     -- one more silent packet
-    pub counted_silent : (number : ℕ) (packet : Packet P) → IsAboveLast last number → packet.ack_eliciting ≡ false → silent ≤ 1000 → AreCounted (packets ++ (number, packet) ∷ []) last (silent + 1) (sized + size_count packet)
+    pub counted_silent : (number : ℕ) (packet : Packet P M) → IsAboveLast last number → packet.ack_eliciting ≡ false → silent ≤ 1000 → AreCounted (packets ++ (number, packet) ∷ []) last (silent + 1) (sized + size_count packet)
     counted_silent number packet above is_silent room =
         let silent_push = sum_by_push (silent_count last) packets (number, packet) in
         let eliciting_push = sum_by_push (eliciting_count last) packets (number, packet) in
-        let size_push = sum_by_push (λ (entry : ℕ × Packet P). size_count entry.1) packets (number, packet) in
+        let size_push = sum_by_push (λ (entry : ℕ × Packet P M). size_count entry.1) packets (number, packet) in
         let is_here = above_last last number above in
         let here : silent_count last (number, packet) ≡ 1 = ap (λ b. cond (b && not packet.ack_eliciting) 1 0) is_here ∙ ap (λ b. cond (not b) 1 0) is_silent in
         let there : eliciting_count last (number, packet) ≡ 0 = ap (λ b. cond (b && packet.ack_eliciting) 1 0) is_here ∙ ap (λ b. cond b 1 0) is_silent in
@@ -57,13 +57,13 @@ module _ {P : Type 0} where
           bound = omega arith;
         }
 
-    module _ (number : ℕ) (packet : Packet P) (found : packet_at packets number ≡ Some packet) where
+    module _ (number : ℕ) (packet : Packet P M) (found : packet_at packets number ≡ Some packet) where
       -- a packet that is taken
       pub counted_taken : AreCounted (without packets number) last (silent - silent_count last (number, packet)) (sized - size_count packet)
       counted_taken =
           let silent_sum = sum-without (silent_count last) packets number packet found in
           let eliciting_sum = sum-without (eliciting_count last) packets number packet found in
-          let size_sum = sum-without (λ (entry : ℕ × Packet P). size_count entry.1) packets number packet found in
+          let size_sum = sum-without (λ (entry : ℕ × Packet P M). size_count entry.1) packets number packet found in
           let silent_before = counted.silent_is in
           let others_before = counted.others in
           let sized_before = counted.sized_is in
@@ -79,7 +79,7 @@ module _ {P : Type 0} where
       pub counted_enough : (silent_count last (number, packet) ≤ silent) × (size_count packet ≤ sized)
       counted_enough =
           let silent_sum = sum-without (silent_count last) packets number packet found in
-          let size_sum = sum-without (λ (entry : ℕ × Packet P). size_count entry.1) packets number packet found in
+          let size_sum = sum-without (λ (entry : ℕ × Packet P M). size_count entry.1) packets number packet found in
           let silent_before = counted.silent_is in
           let sized_before = counted.sized_is in
           (omega (arith, silent_sum, silent_before), omega (arith, size_sum, sized_before))
@@ -91,25 +91,25 @@ module _ {P : Type 0} where
           ap (λ b. cond (b && not packet.ack_eliciting) 1 0) above ∙ ap (λ b. cond (not b) 1 0) is_silent
 
   -- a packet with other contents
-  pub counted_carrying : (packets : Packets P) (last : Option ℕ) (silent sized : ℕ) → AreCounted packets last silent sized → (number : ℕ) (packet : Packet P) (contents : P) → packet_at packets number ≡ Some packet
+  pub counted_carrying : (packets : Packets P M) (last : Option ℕ) (silent sized : ℕ) → AreCounted packets last silent sized → (number : ℕ) (packet : Packet P M) (contents : P) → packet_at packets number ≡ Some packet
       → AreCounted (replaced number (Some (with_contents contents packet)) packets) last silent sized
   counted_carrying packets last silent sized counted number packet contents found =
       let other = with_contents contents packet in
       record {
         silent_is = counted.silent_is ∙ sym (sum-replaced (silent_count last) packets number packet other found (λ n. refl));
         others = sum-replaced (eliciting_count last) packets number packet other found (λ n. refl) ∙ counted.others;
-        sized_is = counted.sized_is ∙ sym (sum-replaced (λ (entry : ℕ × Packet P). size_count entry.1) packets number packet other found (λ n. refl));
+        sized_is = counted.sized_is ∙ sym (sum-replaced (λ (entry : ℕ × Packet P M). size_count entry.1) packets number packet other found (λ n. refl));
         bound = counted.bound;
       }
 
-  pub counted_written : (packets new : Packets P) (last : Option ℕ) (silent sized : ℕ) → AreCounted packets last silent sized → (number : ℕ) (packet written : Packet P) (contents : P) → packet_at packets number ≡ Some packet
+  pub counted_written : (packets new : Packets P M) (last : Option ℕ) (silent sized : ℕ) → AreCounted packets last silent sized → (number : ℕ) (packet written : Packet P M) (contents : P) → packet_at packets number ≡ Some packet
       → written ≡ with_contents contents packet → new ≡ replaced number (Some written) packets → AreCounted new last silent sized
   counted_written packets new last silent sized counted number packet written contents found is set =
-      subst (λ (es : Packets P). AreCounted es last silent sized) (sym (set ∙ ap (λ (p : Packet P). replaced number (Some p) packets) is)) (counted_carrying packets last silent sized counted number packet contents found)
+      subst (λ (es : Packets P M). AreCounted es last silent sized) (sym (set ∙ ap (λ (p : Packet P M). replaced number (Some p) packets) is)) (counted_carrying packets last silent sized counted number packet contents found)
 
   -- one more silent packet, for one that is forgotten
-  pub counted_forgetting : (packets : Packets P) (last : Option ℕ) (silent sized : ℕ) (counted : AreCounted packets last silent sized) (number : ℕ) (packet : Packet P) → IsAboveLast last number → packet.ack_eliciting ≡ false
-      → (least : ℕ) (gone : Packet P) → packet_at packets least ≡ Some gone → is_above last least ≡ true
+  pub counted_forgetting : (packets : Packets P M) (last : Option ℕ) (silent sized : ℕ) (counted : AreCounted packets last silent sized) (number : ℕ) (packet : Packet P M) → IsAboveLast last number → packet.ack_eliciting ≡ false
+      → (least : ℕ) (gone : Packet P M) → packet_at packets least ≡ Some gone → is_above last least ≡ true
       → AreCounted (without packets least ++ (number, packet) ∷ []) last silent (sized + size_count packet - size_count gone)
   counted_forgetting packets last silent sized counted number packet above is_silent least gone found found_above =
       let enough = counted_enough packets last silent sized counted least gone found in
@@ -127,11 +127,11 @@ module _ {P : Type 0} where
       }
 
   -- the count of sizes tells whether there is one
-  pub has_size_counted : (packets : Packets P) (last : Option ℕ) (silent sized : ℕ) → AreCounted packets last silent sized → (tracking : Tracking P) → record { packets = packets; last_eliciting = last } ≡ tracking
+  pub has_size_counted : (packets : Packets P M) (last : Option ℕ) (silent sized : ℕ) → AreCounted packets last silent sized → (tracking : Tracking P M) → record { packets = packets; last_eliciting = last } ≡ tracking
       → IsTrue (not (sized == 0)) ↔ HasSize tracking.packets
   has_size_counted packets last silent sized counted tracking is =
-      let same : packets ≡ tracking.packets = ap (λ (t : Tracking P). t.packets) is in
-      let G : Packets P → Type 0 = λ es. IsTrue (not (sized == 0)) ↔ HasSize es in
+      let same : packets ≡ tracking.packets = ap (λ (t : Tracking P M). t.packets) is in
+      let G : Packets P M → Type 0 = λ es. IsTrue (not (sized == 0)) ↔ HasSize es in
       subst G same (
         λ some. sized_from_count packets (λ none. test_fails sized (counted.sized_is ∙ none) some),
         λ sized'. test_holds sized (λ none. count_from_sized packets sized' (sym counted.sized_is ∙ none)),
@@ -147,21 +147,21 @@ module _ {P : Type 0} where
       test_holds n some = ap not (ne_eqb n 0 some)
 
   -- at most 1001 silent packets are above the last eliciting number
-  pub silent_bound : (packets : Packets P) (last : Option ℕ) (silent sized : ℕ) → AreCounted packets last silent sized → length (silent_above last packets) ≤ 1001
+  pub silent_bound : (packets : Packets P M) (last : Option ℕ) (silent sized : ℕ) → AreCounted packets last silent sized → length (silent_above last packets) ≤ 1001
   silent_bound packets last silent sized counted =
       let is = silent_count-length last packets in
       let sum = counted.silent_is in
       let bound = counted.bound in
       omega (arith, is, sum, bound)
 
-  pub size_count-le : (packet : Packet P) → size_count packet ≤ 1
+  pub size_count-le : (packet : Packet P M) → size_count packet ≤ 1
   size_count-le packet = go (packet.size == 0)
     where
       go : (b : Bool) → cond b 0 1 ≤ 1
       go true = omega arith
       go false = omega arith
 
-  pub sized_fits : (packets : Packets P) (last : Option ℕ) (silent sized : ℕ) → AreCounted packets last silent sized → (packet : Packet P) → length packets < 2 ^ 63 → sized + size_count packet < 2 ^ 64
+  pub sized_fits : (packets : Packets P M) (last : Option ℕ) (silent sized : ℕ) → AreCounted packets last silent sized → (packet : Packet P M) → length packets < 2 ^ 63 → sized + size_count packet < 2 ^ 64
   sized_fits packets last silent sized counted packet few =
       let sum = counted.sized_is in
       let most = sizes-le-length packets in
@@ -170,12 +170,12 @@ module _ {P : Type 0} where
 
   -- ---- what is forgotten
 
-  first_of_some : (packets : Packets P) → 0 < length packets → least_number packets ≡ None → ⊥
+  first_of_some : (packets : Packets P M) → 0 < length packets → least_number packets ≡ None → ⊥
   first_of_some [] some none = absurd (omega arith)
   first_of_some (entry ∷ packets) some none = none_is_not_some entry.0 (sym none)
 
   -- where nothing is forgotten there are fewer than 1001 silent packets
-  pub nothing_forgotten : (last : Option ℕ) (packets : Packets P) → forgotten_silent last packets ≡ None → length (silent_above last packets) ≤ 1000
+  pub nothing_forgotten : (last : Option ℕ) (packets : Packets P M) → forgotten_silent last packets ≡ None → length (silent_above last packets) ≤ 1000
   nothing_forgotten last packets none = go (nat_lt 1000 (length (silent_above last packets))) refl none
     where
       go : (b : Bool) → nat_lt 1000 (length (silent_above last packets)) ≡ b → cond b (least_number (silent_above last packets)) None ≡ None → length (silent_above last packets) ≤ 1000
@@ -183,15 +183,15 @@ module _ {P : Type 0} where
       go false few e = ltb-false _ _ few
 
   -- what is forgotten is the first silent packet, where there are 1001
-  pub is_forgotten : (last : Option ℕ) (packets : Packets P) (number : ℕ) → forgotten_silent last packets ≡ Some number → least_number (silent_above last packets) ≡ Some number
+  pub is_forgotten : (last : Option ℕ) (packets : Packets P M) (number : ℕ) → forgotten_silent last packets ≡ Some number → least_number (silent_above last packets) ≡ Some number
   is_forgotten last packets number some = go (nat_lt 1000 (length (silent_above last packets))) some
     where
       go : (b : Bool) → cond b (least_number (silent_above last packets)) None ≡ Some number → least_number (silent_above last packets) ≡ Some number
       go true e = e
       go false e = none_is_not_some number e
 
-  module _ (packets : Packets P) (last : Option ℕ) (silent sized : ℕ) (counted : AreCounted packets last silent sized) where
-    pub forgotten_found : (number : ℕ) → forgotten_silent last packets ≡ Some number → (packet : Packet P) × (packet_at packets number ≡ Some packet) × (is_above last number ≡ true)
+  module _ (packets : Packets P M) (last : Option ℕ) (silent sized : ℕ) (counted : AreCounted packets last silent sized) where
+    pub forgotten_found : (number : ℕ) → forgotten_silent last packets ≡ Some number → (packet : Packet P M) × (packet_at packets number ≡ Some packet) × (is_above last number ≡ true)
     forgotten_found number some = first_above_found last packets number (ap least_number (all_silent last packets counted.others) ∙ is_forgotten last packets number some)
 
     pub silent_few : forgotten_silent last packets ≡ None → silent ≤ 1000
@@ -218,15 +218,15 @@ module _ {P : Type 0} where
 
   -- ---- what a packet that is sent leaves
 
-  module _ (packets : Packets P) (last : Option ℕ) (number : ℕ) (packet : Packet P) where
+  module _ (packets : Packets P M) (last : Option ℕ) (number : ℕ) (packet : Packet P M) where
     pub sent_eliciting : packet.ack_eliciting ≡ true → record { packets = packets ++ (number, packet) ∷ []; last_eliciting = Some number } ≡ after_sending number packet (record { packets = packets; last_eliciting = last })
-    sent_eliciting e = sym (ap (λ (b : Bool). let t : Tracking P = record { packets = without_some packets (cond b None (forgotten_silent last packets)) ++ (number, packet) ∷ []; last_eliciting = cond b (Some number) last } in t) e)
+    sent_eliciting e = sym (ap (λ (b : Bool). let t : Tracking P M = record { packets = without_some packets (cond b None (forgotten_silent last packets)) ++ (number, packet) ∷ []; last_eliciting = cond b (Some number) last } in t) e)
 
     pub sent_silent : (forgotten : Option ℕ) → packet.ack_eliciting ≡ false → forgotten_silent last packets ≡ forgotten
         → record { packets = without_some packets forgotten ++ (number, packet) ∷ []; last_eliciting = last } ≡ after_sending number packet (record { packets = packets; last_eliciting = last })
     sent_silent forgotten e f = sym (
-        ap (λ (b : Bool). let t : Tracking P = record { packets = without_some packets (cond b None (forgotten_silent last packets)) ++ (number, packet) ∷ []; last_eliciting = cond b (Some number) last } in t) e
-        ∙ ap (λ (r : Option ℕ). let t : Tracking P = record { packets = without_some packets r ++ (number, packet) ∷ []; last_eliciting = last } in t) f)
+        ap (λ (b : Bool). let t : Tracking P M = record { packets = without_some packets (cond b None (forgotten_silent last packets)) ++ (number, packet) ∷ []; last_eliciting = cond b (Some number) last } in t) e
+        ∙ ap (λ (r : Option ℕ). let t : Tracking P M = record { packets = without_some packets r ++ (number, packet) ∷ []; last_eliciting = last } in t) f)
 
     pub forgotten_eliciting : packet.ack_eliciting ≡ true → None ≡ forgotten_number last packet packets
     forgotten_eliciting e = sym (ap (λ b. cond b None (forgotten_silent last packets)) e)

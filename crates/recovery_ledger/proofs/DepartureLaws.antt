@@ -13,12 +13,12 @@ use Rattle.recovery_ledger.proofs.PacketLaws.{sum-without}
 
 -- ---- how often a number stands among those tracked, and how often it left
 
-abbrev pub times : {P : Type 0} → ℕ → Packets P → ℕ
+abbrev pub times : {P M : Type 0} → ℕ → Packets P M → ℕ
 times number packets = sum_by (λ entry. one_if_same entry.0 number) packets
 
 -- where numbers left so often, and this is known of the packets sent: a number came once at most, and one that was not given
 -- out yet never came
-pub record CameOnce {P : Type 0} (left : ℕ → ℕ) (sent : Sent P) : Type 0 where
+pub record CameOnce {P M : Type 0} (left : ℕ → ℕ) (sent : Sent P M) : Type 0 where
   pub once : (number : ℕ) → left number + times number sent.tracked ≤ 1
   pub none : (number : ℕ) → sent.next ≤ number → left number + times number sent.tracked ≡ 0
 
@@ -30,17 +30,17 @@ same_numbers number other = go (number == other) refl
     go false is = inl refl
 
 -- the packet of a number is tracked
-abbrev pub IsTracked : {P : Type 0} → Sent P → ℕ → Type 0
-IsTracked {P} sent number = (packet : Packet P) × (packet_at sent.tracked number ≡ Some packet)
+abbrev pub IsTracked : {P M : Type 0} → Sent P M → ℕ → Type 0
+IsTracked {P} {M} sent number = (packet : Packet P M) × (packet_at sent.tracked number ≡ Some packet)
 
 -- what an entry acknowledges or loses is tracked before it, and what it sends has a number that was not given out
-abbrev pub LeavesTracked : {P : Type 0} → SpaceEntry P → Sent P → Type 0
+abbrev pub LeavesTracked : {P M : Type 0} → SpaceEntry P M → Sent P M → Type 0
 LeavesTracked (acknowledged number) sent = IsTracked sent number
 LeavesTracked (loses number) sent = IsTracked sent number
 LeavesTracked (sends number packet) sent = sent.next ≤ number
 LeavesTracked entry sent = Unit {0}
 
-module _ {P : Type 0} (left : ℕ → ℕ) (sent : Sent P) (come : CameOnce left sent) where
+module _ {P M : Type 0} (left : ℕ → ℕ) (sent : Sent P M) (come : CameOnce left sent) where
   -- a tracked packet leaves
   leaves_once : (number : ℕ) → IsTracked sent number → CameOnce (λ other. left other + one_if_same number other) (sent_less number sent)
   leaves_once number tracked = record {
@@ -52,7 +52,7 @@ module _ {P : Type 0} (left : ℕ → ℕ) (sent : Sent P) (come : CameOnce left
       leaves other = sum-without (λ entry. one_if_same entry.0 other) sent.tracked number tracked.0 tracked.1
 
   -- a packet is sent under a number that was not given out, and another is perhaps forgotten
-  sent_once : (number : ℕ) (packet : Packet P) → sent.next ≤ number → CameOnce left (sent_more number packet sent)
+  sent_once : (number : ℕ) (packet : Packet P M) → sent.next ≤ number → CameOnce left (sent_more number packet sent)
   sent_once number packet new = record {
     once = λ other.
         let sum = sum-sent_onto (λ entry. one_if_same entry.0 other) sent.last number packet sent.tracked in
@@ -88,12 +88,12 @@ module _ {P : Type 0} (left : ℕ → ℕ) (sent : Sent P) (come : CameOnce left
 
 -- ---- over a log
 
-module _ {P S : Type 0} (words : QueueWords P S) where
-  abbrev pub ComeOnce : List (SpaceEntry P) → Type 0
+module _ {P M S : Type 0} (words : QueueWords P S) where
+  abbrev pub ComeOnce : List (SpaceEntry P M) → Type 0
   ComeOnce log = CameOnce (λ number. departures number log) (sent_by words log)
 
   -- each entry keeps it
-  pub come_once : (entry : SpaceEntry P) (log : List (SpaceEntry P)) → LeavesTracked entry (sent_by words log) → ComeOnce log → ComeOnce (entry ∷ log)
+  pub come_once : (entry : SpaceEntry P M) (log : List (SpaceEntry P M)) → LeavesTracked entry (sent_by words log) → ComeOnce log → ComeOnce (entry ∷ log)
   come_once (sends number packet) log new come = sent_once (λ n. departures n log) (sent_by words log) come number packet new
   come_once (acknowledged number) log tracked come = leaves_once (λ n. departures n log) (sent_by words log) come number tracked
   come_once (loses number) log tracked come = leaves_once (λ n. departures n log) (sent_by words log) come number tracked
@@ -110,5 +110,5 @@ module _ {P S : Type 0} (words : QueueWords P S) where
   pub none_came : ComeOnce []
   none_came = record { once = λ number. omega arith; none = λ number late. refl }
 
-  pub leave_once : (log : List (SpaceEntry P)) → ComeOnce log → LeaveOnce log
+  pub leave_once : (log : List (SpaceEntry P M)) → ComeOnce log → LeaveOnce log
   leave_once log come = λ number. let one = come.once number in omega (arith, one)

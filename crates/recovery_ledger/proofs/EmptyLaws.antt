@@ -9,18 +9,18 @@ use Rattle.recovery_ledger.specs.Paths.{generation_of, counters_of, after_leavin
 use Rattle.recovery_ledger.proofs.LedgerLaws.{first_leaves}
 
 -- of all packets of a space, as its ledger was then, those that are not among the rest have left
-pub record Leaving {P : Type 0} (then : PathLedger) (all : Packets P) (path : PathLedger) (rest : Packets P) : Type 0 where
+pub record Leaving {P M : Type 0} (then : PathLedger) (all : Packets P M) (path : PathLedger) (rest : Packets P M) : Type 0 where
   pub generation : generation_of path ≡ generation_of then
   pub counted : IsCountedIn (counters_of path) (generation_of path) rest
   pub bytes : (counters_of path).bytes + sum_by (size_in (generation_of then)) all ≡ (counters_of then).bytes + sum_by (size_in (generation_of then)) rest
   pub count : (counters_of path).ack_eliciting + sum_by (eliciting_in (generation_of then)) all ≡ (counters_of then).ack_eliciting + sum_by (eliciting_in (generation_of then)) rest
 
-module _ {P : Type 0} (then : PathLedger) (all : Packets P) where
+module _ {P M : Type 0} (then : PathLedger) (all : Packets P M) where
   pub leaving_none : IsCountedIn (counters_of then) (generation_of then) all → Leaving then all then all
   leaving_none counted = record { generation = refl; counted = counted; bytes = refl; count = refl }
 
   -- the first of the rest may leave, and does
-  pub leaving_first : (path : PathLedger) (entry : ℕ × Packet P) (rest : Packets P) → Leaving then all path (entry ∷ rest) → IsCountedOn path entry.1 × Leaving then all (after_leaving path entry.1) rest
+  pub leaving_first : (path : PathLedger) (entry : ℕ × Packet P M) (rest : Packets P M) → Leaving then all path (entry ∷ rest) → IsCountedOn path entry.1 × Leaving then all (after_leaving path entry.1) rest
   leaving_first path entry rest leaving =
       let first = first_leaves path entry rest leaving.counted in
       let left = first.2 in

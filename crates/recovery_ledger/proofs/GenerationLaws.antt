@@ -9,11 +9,11 @@ use Rattle.recovery_ledger.specs.Probes.{ProbeFound, pending_stands, moves, noth
 use Rattle.recovery_ledger.specs.Spaces.{Space, Spaces, space_of, with_space, tracking_of, packets_of, one_probe_more, space_probes}
 use Rattle.recovery_ledger.proofs.AmongLaws.{all_without, all_sent, all_carrying}
 
-module _ {P : Type 0} (generation : ℕ) where
-  abbrev Is : Packet P → Type 0
+module _ {P M : Type 0} (generation : ℕ) where
+  abbrev Is : Packet P M → Type 0
   Is packet = packet.path_generation ≤ generation
 
-  pub up_to_with : (spaces : Spaces P) (space : SpaceId) (here : Space P) → AreUpTo generation spaces → IsUpTo generation (packets_of here) → AreUpTo generation (with_space spaces space here)
+  pub up_to_with : (spaces : Spaces P M) (space : SpaceId) (here : Space P M) → AreUpTo generation spaces → IsUpTo generation (packets_of here) → AreUpTo generation (with_space spaces space here)
   up_to_with spaces Initial here all one Initial = one
   up_to_with spaces Initial here all one Handshake = all Handshake
   up_to_with spaces Initial here all one Data = all Data
@@ -25,26 +25,26 @@ module _ {P : Type 0} (generation : ℕ) where
   up_to_with spaces Data here all one Data = one
 
   -- nothing is tracked yet
-  pub up_to_fresh : (spaces : Spaces P) → ((space : SpaceId) → tracking_of (space_of space spaces) ≡ no_packets) → AreUpTo generation spaces
-  up_to_fresh spaces none space packet among = let Among : Tracking P → Type 0 = λ t. IsAmong t.packets packet in absurd (subst Among (none space) among)
+  pub up_to_fresh : (spaces : Spaces P M) → ((space : SpaceId) → tracking_of (space_of space spaces) ≡ no_packets) → AreUpTo generation spaces
+  up_to_fresh spaces none space packet among = let Among : Tracking P M → Type 0 = λ t. IsAmong t.packets packet in absurd (subst Among (none space) among)
 
   -- a newer path
-  pub up_to_more : (newer : ℕ) (spaces : Spaces P) → generation ≤ newer → AreUpTo generation spaces → AreUpTo newer spaces
+  pub up_to_more : (newer : ℕ) (spaces : Spaces P M) → generation ≤ newer → AreUpTo generation spaces → AreUpTo newer spaces
   up_to_more newer spaces le all space packet among = let h : packet.path_generation ≤ generation = all space packet among in omega (arith, h, le)
 
-  pub up_to_none : IsUpTo {P = P} generation []
+  pub up_to_none : IsUpTo {P = P} {M = M} generation []
   up_to_none packet among = absurd among
 
-  pub up_to_taken : (packets : Packets P) (number : ℕ) → IsUpTo generation packets → IsUpTo generation (without packets number)
+  pub up_to_taken : (packets : Packets P M) (number : ℕ) → IsUpTo generation packets → IsUpTo generation (without packets number)
   up_to_taken packets number all = all_without Is packets number all
 
-  pub up_to_carrying : (packets : Packets P) (number : ℕ) (contents : P) → IsUpTo generation packets → IsUpTo generation (carrying number contents packets)
+  pub up_to_carrying : (packets : Packets P M) (number : ℕ) (contents : P) → IsUpTo generation packets → IsUpTo generation (carrying number contents packets)
   up_to_carrying packets number contents all = all_carrying Is packets number contents (λ packet holds. holds) all
 
-  pub up_to_sent : (last : Option ℕ) (number : ℕ) (packet : Packet P) (packets : Packets P) → IsUpTo generation packets → packet.path_generation ≤ generation → IsUpTo generation (sent_onto last number packet packets)
+  pub up_to_sent : (last : Option ℕ) (number : ℕ) (packet : Packet P M) (packets : Packets P M) → IsUpTo generation packets → packet.path_generation ≤ generation → IsUpTo generation (sent_onto last number packet packets)
   up_to_sent last number packet packets all one = all_sent Is last number packet packets all one
 
-  pub up_to_probed : {S : Type 0} → (words : QueueWords P S) (immediate : Bool) (found : ProbeFound) (old : Space P) → IsUpTo generation (packets_of old) → IsUpTo generation (packets_of (space_probes words immediate found (one_probe_more old)))
+  pub up_to_probed : {S : Type 0} → (words : QueueWords P S) (immediate : Bool) (found : ProbeFound) (old : Space P M) → IsUpTo generation (packets_of old) → IsUpTo generation (packets_of (space_probes words immediate found (one_probe_more old)))
   up_to_probed words immediate pending_stands old all = all
   up_to_probed words immediate nothing_found old all = all
   up_to_probed words immediate (moves number) old all = up_to_carrying (packets_of old) number words.empty all

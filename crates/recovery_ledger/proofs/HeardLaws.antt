@@ -49,7 +49,7 @@ same_flag a b e = (λ h. sym e ∙ h, λ h. e ∙ h)
 pub waits_alike : (said : AcksSaid) (acks : Acks) → AcksLeft said acks → ((n : ℕ) × IsPending acks n) ↔ ((n : ℕ) × said.pending n)
 waits_alike said acks left = (λ h. (h.0, (left.pending h.0).0 h.1), λ h. (h.0, (left.pending h.0).1 h.1))
 
-module _ {P S : Type 0} (words : QueueWords P S) (log : List (SpaceEntry P)) (old : Acks) (left : AcksLeft (acks_by words log) old) where
+module _ {P M S : Type 0} (words : QueueWords P S) (log : List (SpaceEntry P M)) (old : Acks) (left : AcksLeft (acks_by words log) old) where
   pub heard_law : (Known : ℕ → Type 0) → ((n : ℕ) → Known n ↔ Recent (CameIn log) n) → (now number : ℕ) (ack_eliciting : Bool) (new : Acks) → HearsNew Known old now number ack_eliciting new → AcksLeft (acks_by words (heard now number ack_eliciting ∷ log)) new
   heard_law Known known now number ack_eliciting new step = record {
     pending = λ n. iff_trans (step.pending n) (highest n);
@@ -106,11 +106,11 @@ module _ {P S : Type 0} (words : QueueWords P S) (log : List (SpaceEntry P)) (ol
     step.others.6,
   )
 
-  pub acknowledged_law : (number : ℕ) (new : Acks) (packet : Packet P) → packet_at (sent_by words log).tracked number ≡ Some packet → SubtractsLargest packet.largest_acked old new → AcksLeft (acks_by words (acknowledged number ∷ log)) new
+  pub acknowledged_law : (number : ℕ) (new : Acks) (packet : Packet P M) → packet_at (sent_by words log).tracked number ≡ Some packet → SubtractsLargest packet.largest_acked old new → AcksLeft (acks_by words (acknowledged number ∷ log)) new
   acknowledged_law number new packet found step =
       let done = subtracted packet.largest_acked new step in
       record {
-        pending = λ n. let Holds : Option (Packet P) → Type 0 = λ p. IsPending new n ↔ (ToAcknowledge words log n × IsTrue (is_above (largest_acked_by p) n)) in subst Holds (sym found) (done.0 n);
+        pending = λ n. let Holds : Option (Packet P M) → Type 0 = λ p. IsPending new n ↔ (ToAcknowledge words log n × IsTrue (is_above (largest_acked_by p) n)) in subst Holds (sym found) (done.0 n);
         required = iff_trans (same_flag new.required old.required done.1) left.required;
         started = λ m. let Holds : Option ℕ → Type 0 = λ b. (b ≡ Some m) ↔ StartedAt words log m in subst Holds (sym done.2) (left.started m);
         counts = done.3 ∙ left.counts;

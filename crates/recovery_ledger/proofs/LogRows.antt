@@ -22,14 +22,15 @@ is_nil (n ∷ rest) = false
 abbrev words : QueueWords (List ℕ) (Unit {0})
 words = record { empty = []; joined = λ first last. first ++ last; is_empty = λ contents streams. is_nil contents }
 
--- an ack-eliciting packet of 500 bytes at 7, and a silent one of 40 bytes at 8, on the first path
-abbrev first : Packet (List ℕ)
-first = packet_sent 0 7 500 true None (1 ∷ 2 ∷ [])
+-- an ack-eliciting packet of 500 bytes at 7, and a silent one of 40 bytes at 8, on the first path; 30 and 31 are
+-- what else is said of them
+abbrev first : Packet (List ℕ) ℕ
+first = packet_sent 0 7 500 true None (1 ∷ 2 ∷ []) 30
 
-abbrev second : Packet (List ℕ)
-second = packet_sent 0 8 40 false (Some 3) []
+abbrev second : Packet (List ℕ) ℕ
+second = packet_sent 0 8 40 false (Some 3) [] 31
 
-abbrev both_sent : List (SpaceEntry (List ℕ))
+abbrev both_sent : List (SpaceEntry (List ℕ) ℕ)
 both_sent = sends 1 second ∷ sends 0 first ∷ []
 
 sent_by-both : (sent_by words both_sent).tracked ≡ (0, first) ∷ (1, second) ∷ []
@@ -64,7 +65,7 @@ probe_found-first = refl
 probe_found-nothing : probe_found words tt [] (sent_by words (probes false (moves 0) ∷ both_sent)).tracked ≡ nothing_found
 probe_found-nothing = refl
 
-probe_found-pending : probe_found words tt (pending_by words (loses 0 ∷ both_sent)) [] ≡ pending_stands
+probe_found-pending : probe_found {M = ℕ} words tt (pending_by words (loses 0 ∷ both_sent)) [] ≡ pending_stands
 probe_found-pending = refl
 
 -- a PING is marked only where no ACK at once is asked for
@@ -81,7 +82,7 @@ has_other-marked : has_other words tt (queued_by words (probes true (moves 0) �
 has_other-marked = refl
 
 -- both are in flight, and one of them elicits an ACK
-in_data : List (SpaceEntry (List ℕ)) → SpaceId → Packets (List ℕ)
+in_data : List (SpaceEntry (List ℕ) ℕ) → SpaceId → Packets (List ℕ) ℕ
 in_data log Data = (sent_by words log).tracked
 in_data log other = []
 
@@ -107,7 +108,7 @@ kept_by-last_sent : (kept_by words 5 both_sent).last_sent ≡ Some 7
 kept_by-last_sent = refl
 
 -- packets 4 and 9 came, then 9 again, and an ACK went out; then 6 came
-abbrev came_in : List (SpaceEntry (List ℕ))
+abbrev came_in : List (SpaceEntry (List ℕ) ℕ)
 came_in = heard 3 6 false ∷ ack_goes ∷ heard_again 9 ∷ heard 2 9 true ∷ heard 1 4 true ∷ []
 
 greatest_new-row : greatest_new came_in ≡ 9

@@ -23,21 +23,21 @@ both_true : (a b : Bool) → (a && b) ≡ true → (a ≡ true) × (b ≡ true)
 both_true true b e = (refl, e)
 both_true false b e = cc
 
-module _ {P : Type 0} where
+module _ {P M : Type 0} where
   -- ---- look-ups
 
-  pub some_packet : (first second : Packet P) → Some first ≡ Some second → first ≡ second
+  pub some_packet : (first second : Packet P M) → Some first ≡ Some second → first ≡ second
   some_packet first second e = cc
 
-  pub no_packet : {A : Type 0} (packet : Packet P) → None ≡ Some packet → A
+  pub no_packet : {A : Type 0} (packet : Packet P M) → None ≡ Some packet → A
   no_packet packet e = cc
 
   -- every number of the list is below another
-  abbrev pub AllBelow : Packets P → ℕ → Type 0
+  abbrev pub AllBelow : Packets P M → ℕ → Type 0
   AllBelow [] limit = Unit {0}
   AllBelow (entry ∷ packets) limit = (entry.0 < limit) × AllBelow packets limit
 
-  pub all_below : (packets : Packets P) (limit : ℕ) → AreBelow packets limit → AllBelow packets limit
+  pub all_below : (packets : Packets P M) (limit : ℕ) → AreBelow packets limit → AllBelow packets limit
   all_below [] limit below = tt
   all_below (entry ∷ packets) limit below = (below entry.0 entry.1 (ap (λ b. cond b (Some entry.1) (packet_at packets entry.0)) (at_itself entry.0)), all_below packets limit later)
     where
@@ -48,7 +48,7 @@ module _ {P : Type 0} where
           go true at = below number entry.1 (ap (λ b. cond b (Some entry.1) (packet_at packets number)) at)
           go false at = below number packet (ap (λ b. cond b (Some entry.1) (packet_at packets number)) at ∙ found)
 
-  pub are_below : (packets : Packets P) (limit : ℕ) → AllBelow packets limit → AreBelow packets limit
+  pub are_below : (packets : Packets P M) (limit : ℕ) → AllBelow packets limit → AreBelow packets limit
   are_below [] limit below number packet found = no_packet packet found
   are_below (entry ∷ packets) limit below number packet found = go (is_at (nat_cmp number) entry.0) refl found (are_below packets limit below.1 number packet)
     where
@@ -57,23 +57,23 @@ module _ {P : Type 0} where
       go false at e later = later e
 
   -- a number above all others goes to the end
-  pub insert_at_end : (packets : Packets P) (number : ℕ) (packet : Packet P) → AllBelow packets number → insert_entry nat_cmp packets number packet ≡ packets ++ (number, packet) ∷ []
+  pub insert_at_end : (packets : Packets P M) (number : ℕ) (packet : Packet P M) → AllBelow packets number → insert_entry nat_cmp packets number packet ≡ packets ++ (number, packet) ∷ []
   insert_at_end [] number packet below = refl
   insert_at_end (entry ∷ packets) number packet below =
       let above : nat_cmp number entry.0 ≡ Greater = sym (nat_cmp_is number entry.0 Greater below.0) in
       ap (λ o. match_ordering o ((number, packet) ∷ entry ∷ packets) ((entry.0, packet) ∷ packets) (entry ∷ insert_entry nat_cmp packets number packet)) above
-      ∙ ap (λ (es : Packets P). entry ∷ es) (insert_at_end packets number packet below.1)
+      ∙ ap (λ (es : Packets P M). entry ∷ es) (insert_at_end packets number packet below.1)
 
-  pub without-append : (packets more : Packets P) (number : ℕ) (packet : Packet P) → packet_at packets number ≡ Some packet → without (packets ++ more) number ≡ without packets number ++ more
+  pub without-append : (packets more : Packets P M) (number : ℕ) (packet : Packet P M) → packet_at packets number ≡ Some packet → without (packets ++ more) number ≡ without packets number ++ more
   without-append [] more number packet found = no_packet packet found
   without-append (entry ∷ packets) more number packet found = go (is_at (nat_cmp number) entry.0) found (without-append packets more number packet)
     where
       go : (b : Bool) → cond b (Some entry.1) (packet_at packets number) ≡ Some packet → (packet_at packets number ≡ Some packet → without (packets ++ more) number ≡ without packets number ++ more)
           → cond b (packets ++ more) (entry ∷ without (packets ++ more) number) ≡ cond b packets (entry ∷ without packets number) ++ more
       go true e later = refl
-      go false e later = ap (λ (es : Packets P). entry ∷ es) (later e)
+      go false e later = ap (λ (es : Packets P M). entry ∷ es) (later e)
 
-  pub packet_at-append : (packets more : Packets P) (number : ℕ) (packet : Packet P) → packet_at packets number ≡ Some packet → packet_at (packets ++ more) number ≡ Some packet
+  pub packet_at-append : (packets more : Packets P M) (number : ℕ) (packet : Packet P M) → packet_at packets number ≡ Some packet → packet_at (packets ++ more) number ≡ Some packet
   packet_at-append [] more number packet found = no_packet packet found
   packet_at-append (entry ∷ packets) more number packet found = go (is_at (nat_cmp number) entry.0) found (packet_at-append packets more number packet)
     where
@@ -84,7 +84,7 @@ module _ {P : Type 0} where
 
   -- ---- numbers below another
 
-  pub AllBelow-without : (packets : Packets P) (number limit : ℕ) → AllBelow packets limit → AllBelow (without packets number) limit
+  pub AllBelow-without : (packets : Packets P M) (number limit : ℕ) → AllBelow packets limit → AllBelow (without packets number) limit
   AllBelow-without [] number limit below = tt
   AllBelow-without (entry ∷ packets) number limit below = go (is_at (nat_cmp number) entry.0) (AllBelow-without packets number limit below.1)
     where
@@ -92,11 +92,11 @@ module _ {P : Type 0} where
       go true later = below.1
       go false later = (below.0, later)
 
-  pub AllBelow-without_some : (packets : Packets P) (forgotten : Option ℕ) (limit : ℕ) → AllBelow packets limit → AllBelow (without_some packets forgotten) limit
+  pub AllBelow-without_some : (packets : Packets P M) (forgotten : Option ℕ) (limit : ℕ) → AllBelow packets limit → AllBelow (without_some packets forgotten) limit
   AllBelow-without_some packets None limit below = below
   AllBelow-without_some packets (Some number) limit below = AllBelow-without packets number limit below
 
-  pub AllBelow-replaced : (packets : Packets P) (number : ℕ) (packet : Packet P) (limit : ℕ) → AllBelow packets limit → AllBelow (replaced number (Some packet) packets) limit
+  pub AllBelow-replaced : (packets : Packets P M) (number : ℕ) (packet : Packet P M) (limit : ℕ) → AllBelow packets limit → AllBelow (replaced number (Some packet) packets) limit
   AllBelow-replaced [] number packet limit below = tt
   AllBelow-replaced (entry ∷ packets) number packet limit below = go (is_at (nat_cmp number) entry.0) (AllBelow-replaced packets number packet limit below.1)
     where
@@ -104,21 +104,21 @@ module _ {P : Type 0} where
       go true later = (below.0, below.1)
       go false later = (below.0, later)
 
-  pub AllBelow-carrying : (packets : Packets P) (number : ℕ) (contents : P) (limit : ℕ) → AllBelow packets limit → AllBelow (carrying number contents packets) limit
+  pub AllBelow-carrying : (packets : Packets P M) (number : ℕ) (contents : P) (limit : ℕ) → AllBelow packets limit → AllBelow (carrying number contents packets) limit
   AllBelow-carrying packets number contents limit below = go (packet_at packets number)
     where
-      go : (found : Option (Packet P)) → AllBelow (replaced number (option_map (with_contents contents) found) packets) limit
+      go : (found : Option (Packet P M)) → AllBelow (replaced number (option_map (with_contents contents) found) packets) limit
       go None = below
       go (Some packet) = AllBelow-replaced packets number (with_contents contents packet) limit below
 
-  pub AllBelow-push : (packets : Packets P) (number : ℕ) (packet : Packet P) → AllBelow packets number → AllBelow (packets ++ (number, packet) ∷ []) (number + 1)
+  pub AllBelow-push : (packets : Packets P M) (number : ℕ) (packet : Packet P M) → AllBelow packets number → AllBelow (packets ++ (number, packet) ∷ []) (number + 1)
   AllBelow-push [] number packet below = (omega arith, tt)
   AllBelow-push (entry ∷ packets) number packet below = (let h : entry.0 < number = below.0 in omega arith, AllBelow-push packets number packet below.1)
 
   -- ---- sums
 
   -- a packet that is taken leaves the sum
-  pub sum-without : (f : ℕ × Packet P → ℕ) (packets : Packets P) (number : ℕ) (packet : Packet P) → packet_at packets number ≡ Some packet
+  pub sum-without : (f : ℕ × Packet P M → ℕ) (packets : Packets P M) (number : ℕ) (packet : Packet P M) → packet_at packets number ≡ Some packet
       → sum_by f (without packets number) + f (number, packet) ≡ sum_by f packets
   sum-without f [] number packet found = no_packet packet found
   sum-without f (entry ∷ packets) number packet found = go (is_at (nat_cmp number) entry.0) refl found (sum-without f packets number packet)
@@ -126,7 +126,7 @@ module _ {P : Type 0} where
       go : (b : Bool) → is_at (nat_cmp number) entry.0 ≡ b → cond b (Some entry.1) (packet_at packets number) ≡ Some packet → (packet_at packets number ≡ Some packet → sum_by f (without packets number) + f (number, packet) ≡ sum_by f packets)
           → sum_by f (cond b packets (entry ∷ without packets number)) + f (number, packet) ≡ sum_by f (entry ∷ packets)
       go true at e later =
-          let same : f entry ≡ f (number, packet) = ap (λ (n : ℕ). f (n, entry.1)) (number_at number entry.0 at) ∙ ap (λ (p : Packet P). f (number, p)) (some_packet entry.1 packet e) in
+          let same : f entry ≡ f (number, packet) = ap (λ (n : ℕ). f (n, entry.1)) (number_at number entry.0 at) ∙ ap (λ (p : Packet P M). f (number, p)) (some_packet entry.1 packet e) in
           let cons = sum_by-cons f entry packets in
           omega (arith, same, cons)
       go false at e later =
@@ -136,7 +136,7 @@ module _ {P : Type 0} where
           omega (arith, cons, rest, sum)
 
   -- other contents of a packet leave a sum that does not look at them
-  pub sum-replaced : (f : ℕ × Packet P → ℕ) (packets : Packets P) (number : ℕ) (packet other : Packet P) → packet_at packets number ≡ Some packet
+  pub sum-replaced : (f : ℕ × Packet P M → ℕ) (packets : Packets P M) (number : ℕ) (packet other : Packet P M) → packet_at packets number ≡ Some packet
       → ((n : ℕ) → f (n, other) ≡ f (n, packet)) → sum_by f (replaced number (Some other) packets) ≡ sum_by f packets
   sum-replaced f [] number packet other found alike = no_packet packet found
   sum-replaced f (entry ∷ packets) number packet other found alike = go (is_at (nat_cmp number) entry.0) found (λ there. sum-replaced f packets number packet other there alike)
@@ -146,7 +146,7 @@ module _ {P : Type 0} where
       go true e later =
           let cons = sum_by-cons f entry packets in
           let here = sum_by-cons f (entry.0, other) packets in
-          let same : f (entry.0, other) ≡ f entry = alike entry.0 ∙ ap (λ (p : Packet P). f (entry.0, p)) (sym (some_packet entry.1 packet e)) in
+          let same : f (entry.0, other) ≡ f entry = alike entry.0 ∙ ap (λ (p : Packet P M). f (entry.0, p)) (sym (some_packet entry.1 packet e)) in
           omega (arith, cons, here, same)
       go false e later =
           let cons = sum_by-cons f entry packets in
@@ -154,10 +154,10 @@ module _ {P : Type 0} where
           let sum = later e in
           omega (arith, cons, rest, sum)
 
-  pub found-le-sum : (f : ℕ × Packet P → ℕ) (packets : Packets P) (number : ℕ) (packet : Packet P) → packet_at packets number ≡ Some packet → f (number, packet) ≤ sum_by f packets
+  pub found-le-sum : (f : ℕ × Packet P M → ℕ) (packets : Packets P M) (number : ℕ) (packet : Packet P M) → packet_at packets number ≡ Some packet → f (number, packet) ≤ sum_by f packets
   found-le-sum f packets number packet found = let h = sum-without f packets number packet found in omega (arith, h)
 
-  pub none_counted : (f : ℕ × Packet P → ℕ) (packets : Packets P) (limit : ℕ) → ((number : ℕ) (packet : Packet P) → number < limit → f (number, packet) ≡ 0) → AllBelow packets limit → sum_by f packets ≡ 0
+  pub none_counted : (f : ℕ × Packet P M → ℕ) (packets : Packets P M) (limit : ℕ) → ((number : ℕ) (packet : Packet P M) → number < limit → f (number, packet) ≡ 0) → AllBelow packets limit → sum_by f packets ≡ 0
   none_counted f [] limit none below = refl
   none_counted f (entry ∷ packets) limit none below =
       let cons = sum_by-cons f entry packets in
@@ -165,10 +165,10 @@ module _ {P : Type 0} where
       let later = none_counted f packets limit none below.1 in
       omega (arith, cons, first, later)
 
-  pub sizes-le-length : (packets : Packets P) → sum_by (λ entry. size_count entry.1) packets ≤ length packets
+  pub sizes-le-length : (packets : Packets P M) → sum_by (λ entry. size_count entry.1) packets ≤ length packets
   sizes-le-length [] = omega arith
   sizes-le-length (entry ∷ packets) =
-      let cons = sum_by-cons (λ (e : ℕ × Packet P). size_count e.1) entry packets in
+      let cons = sum_by-cons (λ (e : ℕ × Packet P M). size_count e.1) entry packets in
       let later = sizes-le-length packets in
       let one = at_most_one (entry.1.size == 0) in
       omega (arith, cons, later, one)
@@ -178,7 +178,7 @@ module _ {P : Type 0} where
       at_most_one false = omega arith
 
   -- the count of silent packets is their number
-  pub silent_count-length : (last : Option ℕ) (packets : Packets P) → length (silent_above last packets) ≡ sum_by (silent_count last) packets
+  pub silent_count-length : (last : Option ℕ) (packets : Packets P M) → length (silent_above last packets) ≡ sum_by (silent_count last) packets
   silent_count-length last [] = refl
   silent_count-length last (entry ∷ packets) =
       let cons = sum_by-cons (silent_count last) entry packets in go (is_silent_above last entry) (silent_count-length last packets) ∙ sym cons
@@ -189,7 +189,7 @@ module _ {P : Type 0} where
 
   -- ---- sizes
 
-  pub sized_from_count : (packets : Packets P) → sum_by (λ entry. size_count entry.1) packets ≢ 0 → HasSize packets
+  pub sized_from_count : (packets : Packets P M) → sum_by (λ entry. size_count entry.1) packets ≢ 0 → HasSize packets
   sized_from_count [] some = absurd (some refl)
   sized_from_count (entry ∷ packets) some = go (entry.1.size == 0) refl (sized_from_count packets)
     where
@@ -199,24 +199,24 @@ module _ {P : Type 0} where
       go : (b : Bool) → (entry.1.size == 0) ≡ b → (sum_by (λ e. size_count e.1) packets ≢ 0 → HasSize packets) → HasSize (entry ∷ packets)
       go false e later = inl (λ zero. not_both (ap (λ (n : ℕ). n == 0) zero) e)
       go true e later = inr (later (λ none. some (
-          let cons = sum_by-cons (λ (p : ℕ × Packet P). size_count p.1) entry packets in
+          let cons = sum_by-cons (λ (p : ℕ × Packet P M). size_count p.1) entry packets in
           let nothing : size_count entry.1 ≡ 0 = ap (λ b. cond b 0 1) e in
           omega (arith, cons, nothing, none))))
 
-  pub count_from_sized : (packets : Packets P) → HasSize packets → sum_by (λ entry. size_count entry.1) packets ≢ 0
+  pub count_from_sized : (packets : Packets P M) → HasSize packets → sum_by (λ entry. size_count entry.1) packets ≢ 0
   count_from_sized [] sized none = sized
   count_from_sized (entry ∷ packets) (inl sized) none =
-      let cons = sum_by-cons (λ (p : ℕ × Packet P). size_count p.1) entry packets in
+      let cons = sum_by-cons (λ (p : ℕ × Packet P M). size_count p.1) entry packets in
       let one : size_count entry.1 ≡ 1 = ap (λ b. cond b 0 1) (ne_eqb entry.1.size 0 sized) in
       absurd (omega (arith, cons, one))
   count_from_sized (entry ∷ packets) (inr later) none =
-      let cons = sum_by-cons (λ (p : ℕ × Packet P). size_count p.1) entry packets in
+      let cons = sum_by-cons (λ (p : ℕ × Packet P M). size_count p.1) entry packets in
       count_from_sized packets later (omega (arith, cons))
 
   -- ---- silent packets
 
   -- where no packet above the last eliciting number elicits an ACK, the silent ones above it are all above it
-  pub all_silent : (last : Option ℕ) (packets : Packets P) → sum_by (eliciting_count last) packets ≡ 0 → filter (λ entry. is_above last entry.0) packets ≡ silent_above last packets
+  pub all_silent : (last : Option ℕ) (packets : Packets P M) → sum_by (eliciting_count last) packets ≡ 0 → filter (λ entry. is_above last entry.0) packets ≡ silent_above last packets
   all_silent last [] none = refl
   all_silent last (entry ∷ packets) none =
       let cons = sum_by-cons (eliciting_count last) entry packets in
@@ -228,14 +228,14 @@ module _ {P : Type 0} where
       go : (above eliciting : Bool) → is_above last entry.0 ≡ above → entry.1.ack_eliciting ≡ eliciting → filter (λ e. is_above last e.0) packets ≡ silent_above last packets
           → cond above (entry ∷ filter (λ e. is_above last e.0) packets) (filter (λ e. is_above last e.0) packets) ≡ cond (above && not eliciting) (entry ∷ silent_above last packets) (silent_above last packets)
       go false eliciting e f later = later
-      go true false e f later = ap (λ (es : Packets P). entry ∷ es) later
+      go true false e f later = ap (λ (es : Packets P M). entry ∷ es) later
       go true true e f later =
           let one : eliciting_count last entry ≡ 1 = ap (λ b. cond (b && entry.1.ack_eliciting) 1 0) e ∙ ap (λ b. cond b 1 0) f in
           absurd (omega (arith, cons, one, none))
 
   -- the first number above another is that of a packet
-  pub first_above_found : (last : Option ℕ) (packets : Packets P) (number : ℕ) → least_number (filter (λ entry. is_above last entry.0) packets) ≡ Some number
-      → (packet : Packet P) × (packet_at packets number ≡ Some packet) × (is_above last number ≡ true)
+  pub first_above_found : (last : Option ℕ) (packets : Packets P M) (number : ℕ) → least_number (filter (λ entry. is_above last entry.0) packets) ≡ Some number
+      → (packet : Packet P M) × (packet_at packets number ≡ Some packet) × (is_above last number ≡ true)
   first_above_found last [] number e = absurd (none_is_some number e)
     where
       none_is_some : (n : ℕ) → None ≡ Some n → ⊥
@@ -245,14 +245,14 @@ module _ {P : Type 0} where
       some_number : (m n : ℕ) → Some m ≡ Some n → m ≡ n
       some_number m n e = cc
 
-      either : (b : Bool) → (packet : Packet P) × (packet_at packets number ≡ Some packet) × (is_above last number ≡ true)
-          → (packet : Packet P) × (cond b (Some entry.1) (packet_at packets number) ≡ Some packet) × (is_above last number ≡ true)
+      either : (b : Bool) → (packet : Packet P M) × (packet_at packets number ≡ Some packet) × (is_above last number ≡ true)
+          → (packet : Packet P M) × (cond b (Some entry.1) (packet_at packets number) ≡ Some packet) × (is_above last number ≡ true)
       either true found = (entry.1, refl, found.2)
       either false found = found
 
       go : (b : Bool) → is_above last entry.0 ≡ b → least_number (cond b (entry ∷ filter (λ p. is_above last p.0) packets) (filter (λ p. is_above last p.0) packets)) ≡ Some number
-          → (least_number (filter (λ p. is_above last p.0) packets) ≡ Some number → (packet : Packet P) × (packet_at packets number ≡ Some packet) × (is_above last number ≡ true))
-          → (packet : Packet P) × (packet_at (entry ∷ packets) number ≡ Some packet) × (is_above last number ≡ true)
+          → (least_number (filter (λ p. is_above last p.0) packets) ≡ Some number → (packet : Packet P M) × (packet_at packets number ≡ Some packet) × (is_above last number ≡ true))
+          → (packet : Packet P M) × (packet_at (entry ∷ packets) number ≡ Some packet) × (is_above last number ≡ true)
       go true above f later =
           let same : entry.0 ≡ number = some_number entry.0 number f in
           let here : is_at (nat_cmp number) entry.0 ≡ true = ap (λ (n : ℕ). is_at (nat_cmp number) n) same ∙ at_itself number in
@@ -260,7 +260,7 @@ module _ {P : Type 0} where
       go false above f later = either (is_at (nat_cmp number) entry.0) (later f)
 
   -- a packet above the last eliciting number elicits none itself
-  pub silent_found : (last : Option ℕ) (packets : Packets P) (number : ℕ) (packet : Packet P) → sum_by (eliciting_count last) packets ≡ 0 → packet_at packets number ≡ Some packet → is_above last number ≡ true → packet.ack_eliciting ≡ false
+  pub silent_found : (last : Option ℕ) (packets : Packets P M) (number : ℕ) (packet : Packet P M) → sum_by (eliciting_count last) packets ≡ 0 → packet_at packets number ≡ Some packet → is_above last number ≡ true → packet.ack_eliciting ≡ false
   silent_found last packets number packet none found above = go packet.ack_eliciting refl
     where
       go : (b : Bool) → packet.ack_eliciting ≡ b → b ≡ false
@@ -270,48 +270,48 @@ module _ {P : Type 0} where
           let some = found-le-sum (eliciting_count last) packets number packet found in
           absurd (omega (arith, one, some, none))
 
-  pub AllBelow-more : (packets : Packets P) (limit more : ℕ) → limit ≤ more → AllBelow packets limit → AllBelow packets more
+  pub AllBelow-more : (packets : Packets P M) (limit more : ℕ) → limit ≤ more → AllBelow packets limit → AllBelow packets more
   AllBelow-more [] limit more le below = tt
   AllBelow-more (entry ∷ packets) limit more le below = (let h : entry.0 < limit = below.0 in omega arith, AllBelow-more packets limit more le below.1)
 
-  pub without-absent : (packets : Packets P) (number : ℕ) → packet_at packets number ≡ None → without packets number ≡ packets
+  pub without-absent : (packets : Packets P M) (number : ℕ) → packet_at packets number ≡ None → without packets number ≡ packets
   without-absent [] number absent = refl
   without-absent (entry ∷ packets) number absent = go (is_at (nat_cmp number) entry.0) absent (without-absent packets number)
     where
       go : (b : Bool) → cond b (Some entry.1) (packet_at packets number) ≡ None → (packet_at packets number ≡ None → without packets number ≡ packets) → cond b packets (entry ∷ without packets number) ≡ entry ∷ packets
       go true e later = no_packet entry.1 (sym e)
-      go false e later = ap (λ (es : Packets P). entry ∷ es) (later e)
+      go false e later = ap (λ (es : Packets P M). entry ∷ es) (later e)
 
   -- ---- the number that is forgotten is that of a packet
 
-  pub first_found : (test : ℕ × Packet P → Bool) (packets : Packets P) (number : ℕ) → least_number (filter test packets) ≡ Some number → (packet : Packet P) × (packet_at packets number ≡ Some packet)
+  pub first_found : (test : ℕ × Packet P M → Bool) (packets : Packets P M) (number : ℕ) → least_number (filter test packets) ≡ Some number → (packet : Packet P M) × (packet_at packets number ≡ Some packet)
   first_found test [] number e = no_number number e
   first_found test (entry ∷ packets) number e = go (test entry) e (first_found test packets number)
     where
       some_number : (m n : ℕ) → Some m ≡ Some n → m ≡ n
       some_number m n e = cc
 
-      either : (b : Bool) → (packet : Packet P) × (packet_at packets number ≡ Some packet) → (packet : Packet P) × (cond b (Some entry.1) (packet_at packets number) ≡ Some packet)
+      either : (b : Bool) → (packet : Packet P M) × (packet_at packets number ≡ Some packet) → (packet : Packet P M) × (cond b (Some entry.1) (packet_at packets number) ≡ Some packet)
       either true found = (entry.1, refl)
       either false found = found
 
-      go : (b : Bool) → least_number (cond b (entry ∷ filter test packets) (filter test packets)) ≡ Some number → (least_number (filter test packets) ≡ Some number → (packet : Packet P) × (packet_at packets number ≡ Some packet))
-          → (packet : Packet P) × (packet_at (entry ∷ packets) number ≡ Some packet)
+      go : (b : Bool) → least_number (cond b (entry ∷ filter test packets) (filter test packets)) ≡ Some number → (least_number (filter test packets) ≡ Some number → (packet : Packet P M) × (packet_at packets number ≡ Some packet))
+          → (packet : Packet P M) × (packet_at (entry ∷ packets) number ≡ Some packet)
       go true f later =
           let same : entry.0 ≡ number = some_number entry.0 number f in
           let here : is_at (nat_cmp number) entry.0 ≡ true = ap (λ (n : ℕ). is_at (nat_cmp number) n) same ∙ at_itself number in
           (entry.1, ap (λ b. cond b (Some entry.1) (packet_at packets number)) here)
       go false f later = either (is_at (nat_cmp number) entry.0) (later f)
 
-  forgotten_silent_found : (last : Option ℕ) (packets : Packets P) (number : ℕ) → forgotten_silent last packets ≡ Some number → (packet : Packet P) × (packet_at packets number ≡ Some packet)
+  forgotten_silent_found : (last : Option ℕ) (packets : Packets P M) (number : ℕ) → forgotten_silent last packets ≡ Some number → (packet : Packet P M) × (packet_at packets number ≡ Some packet)
   forgotten_silent_found last packets number e = go (nat_lt 1000 (length (silent_above last packets))) e
     where
-      go : (b : Bool) → cond b (least_number (silent_above last packets)) None ≡ Some number → (packet : Packet P) × (packet_at packets number ≡ Some packet)
+      go : (b : Bool) → cond b (least_number (silent_above last packets)) None ≡ Some number → (packet : Packet P M) × (packet_at packets number ≡ Some packet)
       go true f = first_found (is_silent_above last) packets number f
       go false f = no_number number f
 
   -- the number that is handed back is the one that is forgotten
-  pub entry_number_of : (last : Option ℕ) (packet : Packet P) (packets : Packets P) → entry_number (entry_at packets (forgotten_number last packet packets)) ≡ forgotten_number last packet packets
+  pub entry_number_of : (last : Option ℕ) (packet : Packet P M) (packets : Packets P M) → entry_number (entry_at packets (forgotten_number last packet packets)) ≡ forgotten_number last packet packets
   entry_number_of last packet packets = eliciting packet.ack_eliciting
     where
       silent : (forgotten : Option ℕ) → forgotten_silent last packets ≡ forgotten → entry_number (entry_at packets forgotten) ≡ forgotten

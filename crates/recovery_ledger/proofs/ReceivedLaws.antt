@@ -7,9 +7,9 @@ use Rattle.recovery_ledger.specs.SpaceLog.{SpaceEntry, heard, heard_again}
 pub fails : (b : Bool) → b ≡ false → ¬ IsTrue b
 fails b is holds = cc
 
-module _ {P : Type 0} where
+module _ {P M : Type 0} where
   -- the numbers that came have a greatest one
-  pub came_greatest : (log : List (SpaceEntry P)) → HasGreatest (CameIn log)
+  pub came_greatest : (log : List (SpaceEntry P M)) → HasGreatest (CameIn log)
   came_greatest [] = inl (λ m here. here)
   came_greatest (heard now number ack_eliciting ∷ earlier) = greatest_with (CameIn earlier) number (came_greatest earlier)
   came_greatest (heard_again number ∷ earlier) = greatest_with (CameIn earlier) number (came_greatest earlier)

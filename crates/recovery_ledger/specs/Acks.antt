@@ -13,9 +13,9 @@ use Rattle.recovery_ledger.specs.Tracked.{sent_by}
 
 -- ---- the ACK set
 
-module _ {P S : Type 0} (words : QueueWords P S) where
+module _ {P M S : Type 0} (words : QueueWords P S) where
   -- the numbers that were new and not subtracted, cut after each to the 64 highest runs
-  abbrev pub ToAcknowledge : List (SpaceEntry P) → ℕ → Type 0
+  abbrev pub ToAcknowledge : List (SpaceEntry P M) → ℕ → Type 0
   ToAcknowledge [] n = ⊥
   ToAcknowledge (heard now number eliciting ∷ earlier) n =
       IsInHighest 64 (With number (ToAcknowledge earlier)) n
@@ -25,13 +25,13 @@ module _ {P S : Type 0} (words : QueueWords P S) where
   ToAcknowledge (entry ∷ earlier) n = ToAcknowledge earlier n
 
 -- the largest new number, with the moment when it came (RFC 9000, 13.2.5)
-abbrev pub largest_new : {P : Type 0} → List (SpaceEntry P) → Option (ℕ × ℕ)
+abbrev pub largest_new : {P M : Type 0} → List (SpaceEntry P M) → Option (ℕ × ℕ)
 largest_new [] = None
 largest_new (heard now number eliciting ∷ earlier) = largest_with (largest_new earlier) number now
 largest_new (entry ∷ earlier) = largest_new earlier
 
 -- how many new packets that are not ack-eliciting came since the last ACK
-abbrev pub silent_since : {P : Type 0} → List (SpaceEntry P) → ℕ
+abbrev pub silent_since : {P M : Type 0} → List (SpaceEntry P M) → ℕ
 silent_since [] = 0
 silent_since (heard now number eliciting ∷ earlier) =
     if eliciting then silent_since earlier else counted (silent_since earlier)
@@ -71,7 +71,7 @@ abbrev pub counts_asked : AckFrequency → AckCounts → AckCounts
 counts_asked frame counts =
     record counts { thresholds = (frame.ack_eliciting_threshold, frame.reordering_threshold) }
 
-abbrev pub counts_by : {P : Type 0} → List (SpaceEntry P) → AckCounts
+abbrev pub counts_by : {P M : Type 0} → List (SpaceEntry P M) → AckCounts
 counts_by [] = record { eliciting = 0; thresholds = (1, 1); greatest = None; acknowledged = None }
 counts_by (heard now number eliciting ∷ earlier) = counts_with eliciting number (counts_by earlier)
 counts_by (ack_goes ∷ earlier) = counts_acked (counts_by earlier)
@@ -87,7 +87,7 @@ AsksAtOnce Numbers counts number =
     (number_or_zero counts.greatest) (greatest_with counts.greatest number) number
 
 -- an ACK is required at once
-abbrev pub IsRequired : {P : Type 0} → List (SpaceEntry P) → Type 0
+abbrev pub IsRequired : {P M : Type 0} → List (SpaceEntry P M) → Type 0
 IsRequired [] = ⊥
 IsRequired (heard now number eliciting ∷ earlier) =
     IsRequired earlier ⊎ (IsTrue eliciting × AsksAtOnce (CameIn earlier) (counts_by earlier) number)
@@ -119,9 +119,9 @@ pub record AcksSaid : Type 1 where
   pub silent : ℕ
   pub largest : Option (ℕ × ℕ)
 
-module _ {P S : Type 0} (words : QueueWords P S) where
+module _ {P M S : Type 0} (words : QueueWords P S) where
   -- the moment when the timer for a late ACK was started since the last ACK
-  abbrev pub StartedAt : List (SpaceEntry P) → ℕ → Type 0
+  abbrev pub StartedAt : List (SpaceEntry P M) → ℕ → Type 0
   StartedAt [] moment = ⊥
   StartedAt (heard now number eliciting ∷ earlier) moment =
       StartedAt earlier moment
@@ -137,7 +137,7 @@ module _ {P S : Type 0} (words : QueueWords P S) where
   StartedAt (ack_goes ∷ earlier) moment = ⊥
   StartedAt (entry ∷ earlier) moment = StartedAt earlier moment
 
-  abbrev pub heard_by : List (SpaceEntry P) → Heard
+  abbrev pub heard_by : List (SpaceEntry P M) → Heard
   heard_by log = record {
     came = λ n. CameIn log n;
     required = IsRequired log;
@@ -145,7 +145,7 @@ module _ {P S : Type 0} (words : QueueWords P S) where
     started = (m : ℕ) × StartedAt log m;
   }
 
-  abbrev pub acks_by : List (SpaceEntry P) → AcksSaid
+  abbrev pub acks_by : List (SpaceEntry P M) → AcksSaid
   acks_by log = record {
     pending = λ n. ToAcknowledge words log n;
     required = IsRequired log;

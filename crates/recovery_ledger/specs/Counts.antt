@@ -5,18 +5,18 @@ use Rattle.recovery_slots.specs.Slots.{entries_of, IsClosedUp}
 use Rattle.recovery_queue.specs.Queues.{QueueWords, IsVoid}
 use Rattle.recovery_ledger.specs.Packets.{Packet, Packets, AreBelow, is_above, is_silent_above}
 
-abbrev pub silent_count : {P : Type 0} → Option ℕ → ℕ × Packet P → ℕ
+abbrev pub silent_count : {P M : Type 0} → Option ℕ → ℕ × Packet P M → ℕ
 silent_count last entry = if is_silent_above last entry then 1 else 0
 
-abbrev pub eliciting_count : {P : Type 0} → Option ℕ → ℕ × Packet P → ℕ
+abbrev pub eliciting_count : {P M : Type 0} → Option ℕ → ℕ × Packet P M → ℕ
 eliciting_count last entry = if is_above last entry.0 && entry.1.ack_eliciting then 1 else 0
 
-abbrev pub size_count : {P : Type 0} → Packet P → ℕ
+abbrev pub size_count : {P M : Type 0} → Packet P M → ℕ
 size_count packet = if packet.size == 0 then 0 else 1
 
 -- Silent packets above the last eliciting number are counted, at most 1001, and no other kind is above it; the packets
 -- with a size are counted.
-pub record AreCounted {P : Type 0} (packets : Packets P) (last : Option ℕ)
+pub record AreCounted {P M : Type 0} (packets : Packets P M) (last : Option ℕ)
     (silent sized : ℕ) : Type 0 where
   pub silent_is : silent ≡ sum_by (silent_count last) packets
   pub others : sum_by (eliciting_count last) packets ≡ 0
@@ -24,20 +24,20 @@ pub record AreCounted {P : Type 0} (packets : Packets P) (last : Option ℕ)
   pub bound : silent ≤ 1001
 
 -- the packets above a number are not below another
-abbrev pub AreAboveFrom : {P : Type 0} → Option ℕ → ℕ → Packets P → Type 0
+abbrev pub AreAboveFrom : {P M : Type 0} → Option ℕ → ℕ → Packets P M → Type 0
 AreAboveFrom last from [] = Unit {0}
 AreAboveFrom last from (entry ∷ packets) =
     (is_above last entry.0 ≡ true → from ≤ entry.0) × AreAboveFrom last from packets
 
 -- the packets below a number have no contents, whatever they are asked with
-abbrev pub AreVoidBelow : {P S : Type 0} → QueueWords P S → ℕ → Packets P → Type 0
+abbrev pub AreVoidBelow : {P M S : Type 0} → QueueWords P S → ℕ → Packets P M → Type 0
 AreVoidBelow words from [] = Unit {0}
 AreVoidBelow words from (entry ∷ packets) =
     (entry.0 < from → IsVoid words entry.1.retransmits) × AreVoidBelow words from packets
 
 -- The packets are counted, their slots are closed up, and the silent ones and those with contents are found each from
 -- a number on.
-pub record AreTracked {P S : Type 0} (words : QueueWords P S) (slots : List (Slot (Packet P)))
+pub record AreTracked {P M S : Type 0} (words : QueueWords P S) (slots : List (Slot (Packet P M)))
     (last : Option ℕ) (silent sized from filled_from : ℕ) : Type 0 where
   pub counted : AreCounted (entries_of slots) last silent sized
   pub closed : IsClosedUp slots

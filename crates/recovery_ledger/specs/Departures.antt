@@ -6,12 +6,12 @@ abbrev pub one_if_same : ℕ → ℕ → ℕ
 one_if_same number other = if number == other then 1 else 0
 
 -- how often a number was acknowledged or lost
-abbrev pub departures : {P : Type 0} → ℕ → List (SpaceEntry P) → ℕ
+abbrev pub departures : {P M : Type 0} → ℕ → List (SpaceEntry P M) → ℕ
 departures number [] = 0
 departures number (acknowledged other ∷ earlier) = departures number earlier + one_if_same other number
 departures number (loses other ∷ earlier) = departures number earlier + one_if_same other number
 departures number (entry ∷ earlier) = departures number earlier
 
 -- no number is acknowledged twice, or lost twice, or both acknowledged and lost
-abbrev pub LeaveOnce : {P : Type 0} → List (SpaceEntry P) → Type 0
+abbrev pub LeaveOnce : {P M : Type 0} → List (SpaceEntry P M) → Type 0
 LeaveOnce log = (number : ℕ) → departures number log ≤ 1

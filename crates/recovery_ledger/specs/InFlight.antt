@@ -6,10 +6,10 @@ use Rattle.recovery_ledger.specs.declared.paths.InFlight.{InFlight}
 use Rattle.recovery_ledger.specs.Packets.{Packet, Packets}
 
 -- what a packet adds to the counters of a generation
-abbrev pub size_in : {P : Type 0} → ℕ → ℕ × Packet P → ℕ
+abbrev pub size_in : {P M : Type 0} → ℕ → ℕ × Packet P M → ℕ
 size_in generation entry = if entry.1.path_generation == generation then entry.1.size else 0
 
-abbrev pub eliciting_in : {P : Type 0} → ℕ → ℕ × Packet P → ℕ
+abbrev pub eliciting_in : {P M : Type 0} → ℕ → ℕ × Packet P M → ℕ
 eliciting_in generation entry =
     if entry.1.path_generation == generation && entry.1.ack_eliciting then 1 else 0
 
@@ -17,7 +17,7 @@ abbrev pub over_spaces : (SpaceId → ℕ) → ℕ
 over_spaces count = count Initial + count Handshake + count Data
 
 -- the sum of sizes, and the count of packets that elicit an ACK
-abbrev pub in_flight : {P : Type 0} → ℕ → (SpaceId → Packets P) → InFlight
+abbrev pub in_flight : {P M : Type 0} → ℕ → (SpaceId → Packets P M) → InFlight
 in_flight generation tracked = record {
   bytes = over_spaces (λ space. sum_by (size_in generation) (tracked space));
   ack_eliciting = over_spaces (λ space. sum_by (eliciting_in generation) (tracked space));
@@ -25,40 +25,40 @@ in_flight generation tracked = record {
 
 -- ---- one packet in or out
 
-abbrev pub eliciting_one : {P : Type 0} → Packet P → ℕ
+abbrev pub eliciting_one : {P M : Type 0} → Packet P M → ℕ
 eliciting_one packet = if packet.ack_eliciting then 1 else 0
 
-abbrev pub with_packet : {P : Type 0} → InFlight → Packet P → InFlight
+abbrev pub with_packet : {P M : Type 0} → InFlight → Packet P M → InFlight
 with_packet counters packet = record {
   bytes = counters.bytes + packet.size;
   ack_eliciting = counters.ack_eliciting + eliciting_one packet;
 }
 
-abbrev pub without_packet : {P : Type 0} → InFlight → Packet P → InFlight
+abbrev pub without_packet : {P M : Type 0} → InFlight → Packet P M → InFlight
 without_packet counters packet = record {
   bytes = counters.bytes - packet.size;
   ack_eliciting = counters.ack_eliciting - eliciting_one packet;
 }
 
 -- the packet is among those counted
-abbrev pub IsCounted : {P : Type 0} → InFlight → Packet P → Type 0
+abbrev pub IsCounted : {P M : Type 0} → InFlight → Packet P M → Type 0
 IsCounted counters packet =
     (packet.size ≤ counters.bytes) × (eliciting_one packet ≤ counters.ack_eliciting)
 
 -- all packets of a space are among those counted
-abbrev pub IsCountedIn : {P : Type 0} → InFlight → ℕ → Packets P → Type 0
+abbrev pub IsCountedIn : {P M : Type 0} → InFlight → ℕ → Packets P M → Type 0
 IsCountedIn counters generation packets =
     (sum_by (size_in generation) packets ≤ counters.bytes)
     × (sum_by (eliciting_in generation) packets ≤ counters.ack_eliciting)
 
 -- all packets of a space leave the counters
-abbrev pub SumsLeave : {P : Type 0} → InFlight → ℕ → Packets P → InFlight → Type 0
+abbrev pub SumsLeave : {P M : Type 0} → InFlight → ℕ → Packets P M → InFlight → Type 0
 SumsLeave old generation packets new =
     (new.bytes + sum_by (size_in generation) packets ≡ old.bytes)
     × (new.ack_eliciting + sum_by (eliciting_in generation) packets ≡ old.ack_eliciting)
 
 -- a counter would pass the end of its type
-abbrev pub Overflows : {P : Type 0} → InFlight → Packet P → Type 0
+abbrev pub Overflows : {P M : Type 0} → InFlight → Packet P M → Type 0
 Overflows counters packet =
     (2 ^ 64 ≤ counters.bytes + packet.size)
     ⊎ (2 ^ 64 ≤ counters.ack_eliciting + eliciting_one packet)

@@ -12,13 +12,13 @@ pub record Acknowledged : Type 0 where
   pub sent : ℕ
 
 -- the greater of a number that was acknowledged and one that is now, if its packet is tracked
-abbrev pub acknowledged_with : {P : Type 0} → Option (Packet P) → ℕ → Acknowledged → Acknowledged
+abbrev pub acknowledged_with : {P M : Type 0} → Option (Packet P M) → ℕ → Acknowledged → Acknowledged
 acknowledged_with None number old = old
 acknowledged_with (Some packet) number old =
     if is_above old.number number then record { number = Some number; sent = packet.time_sent } else old
 
 -- when the last ack-eliciting packet was sent
-abbrev pub last_eliciting_sent : {P : Type 0} → List (SpaceEntry P) → Option ℕ
+abbrev pub last_eliciting_sent : {P M : Type 0} → List (SpaceEntry P M) → Option ℕ
 last_eliciting_sent [] = None
 last_eliciting_sent (sends number packet ∷ earlier) =
     if packet.ack_eliciting then Some packet.time_sent else last_eliciting_sent earlier
@@ -29,7 +29,7 @@ abbrev pub one_more : ℕ → ℕ
 one_more count = min (count + 1) (2 ^ 32 - 1)
 
 -- how many probes are still to be sent: each ack-eliciting packet is one of them
-abbrev pub probes_by : {P : Type 0} → List (SpaceEntry P) → ℕ
+abbrev pub probes_by : {P M : Type 0} → List (SpaceEntry P M) → ℕ
 probes_by [] = 0
 probes_by (sends number packet ∷ earlier) =
     if packet.ack_eliciting then probes_by earlier - 1 else probes_by earlier
@@ -45,17 +45,17 @@ pub record Kept : Type 0 where
   -- how many numbers were given out or skipped, as far as its type counts
   pub given_out : ℕ
 
-module _ {P S : Type 0} (words : QueueWords P S) where
+module _ {P M S : Type 0} (words : QueueWords P S) where
   -- the largest number that was acknowledged; before the first none, and the moment when the space
   -- was made
-  abbrev pub largest_acknowledged : ℕ → List (SpaceEntry P) → Acknowledged
+  abbrev pub largest_acknowledged : ℕ → List (SpaceEntry P M) → Acknowledged
   largest_acknowledged start [] = record { number = None; sent = start }
   largest_acknowledged start (acknowledged number ∷ earlier) =
       acknowledged_with (packet_at (sent_by words earlier).tracked number) number
       (largest_acknowledged start earlier)
   largest_acknowledged start (entry ∷ earlier) = largest_acknowledged start earlier
 
-  abbrev pub kept_by : ℕ → List (SpaceEntry P) → Kept
+  abbrev pub kept_by : ℕ → List (SpaceEntry P M) → Kept
   kept_by start log = record {
     largest = largest_acknowledged start log;
     last_sent = last_eliciting_sent log;

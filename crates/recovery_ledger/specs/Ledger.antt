@@ -7,22 +7,22 @@ use Rattle.recovery_ledger.specs.Packets.{Packet, Packets, IsAmong}
 use Rattle.recovery_ledger.specs.Paths.{generation_of, counters_of}
 use Rattle.recovery_ledger.specs.Spaces.{Spaces, space_of, packets_of, IsCoherent}
 
-abbrev pub tracked_by : {P : Type 0} → Spaces P → SpaceId → Packets P
+abbrev pub tracked_by : {P M : Type 0} → Spaces P M → SpaceId → Packets P M
 tracked_by spaces space = packets_of (space_of space spaces)
 
 -- a path's counters are sums over the packets of its generation that the spaces track
-abbrev pub IsBalancedOn : {P : Type 0} → Spaces P → PathLedger → Type 0
+abbrev pub IsBalancedOn : {P M : Type 0} → Spaces P M → PathLedger → Type 0
 IsBalancedOn spaces path = counters_of path ≡ in_flight (generation_of path) (tracked_by spaces)
 
 -- the parts of each space go together
-abbrev pub AreCoherent : {P : Type 0} → Spaces P → Type 0
+abbrev pub AreCoherent : {P M : Type 0} → Spaces P M → Type 0
 AreCoherent spaces = (space : SpaceId) → IsCoherent (space_of space spaces)
 
 -- no packet is of a generation above this one
-abbrev pub IsUpTo : {P : Type 0} → ℕ → Packets P → Type 0
-IsUpTo {P} generation packets =
-    (packet : Packet P) → IsAmong packets packet → packet.path_generation ≤ generation
+abbrev pub IsUpTo : {P M : Type 0} → ℕ → Packets P M → Type 0
+IsUpTo {P} {M} generation packets =
+    (packet : Packet P M) → IsAmong packets packet → packet.path_generation ≤ generation
 
 -- no tracked packet is
-abbrev pub AreUpTo : {P : Type 0} → ℕ → Spaces P → Type 0
+abbrev pub AreUpTo : {P M : Type 0} → ℕ → Spaces P M → Type 0
 AreUpTo generation spaces = (space : SpaceId) → IsUpTo generation (tracked_by spaces space)

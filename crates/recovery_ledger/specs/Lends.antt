@@ -12,6 +12,6 @@ module _ (Q S M P : RattleType)
     (q : Ghosts Q.Denot S.Denot M.Denot P.Denot) (m : DefaultGhosts M.Denot) where
   -- once the borrow ends, the space is what was last written through it, and the others are as they
   -- were
-  abbrev pub LendsSpace : MutBor (Spaces P.Denot) → SpaceId → MutBor (Space P.Denot) → Fml
+  abbrev pub LendsSpace : MutBor (Spaces P.Denot M.Denot) → SpaceId → MutBor (Space P.Denot M.Denot) → Fml
   LendsSpace spaces space r =
       Lends (spaces_row Q S M P q m) (space_row Q S M P q m) spaces r (with_space spaces.now space)

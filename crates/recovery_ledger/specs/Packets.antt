@@ -4,8 +4,9 @@ use Rattle.std.specs.Ordering.{nat_cmp}
 use Rattle.std.specs.BTreeMap.{is_at}
 use Rattle.std.specs.Map.{lookup, remove_entry, set_value}
 
--- a packet as contracts see it; the contents P are what its queue holds (RFC 9000, 13.3)
-pub record Packet (P : Type 0) : Type 0 where
+-- a packet as contracts see it; the contents P are what its queue holds (RFC 9000, 13.3), and the M is what
+-- else is said of it
+pub record Packet (P M : Type 0) : Type 0 where
   -- the path's generation
   pub path_generation : ℕ
   -- the moment when it was sent
@@ -16,47 +17,49 @@ pub record Packet (P : Type 0) : Type 0 where
   pub largest_acked : Option ℕ
   -- what is sent again when it is lost
   pub retransmits : P
+  -- what else an application keeps of it
+  pub stream_frames : M
 
-abbrev pub Packets : Type 0 → Type 0
-Packets P = List (ℕ × Packet P)
+abbrev pub Packets : (P M : Type 0) → Type 0
+Packets P M = List (ℕ × Packet P M)
 
 -- the packet of a number
-abbrev pub packet_at : {P : Type 0} → Packets P → ℕ → Option (Packet P)
+abbrev pub packet_at : {P M : Type 0} → Packets P M → ℕ → Option (Packet P M)
 packet_at packets number = lookup (is_at (nat_cmp number)) packets
 
 -- the packets but the one of a number
-abbrev pub without : {P : Type 0} → Packets P → ℕ → Packets P
+abbrev pub without : {P M : Type 0} → Packets P M → ℕ → Packets P M
 without packets number = remove_entry (is_at (nat_cmp number)) packets
 
 -- a packet with other contents
-abbrev pub with_contents : {P : Type 0} → P → Packet P → Packet P
+abbrev pub with_contents : {P M : Type 0} → P → Packet P M → Packet P M
 with_contents contents packet = record packet { retransmits = contents }
 
-abbrev pub replaced : {P : Type 0} → ℕ → Option (Packet P) → Packets P → Packets P
+abbrev pub replaced : {P M : Type 0} → ℕ → Option (Packet P M) → Packets P M → Packets P M
 replaced number None packets = packets
 replaced number (Some packet) packets = set_value (is_at (nat_cmp number)) packets packet
 
 -- the packets, where that of a number, if there is one, has other contents
-abbrev pub carrying : {P : Type 0} → ℕ → P → Packets P → Packets P
+abbrev pub carrying : {P M : Type 0} → ℕ → P → Packets P M → Packets P M
 carrying number contents packets =
     replaced number (option_map (with_contents contents) (packet_at packets number)) packets
 
 -- what a packet carries, where there is one
-abbrev pub contents_or : {P : Type 0} → P → Option (Packet P) → P
+abbrev pub contents_or : {P M : Type 0} → P → Option (Packet P M) → P
 contents_or other None = other
 contents_or other (Some packet) = packet.retransmits
 
 -- every packet has a number below this one
-abbrev pub AreBelow : {P : Type 0} → Packets P → ℕ → Type 0
-AreBelow {P} packets limit =
-    (number : ℕ) (packet : Packet P) → packet_at packets number ≡ Some packet → number < limit
+abbrev pub AreBelow : {P M : Type 0} → Packets P M → ℕ → Type 0
+AreBelow {P} {M} packets limit =
+    (number : ℕ) (packet : Packet P M) → packet_at packets number ≡ Some packet → number < limit
 
 -- a number above another, where there is one
 abbrev pub IsAboveLast : Option ℕ → ℕ → Type 0
 IsAboveLast last number = (m : ℕ) → last ≡ Some m → m < number
 
 -- some packet has a size
-abbrev pub HasSize : {P : Type 0} → Packets P → Type 0
+abbrev pub HasSize : {P M : Type 0} → Packets P M → Type 0
 HasSize [] = ⊥
 HasSize (entry ∷ packets) = (entry.1.size ≢ 0) ⊎ HasSize packets
 
@@ -68,46 +71,46 @@ is_above None number = true
 is_above (Some last) number = nat_lt last number
 
 -- a packet that elicits no ACK, above the last number that elicited one
-abbrev pub is_silent_above : {P : Type 0} → Option ℕ → ℕ × Packet P → Bool
+abbrev pub is_silent_above : {P M : Type 0} → Option ℕ → ℕ × Packet P M → Bool
 is_silent_above last entry = is_above last entry.0 && not entry.1.ack_eliciting
 
-abbrev pub silent_above : {P : Type 0} → Option ℕ → Packets P → Packets P
+abbrev pub silent_above : {P M : Type 0} → Option ℕ → Packets P M → Packets P M
 silent_above last packets = filter (is_silent_above last) packets
 
-abbrev pub least_number : {P : Type 0} → Packets P → Option ℕ
+abbrev pub least_number : {P M : Type 0} → Packets P M → Option ℕ
 least_number [] = None
 least_number (entry ∷ packets) = Some entry.0
 
 -- the number that is forgotten when one more silent packet is sent: the least of 1001 silent ones
-abbrev pub forgotten_silent : {P : Type 0} → Option ℕ → Packets P → Option ℕ
+abbrev pub forgotten_silent : {P M : Type 0} → Option ℕ → Packets P M → Option ℕ
 forgotten_silent last packets =
     let silent = silent_above last packets in
     if nat_lt 1000 (length silent) then least_number silent else None
 
 -- the number that is forgotten when a packet is sent
-abbrev pub forgotten_number : {P : Type 0} → Option ℕ → Packet P → Packets P → Option ℕ
+abbrev pub forgotten_number : {P M : Type 0} → Option ℕ → Packet P M → Packets P M → Option ℕ
 forgotten_number last packet packets =
     if packet.ack_eliciting then None else forgotten_silent last packets
 
-abbrev pub without_some : {P : Type 0} → Packets P → Option ℕ → Packets P
+abbrev pub without_some : {P M : Type 0} → Packets P M → Option ℕ → Packets P M
 without_some packets None = packets
 without_some packets (Some number) = without packets number
 
 -- the packets when one more was sent
-abbrev pub sent_onto : {P : Type 0} → Option ℕ → ℕ → Packet P → Packets P → Packets P
+abbrev pub sent_onto : {P M : Type 0} → Option ℕ → ℕ → Packet P M → Packets P M → Packets P M
 sent_onto last number packet packets =
     without_some packets (forgotten_number last packet packets) ++ (number, packet) ∷ []
 
-abbrev pub numbered : {P : Type 0} → ℕ → Option (Packet P) → Option (ℕ × Packet P)
+abbrev pub numbered : {P M : Type 0} → ℕ → Option (Packet P M) → Option (ℕ × Packet P M)
 numbered number None = None
 numbered number (Some packet) = Some (number, packet)
 
 -- a number with its packet
-abbrev pub entry_at : {P : Type 0} → Packets P → Option ℕ → Option (ℕ × Packet P)
+abbrev pub entry_at : {P M : Type 0} → Packets P M → Option ℕ → Option (ℕ × Packet P M)
 entry_at packets None = None
 entry_at packets (Some number) = numbered number (packet_at packets number)
 
-abbrev pub entry_number : {P : Type 0} → Option (ℕ × Packet P) → Option ℕ
+abbrev pub entry_number : {P M : Type 0} → Option (ℕ × Packet P M) → Option ℕ
 entry_number None = None
 entry_number (Some entry) = Some entry.0
 
@@ -116,48 +119,48 @@ abbrev pub IsTooLarge : Option ℕ → Type 0
 IsTooLarge number = IsSomeAnd number (λ n. 2 ^ 62 ≤ n)
 
 -- the largest number that a packet acknowledges, where it is tracked and acknowledges one
-abbrev pub largest_acked_by : {P : Type 0} → Option (Packet P) → Option ℕ
+abbrev pub largest_acked_by : {P M : Type 0} → Option (Packet P M) → Option ℕ
 largest_acked_by None = None
 largest_acked_by (Some packet) = packet.largest_acked
 
 -- a packet is among others
-abbrev pub IsAmong : {P : Type 0} → Packets P → Packet P → Type 0
+abbrev pub IsAmong : {P M : Type 0} → Packets P M → Packet P M → Type 0
 IsAmong [] packet = ⊥
 IsAmong (entry ∷ packets) packet = (entry.1 ≡ packet) ⊎ IsAmong packets packet
 
 -- what the packets acknowledge are numbers of packets
-abbrev pub AreAcknowledging : {P : Type 0} → Packets P → Type 0
-AreAcknowledging {P} packets =
-    (packet : Packet P) → IsAmong packets packet → ¬ IsTooLarge packet.largest_acked
+abbrev pub AreAcknowledging : {P M : Type 0} → Packets P M → Type 0
+AreAcknowledging {P} {M} packets =
+    (packet : Packet P M) → IsAmong packets packet → ¬ IsTooLarge packet.largest_acked
 
 -- ---- what a space tracks
 
-pub record Tracking (P : Type 0) : Type 0 where
-  pub packets : Packets P
+pub record Tracking (P M : Type 0) : Type 0 where
+  pub packets : Packets P M
   -- the number of the last packet sent that elicits an ACK
   pub last_eliciting : Option ℕ
 
-abbrev pub no_packets : {P : Type 0} → Tracking P
+abbrev pub no_packets : {P M : Type 0} → Tracking P M
 no_packets = record { packets = []; last_eliciting = None }
 
 -- the silent packets above the last ack-eliciting one
-abbrev pub silent_in : {P : Type 0} → Tracking P → Packets P
+abbrev pub silent_in : {P M : Type 0} → Tracking P M → Packets P M
 silent_in tracking = silent_above tracking.last_eliciting tracking.packets
 
 -- the packet that is forgotten when one is sent, with its number
-abbrev pub forgotten_entry : {P : Type 0} → Packet P → Tracking P → Option (ℕ × Packet P)
+abbrev pub forgotten_entry : {P M : Type 0} → Packet P M → Tracking P M → Option (ℕ × Packet P M)
 forgotten_entry packet old =
     entry_at old.packets (forgotten_number old.last_eliciting packet old.packets)
 
-abbrev pub after_sending : {P : Type 0} → ℕ → Packet P → Tracking P → Tracking P
+abbrev pub after_sending : {P M : Type 0} → ℕ → Packet P M → Tracking P M → Tracking P M
 after_sending number packet old = record {
   packets = sent_onto old.last_eliciting number packet old.packets;
   last_eliciting = (if packet.ack_eliciting then Some number else old.last_eliciting);
 }
 
-abbrev pub after_taking : {P : Type 0} → ℕ → Tracking P → Tracking P
+abbrev pub after_taking : {P M : Type 0} → ℕ → Tracking P M → Tracking P M
 after_taking number old = record old { packets = without old.packets number }
 
-abbrev pub after_carrying : {P : Type 0} → ℕ → P → Tracking P → Tracking P
+abbrev pub after_carrying : {P M : Type 0} → ℕ → P → Tracking P M → Tracking P M
 after_carrying number contents old =
     record old { packets = carrying number contents old.packets }

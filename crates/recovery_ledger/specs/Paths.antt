@@ -24,35 +24,35 @@ abbrev pub with_counters : InFlight → PathLedger → PathLedger
 with_counters counters path = record path { in_flight = counters }
 
 -- the counters without a packet that left, if it is one of the path's
-abbrev pub counters_left : {P : Type 0} → PathLedger → Packet P → InFlight
+abbrev pub counters_left : {P M : Type 0} → PathLedger → Packet P M → InFlight
 counters_left path packet =
     if packet.path_generation == generation_of path
     then without_packet (counters_of path) packet
     else counters_of path
 
-abbrev pub after_leaving : {P : Type 0} → PathLedger → Packet P → PathLedger
+abbrev pub after_leaving : {P M : Type 0} → PathLedger → Packet P M → PathLedger
 after_leaving path packet = with_counters (counters_left path packet) path
 
-abbrev pub after_forgetting : {P : Type 0} → PathLedger → Option (ℕ × Packet P) → PathLedger
+abbrev pub after_forgetting : {P M : Type 0} → PathLedger → Option (ℕ × Packet P M) → PathLedger
 after_forgetting path None = path
 after_forgetting path (Some entry) = after_leaving path entry.1
 
 -- the path when a packet was sent on it, and perhaps another forgotten
-abbrev pub path_after_sending : {P : Type 0}
-    → PathLedger → Packet P → Option (ℕ × Packet P) → PathLedger
+abbrev pub path_after_sending : {P M : Type 0}
+    → PathLedger → Packet P M → Option (ℕ × Packet P M) → PathLedger
 path_after_sending path packet forgotten =
     after_forgetting (with_counters (with_packet (counters_of path) packet) path) forgotten
 
 -- ---- what is asked of callers
 
 -- where the packet is the path's, it is among those counted
-abbrev pub IsCountedOn : {P : Type 0} → PathLedger → Packet P → Type 0
+abbrev pub IsCountedOn : {P M : Type 0} → PathLedger → Packet P M → Type 0
 IsCountedOn path packet = packet.path_generation ≡ generation_of path → IsCounted (counters_of path) packet
 
 -- a packet of the path may be tracked in a space under a number: it is above all numbers of the
 -- space, and a packet of the path that is forgotten for it is among those counted
-pub record CanTrack {P : Type 0} (path : PathLedger) (number : ℕ) (packet : Packet P)
-    (space : Space P) : Type 0 where
+pub record CanTrack {P M : Type 0} (path : PathLedger) (number : ℕ) (packet : Packet P M)
+    (space : Space P M) : Type 0 where
   pub above : AreBelow (tracking_of space).packets number
   pub above_last : IsAboveLast (tracking_of space).last_eliciting number
   pub own : packet.path_generation ≡ generation_of path

@@ -3,13 +3,13 @@ use Rattle.std.specs.Prelude.{◌≡◌, ◌≢◌, ℕ, ◌+◌, ◌*◌, ◌^�
 use Rattle.recovery_ledger.specs.Packets.{Packets, packet_at}
 
 -- each packet has a slot, and beside as many as there are packets at most 64 are empty
-pub record HasSlots {P : Type 0} (packets : Packets P) (slots : ℕ) : Type 0 where
+pub record HasSlots {P M : Type 0} (packets : Packets P M) (slots : ℕ) : Type 0 where
   pub enough : length packets ≤ slots
   pub bound : slots ≤ 2 * length packets + 64
 
 -- the place of a tracked packet, and how many slots were looked at for it: at most as many as the count
 -- of slots has binary digits
-pub record FindsPacket {P : Type 0} (packets : Packets P) (number : ℕ) (found : Option ℕ × ℕ) : Type 0 where
+pub record FindsPacket {P M : Type 0} (packets : Packets P M) (number : ℕ) (found : Option ℕ × ℕ) : Type 0 where
   pub slots : ℕ
   pub has : HasSlots packets slots
   pub place : MatchOption found.0 (packet_at packets number ≡ None)

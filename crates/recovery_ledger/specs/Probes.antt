@@ -20,20 +20,21 @@ abbrev pub Moves : ProbeFound → Type 0
 Moves (moves number) = Unit {0}
 Moves other = ⊥
 
-module _ {P S : Type 0} (words : QueueWords P S) (streams : S) where
+-- what is found, by whether nothing is pending, and the first packet with contents
+abbrev pub found_by : Bool → Option ℕ → ProbeFound
+found_by true (Some number) = moves number
+found_by true None = nothing_found
+found_by false first = pending_stands
+
+module _ {P M S : Type 0} (words : QueueWords P S) (streams : S) where
   -- the packet has contents to be sent
-  abbrev pub is_filled : ℕ × Packet P → Bool
+  abbrev pub is_filled : ℕ × Packet P M → Bool
   is_filled entry = not (words.is_empty entry.1.retransmits streams)
 
   -- the least number of a packet with contents
-  abbrev pub first_filled : Packets P → Option ℕ
+  abbrev pub first_filled : Packets P M → Option ℕ
   first_filled packets = least_number (filter is_filled packets)
 
-  abbrev pub found_by : Bool → Option ℕ → ProbeFound
-  found_by true (Some number) = moves number
-  found_by true None = nothing_found
-  found_by false first = pending_stands
-
   -- what a probe finds, with these contents pending
-  abbrev pub probe_found : P → Packets P → ProbeFound
+  abbrev pub probe_found : P → Packets P M → ProbeFound
   probe_found pending packets = found_by (words.is_empty pending streams) (first_filled packets)

@@ -25,7 +25,7 @@ marks_with immediate found marks = record {
   immediate = immediate || marks.immediate;
 }
 
-abbrev pub marks_by : {P : Type 0} → List (SpaceEntry P) → Marks
+abbrev pub marks_by : {P M : Type 0} → List (SpaceEntry P M) → Marks
 marks_by [] = record { ping = false; immediate = false }
 marks_by (probes immediate found ∷ earlier) = marks_with immediate found (marks_by earlier)
 marks_by (entry ∷ earlier) = marks_by earlier
@@ -36,7 +36,7 @@ abbrev pub no_ecn : EcnCounts
 no_ecn = record { ect0 = 0; ect1 = 0; ce = 0 }
 
 -- the counts of the last ACK frame that were kept
-abbrev pub ecn_by : {P : Type 0} → List (SpaceEntry P) → EcnCounts
+abbrev pub ecn_by : {P M : Type 0} → List (SpaceEntry P M) → EcnCounts
 ecn_by [] = no_ecn
 ecn_by (feeds_back counts ∷ earlier) = counts
 ecn_by (entry ∷ earlier) = ecn_by earlier
@@ -48,20 +48,20 @@ pub record Queued (P : Type 0) : Type 0 where
   pub marks : Marks
   pub ecn : EcnCounts
 
-module _ {P S : Type 0} (words : QueueWords P S) where
+module _ {P M S : Type 0} (words : QueueWords P S) where
   -- the pending contents, and behind them those of a packet, where it is tracked
-  abbrev pub joined_with : P → Option (Packet P) → P
+  abbrev pub joined_with : P → Option (Packet P M) → P
   joined_with pending None = pending
   joined_with pending (Some packet) = words.joined pending packet.retransmits
 
   -- and behind them those that a probe finds
-  abbrev pub joined_found : P → ProbeFound → Packets P → P
+  abbrev pub joined_found : P → ProbeFound → Packets P M → P
   joined_found pending (moves number) packets = joined_with pending (packet_at packets number)
   joined_found pending pending_stands packets = pending
   joined_found pending nothing_found packets = pending
 
   -- what was lost or found by a probe, since all was handed out
-  abbrev pub pending_by : List (SpaceEntry P) → P
+  abbrev pub pending_by : List (SpaceEntry P M) → P
   pending_by [] = words.empty
   pending_by (loses number ∷ earlier) =
       joined_with (pending_by earlier) (packet_at (sent_by words earlier).tracked number)
@@ -70,9 +70,10 @@ module _ {P S : Type 0} (words : QueueWords P S) where
   pending_by (takes_pending ∷ earlier) = words.empty
   pending_by (entry ∷ earlier) = pending_by earlier
 
-  abbrev pub queued_by : List (SpaceEntry P) → Queued P
+  abbrev pub queued_by : List (SpaceEntry P M) → Queued P
   queued_by log = record { pending = pending_by log; marks = marks_by log; ecn = ecn_by log }
 
+module _ {P S : Type 0} (words : QueueWords P S) where
   -- ---- what can be sent
 
   -- something but an ACK is to be sent

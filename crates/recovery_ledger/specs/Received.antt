@@ -4,14 +4,14 @@ use Rattle.recovery_base.specs.Numbers.{With}
 use Rattle.recovery_ledger.specs.SpaceLog.{SpaceEntry, heard, heard_again}
 
 -- the numbers that came
-abbrev pub CameIn : {P : Type 0} → List (SpaceEntry P) → ℕ → Type 0
+abbrev pub CameIn : {P M : Type 0} → List (SpaceEntry P M) → ℕ → Type 0
 CameIn [] n = ⊥
 CameIn (heard now number ack_eliciting ∷ earlier) n = With number (CameIn earlier) n
 CameIn (heard_again number ∷ earlier) n = With number (CameIn earlier) n
 CameIn (entry ∷ earlier) n = CameIn earlier n
 
 -- the greatest new number, and 0 before the first
-abbrev pub greatest_new : {P : Type 0} → List (SpaceEntry P) → ℕ
+abbrev pub greatest_new : {P M : Type 0} → List (SpaceEntry P M) → ℕ
 greatest_new [] = 0
 greatest_new (heard now number ack_eliciting ∷ earlier) = max (greatest_new earlier) number
 greatest_new (entry ∷ earlier) = greatest_new earlier

@@ -6,28 +6,28 @@ use Rattle.recovery_ledger.specs.Packets.{Packet}
 use Rattle.recovery_ledger.specs.Probes.{ProbeFound}
 
 -- the contents P are what the queue of a packet holds
-pub data SpaceEntry (P : Type 0) : Type 0 where
+pub data SpaceEntry (P M : Type 0) : Type 0 where
   -- a new packet came
-  heard : (now number : ℕ) (ack_eliciting : Bool) → SpaceEntry P
+  heard : (now number : ℕ) (ack_eliciting : Bool) → SpaceEntry P M
   -- a packet came that may have come before
-  heard_again : (number : ℕ) → SpaceEntry P
+  heard_again : (number : ℕ) → SpaceEntry P M
   -- a packet is sent under a number
-  sends : (number : ℕ) (packet : Packet P) → SpaceEntry P
+  sends : (number : ℕ) (packet : Packet P M) → SpaceEntry P M
   -- a tracked packet is acknowledged
-  acknowledged : (number : ℕ) → SpaceEntry P
+  acknowledged : (number : ℕ) → SpaceEntry P M
   -- a tracked packet is lost: its contents are to be sent again
-  loses : (number : ℕ) → SpaceEntry P
+  loses : (number : ℕ) → SpaceEntry P M
   -- a probe is asked for, and perhaps an ACK at once for it
-  probes : (immediate : Bool) (found : ProbeFound) → SpaceEntry P
+  probes : (immediate : Bool) (found : ProbeFound) → SpaceEntry P M
   -- the contents to be sent again are handed out
-  takes_pending : SpaceEntry P
+  takes_pending : SpaceEntry P M
   -- an ACK frame's counts of ECN are kept
-  feeds_back : (counts : EcnCounts) → SpaceEntry P
+  feeds_back : (counts : EcnCounts) → SpaceEntry P M
   -- nothing is tracked any more
-  emptied : SpaceEntry P
+  emptied : SpaceEntry P M
   -- an ACK is sent
-  ack_goes : SpaceEntry P
+  ack_goes : SpaceEntry P M
   -- the timer for a late ACK expired
-  ack_is_late : SpaceEntry P
+  ack_is_late : SpaceEntry P M
   -- the peer asks for other thresholds
-  asked : (frame : AckFrequency) → SpaceEntry P
+  asked : (frame : AckFrequency) → SpaceEntry P M

@@ -24,7 +24,7 @@ use Rattle.recovery_ledger.specs.Received.{CameIn, greatest_new}
 use Rattle.recovery_ledger.specs.Packets.{Packet, Packets, Tracking, packet_at, AreBelow, IsAboveLast, AreAcknowledging, after_sending, after_taking, after_carrying, is_above}
 
 -- a space as contracts see it; the contents P are what its queues hold
-pub record Space (P : Type 0) : Type 0 where
+pub record Space (P M : Type 0) : Type 0 where
   pub dedup : Dedup
   pub pending_acks : Acks
   pub rx_packet : ℕ
@@ -34,7 +34,7 @@ pub record Space (P : Type 0) : Type 0 where
   pub loss_probes : ℕ
   pub sent_with_keys : ℕ
   pub next_packet_number : ℕ
-  pub sent_packets : Tracking P
+  pub sent_packets : Tracking P M
   -- what is to be sent again
   pub pending : P
   pub ping_pending : Bool
@@ -44,34 +44,34 @@ pub record Space (P : Type 0) : Type 0 where
   pub loss_time : Option ℕ
   pub crypto_offset : ℕ
 
-pub record Spaces (P : Type 0) : Type 0 where
-  pub initial : Space P
-  pub handshake : Space P
-  pub «data» : Space P
+pub record Spaces (P M : Type 0) : Type 0 where
+  pub initial : Space P M
+  pub handshake : Space P M
+  pub «data» : Space P M
 
-abbrev pub space_of : {P : Type 0} → SpaceId → Spaces P → Space P
+abbrev pub space_of : {P M : Type 0} → SpaceId → Spaces P M → Space P M
 space_of Initial spaces = spaces.initial
 space_of Handshake spaces = spaces.handshake
 space_of Data spaces = spaces.«data»
 
-abbrev pub with_space : {P : Type 0} → Spaces P → SpaceId → Space P → Spaces P
+abbrev pub with_space : {P M : Type 0} → Spaces P M → SpaceId → Space P M → Spaces P M
 with_space spaces Initial space = record spaces { initial = space }
 with_space spaces Handshake space = record spaces { handshake = space }
 with_space spaces Data space = record spaces { «data» = space }
 
 -- ---- one space
 
-abbrev pub tracking_of : {P : Type 0} → Space P → Tracking P
+abbrev pub tracking_of : {P M : Type 0} → Space P M → Tracking P M
 tracking_of space = space.sent_packets
 
-abbrev pub with_tracking : {P : Type 0} → Tracking P → Space P → Space P
+abbrev pub with_tracking : {P M : Type 0} → Tracking P M → Space P M → Space P M
 with_tracking tracking space = record space { sent_packets = tracking }
 
-abbrev pub packets_of : {P : Type 0} → Space P → Packets P
+abbrev pub packets_of : {P M : Type 0} → Space P M → Packets P M
 packets_of space = (tracking_of space).packets
 
 -- what is known of the packets sent
-abbrev pub sent_of : {P : Type 0} → Space P → Sent P
+abbrev pub sent_of : {P M : Type 0} → Space P M → Sent P M
 sent_of space = record {
   next = space.next_packet_number;
   last = (tracking_of space).last_eliciting;
@@ -79,7 +79,7 @@ sent_of space = record {
 }
 
 -- what is kept of the packets sent
-abbrev pub kept_of : {P : Type 0} → Space P → Kept
+abbrev pub kept_of : {P M : Type 0} → Space P M → Kept
 kept_of space = record {
   largest = record { number = space.largest_acked_packet; sent = space.largest_acked_packet_sent };
   last_sent = space.time_of_last_ack_eliciting_packet;
@@ -87,21 +87,21 @@ kept_of space = record {
   given_out = space.sent_with_keys;
 }
 
-abbrev pub marks_of : {P : Type 0} → Space P → Marks
+abbrev pub marks_of : {P M : Type 0} → Space P M → Marks
 marks_of space = record { ping = space.ping_pending; immediate = space.immediate_ack_pending }
 
 -- what is to be sent again, and what probes ask for
-abbrev pub queued_of : {P : Type 0} → Space P → Queued P
+abbrev pub queued_of : {P M : Type 0} → Space P M → Queued P
 queued_of space = record {
   pending = space.pending;
   marks = marks_of space;
   ecn = space.ecn_feedback;
 }
 
-abbrev pub acks_of : {P : Type 0} → Space P → Acks
+abbrev pub acks_of : {P M : Type 0} → Space P M → Acks
 acks_of space = space.pending_acks
 
-abbrev pub with_acks : {P : Type 0} → Acks → Space P → Space P
+abbrev pub with_acks : {P M : Type 0} → Acks → Space P M → Space P M
 with_acks acks space = record space { pending_acks = acks }
 
 -- what decides of the next ACK
@@ -113,24 +113,24 @@ counts_of acks = record {
   acknowledged = acks.acknowledged;
 }
 
-abbrev pub next_number_of : {P : Type 0} → Space P → ℕ
+abbrev pub next_number_of : {P M : Type 0} → Space P M → ℕ
 next_number_of space = space.next_packet_number
 
 -- the greatest ack-eliciting number was received
-abbrev pub HasGreatestCome : {P : Type 0} → Space P → Type 0
+abbrev pub HasGreatestCome : {P M : Type 0} → Space P M → Type 0
 HasGreatestCome space =
     (number : ℕ) → (acks_of space).greatest ≡ Some number → ¬ Exceeds (Has space.dedup) number
 
 -- all that was sent has a number below the next one, and acknowledges numbers of packets; what asks
 -- for an ACK was received
-pub record IsCoherent {P : Type 0} (space : Space P) : Type 0 where
+pub record IsCoherent {P M : Type 0} (space : Space P M) : Type 0 where
   pub packets : AreBelow (packets_of space) (next_number_of space)
   pub last : IsAboveLast (tracking_of space).last_eliciting (next_number_of space)
   pub acknowledging : AreAcknowledging (packets_of space)
   pub received : HasGreatestCome space
 
 -- a number is given out, and those from the next one up to it are skipped
-abbrev pub after_number : {P : Type 0} → ℕ → Space P → Space P
+abbrev pub after_number : {P M : Type 0} → ℕ → Space P M → Space P M
 after_number number space = record space {
   next_packet_number = number + 1;
   sent_with_keys =
@@ -138,14 +138,14 @@ after_number number space = record space {
 }
 
 -- a packet that elicits an ACK was sent at this moment
-abbrev pub after_eliciting : {P : Type 0} → Bool → ℕ → Space P → Space P
+abbrev pub after_eliciting : {P M : Type 0} → Bool → ℕ → Space P M → Space P M
 after_eliciting eliciting now space = record space {
   time_of_last_ack_eliciting_packet = (if eliciting then Some now else space.time_of_last_ack_eliciting_packet);
   loss_probes = (if eliciting then space.loss_probes - 1 else space.loss_probes);
 }
 
 -- a number is acknowledged, sent at this moment: the greatest is kept
-abbrev pub after_acknowledging : {P : Type 0} → ℕ → ℕ → Space P → Space P
+abbrev pub after_acknowledging : {P M : Type 0} → ℕ → ℕ → Space P M → Space P M
 after_acknowledging number sent space = record space {
   largest_acked_packet = (if is_above space.largest_acked_packet number then Some number else space.largest_acked_packet);
   largest_acked_packet_sent = (if is_above space.largest_acked_packet number then sent else space.largest_acked_packet_sent);
@@ -162,7 +162,7 @@ heard_with Numbers acks = record {
   started = (m : ℕ) × (acks.base ≡ Some m);
 }
 
-abbrev pub heard_of : {P : Type 0} → Space P → Heard
+abbrev pub heard_of : {P M : Type 0} → Space P M → Heard
 heard_of space = heard_with (Has space.dedup) (acks_of space)
 
 -- a new number came and is to be acknowledged
@@ -176,8 +176,8 @@ pub record HearsNew (Numbers : ℕ → Type 0) (old : Acks) (now number : ℕ) (
   pub silent : new.silent ≡ (if eliciting then old.silent else counted old.silent)
   pub largest : new.largest ≡ largest_with old.largest number now
 
-pub record ReceivesNew {P : Type 0} (old : Space P) (now number : ℕ) (eliciting : Bool)
-    (new : Space P) : Type 0 where
+pub record ReceivesNew {P M : Type 0} (old : Space P M) (now number : ℕ) (eliciting : Bool)
+    (new : Space P M) : Type 0 where
   pub numbers : (n : ℕ) → Has new.dedup n ↔ Recent (With number (Has old.dedup)) n
   pub hears : HearsNew (Has old.dedup) (acks_of old) now number eliciting (acks_of new)
   pub others : new ≡ record old {
@@ -187,12 +187,12 @@ pub record ReceivesNew {P : Type 0} (old : Space P) (now number : ℕ) (elicitin
   }
 
 -- a packet was sent under a number
-abbrev pub space_sends : {P : Type 0} → ℕ → Packet P → Space P → Space P
+abbrev pub space_sends : {P M : Type 0} → ℕ → Packet P M → Space P M → Space P M
 space_sends number packet space = after_eliciting packet.ack_eliciting packet.time_sent
     (after_number number (with_tracking (after_sending number packet (tracking_of space)) space))
 
 -- the packet of a number is no longer tracked
-abbrev pub space_takes : {P : Type 0} → ℕ → Space P → Space P
+abbrev pub space_takes : {P M : Type 0} → ℕ → Space P M → Space P M
 space_takes number space = with_tracking (after_taking number (tracking_of space)) space
 
 -- the numbers up to the largest that the peer knows of need no acknowledgement any more
@@ -201,78 +201,78 @@ SubtractsLargest None old new = new ≡ old
 SubtractsLargest (Some largest) old new = SubtractsBelow old largest new
 
 -- a tracked packet was acknowledged
-pub record SpaceAcks {P : Type 0} (number : ℕ) (old new : Space P) : Type 0 where
-  pub packet : Packet P
+pub record SpaceAcks {P M : Type 0} (number : ℕ) (old new : Space P M) : Type 0 where
+  pub packet : Packet P M
   pub found : packet_at (packets_of old) number ≡ Some packet
   pub subtracts : SubtractsLargest packet.largest_acked (acks_of old) (acks_of new)
   pub others : new ≡ with_acks (acks_of new)
       (after_acknowledging number packet.time_sent (space_takes number old))
 
 -- nothing is tracked any more
-abbrev pub space_empties : {P : Type 0} → Space P → Space P
+abbrev pub space_empties : {P M : Type 0} → Space P M → Space P M
 space_empties space = with_tracking (record (tracking_of space) { packets = [] }) space
 
 -- an ACK was sent
-abbrev pub space_acked : {P : Type 0} → Space P → Space P
+abbrev pub space_acked : {P M : Type 0} → Space P M → Space P M
 space_acked space = with_acks (acks_sent (acks_of space)) space
 
 -- the timer for a late ACK expired
-abbrev pub space_late : {P : Type 0} → Space P → Space P
+abbrev pub space_late : {P M : Type 0} → Space P M → Space P M
 space_late space =
     with_acks (with_required (nat_lt 0 (acks_of space).eliciting) (acks_of space)) space
 
 -- the peer asked for other thresholds
-abbrev pub space_asked : {P : Type 0} → AckFrequency → Space P → Space P
+abbrev pub space_asked : {P M : Type 0} → AckFrequency → Space P M → Space P M
 space_asked frame space =
     with_acks
     (with_thresholds frame.ack_eliciting_threshold frame.reordering_threshold (acks_of space))
     space
 
 -- counts of ECN were kept
-abbrev pub space_fed_back : {P : Type 0} → EcnCounts → Space P → Space P
+abbrev pub space_fed_back : {P M : Type 0} → EcnCounts → Space P M → Space P M
 space_fed_back counts space = record space { ecn_feedback = counts }
 
-abbrev pub with_marks : {P : Type 0} → Marks → Space P → Space P
+abbrev pub with_marks : {P M : Type 0} → Marks → Space P M → Space P M
 with_marks marks space = record space {
   ping_pending = marks.ping;
   immediate_ack_pending = marks.immediate;
 }
 
 -- one probe more is to be sent
-abbrev pub one_probe_more : {P : Type 0} → Space P → Space P
+abbrev pub one_probe_more : {P M : Type 0} → Space P M → Space P M
 one_probe_more space = record space { loss_probes = one_more space.loss_probes }
 
-module _ {P S : Type 0} (words : QueueWords P S) where
+module _ {P M S : Type 0} (words : QueueWords P S) where
   -- the contents of a tracked packet are moved behind the pending ones
-  abbrev pub space_moves : ℕ → Space P → Space P
+  abbrev pub space_moves : ℕ → Space P M → Space P M
   space_moves number space = record space {
     sent_packets = after_carrying number words.empty (tracking_of space);
     pending = joined_with words space.pending (packet_at (packets_of space) number);
   }
 
   -- a tracked packet was lost: its contents are to be sent again
-  abbrev pub space_loses : ℕ → Space P → Space P
+  abbrev pub space_loses : ℕ → Space P M → Space P M
   space_loses number space = record space {
     sent_packets = after_taking number (tracking_of space);
     pending = joined_with words space.pending (packet_at (packets_of space) number);
   }
 
-  abbrev pub space_finds : ProbeFound → Space P → Space P
+  abbrev pub space_finds : ProbeFound → Space P M → Space P M
   space_finds (moves number) space = space_moves number space
   space_finds pending_stands space = space
   space_finds nothing_found space = space
 
   -- contents for a probe were looked for
-  abbrev pub space_probes : Bool → ProbeFound → Space P → Space P
+  abbrev pub space_probes : Bool → ProbeFound → Space P M → Space P M
   space_probes immediate found space =
       with_marks (marks_with immediate found (marks_of space)) (space_finds found space)
 
   -- the pending contents were handed out
-  abbrev pub space_hands_out : Space P → Space P
+  abbrev pub space_hands_out : Space P M → Space P M
   space_hands_out space = record space { pending = words.empty }
 
 -- a packet came in
-abbrev pub came : {P : Type 0} → ℕ → ℕ → Bool → Receipt → SpaceEntry P
+abbrev pub came : {P M : Type 0} → ℕ → ℕ → Bool → Receipt → SpaceEntry P M
 came now number ack_eliciting (New arm) = heard now number ack_eliciting
 came now number ack_eliciting Duplicate = heard_again number
 
@@ -300,8 +300,8 @@ pub record AcksLeft (said : AcksSaid) (acks : Acks) : Type 0 where
   pub silent : acks.silent ≡ said.silent
   pub largest : acks.largest ≡ said.largest
 
-module _ {P S : Type 0} (words : QueueWords P S) where
-  abbrev pub SpaceStep : SpaceEntry P → Space P → Space P → Type 0
+module _ {P M S : Type 0} (words : QueueWords P S) where
+  abbrev pub SpaceStep : SpaceEntry P M → Space P M → Space P M → Type 0
   SpaceStep (heard now number ack_eliciting) old new = ReceivesNew old now number ack_eliciting new
   SpaceStep (heard_again number) old new =
       ((n : ℕ) → Has new.dedup n ↔ Recent (With number (Has old.dedup)) n) × (new ≡ old)
@@ -319,7 +319,7 @@ module _ {P S : Type 0} (words : QueueWords P S) where
   SpaceStep (asked frame) old new = new ≡ space_asked frame old
 
   -- what a log leaves in a space that was made at this moment
-  pub record SpaceLeft (start : ℕ) (log : List (SpaceEntry P)) (left : Space P) : Type 0 where
+  pub record SpaceLeft (start : ℕ) (log : List (SpaceEntry P M)) (left : Space P M) : Type 0 where
     -- a space knows the numbers that came in it, at most 128 below the greatest
     pub numbers : (n : ℕ) → Has left.dedup n ↔ Recent (CameIn log) n
     pub acks : AcksLeft (acks_by words log) (acks_of left)

@@ -6,29 +6,30 @@ use Rattle.recovery_ledger.specs.Probes.{ProbeFound, pending_stands, moves, noth
 use Rattle.recovery_ledger.specs.SpaceLog.{SpaceEntry, sends, acknowledged, loses, probes, emptied}
 
 -- a packet as it is sent
-abbrev pub packet_sent : {P : Type 0} → ℕ → ℕ → ℕ → Bool → Option ℕ → P → Packet P
-packet_sent generation now size ack_eliciting largest_acked retransmits = record {
+abbrev pub packet_sent : {P M : Type 0} → ℕ → ℕ → ℕ → Bool → Option ℕ → P → M → Packet P M
+packet_sent generation now size ack_eliciting largest_acked retransmits stream_frames = record {
   path_generation = generation;
   time_sent = now;
   size = size;
   ack_eliciting = ack_eliciting;
   largest_acked = largest_acked;
   retransmits = retransmits;
+  stream_frames = stream_frames;
 }
 
-pub record Sent (P : Type 0) : Type 0 where
+pub record Sent (P M : Type 0) : Type 0 where
   -- one above the last number given out
   pub next : ℕ
   -- the number of the last packet sent that elicits an ACK
   pub last : Option ℕ
   -- the packets sent, and since then not acknowledged, lost, forgotten or discarded
-  pub tracked : Packets P
+  pub tracked : Packets P M
 
 -- the number that is forgotten when a packet is sent
-abbrev pub forgotten_by : {P : Type 0} → Sent P → Packet P → Option ℕ
+abbrev pub forgotten_by : {P M : Type 0} → Sent P M → Packet P M → Option ℕ
 forgotten_by sent packet = forgotten_number sent.last packet sent.tracked
 
-abbrev pub sent_more : {P : Type 0} → ℕ → Packet P → Sent P → Sent P
+abbrev pub sent_more : {P M : Type 0} → ℕ → Packet P M → Sent P M → Sent P M
 sent_more number packet sent = record {
   next = number + 1;
   last = (if packet.ack_eliciting then Some number else sent.last);
@@ -36,17 +37,17 @@ sent_more number packet sent = record {
 }
 
 -- a packet is tracked no more
-abbrev pub sent_less : {P : Type 0} → ℕ → Sent P → Sent P
+abbrev pub sent_less : {P M : Type 0} → ℕ → Sent P M → Sent P M
 sent_less number sent = record sent { tracked = without sent.tracked number }
 
 -- a packet's contents are moved out, where a probe finds them
-abbrev pub sent_moved : {P : Type 0} → P → ProbeFound → Sent P → Sent P
+abbrev pub sent_moved : {P M : Type 0} → P → ProbeFound → Sent P M → Sent P M
 sent_moved empty (moves number) sent = record sent { tracked = carrying number empty sent.tracked }
 sent_moved empty pending_stands sent = sent
 sent_moved empty nothing_found sent = sent
 
-module _ {P S : Type 0} (words : QueueWords P S) where
-  abbrev pub sent_by : List (SpaceEntry P) → Sent P
+module _ {P M S : Type 0} (words : QueueWords P S) where
+  abbrev pub sent_by : List (SpaceEntry P M) → Sent P M
   sent_by [] = record { next = 0; last = None; tracked = [] }
   sent_by (sends number packet ∷ earlier) = sent_more number packet (sent_by earlier)
   sent_by (acknowledged number ∷ earlier) = sent_less number (sent_by earlier)

@@ -41,7 +41,7 @@ impl<Q: RetransmitQueue> Model for SentPackets<Q> {
     ghost use Rattle.recovery_ledger.specs.Packets.{Tracking};
     ghost use Rattle.recovery_ledger.specs.Counts.{AreTracked};
 
-    ghost Value = { Tracking Q.Contents };
+    ghost Value = { Tracking Q.Contents Q.Meta };
 
     ghost view = { λ a. record { packets = entries_of a.packets; last_eliciting = a.last_eliciting } };
 

@@ -51,7 +51,7 @@ pub struct SentPacket<Q: RetransmitQueue> {
 impl<Q: RetransmitQueue> Model for SentPacket<Q> {
     ghost use Rattle.recovery_ledger.specs.Packets.{Packet};
 
-    ghost Value = { Packet Q.Contents };
+    ghost Value = { Packet Q.Contents Q.Meta };
 
     ghost view = { λ packet. record {
       path_generation = packet.path_generation;
@@ -60,6 +60,7 @@ impl<Q: RetransmitQueue> Model for SentPacket<Q> {
       ack_eliciting = packet.ack_eliciting;
       largest_acked = packet.largest_acked;
       retransmits = Q.contents packet.retransmits;
+      stream_frames = packet.stream_frames;
     } };
 }
 
@@ -155,7 +156,7 @@ pub struct PacketSpace<Q: RetransmitQueue> {
 impl<Q: RetransmitQueue> Model for PacketSpace<Q> {
     ghost use Rattle.recovery_ledger.specs.Spaces.{Space};
 
-    ghost Value = { Space Q.Contents };
+    ghost Value = { Space Q.Contents Q.Meta };
 
     ghost view = { λ space. record {
       dedup = space.dedup;
@@ -190,8 +191,8 @@ where
         ensures received { result.rx_packet ≡ 0 }
         ensures packets { tracking_of result ≡ no_packets }
         ensures next { next_number_of result ≡ 0 }
-        ensures kept { kept_of result ≡ kept_by Q.words now [] }
-        ensures queued { queued_of result ≡ queued_by Q.words [] }
+        ensures kept { kept_of result ≡ kept_by {M = Q.Meta} Q.words now [] }
+        ensures queued { queued_of result ≡ queued_by {M = Q.Meta} Q.words [] }
         ensures ecn { result.ecn_counters ≡ no_ecn }
         ensures loss_time { result.loss_time ≡ None }
         ensures crypto_offset { result.crypto_offset ≡ 0 }
@@ -548,7 +549,7 @@ pub struct PacketSpaces<Q: RetransmitQueue> {
 impl<Q: RetransmitQueue> Model for PacketSpaces<Q> {
     ghost use Rattle.recovery_ledger.specs.Spaces.{Spaces};
 
-    ghost Value = { Spaces Q.Contents };
+    ghost Value = { Spaces Q.Contents Q.Meta };
 
     ghost view = { λ spaces. record {
       initial = spaces.initial;
@@ -567,10 +568,15 @@ where
         ensures numbers { (space : SpaceId) (n : ℕ) → ¬ Has (space_of space result).dedup n }
         ensures acks { (space : SpaceId) → acks_of (space_of space result) ≡ new_acks [] }
         ensures received { (space : SpaceId) → (space_of space result).rx_packet ≡ 0 }
-        ensures kept { (space : SpaceId) → kept_of (space_of space result) ≡ kept_by Q.words now [] }
-        ensures queued { (space : SpaceId) → queued_of (space_of space result) ≡ queued_by Q.words [] }
+        ensures kept { (space : SpaceId) →
+            kept_of (space_of space result) ≡ kept_by {M = Q.Meta} Q.words now [] }
+        ensures queued { (space : SpaceId) →
+            queued_of (space_of space result) ≡ queued_by {M = Q.Meta} Q.words [] }
         ensures packets { (space : SpaceId) → tracking_of (space_of space result) ≡ no_packets }
         ensures next { (space : SpaceId) → next_number_of (space_of space result) ≡ 0 }
+        ensures ecn { (space : SpaceId) → (space_of space result).ecn_counters ≡ no_ecn }
+        ensures loss_time { (space : SpaceId) → (space_of space result).loss_time ≡ None }
+        ensures crypto_offset { (space : SpaceId) → (space_of space result).crypto_offset ≡ 0 }
     {
         PacketSpaces {
             initial: PacketSpace::new(alloc, now),

@@ -34,7 +34,8 @@ for_changed Holds change (Some a) holds = λ other is. subst Holds (some_same is
 
 -- ---- the paths change, and none its generation
 
-module _ {K P : Type 0} (spaces after : Spaces P) (paths : OfPaths (Path K)) (balanced : AreBalanced spaces paths) where
+module _ {K P M : Type 0} (spaces after : Spaces P M) (paths : OfPaths (Path K))
+    (balanced : AreBalanced spaces paths) where
   changed : (current : Path K) (change : Path K → Path K) → generation_of current.ledger ≡ generation_of paths.current.ledger → IsBalancedOn after current.ledger
       → ((path : Path K) → paths.previous ≡ Some path → generation_of (change path).ledger ≡ generation_of path.ledger)
       → ((path : Path K) → paths.previous ≡ Some path → IsBalancedOn after (change path).ledger)
@@ -54,16 +55,16 @@ module _ {K P : Type 0} (spaces after : Spaces P) (paths : OfPaths (Path K)) (ba
         coherent = coherent;
       }
 
-module _ {K P : Type 0} (spaces : Spaces P) (paths : OfPaths (Path K)) (balanced : AreBalanced spaces paths) where
+module _ {K P M : Type 0} (spaces : Spaces P M) (paths : OfPaths (Path K)) (balanced : AreBalanced spaces paths) where
   -- ---- nothing that is tracked changes
 
-  up_to_here : (space : SpaceId) (here : Space P) → IsUpTo (generation_of paths.current.ledger) (packets_of here) → AreUpTo (generation_of paths.current.ledger) (with_space spaces space here)
+  up_to_here : (space : SpaceId) (here : Space P M) → IsUpTo (generation_of paths.current.ledger) (packets_of here) → AreUpTo (generation_of paths.current.ledger) (with_space spaces space here)
   up_to_here space here all = up_to_with (generation_of paths.current.ledger) spaces space here balanced.up_to all
 
   -- other parts of a space change
-  pub kept : (space : SpaceId) (here : Space P) → packets_of here ≡ tracked_by spaces space → IsCoherent here → AreBalanced (with_space spaces space here) paths
+  pub kept : (space : SpaceId) (here : Space P M) → packets_of here ≡ tracked_by spaces space → IsCoherent here → AreBalanced (with_space spaces space here) paths
   kept space here same coherent =
-      let Up : Packets P → Type 0 = IsUpTo (generation_of paths.current.ledger) in
+      let Up : Packets P M → Type 0 = IsUpTo (generation_of paths.current.ledger) in
       record {
         current = balanced_kept spaces paths.current.ledger balanced.current space here same;
         previous = λ path is. balanced_kept spaces path.ledger (balanced.previous path is) space here same;
@@ -99,7 +100,7 @@ module _ {K P : Type 0} (spaces : Spaces P) (paths : OfPaths (Path K)) (balanced
 
   -- ---- a packet is sent on the path in use
 
-  pub can_track : (space : SpaceId) (number : ℕ) (packet : Packet P) → packet.path_generation ≡ generation_of paths.current.ledger → next_number_of (space_of space spaces) ≤ number → CanTrackOn paths number packet (space_of space spaces)
+  pub can_track : (space : SpaceId) (number : ℕ) (packet : Packet P M) → packet.path_generation ≡ generation_of paths.current.ledger → next_number_of (space_of space spaces) ≤ number → CanTrackOn paths number packet (space_of space spaces)
   can_track space number packet own above =
       let coherent : IsCoherent (space_of space spaces) = balanced.coherent space in
       record {
@@ -112,14 +113,14 @@ module _ {K P : Type 0} (spaces : Spaces P) (paths : OfPaths (Path K)) (balanced
         previous = λ path is. forgotten_counted spaces path.ledger (balanced.previous path is) space packet;
       }
 
-  pub sent : (space : SpaceId) (number : ℕ) (packet : Packet P) (here : Space P) → packet.path_generation ≡ generation_of paths.current.ledger → next_number_of (space_of space spaces) ≤ number → (¬ IsTooLarge packet.largest_acked)
+  pub sent : (space : SpaceId) (number : ℕ) (packet : Packet P M) (here : Space P M) → packet.path_generation ≡ generation_of paths.current.ledger → next_number_of (space_of space spaces) ≤ number → (¬ IsTooLarge packet.largest_acked)
       → tracking_of here ≡ after_sending number packet (tracking_of (space_of space spaces)) → next_number_of here ≡ number + 1 → HasGreatestCome here
       → AreBalanced (with_space spaces space here) (paths_after_sending packet (forgotten_entry packet (tracking_of (space_of space spaces))) paths)
   sent space number packet here own above small tracking next received =
-      let old : Tracking P = tracking_of (space_of space spaces) in
-      let forgotten : Option (ℕ × Packet P) = forgotten_entry packet old in
-      let Up : Packets P → Type 0 = IsUpTo (generation_of paths.current.ledger) in
-      let packets : packets_of here ≡ sent_onto old.last_eliciting number packet old.packets = ap (λ (t : Tracking P). t.packets) tracking in
+      let old : Tracking P M = tracking_of (space_of space spaces) in
+      let forgotten : Option (ℕ × Packet P M) = forgotten_entry packet old in
+      let Up : Packets P M → Type 0 = IsUpTo (generation_of paths.current.ledger) in
+      let packets : packets_of here ≡ sent_onto old.last_eliciting number packet old.packets = ap (λ (t : Tracking P M). t.packets) tracking in
       changed spaces (with_space spaces space here) paths balanced
       (on_ledger (λ ledger. path_after_sending ledger packet forgotten) paths.current) (on_ledger (λ ledger. after_forgetting ledger forgotten))
       (generation_after_sending paths.current.ledger packet forgotten)
@@ -133,17 +134,17 @@ module _ {K P : Type 0} (spaces : Spaces P) (paths : OfPaths (Path K)) (balanced
   -- ---- a packet is acknowledged or lost
 
   -- a tracked packet is among those counted on its path, where that lives
-  pub counted : (space : SpaceId) (number : ℕ) (packet : Packet P) → packet_at (tracked_by spaces space) number ≡ Some packet → IsCountedOnEach paths packet
+  pub counted : (space : SpaceId) (number : ℕ) (packet : Packet P M) → packet_at (tracked_by spaces space) number ≡ Some packet → IsCountedOnEach paths packet
   counted space number packet found = (packet_counted spaces paths.current.ledger balanced.current space number packet found, λ path is. packet_counted spaces path.ledger (balanced.previous path is) space number packet found)
 
   -- and so is one that is lost, as it is handed back
-  pub lost_counted_on : (space : SpaceId) (number : ℕ) (contents : P) (packet : Packet P) → option_map (with_contents contents) (packet_at (tracked_by spaces space) number) ≡ Some packet → IsCountedOnEach paths packet
+  pub lost_counted_on : (space : SpaceId) (number : ℕ) (contents : P) (packet : Packet P M) → option_map (with_contents contents) (packet_at (tracked_by spaces space) number) ≡ Some packet → IsCountedOnEach paths packet
   lost_counted_on space number contents packet is = (lost_counted spaces paths.current.ledger balanced.current space number contents packet is, λ path lives. lost_counted spaces path.ledger (balanced.previous path lives) space number contents packet is)
 
-  module _ (space : SpaceId) (number : ℕ) (packet : Packet P) (here : Space P) where
+  module _ (space : SpaceId) (number : ℕ) (packet : Packet P M) (here : Space P M) where
     up_to_left : packets_of here ≡ without (tracked_by spaces space) number → AreUpTo (generation_of paths.current.ledger) (with_space spaces space here)
     up_to_left packets =
-        let Up : Packets P → Type 0 = IsUpTo (generation_of paths.current.ledger) in
+        let Up : Packets P M → Type 0 = IsUpTo (generation_of paths.current.ledger) in
         up_to_here space here (subst Up (sym packets) (up_to_taken (generation_of paths.current.ledger) (tracked_by spaces space) number (balanced.up_to space)))
 
     pub acked : packet_at (tracked_by spaces space) number ≡ Some packet → packets_of here ≡ without (tracked_by spaces space) number → IsCoherent here
@@ -166,7 +167,7 @@ module _ {K P : Type 0} (spaces : Spaces P) (paths : OfPaths (Path K)) (balanced
 
   pub probed : {S : Type 0} → (words : QueueWords P S) (space : SpaceId) (immediate : Bool) (found : ProbeFound) → AreBalanced (with_space spaces space (space_probes words immediate found (one_probe_more (space_of space spaces)))) paths
   probed words space immediate found =
-      let here : Space P = space_probes words immediate found (one_probe_more (space_of space spaces)) in
+      let here : Space P M = space_probes words immediate found (one_probe_more (space_of space spaces)) in
       record {
         current = balanced_probed spaces paths.current.ledger balanced.current words space immediate found;
         previous = λ path is. balanced_probed spaces path.ledger (balanced.previous path is) words space immediate found;
@@ -181,12 +182,12 @@ module _ {K P : Type 0} (spaces : Spaces P) (paths : OfPaths (Path K)) (balanced
   all_counted space = (space_counted spaces paths.current.ledger balanced.current space, λ path is. space_counted spaces path.ledger (balanced.previous path is) space)
 
 -- all that is left leaves
-left_all : {P : Type 0} (then : PathLedger) (all rest : Packets P) (ledger : PathLedger) → Leaving then all ledger rest → Leaving then all (ledger_without rest ledger) []
+left_all : {P M : Type 0} (then : PathLedger) (all rest : Packets P M) (ledger : PathLedger) → Leaving then all ledger rest → Leaving then all (ledger_without rest ledger) []
 left_all then all [] ledger leaving = leaving
 left_all then all (entry ∷ rest) ledger leaving = left_all then all rest (after_leaving ledger entry.1) (leaving_first then all ledger entry rest leaving).1
 
-module _ {K P : Type 0} (spaces : Spaces P) (paths : OfPaths (Path K)) (balanced : AreBalanced spaces paths) where
-  module _ (space : SpaceId) (here : Space P) (none : packets_of here ≡ []) where
+module _ {K P M : Type 0} (spaces : Spaces P M) (paths : OfPaths (Path K)) (balanced : AreBalanced spaces paths) where
+  module _ (space : SpaceId) (here : Space P M) (none : packets_of here ≡ []) where
     without_all : (ledger : PathLedger) → IsBalancedOn spaces ledger → Leaving ledger (tracked_by spaces space) (ledger_without (tracked_by spaces space) ledger) []
     without_all ledger now = left_all ledger (tracked_by spaces space) (tracked_by spaces space) ledger (leaving_none ledger (tracked_by spaces space) (space_counted spaces ledger now space))
 
@@ -198,7 +199,7 @@ module _ {K P : Type 0} (spaces : Spaces P) (paths : OfPaths (Path K)) (balanced
 
     pub emptied : IsCoherent here → AreBalanced (with_space spaces space here) (paths_without (tracked_by spaces space) paths)
     emptied coherent =
-        let Up : Packets P → Type 0 = IsUpTo (generation_of paths.current.ledger) in
+        let Up : Packets P M → Type 0 = IsUpTo (generation_of paths.current.ledger) in
         changed spaces (with_space spaces space here) paths balanced
         (on_ledger (ledger_without (tracked_by spaces space)) paths.current) (on_ledger (ledger_without (tracked_by spaces space)))
         (without_all paths.current.ledger balanced.current).generation (balanced_without paths.current.ledger balanced.current)
@@ -210,7 +211,7 @@ module _ {K P : Type 0} (spaces : Spaces P) (paths : OfPaths (Path K)) (balanced
 -- ---- a fresh start
 
 -- one path, on which nothing is in flight, and spaces that track nothing
-pub fresh : {K P : Type 0} (spaces : Spaces P) (path : Path K) → ((space : SpaceId) → tracking_of (space_of space spaces) ≡ no_packets) → AreCoherent spaces
+pub fresh : {K P M : Type 0} (spaces : Spaces P M) (path : Path K) → ((space : SpaceId) → tracking_of (space_of space spaces) ≡ no_packets) → AreCoherent spaces
     → counters_of path.ledger ≡ record { bytes = 0; ack_eliciting = 0 } → AreBalanced spaces (let all : OfPaths (Path K) = record { current = path; previous = None } in all)
 fresh spaces path none coherent zero = record {
   current = fresh_balanced spaces path.ledger none zero;

@@ -15,7 +15,7 @@ none_is_some e = cc
 some_same : {A : Type 0} {a b : A} → Some a ≡ Some b → a ≡ b
 some_same e = cc
 
-module _ {K P : Type 0} (entry : ℕ × Packet P) (rest : Packets P) where
+module _ {K P M : Type 0} (entry : ℕ × Packet P M) (rest : Packets P M) where
   twice : (path : Option (Path K)) → option_map (on_ledger (ledger_without rest)) (option_map (left_by entry.1) path) ≡ option_map (on_ledger (ledger_without (entry ∷ rest))) path
   twice None = refl
   twice (Some path) = refl
@@ -24,7 +24,7 @@ module _ {K P : Type 0} (entry : ℕ × Packet P) (rest : Packets P) where
   pub without_first : (paths : OfPaths (Path K)) → paths_without rest (each_path (left_by entry.1) paths) ≡ paths_without (entry ∷ rest) paths
   without_first paths = ap (λ (previous : Option (Path K)). let all : OfPaths (Path K) = record { current = on_ledger (ledger_without (entry ∷ rest)) paths.current; previous = previous } in all) (twice paths.previous)
 
-  abbrev AreCountedBy : Packets P → Path K → Type 0
+  abbrev AreCountedBy : Packets P M → Path K → Type 0
   AreCountedBy packets path = IsCountedIn (counters_of path.ledger) (generation_of path.ledger) packets
 
   previous_counted : (path : Option (Path K)) → ForSome path (AreCountedBy (entry ∷ rest)) → ForSome (option_map (left_by entry.1) path) (AreCountedBy rest)

@@ -16,24 +16,24 @@ module _ {K : Type 0} where
   on_ledger change path = record path { ledger = change path.ledger }
 
 -- packets leave a path, one after another
-abbrev pub ledger_without : {P : Type 0} → Packets P → PathLedger → PathLedger
+abbrev pub ledger_without : {P M : Type 0} → Packets P M → PathLedger → PathLedger
 ledger_without [] ledger = ledger
 ledger_without (entry ∷ packets) ledger = ledger_without packets (after_leaving ledger entry.1)
 
-module _ {K P : Type 0} where
+module _ {K P M : Type 0} where
   -- ---- what is asked of callers
 
   -- the packet is among those counted on its path, where that lives
-  abbrev pub IsCountedOnEach : OfPaths (Path K) → Packet P → Type 0
+  abbrev pub IsCountedOnEach : OfPaths (Path K) → Packet P M → Type 0
   IsCountedOnEach paths packet = OnEachPath (λ path. IsCountedOn path.ledger packet) paths
 
   -- and so are all packets of a space
-  abbrev pub AreCountedOnEach : OfPaths (Path K) → Packets P → Type 0
+  abbrev pub AreCountedOnEach : OfPaths (Path K) → Packets P M → Type 0
   AreCountedOnEach paths packets =
       OnEachPath (λ path. IsCountedIn (counters_of path.ledger) (generation_of path.ledger) packets) paths
 
   -- a packet may be tracked for the path in use, and one that is forgotten for it is among those counted on its path
-  pub record CanTrackOn (paths : OfPaths (Path K)) (number : ℕ) (packet : Packet P) (space : Space P) : Type 0 where
+  pub record CanTrackOn (paths : OfPaths (Path K)) (number : ℕ) (packet : Packet P M) (space : Space P M) : Type 0 where
     pub current : CanTrack paths.current.ledger number packet space
     pub previous : ForSome paths.previous (λ path.
         ForSome (forgotten_entry packet (tracking_of space)) (λ entry. IsCountedOn path.ledger entry.1))
@@ -41,29 +41,30 @@ module _ {K P : Type 0} where
   -- ---- what is in flight then
 
   -- a packet is sent on the path in use, and another is perhaps forgotten
-  abbrev pub paths_after_sending : Packet P → Option (ℕ × Packet P) → OfPaths (Path K) → OfPaths (Path K)
+  abbrev pub paths_after_sending : Packet P M → Option (ℕ × Packet P M) → OfPaths (Path K) → OfPaths (Path K)
   paths_after_sending packet forgotten paths = record {
     current = on_ledger (λ ledger. path_after_sending ledger packet forgotten) paths.current;
     previous = option_map (on_ledger (λ ledger. after_forgetting ledger forgotten)) paths.previous;
   }
 
   -- a packet leaves its path
-  abbrev pub left_by : Packet P → Path K → Path K
+  abbrev pub left_by : Packet P M → Path K → Path K
   left_by packet = on_ledger (λ ledger. after_leaving ledger packet)
 
   -- all packets of a space leave
-  abbrev pub paths_without : Packets P → OfPaths (Path K) → OfPaths (Path K)
+  abbrev pub paths_without : Packets P M → OfPaths (Path K) → OfPaths (Path K)
   paths_without packets paths = each_path (on_ledger (ledger_without packets)) paths
 
   -- a packet is lost
-  abbrev pub paths_losing : SpaceId → ℕ → Packet P → OfPaths (Path K) → OfPaths (Path K)
+  abbrev pub paths_losing : SpaceId → ℕ → Packet P M → OfPaths (Path K) → OfPaths (Path K)
   paths_losing space number packet paths = record {
     current = path_lost space number packet paths.current;
     previous = option_map (left_by packet) paths.previous;
   }
 
   -- a packet is acknowledged
-  abbrev pub paths_acking : ControllerWords K → SpaceId → ℕ → ℕ → Bool → Packet P → OfPaths (Path K) → OfPaths (Path K)
+  abbrev pub paths_acking : ControllerWords K → SpaceId → ℕ → ℕ → Bool → Packet P M → OfPaths (Path K)
+      → OfPaths (Path K)
   paths_acking words space number now app_limited packet paths = record {
     current = path_acked words space number now app_limited packet paths.current;
     previous = option_map (left_by packet) paths.previous;

@@ -86,7 +86,7 @@ module _ {K : Type 0} where
   abbrev pub is_path_probe : SpaceId → ℕ → PathState K → Bool
   is_path_probe space number path = is_data space && is_probe number path.discovery
 
-  abbrev pub path_lost : {P : Type 0} → SpaceId → ℕ → Packet P → Path K → Path K
+  abbrev pub path_lost : {P M : Type 0} → SpaceId → ℕ → Packet P M → Path K → Path K
   path_lost space number packet path = record path {
     ledger = after_leaving path.ledger packet;
     state = (if is_data space then after_searching (loss_call number packet.size path.state.discovery) path.state else path.state);
@@ -109,12 +109,12 @@ module _ {K : Type 0} (words : ControllerWords K) where
       if is_data space then after_search (is_path_probe space number path) (acks_packet number bytes) path else path
 
   -- an acknowledged packet of the path that elicits an ACK is told
-  abbrev pub acked_by_controller : {P : Type 0} → ℕ → Bool → Packet P → PathLedger → PathState K → PathState K
+  abbrev pub acked_by_controller : {P M : Type 0} → ℕ → Bool → Packet P M → PathLedger → PathState K → PathState K
   acked_by_controller now app_limited packet ledger path =
       let call = acks now packet.time_sent packet.size app_limited path.rtt in
       if packet.path_generation == generation_of ledger && packet.ack_eliciting then after_telling call path else path
 
-  abbrev pub path_acked : {P : Type 0} → SpaceId → ℕ → ℕ → Bool → Packet P → Path K → Path K
+  abbrev pub path_acked : {P M : Type 0} → SpaceId → ℕ → ℕ → Bool → Packet P M → Path K → Path K
   path_acked space number now app_limited packet path = record path {
     ledger = after_leaving path.ledger packet;
     state = acked_by_controller now app_limited packet path.ledger (acked_by_search space number packet.size path.state);

@@ -23,6 +23,9 @@ pub trait RetransmitQueue: Sized {
     /// What each call does to the contents.
     ghost words: { QueueWords Self.Contents Self.Streams };
 
+    /// What a packet says of itself where nobody says what: every default value is this one.
+    ghost blank: { Self.Meta };
+
     /// A queue with nothing in it. It takes no memory; the allocator is for what comes later.
     fn empty(alloc: Global) -> Self
         ensures { contents result ≡ words.empty };
@@ -49,4 +52,7 @@ pub trait RetransmitQueue: Sized {
 
     /// The empty contents are a unit of joining, and are empty whatever they are asked with.
     ghost laws: { QueueLaws words };
+
+    /// A default value is the one that is named.
+    ghost is_blank: { (meta : Self.Meta) → Self.Meta.is_default meta → meta ≡ blank };
 }

@@ -64,6 +64,8 @@ impl RetransmitQueue for ScarceQueue {
 
     ghost words = { item_words };
 
+    ghost blank = { tt };
+
     fn empty(alloc: Global) -> Self {
         ScarceQueue {
             items: Vec::new(alloc),
@@ -89,6 +91,8 @@ impl RetransmitQueue for ScarceQueue {
       unit_right = λ items. append-nil items;
       empty_is_empty = λ streams. refl;
     } };
+
+    ghost is_blank = { λ meta here. refl };
 }
 
 /// Makes controllers whose clones ask for memory.

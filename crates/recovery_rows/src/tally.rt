@@ -28,6 +28,8 @@ impl RetransmitQueue for Tally {
 
     ghost words = { tally_words };
 
+    ghost blank = { 0 };
+
     fn empty(_alloc: Global) -> Self {
         Tally { bytes: 0 }
     }
@@ -51,4 +53,6 @@ impl RetransmitQueue for Tally {
       unit_right = add-zero;
       empty_is_empty = λ is_open. refl;
     } };
+
+    ghost is_blank = { λ meta zero. zero };
 }

@@ -31,7 +31,7 @@ pub returns-then-not-is_empty-clause-number : goal.returns-then-not-is_empty-cla
 returns-then-not-is_empty-clause-number g c =
     let words = g.Q.RetransmitQueue.words in
     found_here words c.args.streams.now c.args.packets.now c.loop-place.place c.in-Some.number c.in-Some.packet.now c.in-Some.ensures.slot
-    (ap (λ (p : Packet g.row.Q-Contents.Denot). words.is_empty p.retransmits c.args.streams.now) (sym c.packet.view_is) ∙ sym c.is_empty.ensures ∙ c.if-not-is_empty.true)
+    (ap (λ (p : Packet _ _). words.is_empty p.retransmits c.args.streams.now) (sym c.packet.view_is) ∙ sym c.is_empty.ensures ∙ c.if-not-is_empty.true)
     c.loop-place.invariant.left
 
 pub returns-then-not-is_empty-clause-void : goal.returns-then-not-is_empty-clause-void
@@ -47,7 +47,7 @@ loop-place-preserved g c =
     let words = g.Q.RetransmitQueue.words in
     record {
       left = left_nothing words c.args.streams.now c.args.packets.now c.loop-place.place c.in-Some.number c.in-Some.packet.now c.in-Some.ensures.slot
-          (ap (λ (p : Packet g.row.Q-Contents.Denot). words.is_empty p.retransmits c.args.streams.now) (sym c.packet.view_is) ∙ sym c.is_empty.ensures ∙ c.if-not-is_empty.false)
+          (ap (λ (p : Packet _ _). words.is_empty p.retransmits c.args.streams.now) (sym c.packet.view_is) ∙ sym c.is_empty.ensures ∙ c.if-not-is_empty.false)
           c.loop-place.invariant.left;
       below = elim c.if-are_void.branch [
         | then-are_void w ↦ rw w.from-is (void_below words c.args.packets.now c.in-Some.number c.loop-place.place c.in-Some.ensures.divides (c.loop-place.invariant.before w.if-are_void.true))
@@ -56,7 +56,7 @@ loop-place-preserved g c =
       before = λ yes. elim c.if-are_void.branch [
         | then-are_void w ↦
             void_nothing words c.args.streams.now c.args.packets.now c.loop-place.place c.in-Some.number c.in-Some.packet.now c.in-Some.ensures.slot
-            (subst (λ (p : Packet g.row.Q-Contents.Denot). IsVoid words p.retransmits) c.packet.view_is (w.is_void-are_void.ensures (sym w.are_void-is ∙ yes)))
+            (subst (λ (p : Packet _ _). IsVoid words p.retransmits) c.packet.view_is (w.is_void-are_void.ensures (sym w.are_void-is ∙ yes)))
             (c.loop-place.invariant.before w.if-are_void.true)
         | else-are_void w ↦ absurd (not_both (sym w.are_void-is ∙ yes) w.if-are_void.false)
       ];

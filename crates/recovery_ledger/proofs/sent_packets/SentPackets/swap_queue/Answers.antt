@@ -33,5 +33,5 @@ returns-clause-queue g c =
     let contents = g.Q.RetransmitQueue.contents in
     let done = exchanged c.self.inside.packets c.replace.new.self c.replace-2.new.self c.args.number c.in-Some.place c.find.result c.in-Some-replace.packet _ c.replace.result c.replace-2.result (contents c.args.queue.now) c.find.ensures c.in-Some.is c.replace.ensures c.in-Some-replace.is c.replace-2.ensures
     (ap (with_contents (contents c.swap.new.x)) c.packet.view_is ∙ ap (λ (q : g.row.Q.Denot). with_contents (contents q) c.in-Some-replace.packet) c.swap.ensures.x_after) in
-    ap contents c.swap.ensures.y_after ∙ ap (λ (p : Packet g.row.Q-Contents.Denot). p.retransmits) c.packet.view_is
+    ap contents c.swap.ensures.y_after ∙ ap (λ (p : Packet _ _). p.retransmits) c.packet.view_is
     ∙ carried_queue c.self.inside.packets c.replace-2.new.self c.self.inside.last_eliciting c.args.self.now c.args.number c.in-Some-replace.packet (contents c.args.queue.now) done c.self.view_is (contents c.args.queue.now)

@@ -1,30 +1,59 @@
-use Rattle.std.proofs.Common.{◌≡◌, ℕ, []}
+use Rattle.std.proofs.Common.{◌≡◌, ℕ, [], None}
 use Rattle.recovery_base.specs.Received.{Has}
 use Rattle.recovery_acks.specs.Acks.{new_acks}
 use Rattle.recovery_ledger.specs.Kept.{kept_by}
 use Rattle.recovery_ledger.specs.Packets.{no_packets}
-use Rattle.recovery_ledger.specs.Queued.{queued_by}
+use Rattle.recovery_ledger.specs.Queued.{no_ecn, queued_by}
 use Rattle.recovery_ledger.specs.Spaces.{Space, acks_of, kept_of, queued_of, tracking_of, next_number_of}
 use Rattle.recovery_ledger.proofs.SpaceLaws.{of_each}
 use Rattle.recovery_ledger.proofs.spaces.PacketSpaces.new.Goals as goal
 
 pub returns-clause-numbers : goal.returns-clause-numbers
-returns-clause-numbers g c = of_each (λ (space : Space g.row.Q-Contents.Denot). (n : ℕ) → ¬ Has space.dedup n) _ c.new.ensures.numbers c.new-2.ensures.numbers c.new-3.ensures.numbers
+returns-clause-numbers g c =
+    of_each (λ (s : Space _ _). (n : ℕ) → ¬ Has s.dedup n) _
+    c.new.ensures.numbers c.new-2.ensures.numbers c.new-3.ensures.numbers
 
 pub returns-clause-acks : goal.returns-clause-acks
-returns-clause-acks g c = of_each (λ (space : Space g.row.Q-Contents.Denot). acks_of space ≡ new_acks []) _ c.new.ensures.acks c.new-2.ensures.acks c.new-3.ensures.acks
+returns-clause-acks g c =
+    of_each (λ (s : Space _ _). acks_of s ≡ new_acks []) _
+    c.new.ensures.acks c.new-2.ensures.acks c.new-3.ensures.acks
 
 pub returns-clause-received : goal.returns-clause-received
-returns-clause-received g c = of_each (λ (space : Space g.row.Q-Contents.Denot). space.rx_packet ≡ 0) _ c.new.ensures.received c.new-2.ensures.received c.new-3.ensures.received
+returns-clause-received g c =
+    of_each (λ (s : Space _ _). s.rx_packet ≡ 0) _
+    c.new.ensures.received c.new-2.ensures.received c.new-3.ensures.received
 
 pub returns-clause-kept : goal.returns-clause-kept
-returns-clause-kept g c = of_each (λ (space : Space g.row.Q-Contents.Denot). kept_of space ≡ kept_by g.Q.RetransmitQueue.words c.args.now []) _ c.new.ensures.kept c.new-2.ensures.kept c.new-3.ensures.kept
+returns-clause-kept g c =
+    of_each (λ (s : Space _ _). kept_of s ≡ kept_by {M = g.row.Q-Meta.Denot} g.Q.RetransmitQueue.words c.args.now []) _
+    c.new.ensures.kept c.new-2.ensures.kept c.new-3.ensures.kept
 
 pub returns-clause-queued : goal.returns-clause-queued
-returns-clause-queued g c = of_each (λ (space : Space g.row.Q-Contents.Denot). queued_of space ≡ queued_by g.Q.RetransmitQueue.words []) _ c.new.ensures.queued c.new-2.ensures.queued c.new-3.ensures.queued
+returns-clause-queued g c =
+    of_each (λ (s : Space _ _). queued_of s ≡ queued_by {M = g.row.Q-Meta.Denot} g.Q.RetransmitQueue.words []) _
+    c.new.ensures.queued c.new-2.ensures.queued c.new-3.ensures.queued
 
 pub returns-clause-packets : goal.returns-clause-packets
-returns-clause-packets g c = of_each (λ (space : Space g.row.Q-Contents.Denot). tracking_of space ≡ no_packets) _ c.new.ensures.packets c.new-2.ensures.packets c.new-3.ensures.packets
+returns-clause-packets g c =
+    of_each (λ (s : Space _ _). tracking_of s ≡ no_packets) _
+    c.new.ensures.packets c.new-2.ensures.packets c.new-3.ensures.packets
 
 pub returns-clause-next : goal.returns-clause-next
-returns-clause-next g c = of_each (λ (space : Space g.row.Q-Contents.Denot). next_number_of space ≡ 0) _ c.new.ensures.next c.new-2.ensures.next c.new-3.ensures.next
+returns-clause-next g c =
+    of_each (λ (s : Space _ _). next_number_of s ≡ 0) _
+    c.new.ensures.next c.new-2.ensures.next c.new-3.ensures.next
+
+pub returns-clause-ecn : goal.returns-clause-ecn
+returns-clause-ecn g c =
+    of_each (λ (s : Space _ _). s.ecn_counters ≡ no_ecn) _
+    c.new.ensures.ecn c.new-2.ensures.ecn c.new-3.ensures.ecn
+
+pub returns-clause-loss_time : goal.returns-clause-loss_time
+returns-clause-loss_time g c =
+    of_each (λ (s : Space _ _). s.loss_time ≡ None) _
+    c.new.ensures.loss_time c.new-2.ensures.loss_time c.new-3.ensures.loss_time
+
+pub returns-clause-crypto_offset : goal.returns-clause-crypto_offset
+returns-clause-crypto_offset g c =
+    of_each (λ (s : Space _ _). s.crypto_offset ≡ 0) _
+    c.new.ensures.crypto_offset c.new-2.ensures.crypto_offset c.new-3.ensures.crypto_offset
