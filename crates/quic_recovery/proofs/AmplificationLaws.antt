@@ -45,7 +45,7 @@ loss_in_turn : (own : Bool) (number bytes : ℕ) (old : Discovery) → IsInTurn 
 loss_in_turn true number bytes old = tt
 loss_in_turn false number bytes old = tt
 
-module _ {K P : Type 0} (settings : PathSettings K) (known : Known K P) where
+module _ {K P M : Type 0} (settings : PathSettings K) (known : Known K P M) where
   abbrev IsInTurnNow : MtuCall → Type 0
   IsInTurnNow call = IsInTurn call known.paths.current.state.discovery
 
@@ -62,18 +62,18 @@ module _ {K P : Type 0} (settings : PathSettings K) (known : Known K P) where
   acked_with true call entries allowed = (tt, allowed)
   acked_with false call entries allowed = allowed
 
-  acked_allowed : (space : SpaceId) (now number : ℕ) (app_limited : Bool) (packet : Option (Packet P)) → AreAllowed settings known.paths (acked_entry known now app_limited packet ++ acked_search known space number packet)
+  acked_allowed : (space : SpaceId) (now number : ℕ) (app_limited : Bool) (packet : Option (Packet P M)) → AreAllowed settings known.paths (acked_entry known now app_limited packet ++ acked_search known space number packet)
   acked_allowed space now number app_limited None = tt
   acked_allowed space now number app_limited (Some packet) =
       acked_with (is_own known packet && packet.ack_eliciting) _ (acked_search known space number (Some packet)) (data_allowed (is_data space) (is_path_probe space number known.paths.current.state) (acks_packet number packet.size) tt)
 
-  lost_allowed : (space : SpaceId) (number : ℕ) (packet : Option (Packet P)) → AreAllowed settings known.paths (lost_search known space number packet)
+  lost_allowed : (space : SpaceId) (number : ℕ) (packet : Option (Packet P M)) → AreAllowed settings known.paths (lost_search known space number packet)
   lost_allowed space number None = tt
   lost_allowed space number (Some packet) =
       let old = known.paths.current.state.discovery in
       data_allowed (is_data space) false (loss_call number packet.size old) (loss_in_turn (is_probe number old) number packet.size old)
 
-module _ {K Q S M P : Type 0} (q : QueueMeaning Q S P) (settings : PathSettings K) (heard : SpaceId → Heard) (known : Known K P) where
+module _ {K Q S M P : Type 0} (q : QueueMeaning Q S M P) (settings : PathSettings K) (heard : SpaceId → Heard) (known : Known K P M) where
   answer_allowed : (event : Event Q S M P) (answer : Answer Q) → ToldBy q settings.words heard known event (Ok answer) → AreAllowed settings known.paths (answered q known event answer).paths
   answer_allowed (Transmit now bytes true) Transmitted told =
       let path = known.paths.current.state in
@@ -117,7 +117,7 @@ module _ {K Q S M P : Type 0} (q : QueueMeaning Q S P) (settings : PathSettings 
   is_allowed event (Err refusal) told = refusal_allowed event refusal
 
 -- what holds of an event because of what each event keeps holds throughout a run
-module _ {F K Q S M P : Type 0} (beginning : Beginning F K Q S P) (Kept : History Q S M P → Type 0) (Holds : History Q S M P → Event Q S M P → Reply Q → Type 0) where
+module _ {F K Q S M P : Type 0} (beginning : Beginning F K Q S M P) (Kept : History Q S M P → Type 0) (Holds : History Q S M P → Event Q S M P → Reply Q → Type 0) where
   pub throughout_kept : ((before : History Q S M P) (event : Event Q S M P) (reply : Reply Q) → Told beginning before event reply → Kept before → Kept ((event, reply) ∷ before))
       → ((before : History Q S M P) (event : Event Q S M P) (reply : Reply Q) → Told beginning before event reply → Kept before → Holds before event reply)
       → (before : History Q S M P) (events : List (Event Q S M P)) (replies : List (Reply Q)) → ThroughoutFrom (Told beginning) before events replies → Kept before → ThroughoutFrom Holds before events replies
@@ -127,7 +127,7 @@ module _ {F K Q S M P : Type 0} (beginning : Beginning F K Q S P) (Kept : Histor
   throughout_kept keeps holds before [] (reply ∷ replies) told kept = absurd told
   throughout_kept keeps holds before (event ∷ events) [] told kept = absurd told
 
-module _ {F K Q S M P : Type 0} (beginning : Beginning F K Q S P) where
+module _ {F K Q S M P : Type 0} (beginning : Beginning F K Q S M P) where
   -- an event keeps the bound
   after_one : (before : History Q S M P) (event : Event Q S M P) (reply : Reply Q) → Told beginning before event reply → OnEachPath IsWithinThreefold (pasts_of beginning before) → KeepsThreefold beginning before event reply
   after_one before event reply told within =

@@ -37,7 +37,7 @@ discovery_untold limit config (Some settings) = discovery_made_untold _ _ limit 
 first_untold : {F : Type 0} (allowed : Bool) (limit : Option ℕ) (config : TransportConfig F) → IsUntold (first_discovery allowed limit config)
 first_untold allowed limit config = discovery_untold limit config (cond allowed config.mtu_discovery_config None)
 
-module _ {F K Q S M P : Type 0} (beginning : Beginning F K Q S P) where
+module _ {F K Q S M P : Type 0} (beginning : Beginning F K Q S M P) where
   -- at each moment
   untold_in : (history : History Q S M P) → WasUntold (pasts_of beginning history).current
   untold_in history =

@@ -22,16 +22,17 @@ use Rattle.quic_recovery.specs.Logs.{onto}
 use Rattle.quic_recovery.specs.Told.{Told}
 
 -- a packet that was found is tracked
-tracked : {P : Type 0} (found : Option (Packet P)) → ¬ (found ≡ None) → (packet : Packet P) × (found ≡ Some packet)
+tracked : {P M : Type 0} (found : Option (Packet P M)) → ¬ (found ≡ None)
+    → (packet : Packet P M) × (found ≡ Some packet)
 tracked None there = absurd (there refl)
 tracked (Some packet) there = (packet, refl)
 
-abbrev LeavesIf : {P : Type 0} → Option (SpaceEntry P) → Sent P → Type 0
+abbrev LeavesIf : {P M : Type 0} → Option (SpaceEntry P M) → Sent P M → Type 0
 LeavesIf None sent = Unit {0}
 LeavesIf (Some entry) sent = LeavesTracked entry sent
 
 -- what happens in one space is nothing to the others
-in_one : {P : Type 0} (sent : SpaceId → Sent P) (space : SpaceId) (entry : SpaceEntry P) → LeavesTracked entry (sent space)
+in_one : {P M : Type 0} (sent : SpaceId → Sent P M) (space : SpaceId) (entry : SpaceEntry P M) → LeavesTracked entry (sent space)
     → (other : SpaceId) → LeavesIf (here space other entry) (sent other)
 in_one sent Initial entry leaves Initial = leaves
 in_one sent Initial entry leaves Handshake = tt
@@ -43,15 +44,15 @@ in_one sent Data entry leaves Initial = tt
 in_one sent Data entry leaves Handshake = tt
 in_one sent Data entry leaves Data = leaves
 
-module _ {F K Q S M P : Type 0} (beginning : Beginning F K Q S P) (before : History Q S M P) where
-  abbrev sent_in : SpaceId → Sent P
+module _ {F K Q S M P : Type 0} (beginning : Beginning F K Q S M P) (before : History Q S M P) where
+  abbrev sent_in : SpaceId → Sent P M
   sent_in space = sent_by beginning.queue.words ((logs_of beginning before).spaces space)
 
-  abbrev Leaves : (SpaceId → Option (SpaceEntry P)) → Type 0
+  abbrev Leaves : (SpaceId → Option (SpaceEntry P M)) → Type 0
   Leaves entries = (space : SpaceId) → LeavesIf (entries space) (sent_in space)
 
   -- an entry that leaves no packet
-  stays : (space : SpaceId) (entry : SpaceEntry P) → ((sent : Sent P) → LeavesTracked entry sent) → Leaves (in_space space entry).spaces
+  stays : (space : SpaceId) (entry : SpaceEntry P M) → ((sent : Sent P M) → LeavesTracked entry sent) → Leaves (in_space space entry).spaces
   stays space entry nothing = in_one sent_in space entry (nothing (sent_in space))
 
   -- the number that is given out was not given out before
@@ -67,7 +68,7 @@ module _ {F K Q S M P : Type 0} (beginning : Beginning F K Q S P) (before : Hist
   answer_leaves (Received space now number eliciting) answer told = stays space (heard_again number) (λ sent. tt)
   answer_leaves (Send space now size eliciting largest queue frames) answer told =
       let known = known_by beginning (logs_of beginning before) in
-      in_one sent_in space (sends (number_in known space) (packet_now known now size eliciting largest (beginning.queue.contents queue))) (is_new space)
+      in_one sent_in space (sends (number_in known space) (packet_now known now size eliciting largest (beginning.queue.contents queue) frames)) (is_new space)
   answer_leaves (AckFrequencyIn frame) (Flag true) told = stays Data (asked frame) (λ sent. tt)
   answer_leaves (AckFrequencyIn frame) (Flag false) told = λ space. tt
   answer_leaves (AckFrequencyIn frame) answer told = λ space. tt
@@ -76,7 +77,7 @@ module _ {F K Q S M P : Type 0} (beginning : Beginning F K Q S P) (before : Hist
   answer_leaves (DiscardSpace space) answer told = stays space emptied (λ sent. tt)
   answer_leaves (PollMtu now) (Probe number size) told =
       let known = known_by beginning (logs_of beginning before) in
-      in_one sent_in Data (sends (number_in known Data) (packet_now known now size true None beginning.queue.words.empty)) (is_new Data)
+      in_one sent_in Data (sends (number_in known Data) (packet_now known now size true None beginning.queue.words.empty beginning.queue.blank)) (is_new Data)
   answer_leaves (PollMtu now) answer told = λ space. tt
   answer_leaves (Ecn space newly counts) answer told = stays space (feeds_back counts) (λ sent. tt)
   answer_leaves (QueueProbe space immediate streams) answer told =
@@ -97,11 +98,11 @@ module _ {F K Q S M P : Type 0} (beginning : Beginning F K Q S P) (before : Hist
   is_leaving event (Ok answer) told = answer_leaves event answer told
   is_leaving event (Err refusal) told = refusal_leaves event refusal
 
-onto_once : {P S : Type 0} (words : QueueWords P S) (entry : Option (SpaceEntry P)) (log : List (SpaceEntry P)) → LeavesIf entry (sent_by words log) → ComeOnce words log → ComeOnce words (onto entry log)
+onto_once : {P M S : Type 0} (words : QueueWords P S) (entry : Option (SpaceEntry P M)) (log : List (SpaceEntry P M)) → LeavesIf entry (sent_by words log) → ComeOnce words log → ComeOnce words (onto entry log)
 onto_once words None log leaves come = come
 onto_once words (Some entry) log leaves come = come_once words entry log leaves come
 
-module _ {F K Q S M P : Type 0} (beginning : Beginning F K Q S P) where
+module _ {F K Q S M P : Type 0} (beginning : Beginning F K Q S M P) where
   abbrev AllOnce : History Q S M P → Type 0
   AllOnce history = (space : SpaceId) → ComeOnce beginning.queue.words ((logs_of beginning history).spaces space)
 

@@ -33,20 +33,20 @@ use Rattle.quic_recovery.specs.Replies.{reply_to}
 use Rattle.quic_recovery.specs.State.{Changes, Steps, SkippingStep, known_to}
 
 -- a space that is put back as it was
-pub with_same_space : {P : Type 0} (spaces : Spaces P) (space : SpaceId) (there : Space P) → there ≡ space_of space spaces → with_space spaces space there ≡ spaces
+pub with_same_space : {P M : Type 0} (spaces : Spaces P M) (space : SpaceId) (there : Space P M) → there ≡ space_of space spaces → with_space spaces space there ≡ spaces
 with_same_space spaces Initial there same = ap (with_space spaces Initial) same
 with_same_space spaces Handshake there same = ap (with_space spaces Handshake) same
 with_same_space spaces Data there same = ap (with_space spaces Data) same
 
 -- what is no packet of 1-RTT keys that is sent leaves the skipped numbers
-pub skips_nothing : {P : Type 0} (space : SpaceId) (entry : SpaceEntry P) (n : ℕ) (skipping : Skipping) → SkippingStep (Some entry) n skipping skipping → SkippingStep (here space Data entry) n skipping skipping
+pub skips_nothing : {P M : Type 0} (space : SpaceId) (entry : SpaceEntry P M) (n : ℕ) (skipping : Skipping) → SkippingStep (Some entry) n skipping skipping → SkippingStep (here space Data entry) n skipping skipping
 skips_nothing Initial entry n skipping same = refl
 skips_nothing Handshake entry n skipping same = refl
 skips_nothing Data entry n skipping same = same
 
-module _ {P S : Type 0} (words : QueueWords P S) where
+module _ {P M S : Type 0} (words : QueueWords P S) where
   -- one space changes, and the others stay
-  pub spaces_step : (entry : SpaceEntry P) (spaces : Spaces P) (changed : SpaceId) (there : Space P) → SpaceStep words entry (space_of changed spaces) there
+  pub spaces_step : (entry : SpaceEntry P M) (spaces : Spaces P M) (changed : SpaceId) (there : Space P M) → SpaceStep words entry (space_of changed spaces) there
       → (space : SpaceId) → StepBy (SpaceStep words) (here changed space entry) (space_of space spaces) (space_of space (with_space spaces changed there))
   spaces_step entry spaces Initial there change Initial = change
   spaces_step entry spaces Initial there change Handshake = refl
@@ -60,24 +60,24 @@ module _ {P S : Type 0} (words : QueueWords P S) where
 
 -- ---- frames: what an event that is something to few parts does to all of them
 
-module _ {K P S : Type 0} (words : QueueWords P S) where
+module _ {K P M S : Type 0} (words : QueueWords P S) where
   -- an event that is nothing to any part
-  pub nothing_changes : (old new : Parts K P) → new ≡ old → Steps words nothing old new
+  pub nothing_changes : (old new : Parts K P M) → new ≡ old → Steps words nothing old new
   nothing_changes old new same = record {
-    settings = ap (λ (p : Parts K P). p.settings) same;
-    spaces = λ space. ap (λ (p : Parts K P). space_of space p.spaces) same;
-    discarded = ap (λ (p : Parts K P). p.discarded) same;
-    skipping = ap (λ (p : Parts K P). p.skipping) same;
-    frequency = ap (λ (p : Parts K P). p.frequency) same;
-    timers = ap (λ (p : Parts K P). p.timers) same;
-    remote_ids = ap (λ (p : Parts K P). remote_ids p.remote_cids) same;
-    local_ids = ap (λ (p : Parts K P). p.local_ids) same;
-    paths = ap (λ (p : Parts K P). paths_known p.paths) same;
-    limits = ap (λ (p : Parts K P). p.peer_limit) same;
+    settings = ap (λ (p : Parts K P M). p.settings) same;
+    spaces = λ space. ap (λ (p : Parts K P M). space_of space p.spaces) same;
+    discarded = ap (λ (p : Parts K P M). p.discarded) same;
+    skipping = ap (λ (p : Parts K P M). p.skipping) same;
+    frequency = ap (λ (p : Parts K P M). p.frequency) same;
+    timers = ap (λ (p : Parts K P M). p.timers) same;
+    remote_ids = ap (λ (p : Parts K P M). remote_ids p.remote_cids) same;
+    local_ids = ap (λ (p : Parts K P M). p.local_ids) same;
+    paths = ap (λ (p : Parts K P M). paths_known p.paths) same;
+    limits = ap (λ (p : Parts K P M). p.peer_limit) same;
   }
 
   -- an event in one space, which may draw the next skip, and be something to the paths
-  pub space_changes : (old : Parts K P) (space : SpaceId) (entry : SpaceEntry P) (there : Space P) (skipping : Skipping) (entries : List PathsEntry) (paths : OfPaths (Path K))
+  pub space_changes : (old : Parts K P M) (space : SpaceId) (entry : SpaceEntry P M) (there : Space P M) (skipping : Skipping) (entries : List PathsEntry) (paths : OfPaths (Path K))
       → SpaceStep words entry (space_of space old.spaces) there → SkippingStep (here space Data entry) (next_number_of (space_of Data old.spaces)) old.skipping skipping → PathsStep old.settings entries (paths_known old.paths) (paths_known paths)
       → Steps words (record (in_space space entry) { paths = entries }) old (record old { spaces = with_space old.spaces space there; skipping = skipping; paths = paths })
   space_changes old space entry there skipping entries paths step skips same = record {
@@ -95,7 +95,7 @@ module _ {K P S : Type 0} (words : QueueWords P S) where
 
 -- ---- a received packet
 
-module _ {K Q S M P : Type 0} (q : QueueMeaning Q S P) (old : Parts K P) (space : SpaceId) (now number : ℕ) (ack_eliciting : Bool) (there : Space P) (live : is_discarded space old.discarded ≡ false) where
+module _ {K Q S M P : Type 0} (q : QueueMeaning Q S M P) (old : Parts K P M) (space : SpaceId) (now number : ℕ) (ack_eliciting : Bool) (there : Space P M) (live : is_discarded space old.discarded ≡ false) where
   -- the space is put back as it was
   kept_changes : (error : ReceiveError) → ReceiveReply (heard_of (space_of space old.spaces)) (counts_of (acks_of (space_of space old.spaces))) number ack_eliciting (Err error)
       → (record old { spaces = with_space old.spaces space there }) ≡ old → Changes {M = M} q old (Received space now number ack_eliciting) (reply_to (Err error)) (record old { spaces = with_space old.spaces space there })
@@ -125,22 +125,22 @@ module _ {K Q S M P : Type 0} (q : QueueMeaning Q S P) (old : Parts K P) (space 
     refused = tt;
   }
   received_changes (Err error) is step kept =
-      kept_changes error is (ap (λ (spaces : Spaces P). record old { spaces = spaces }) (with_same_space old.spaces space there kept))
+      kept_changes error is (ap (λ (spaces : Spaces P M). record old { spaces = spaces }) (with_same_space old.spaces space there kept))
 
 -- what a received packet changes leaves the tracked packets, and the greatest ack-eliciting number was received
-pub received_keeps : {P S : Type 0} (words : QueueWords P S) (now number : ℕ) (ack_eliciting : Bool) (receipt : Result Receipt ReceiveError) (old new : Space P) → HasGreatestCome old → IfOk receipt (λ r. SpaceStep words (came now number ack_eliciting r) old new) → OnErr receipt (new ≡ old)
+pub received_keeps : {P M S : Type 0} (words : QueueWords P S) (now number : ℕ) (ack_eliciting : Bool) (receipt : Result Receipt ReceiveError) (old new : Space P M) → HasGreatestCome old → IfOk receipt (λ r. SpaceStep words (came now number ack_eliciting r) old new) → OnErr receipt (new ≡ old)
     → (tracking_of new ≡ tracking_of old) × (next_number_of new ≡ next_number_of old) × HasGreatestCome new
 received_keeps words now number ack_eliciting (Ok (New arm)) old new come step kept = (ap tracking_of step.others, ap next_number_of step.others, heard_greatest old new now number ack_eliciting come step)
-received_keeps words now number ack_eliciting (Ok Duplicate) old new come step kept = (ap tracking_of step.1, ap next_number_of step.1, let Holds : Space _ → Type 0 = HasGreatestCome in subst Holds (sym step.1) come)
-received_keeps words now number ack_eliciting (Err refused) old new come step kept = (ap tracking_of kept, ap next_number_of kept, let Holds : Space _ → Type 0 = HasGreatestCome in subst Holds (sym kept) come)
+received_keeps words now number ack_eliciting (Ok Duplicate) old new come step kept = (ap tracking_of step.1, ap next_number_of step.1, let Holds : Space _ _ → Type 0 = HasGreatestCome in subst Holds (sym step.1) come)
+received_keeps words now number ack_eliciting (Err refused) old new come step kept = (ap tracking_of kept, ap next_number_of kept, let Holds : Space _ _ → Type 0 = HasGreatestCome in subst Holds (sym kept) come)
 
 -- ---- a packet that is sent
 
-module _ {K Q S M P : Type 0} (q : QueueMeaning Q S P) (old : Parts K P) (space : SpaceId) (now size : ℕ) (ack_eliciting : Bool) (largest_acked : Option ℕ) (queue : Q) (frames : M) where
-  abbrev packet_then : Packet P
-  packet_then = packet_sent (generation_of old.paths.current.ledger) now size ack_eliciting largest_acked (q.contents queue)
+module _ {K Q S M P : Type 0} (q : QueueMeaning Q S M P) (old : Parts K P M) (space : SpaceId) (now size : ℕ) (ack_eliciting : Bool) (largest_acked : Option ℕ) (queue : Q) (frames : M) where
+  abbrev packet_then : Packet P M
+  packet_then = packet_sent (generation_of old.paths.current.ledger) now size ack_eliciting largest_acked (q.contents queue) frames
 
-  pub sent_changes : (there : Space P) (skipping : Skipping) (paths : OfPaths (Path K)) (number : ℕ) (forgotten : Option ℕ)
+  pub sent_changes : (there : Space P M) (skipping : Skipping) (paths : OfPaths (Path K)) (number : ℕ) (forgotten : Option ℕ)
       → is_discarded space old.discarded ≡ false → (¬ IsTooLarge largest_acked) → number_in (known_to old) space < 2 ^ 62 → (¬ Overflows (current_in_flight (known_to old)) packet_then)
       → number ≡ number_in (known_to old) space → forgotten ≡ forgotten_number (tracking_of (space_of space old.spaces)).last_eliciting packet_then (tracked_by old.spaces space)
       → SpaceStep q.words (sends (number_in (known_to old) space) packet_then) (space_of space old.spaces) there

@@ -26,7 +26,7 @@ use Rattle.quic_recovery.specs.Search.{EntersAsTold, data_packet, entered, entri
 use Rattle.quic_recovery.specs.Told.{Told, ProbeOutReply}
 use Rattle.quic_recovery.proofs.AmplificationLaws.{throughout_kept}
 
-module _ {K P : Type 0} (settings : PathSettings K) (first : PathMaking K) (log : List PathsEntry) (known : Known K P) where
+module _ {K P M : Type 0} (settings : PathSettings K) (first : PathMaking K) (log : List PathsEntry) (known : Known K P M) where
   -- the entries on the path in use, once all this happened too
   abbrev entries_with : List PathsEntry → List MtuEntry
   entries_with entries = entries_on (pasts_by settings first (entries ++ log)).current
@@ -53,7 +53,7 @@ module _ {K P : Type 0} (settings : PathSettings K) (first : PathMaking K) (log 
   acked_with true call entries = refl
   acked_with false call entries = refl
 
-  acked_seen : (space : SpaceId) (now number : ℕ) (app_limited : Bool) (packet : Option (Packet P))
+  acked_seen : (space : SpaceId) (now number : ℕ) (app_limited : Bool) (packet : Option (Packet P M))
       → entries_with (acked_entry known now app_limited packet ++ acked_search known space number packet) ≡ (if is_data space then of_packet (acked number) packet else []) ++ before
   acked_seen space.Initial now number app_limited None = refl
   acked_seen space.Handshake now number app_limited None = refl
@@ -70,20 +70,20 @@ module _ {K P : Type 0} (settings : PathSettings K) (first : PathMaking K) (log 
   lost_seen false number bytes = refl
 
   -- outside 1-RTT keys nothing is seen
-  lost_unseen : (space : SpaceId) (number : ℕ) (packet : Option (Packet P)) → is_data space ≡ false → entries_with (lost_search known space number packet) ≡ before
+  lost_unseen : (space : SpaceId) (number : ℕ) (packet : Option (Packet P M)) → is_data space ≡ false → entries_with (lost_search known space number packet) ≡ before
   lost_unseen space number None other = refl
   lost_unseen space number (Some packet) other =
       let call = loss_call number packet.size known.paths.current.state.discovery in
       ap (λ (in_data : Bool). entries_with (if in_data then searched known false call else [])) other
 
-  lost_data_seen : (number : ℕ) (packet : Option (Packet P)) →
+  lost_data_seen : (number : ℕ) (packet : Option (Packet P M)) →
       entries_with (lost_search known space.Data number packet)
       ≡ of_packet (λ bytes. if is_path_probe space.Data number known.paths.current.state then probe_lost else lost number bytes) packet ++ before
   lost_data_seen number None = refl
   lost_data_seen number (Some packet) = lost_seen (is_path_probe space.Data number known.paths.current.state) number packet.size
 
-module _ {F K Q S M P : Type 0} (beginning : Beginning F K Q S P) (past : History Q S M P) where
-  abbrev known : Known K P
+module _ {F K Q S M P : Type 0} (beginning : Beginning F K Q S M P) (past : History Q S M P) where
+  abbrev known : Known K P M
   known = known_by beginning (logs_of beginning past)
 
   abbrev IsEntered : Event Q S M P → Answer Q → Type 0
@@ -150,7 +150,7 @@ module _ {F K Q S M P : Type 0} (beginning : Beginning F K Q S P) (past : Histor
   entered_one event (Err refusal) told = refused_entered event refusal
 
 -- throughout a run
-pub entries_told : {F K Q S M P : Type 0} (beginning : Beginning F K Q S P) (events : List (Event Q S M P)) (replies : List (Reply Q)) → Throughout (Told beginning) events replies → Throughout (EntersAsTold beginning) events replies
+pub entries_told : {F K Q S M P : Type 0} (beginning : Beginning F K Q S M P) (events : List (Event Q S M P)) (replies : List (Reply Q)) → Throughout (Told beginning) events replies → Throughout (EntersAsTold beginning) events replies
 entries_told {F} {K} {Q} {S} {M} {P} beginning events replies told =
     let always : History Q S M P → Type 0 = λ past. Unit {0} in
     throughout_kept beginning always (EntersAsTold beginning) (λ past event reply told kept. tt) (λ past event reply told kept. entered_one beginning past event reply told) [] events replies told tt

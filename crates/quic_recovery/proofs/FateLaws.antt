@@ -25,7 +25,7 @@ use Rattle.quic_recovery.specs.Known.{Known, known_by, first_path, settings_of, 
 use Rattle.quic_recovery.specs.Logs.{onto}
 
 -- an entry's own departures are added to those before it
-departures-onto : {P : Type 0} (number : ℕ) (entry : Option (SpaceEntry P)) (log : List (SpaceEntry P)) → departures number (onto entry log) ≡ departures number log + departures number (onto entry [])
+departures-onto : {P M : Type 0} (number : ℕ) (entry : Option (SpaceEntry P M)) (log : List (SpaceEntry P M)) → departures number (onto entry log) ≡ departures number log + departures number (onto entry [])
 departures-onto number None log = omega arith
 departures-onto number (Some (acknowledged other)) log = omega arith
 departures-onto number (Some (loses other)) log = omega arith
@@ -40,7 +40,7 @@ departures-onto number (Some ack_goes) log = omega arith
 departures-onto number (Some ack_is_late) log = omega arith
 departures-onto number (Some (asked frame)) log = omega arith
 
-module _ {K P : Type 0} (known : Known K P) (number : ℕ) where
+module _ {K P M : Type 0} (known : Known K P M) (number : ℕ) where
   -- ---- what each part of an event's entries tells
 
   -- a call of the search tells its own
@@ -53,7 +53,7 @@ module _ {K P : Type 0} (known : Known K P) (number : ℕ) where
   told_if true call = refl
   told_if false call = refl
 
-  acked_entry_tells : (now : ℕ) (app_limited : Bool) (packet : Option (Packet P)) → told_in number (acked_entry known now app_limited packet) ≡ 0
+  acked_entry_tells : (now : ℕ) (app_limited : Bool) (packet : Option (Packet P M)) → told_in number (acked_entry known now app_limited packet) ≡ 0
   acked_entry_tells now app_limited None = refl
   acked_entry_tells now app_limited (Some packet) = told_if (is_own known packet && packet.ack_eliciting) _
 
@@ -65,8 +65,8 @@ module _ {K P : Type 0} (known : Known K P) (number : ℕ) where
   -- ---- the packets that leave
 
   -- what is told of an acknowledged packet
-  acked_departs : (space : SpaceId) (now other : ℕ) (app_limited : Bool) (packet : Option (Packet P))
-      → told_in number (acked_entry known now app_limited packet ++ acked_search known space other packet) ≤ departures {P = P} number (onto (here space Data (acknowledged other)) [])
+  acked_departs : (space : SpaceId) (now other : ℕ) (app_limited : Bool) (packet : Option (Packet P M))
+      → told_in number (acked_entry known now app_limited packet ++ acked_search known space other packet) ≤ departures {P = P} {M = M} number (onto (here space Data (acknowledged other)) [])
   acked_departs space now other app_limited None = omega arith
   acked_departs Initial now other app_limited (Some packet) =
       omega (arith, told-append number (acked_entry known now app_limited (Some packet)) [], acked_entry_tells now app_limited (Some packet))
@@ -77,7 +77,7 @@ module _ {K P : Type 0} (known : Known K P) (number : ℕ) where
       omega (arith, told-append number (acked_entry known now app_limited (Some packet)) seen, acked_entry_tells now app_limited (Some packet), searched_tells (is_path_probe Data other known.paths.current.state) (acks_packet other packet.size))
 
   -- and of a lost one
-  lost_departs : (space : SpaceId) (other : ℕ) (packet : Option (Packet P)) → told_in number (lost_search known space other packet) ≤ departures {P = P} number (onto (here space Data (loses other)) [])
+  lost_departs : (space : SpaceId) (other : ℕ) (packet : Option (Packet P M)) → told_in number (lost_search known space other packet) ≤ departures {P = P} {M = M} number (onto (here space Data (loses other)) [])
   lost_departs space other None = omega arith
   lost_departs Initial other (Some packet) = omega arith
   lost_departs Handshake other (Some packet) = omega arith
@@ -86,10 +86,10 @@ module _ {K P : Type 0} (known : Known K P) (number : ℕ) where
       omega (arith, searched_tells false (loss_call other packet.size discovery), lost_tells (is_probe other discovery) other packet.size)
 
 -- what is told of a number in an event's entries is in the entry of the space of 1-RTT packets
-abbrev Departs : {P : Type 0} → ℕ → Entries P → Type 0
+abbrev Departs : {P M : Type 0} → ℕ → Entries P M → Type 0
 Departs number entries = told_in number entries.paths ≤ departures number (onto (entries.spaces Data) [])
 
-module _ {K Q S M P : Type 0} (q : QueueMeaning Q S P) (known : Known K P) (number : ℕ) where
+module _ {K Q S M P : Type 0} (q : QueueMeaning Q S M P) (known : Known K P M) (number : ℕ) where
   -- by each event
   answer_departs : (event : Event Q S M P) (answer : Answer Q) → Departs number (answered q known event answer)
   answer_departs (Acked space now other app_limited) answer = acked_departs known number space now other app_limited (packet_at (tracked_known known space) other)
@@ -131,9 +131,9 @@ module _ {K Q S M P : Type 0} (q : QueueMeaning Q S P) (known : Known K P) (numb
   event_departs event (Ok answer) = answer_departs event answer
   event_departs event (Err refusal) = refusal_departs event refusal
 
-module _ {F K Q S M P : Type 0} (beginning : Beginning F K Q S P) where
+module _ {F K Q S M P : Type 0} (beginning : Beginning F K Q S M P) where
   -- what happened in the space of 1-RTT packets up to a moment
-  abbrev pub log_of_data : History Q S M P → List (SpaceEntry P)
+  abbrev pub log_of_data : History Q S M P → List (SpaceEntry P M)
   log_of_data history = (logs_of beginning history).spaces Data
 
   -- so by a whole history

@@ -23,11 +23,11 @@ use Rattle.quic_recovery.specs.State.{Changes, known_to}
 use Rattle.quic_recovery.proofs.DriverLaws.{space_changes, skips_nothing}
 
 -- what leaves a path changes nothing that is known of it
-previous_known : {K P : Type 0} (packet : Packet P) (path : Option (Path K)) → option_map path_known (option_map (left_by packet) path) ≡ option_map path_known path
+previous_known : {K P M : Type 0} (packet : Packet P M) (path : Option (Path K)) → option_map path_known (option_map (left_by packet) path) ≡ option_map path_known path
 previous_known packet None = refl
 previous_known packet (Some path) = refl
 
-module _ {K P : Type 0} (old : Parts K P) (space : SpaceId) (number : ℕ) (packet : Packet P) where
+module _ {K P M : Type 0} (old : Parts K P M) (space : SpaceId) (number : ℕ) (packet : Packet P M) where
   abbrev with_previous : PathKnown K → Option (PathKnown K) → OfPaths (PathKnown K)
   with_previous current previous = record { current = current; previous = previous }
 
@@ -77,17 +77,17 @@ module _ {K P : Type 0} (old : Parts K P) (space : SpaceId) (number : ℕ) (pack
       go true = refl
       go false = refl
 
-some_is_not_none : {P : Type 0} (packet : Packet P) → Some packet ≡ None → ⊥
+some_is_not_none : {P M : Type 0} (packet : Packet P M) → Some packet ≡ None → ⊥
 some_is_not_none packet e = cc
 
 -- ---- what the events come to
 
-module _ {K Q S M P : Type 0} (q : QueueMeaning Q S P) (old : Parts K P) (space : SpaceId) (number : ℕ) (packet : Packet P) (there : Space P) (paths : OfPaths (Path K)) (probe : Bool) (live : is_discarded space old.discarded ≡ false) (found : packet_at (tracked_by old.spaces space) number ≡ Some packet) (is_probe : probe ≡ is_path_probe space number old.paths.current.state) where
+module _ {K Q S M P : Type 0} (q : QueueMeaning Q S M P) (old : Parts K P M) (space : SpaceId) (number : ℕ) (packet : Packet P M) (there : Space P M) (paths : OfPaths (Path K)) (probe : Bool) (live : is_discarded space old.discarded ≡ false) (found : packet_at (tracked_by old.spaces space) number ≡ Some packet) (is_probe : probe ≡ is_path_probe space number old.paths.current.state) where
   pub acked_changes : (now : ℕ) (app_limited : Bool) → SpaceAcks number (space_of space old.spaces) there → paths ≡ paths_acking old.settings.words space number now app_limited packet old.paths
       → Changes {M = M} q old (Acked space now number app_limited) (Ok (answer.Acked probe)) (record old { spaces = with_space old.spaces space there; paths = paths })
   acked_changes now app_limited step is =
       let known = known_to old in
-      let Stepped : Option (Packet P) → Type 0 = λ p. PathsStep old.settings (acked_entry known now app_limited p ++ acked_search known space number p) (paths_known old.paths) (paths_known paths) in
+      let Stepped : Option (Packet P M) → Type 0 = λ p. PathsStep old.settings (acked_entry known now app_limited p ++ acked_search known space number p) (paths_known old.paths) (paths_known paths) in
       let entries = acked_entry known now app_limited (packet_at (tracked_by old.spaces space) number) ++ acked_search known space number (packet_at (tracked_by old.spaces space) number) in
       let path_step = subst Stepped (sym found) (ap (λ (p : OfPaths (Path K)). paths_known p) is ∙ acked_path old space number packet now app_limited) in
       record {
@@ -97,12 +97,12 @@ module _ {K Q S M P : Type 0} (q : QueueMeaning Q S P) (old : Parts K P) (space 
       }
 
   -- the packet that was lost is handed back without its contents
-  pub lost_changes : (lost : Packet P) → lost ≡ with_contents q.words.empty packet → SpaceStep q.words (loses number) (space_of space old.spaces) there → paths ≡ paths_losing space number lost old.paths
+  pub lost_changes : (lost : Packet P M) → lost ≡ with_contents q.words.empty packet → SpaceStep q.words (loses number) (space_of space old.spaces) there → paths ≡ paths_losing space number lost old.paths
       → Changes {M = M} q old (Lost space number) (Ok (answer.Lost probe)) (record old { spaces = with_space old.spaces space there; paths = paths })
   lost_changes lost emptied step is =
       let known = known_to old in
-      let Stepped : Option (Packet P) → Type 0 = λ p. PathsStep old.settings (lost_search known space number p) (paths_known old.paths) (paths_known paths) in
-      let same = ap (λ (p : Packet P). paths_losing space number p old.paths) emptied in
+      let Stepped : Option (Packet P M) → Type 0 = λ p. PathsStep old.settings (lost_search known space number p) (paths_known old.paths) (paths_known paths) in
+      let same = ap (λ (p : Packet P M). paths_losing space number p old.paths) emptied in
       let path_step = subst Stepped (sym found) (ap (λ (p : OfPaths (Path K)). paths_known p) (is ∙ same) ∙ lost_path old space number packet) in
       record {
         told = (fails _ live, ((λ none. some_is_not_none packet (sym found ∙ none)), ap (λ b. answer.Lost b) is_probe));

@@ -48,43 +48,43 @@ use Rattle.quic_recovery.specs.State.{InFlightLeft, LeftBy, LimitStep, SkippingS
 use Rattle.quic_recovery.proofs.LogLaws.{left_by}
 use Rattle.quic_recovery.proofs.PartLaws.{discarded_law}
 
-module _ {F K Q S P : Type 0} (beginning : Beginning F K Q S P) where
+module _ {F K Q S M P : Type 0} (beginning : Beginning F K Q S M P) where
   -- ---- what is in flight
 
   -- the packets that the spaces track are those of their logs
-  tracked_same : (logs : Logs P) (spaces : Spaces P) → ((space : SpaceId) → SpaceLeft beginning.queue.words beginning.start (logs.spaces space) (space_of space spaces)) → tracked_by spaces ≡ (λ space. (sent_by beginning.queue.words (logs.spaces space)).tracked)
-  tracked_same logs spaces left = fun_ext (λ space. ap (λ (s : Sent P). s.tracked) (left space).sent)
+  tracked_same : (logs : Logs P M) (spaces : Spaces P M) → ((space : SpaceId) → SpaceLeft beginning.queue.words beginning.start (logs.spaces space) (space_of space spaces)) → tracked_by spaces ≡ (λ space. (sent_by beginning.queue.words (logs.spaces space)).tracked)
+  tracked_same logs spaces left = fun_ext (λ space. ap (λ (s : Sent P M). s.tracked) (left space).sent)
 
-  pub in_flight_law : (logs : Logs P) (spaces : Spaces P) (paths : OfPaths (Path K)) → ((space : SpaceId) → SpaceLeft beginning.queue.words beginning.start (logs.spaces space) (space_of space spaces)) → AreBalanced spaces paths → InFlightLeft (known_by beginning logs) paths
+  pub in_flight_law : (logs : Logs P M) (spaces : Spaces P M) (paths : OfPaths (Path K)) → ((space : SpaceId) → SpaceLeft beginning.queue.words beginning.start (logs.spaces space) (space_of space spaces)) → AreBalanced spaces paths → InFlightLeft (known_by beginning logs) paths
   in_flight_law logs spaces paths left balanced = record {
     current = on_path paths.current balanced.current;
     previous = λ path is. on_path path (balanced.previous path is);
   }
     where
       on_path : (path : Path K) → IsBalancedOn spaces path.ledger → counters_of path.ledger ≡ in_flight_on (known_by beginning logs) (path_known path)
-      on_path path sums = sums ∙ ap (λ (tracked : SpaceId → Packets P). in_flight (generation_of path.ledger) tracked) (tracked_same logs spaces left)
+      on_path path sums = sums ∙ ap (λ (tracked : SpaceId → Packets P M). in_flight (generation_of path.ledger) tracked) (tracked_same logs spaces left)
 
   -- ---- what is known
 
-  abbrev space_known : Bool → AckCounts → Sent P → Queued P → SpaceKnown P
+  abbrev space_known : Bool → AckCounts → Sent P M → Queued P → SpaceKnown P M
   space_known discarded counts sent queued = record { discarded = discarded; counts = counts; sent = sent; queued = queued }
 
   abbrev numbered : ℕ → Option ℕ → Numbering
   numbered next skipped = record { next = next; skipped = skipped }
 
   -- the filter knows the number behind the last one, and the skip before it
-  numbering_same : (logs : Logs P) (state : Parts K P) → LeftBy beginning logs state → numbering_of state ≡ numbering_by beginning (sent_by beginning.queue.words (logs.spaces Data)).next
+  numbering_same : (logs : Logs P M) (state : Parts K P M) → LeftBy beginning logs state → numbering_of state ≡ numbering_by beginning (sent_by beginning.queue.words (logs.spaces Data)).next
   numbering_same logs state left =
       let skips = beginning.config.skips in
       let n = (sent_by beginning.queue.words (logs.spaces Data)).next in
-      let there : next_number_of (space_of Data state.spaces) ≡ n = ap (λ (s : Sent P). s.next) (left.spaces Data).sent in
+      let there : next_number_of (space_of Data state.spaces) ≡ n = ap (λ (s : Sent P M). s.next) (left.spaces Data).sent in
       ap (λ (m : ℕ). numbered (number_by state.skipping.filter m) state.skipping.filter.last) there
       ∙ ap (λ (m : ℕ). numbered m state.skipping.filter.last) (number_at skips beginning.random n state.skipping left.skipping)
       ∙ ap (λ (o : Option ℕ). numbered (numbering_by beginning n).next o) (last_at skips beginning.random n state.skipping left.skipping)
 
-  pub known_same : (logs : Logs P) (state : Parts K P) → LeftBy beginning logs state → known_to state ≡ known_by beginning logs
+  pub known_same : (logs : Logs P M) (state : Parts K P M) → LeftBy beginning logs state → known_to state ≡ known_by beginning logs
   known_same logs state left =
-      ap (λ (s : SpaceId → SpaceKnown P). record old { spaces = s }) (fun_ext spaces)
+      ap (λ (s : SpaceId → SpaceKnown P M). record old { spaces = s }) (fun_ext spaces)
       ∙ ap (λ (n : Numbering). record k₁ { numbers = n }) (numbering_same logs state left)
       ∙ ap (λ (a : Option ℕ). record k₂ { last_asked = a }) (ap (λ (f : Frequency). f.last) left.frequency)
       ∙ ap (λ (r : RemoteIds). record k₃ { remote_ids = r }) left.remote_ids.same
@@ -93,31 +93,31 @@ module _ {F K Q S P : Type 0} (beginning : Beginning F K Q S P) where
       ∙ ap (λ (p : OfPaths (PathKnown K)). record k₆ { paths = p }) left.paths
       ∙ ap (λ (l : Option ℕ). record k₇ { peer_limit = l }) left.limits
     where
-      old : Known K P
+      old : Known K P M
       old = known_to state
 
-      new : Known K P
+      new : Known K P M
       new = known_by beginning logs
 
-      k₁ : Known K P
+      k₁ : Known K P M
       k₁ = record old { spaces = new.spaces }
 
-      k₂ : Known K P
+      k₂ : Known K P M
       k₂ = record k₁ { numbers = new.numbers }
 
-      k₃ : Known K P
+      k₃ : Known K P M
       k₃ = record k₂ { last_asked = new.last_asked }
 
-      k₄ : Known K P
+      k₄ : Known K P M
       k₄ = record k₃ { remote_ids = new.remote_ids }
 
-      k₅ : Known K P
+      k₅ : Known K P M
       k₅ = record k₄ { local_ids = new.local_ids }
 
-      k₆ : Known K P
+      k₆ : Known K P M
       k₆ = record k₅ { moment_of = new.moment_of }
 
-      k₇ : Known K P
+      k₇ : Known K P M
       k₇ = record k₆ { paths = new.paths }
 
       spaces : (space : SpaceId) → old.spaces space ≡ new.spaces space
@@ -126,27 +126,27 @@ module _ {F K Q S P : Type 0} (beginning : Beginning F K Q S P) where
           let log = logs.spaces space in
           ap (λ d. space_known d (counts_of (acks_of there)) (sent_of there) (queued_of there)) (left.discarded space)
           ∙ ap (λ (c : AckCounts). space_known (was_discarded space logs.discarded) c (sent_of there) (queued_of there)) (left.spaces space).acks.counts
-          ∙ ap (λ (s : Sent P). space_known (was_discarded space logs.discarded) (counts_by log) s (queued_of there)) (left.spaces space).sent
+          ∙ ap (λ (s : Sent P M). space_known (was_discarded space logs.discarded) (counts_by log) s (queued_of there)) (left.spaces space).sent
           ∙ ap (λ (u : Queued P). space_known (was_discarded space logs.discarded) (counts_by log) (sent_by beginning.queue.words log) u) (left.spaces space).queued
 
 -- ---- one event more
 
-module _ {F K Q S P : Type 0} (beginning : Beginning F K Q S P) where
+module _ {F K Q S M P : Type 0} (beginning : Beginning F K Q S M P) where
   -- the steps, by what the logs know
-  pub changes_by_logs : {M : Type 0} (logs : Logs P) (old : Parts K P) (event : Event Q S M P) (reply : Reply Q) (new : Parts K P) → LeftBy beginning logs old → Changes beginning.queue old event reply new → ChangesBy beginning.queue (known_by beginning logs) old event reply new
+  pub changes_by_logs : (logs : Logs P M) (old : Parts K P M) (event : Event Q S M P) (reply : Reply Q) (new : Parts K P M) → LeftBy beginning logs old → Changes beginning.queue old event reply new → ChangesBy beginning.queue (known_by beginning logs) old event reply new
   changes_by_logs logs old event reply new left changes =
-      let Holds : Known K P → Type 0 = λ known. ChangesBy beginning.queue known old event reply new in
+      let Holds : Known K P M → Type 0 = λ known. ChangesBy beginning.queue known old event reply new in
       subst Holds (known_same beginning logs old left) changes
 
 -- a queue that is moved leaves the numbers as they are
-moved_next : {P : Type 0} (empty : P) (found : ProbeFound) (sent : Sent P) → (sent_moved empty found sent).next ≡ sent.next
+moved_next : {P M : Type 0} (empty : P) (found : ProbeFound) (sent : Sent P M) → (sent_moved empty found sent).next ≡ sent.next
 moved_next empty pending_stands sent = refl
 moved_next empty (moves number) sent = refl
 moved_next empty nothing_found sent = refl
 
-module _ {F K Q S P : Type 0} (beginning : Beginning F K Q S P) where
+module _ {F K Q S M P : Type 0} (beginning : Beginning F K Q S M P) where
   -- the skips below the next number, with one entry more
-  skipping_law : (entry : Option (SpaceEntry P)) (log : List (SpaceEntry P)) (n : ℕ) (old new : Skipping) → n ≡ (sent_by beginning.queue.words log).next → old ≡ skipping_at beginning.config.skips beginning.random (sent_by beginning.queue.words log).next
+  skipping_law : (entry : Option (SpaceEntry P M)) (log : List (SpaceEntry P M)) (n : ℕ) (old new : Skipping) → n ≡ (sent_by beginning.queue.words log).next → old ≡ skipping_at beginning.config.skips beginning.random (sent_by beginning.queue.words log).next
       → SkippingStep entry n old new → new ≡ skipping_at beginning.config.skips beginning.random (sent_by beginning.queue.words (onto entry log)).next
   skipping_law (Some (sends number packet)) log n old new next left step =
       (allocated beginning.config.skips beginning.random n number old new (left ∙ ap (skipping_at beginning.config.skips beginning.random) (sym next)) step.0 step.1).1
@@ -163,12 +163,12 @@ module _ {F K Q S P : Type 0} (beginning : Beginning F K Q S P) where
   skipping_law (Some ack_is_late) log n old new next left step = step ∙ left
   skipping_law (Some (asked frame)) log n old new next left step = step ∙ left
 
-  pub left_after : (logs : Logs P) (entries : Entries P) (old new : Parts K P) → LeftBy beginning logs old → Steps beginning.queue.words entries old new → AreBalanced new.spaces new.paths → LeftBy beginning (logs_with entries logs) new
+  pub left_after : (logs : Logs P M) (entries : Entries P M) (old new : Parts K P M) → LeftBy beginning logs old → Steps beginning.queue.words entries old new → AreBalanced new.spaces new.paths → LeftBy beginning (logs_with entries logs) new
   left_after logs entries old new left steps balanced = record {
     settings = steps.settings ∙ left.settings;
     spaces = spaces;
     discarded = left_by DiscardedStep DiscardedLeft discarded_law entries.discarded logs.discarded _ _ left.discarded steps.discarded;
-    skipping = skipping_law (entries.spaces Data) (logs.spaces Data) (next_number_of (space_of Data old.spaces)) old.skipping new.skipping (ap (λ (s : Sent P). s.next) (left.spaces Data).sent) left.skipping steps.skipping;
+    skipping = skipping_law (entries.spaces Data) (logs.spaces Data) (next_number_of (space_of Data old.spaces)) old.skipping new.skipping (ap (λ (s : Sent P M). s.next) (left.spaces Data).sent) left.skipping steps.skipping;
     frequency = left_by RequestStep (FrequencyLeft first) (request_law first) entries.requests logs.requests _ _ left.frequency steps.frequency;
     timers = left_by TimerStep TimersLeft timer_law entries.timers logs.timers _ _ left.timers steps.timers;
     remote_ids = left_by RemoteStep (RemoteIdsLeft initial) (remote_law initial) entries.remote_ids logs.remote_ids _ _ left.remote_ids steps.remote_ids;
@@ -201,13 +201,13 @@ module _ {F K Q S P : Type 0} (beginning : Beginning F K Q S P) where
 -- ---- a fresh start
 
 -- one path of generation 0, and spaces that track nothing
-pub balanced_first : {K P : Type 0} (spaces : Spaces P) (path : Path K) (paths : OfPaths (Path K)) → paths ≡ record { current = path; previous = None } → ((space : SpaceId) → tracking_of (space_of space spaces) ≡ no_packets) → ((space : SpaceId) → acks_of (space_of space spaces) ≡ new_acks [])
+pub balanced_first : {K P M : Type 0} (spaces : Spaces P M) (path : Path K) (paths : OfPaths (Path K)) → paths ≡ record { current = path; previous = None } → ((space : SpaceId) → tracking_of (space_of space spaces) ≡ no_packets) → ((space : SpaceId) → acks_of (space_of space spaces) ≡ new_acks [])
     → path.ledger ≡ fresh_ledger 0 → AreBalanced spaces paths
-balanced_first {K} {P} spaces path paths is none no_acks ledger =
+balanced_first {K} {P} {M} spaces path paths is none no_acks ledger =
     let Sums : OfPaths (Path K) → Type 0 = AreBalanced spaces in
     subst Sums (sym is) (fresh spaces path none (fresh_coherent spaces none no_acks) (ap counters_of ledger))
 
-module _ {F K Q S P : Type 0} (beginning : Beginning F K Q S P) where
+module _ {F K Q S M P : Type 0} (beginning : Beginning F K Q S M P) where
   -- the first path, as it was made
   pub paths_first : (path : Path K) (paths : OfPaths (Path K)) → paths ≡ record { current = path; previous = None } → path.ledger ≡ fresh_ledger 0 → path.state ≡ state_made (first_path beginning) → PathsLeft (settings_of beginning) (first_path beginning) [] (paths_known paths)
   paths_first path paths is ledger state =

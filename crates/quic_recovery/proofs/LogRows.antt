@@ -11,7 +11,7 @@ use Rattle.quic_recovery.specs.declared.event.Refusal.TheVariants.{NumberTooLarg
 use Rattle.quic_recovery.specs.Entries.{logs_of}
 use Rattle.quic_recovery.specs.History.{Beginning, History}
 
-module _ {F K Q S M P : Type 0} (beginning : Beginning F K Q S P) (queue : Q) (frames : M) where
+module _ {F K Q S M P : Type 0} (beginning : Beginning F K Q S M P) (queue : Q) (frames : M) where
   -- packet 0 came, one too large was refused, one was sent, Idle was set to 50 and Pacing to 20, and Pacing was stopped
   abbrev row : History Q S M P
   row =
@@ -29,7 +29,7 @@ module _ {F K Q S M P : Type 0} (beginning : Beginning F K Q S P) (queue : Q) (f
   pacing_is_stopped : last_set Pacing (logs_of beginning row).timers ≡ None
   pacing_is_stopped = refl
 
-  one_is_tracked : (sent_by beginning.queue.words ((logs_of beginning row).spaces Initial)).tracked ≡ (0, packet_sent 0 7 500 true None (beginning.queue.contents queue)) ∷ []
+  one_is_tracked : (sent_by beginning.queue.words ((logs_of beginning row).spaces Initial)).tracked ≡ (0, packet_sent 0 7 500 true None (beginning.queue.contents queue) frames) ∷ []
   one_is_tracked = refl
 
   nothing_in_handshake : (logs_of beginning row).spaces Handshake ≡ []

@@ -25,7 +25,7 @@ use Rattle.quic_recovery.proofs.AmplificationLaws.{is_allowed, throughout_kept}
 keeps_pace : {K : Type 0} (past : PathPast K) → HavePassedOn past → AreChecked past.pacing → KeepsRate (bucket_of past.making.pacer) past.pacing
 keeps_pace past passed checked = keeps_rate (bucket_of past.making.pacer) past.pacing refl checked passed
 
-module _ {F K Q S M P : Type 0} (beginning : Beginning F K Q S P) where
+module _ {F K Q S M P : Type 0} (beginning : Beginning F K Q S M P) where
   -- on each path that lives, what was transmitted checked had passed the pacer
   abbrev HavePassedThere : History Q S M P → Type 0
   HavePassedThere history = OnEachPath HavePassedOn (pasts_of beginning history)

@@ -35,11 +35,11 @@ use Rattle.quic_recovery.proofs.DriverLaws.{spaces_step, skips_nothing}
 -- ---- packets leave the paths: what is known of a path holds no counters
 
 -- packets that leave a path leave its generation
-generation_without : {P : Type 0} (packets : Packets P) (ledger : PathLedger) → generation_of (ledger_without packets ledger) ≡ generation_of ledger
+generation_without : {P M : Type 0} (packets : Packets P M) (ledger : PathLedger) → generation_of (ledger_without packets ledger) ≡ generation_of ledger
 generation_without [] ledger = refl
 generation_without (entry ∷ packets) ledger = generation_without packets (after_leaving ledger entry.1)
 
-module _ {K P : Type 0} (packets : Packets P) where
+module _ {K P M : Type 0} (packets : Packets P M) where
   -- what is known of a path stays
   known_without : (path : Path K) → path_known (on_ledger (ledger_without packets) path) ≡ path_known path
   known_without path = ap (λ g. record { generation = g; state = path.state }) (generation_without packets path.ledger)
@@ -57,9 +57,9 @@ module _ {K P : Type 0} (packets : Packets P) where
 
 -- ---- a space is discarded
 
-module _ {K Q S M P : Type 0} (q : QueueMeaning Q S P) (old : Parts K P) (space : SpaceId) where
+module _ {K Q S M P : Type 0} (q : QueueMeaning Q S M P) (old : Parts K P M) (space : SpaceId) where
   -- its packets leave it and the paths, and it is noted
-  pub discard_changes : (there : Space P) (discarded : DiscardedSpaces) (paths : OfPaths (Path K)) → is_discarded space old.discarded ≡ false
+  pub discard_changes : (there : Space P M) (discarded : DiscardedSpaces) (paths : OfPaths (Path K)) → is_discarded space old.discarded ≡ false
       → there ≡ space_empties (space_of space old.spaces) → DiscardedStep space old.discarded discarded → paths ≡ paths_without (tracked_by old.spaces space) old.paths
       → Changes {M = M} q old (DiscardSpace space) (Ok Done) (record old { spaces = with_space old.spaces space there; discarded = discarded; paths = paths })
   discard_changes there discarded paths live empty noted left = record {
@@ -97,26 +97,34 @@ refused_alike : {Q : Type 0} (Grows : Type 0) (One Other : Answer Q → Type 0) 
 refused_alike Grows One Other NoMemory is = is
 refused_alike Grows One Other other is = is
 
-module _ {K Q S M P : Type 0} (q : QueueMeaning Q S P) (old then : Parts K P) (now size : ℕ) (queue : Q) (frames : M)
-    (empty : q.contents queue ≡ q.words.empty) (due : poll_of now old.paths.current.state.discovery ≡ Some size) where
-  abbrev known : Known K P
+module _ {K Q S M P : Type 0} (q : QueueMeaning Q S M P) (old then : Parts K P M) (now size : ℕ) (queue : Q)
+    (frames : M) (empty : q.contents queue ≡ q.words.empty) (blank : frames ≡ q.blank)
+    (due : poll_of now old.paths.current.state.discovery ≡ Some size) where
+  abbrev known : Known K P M
   known = known_to old
 
-  abbrev probe_of : P → Packet P
-  probe_of = packet_now known now size true None
+  abbrev probe_of : P × M → Packet P M
+  probe_of carried = packet_now known now size true None carried.0 carried.1
 
-  abbrev Over : P → Type 0
-  Over contents = Overflows (current_in_flight known) (probe_of contents)
+  -- what a probe carries
+  abbrev nothing_carried : P × M
+  nothing_carried = (q.words.empty, q.blank)
+
+  carries_nothing : (q.contents queue, frames) ≡ nothing_carried
+  carries_nothing = ap₂ (λ (p : P) (m : M). (p, m)) empty blank
+
+  abbrev Over : P × M → Type 0
+  Over carried = Overflows (current_in_flight known) (probe_of carried)
 
   -- where the probe cannot be sent the event is refused likewise
   pub probe_refused : (refusal : Refusal) → Changes {M = M} q old (Send Data now size true None queue frames) (Err refusal) then → Changes {M = M} q old (PollMtu now) (Err refusal) then
   probe_refused refusal sent =
-      let Told : P → Type 0 = λ contents. SendReply {Q = Q} (known.spaces Data) (current_in_flight known) (number_in known Data) (probe_of contents) (Err refusal) in
+      let Told : P × M → Type 0 = λ carried. SendReply {Q = Q} (known.spaces Data) (current_in_flight known) (number_in known Data) (probe_of carried) (Err refusal) in
       let Out : Option ℕ → Type 0 = λ due. InSpace (known.spaces Data) (Refuses NumbersExhausted (2 ^ 62 ≤ known.numbers.next) (ProbeOutReply q known now due)) (Err refusal) in
-      let sent_as : Answer Q = Sent (number_in known Data) (forgotten_by (known.spaces Data).sent (probe_of q.words.empty)) in
+      let sent_as : Answer Q = Sent (number_in known Data) (forgotten_by (known.spaces Data).sent (probe_of nothing_carried)) in
       record {
-        told = subst Out (sym due) (but_second _ _ _ (Over q.words.empty) _ _ (λ large. large) (refused_alike (Unit {0}) (λ answer. answer ≡ sent_as) (λ answer. answer ≡ Probe known.numbers.next size) refusal)
-            (same_refusal refusal SpaceDiscarded) (same_refusal refusal NumberTooLarge) (same_refusal refusal NumbersExhausted) (same_refusal refusal Overflow) (subst Told empty sent.told));
+        told = subst Out (sym due) (but_second _ _ _ (Over nothing_carried) _ _ (λ large. large) (refused_alike (Unit {0}) (λ answer. answer ≡ sent_as) (λ answer. answer ≡ Probe known.numbers.next size) refusal)
+            (same_refusal refusal SpaceDiscarded) (same_refusal refusal NumberTooLarge) (same_refusal refusal NumbersExhausted) (same_refusal refusal Overflow) (subst Told carries_nothing sent.told));
         steps = sent.steps;
         refused = sent.refused;
       }
@@ -127,13 +135,14 @@ module _ {K Q S M P : Type 0} (q : QueueMeaning Q S P) (old then : Parts K P) (n
       → Changes {M = M} q old (PollMtu now) (Ok (Probe number size)) (record then { paths = record then.paths { current = path } })
   probe_changes number discovery path answer is polled goes_on sent =
       let Out : Option ℕ → Type 0 = λ due. ProbeOutReply q known now due (Ok (Probe number size)) in
-      let Fitting : P → Type 0 = λ contents. ¬ Over contents in
-      let Sending : P → Type 0 = λ contents. Steps q.words (sending known Data now size true None contents) old then in
-      let steps = subst Sending empty sent.steps in
+      let Fitting : P × M → Type 0 = λ carried. ¬ Over carried in
+      let Sending : P × M → Type 0 =
+      λ carried. Steps q.words (sending known Data now size true None carried.0 carried.1) old then in
+      let steps = subst Sending carries_nothing sent.steps in
       let told : OfPaths (PathKnown K) = paths_after (known_with old.settings) (known_following old.settings) (on_current (tells (sent_call known Data now size)) ∷ []) (paths_known old.paths) in
       let seen : Discovery → OfPaths (PathKnown K) → OfPaths (PathKnown K) = λ found all. record all { current = record all.current { state = with_discovery found all.current.state } } in
       record {
-        told = (sent.told.0, (sent.told.1.1.0, subst Out (sym due) (subst Fitting empty sent.told.1.1.1.0, ap (λ n. Probe n size) is)));
+        told = (sent.told.0, (sent.told.1.1.0, subst Out (sym due) (subst Fitting carries_nothing sent.told.1.1.1.0, ap (λ n. Probe n size) is)));
         steps = record {
           settings = steps.settings;
           spaces = steps.spaces;

@@ -47,13 +47,13 @@ pub where_allowed : {A : Type 0} (P : A → Type 0) (allowed : Bool) (o : Option
 where_allowed P true o holds = holds
 where_allowed P false o holds = λ x is. absurd (cc)
 
-module _ {K Q S P : Type 0} (q : QueueMeaning Q S P) (known : Known K P) (now : ℕ) where
+module _ {K Q S M P : Type 0} (q : QueueMeaning Q S M P) (known : Known K P M) (now : ℕ) where
   -- a poll that gives none is not answered by a probe
   unanswered : {A : Type 0} (answer : Option ℕ) (number size : ℕ) → answer ≡ None → ProbeOutReply q known now answer (Ok (Probe number size)) → A
   unanswered None number size none told = no_probe_is_none told
   unanswered (Some own) number size none told = absurd (cc)
 
-module _ {K Q S P : Type 0} (q : QueueMeaning Q S P) (known : Known K P) (settings : MtuDiscoveryConfig) (now next : ℕ) (earlier : List MtuEntry) where
+module _ {K Q S M P : Type 0} (q : QueueMeaning Q S M P) (known : Known K P M) (settings : MtuDiscoveryConfig) (now next : ℕ) (earlier : List MtuEntry) where
   -- a poll that is answered by a probe gives one
   probe_out : (answer : Option ℕ) (number size : ℕ) → ProbeOutReply q known now answer (Ok (Probe number size)) → ProbesInSearch settings (poll_entry now next answer ∷ earlier) → ProbesInSearch settings (probed now number size ∷ earlier)
   probe_out None number size told inside = no_probe_is_none told
@@ -64,7 +64,7 @@ module _ {K Q S P : Type 0} (q : QueueMeaning Q S P) (known : Known K P) (settin
   none_out made None told near = near
   none_out made (Some own) told near = none_is_no_probe told.1
 
-module _ {F K Q S P : Type 0} (beginning : Beginning F K Q S P) where
+module _ {F K Q S M P : Type 0} (beginning : Beginning F K Q S M P) where
   -- a path is searched by the settings of the run
   abbrev IsSearched : PathPast K → Type 0
   IsSearched = IsPathSearchedBy (discovery_settings beginning)
@@ -76,7 +76,7 @@ module _ {F K Q S P : Type 0} (beginning : Beginning F K Q S P) where
   first_is : OnEachPath IsSearched (pasts_by (settings_of beginning) (first_path beginning) [])
   first_is = searched_at_first (settings_of beginning) (discovery_settings beginning) fresh_is (first_path beginning) (fresh_is None)
 
-module _ {F K Q S M P : Type 0} (beginning : Beginning F K Q S P) where
+module _ {F K Q S M P : Type 0} (beginning : Beginning F K Q S M P) where
   -- each path that lives is
   abbrev AreSearched : History Q S M P → Type 0
   AreSearched history = OnEachPath (IsSearched beginning) (pasts_of beginning history)
@@ -121,7 +121,7 @@ module _ {F K Q S M P : Type 0} (beginning : Beginning F K Q S P) where
   probes_one : (before : History Q S M P) (event : Event Q S M P) (reply : Reply Q) → Told beginning before event reply → AreSearched before → ProbesInTurn beginning before event reply
   probes_one before (PollMtu now) (Ok (Probe number size)) told searched = go (discovery_settings beginning) refl
     where
-      known : Known K P
+      known : Known K P M
       known = known_by beginning (logs_of beginning before)
 
       past : PathPast K

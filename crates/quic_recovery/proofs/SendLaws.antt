@@ -29,23 +29,23 @@ use Rattle.quic_recovery.proofs.DriverLaws.{sent_changes}
 use Rattle.quic_recovery.proofs.NumberLaws.{number_above, number_known, number_skips}
 
 -- the paths where a packet was sent, and another is perhaps forgotten for it, as the controller is told
-abbrev pub paths_telling : {K P : Type 0} → Packet P → Space P → (PathState K → PathState K) → OfPaths (Path K) → OfPaths (Path K)
+abbrev pub paths_telling : {K P M : Type 0} → Packet P M → Space P M → (PathState K → PathState K) → OfPaths (Path K) → OfPaths (Path K)
 paths_telling packet there change paths = on_path_of Current (on_state change) (paths_after_sending packet (forgotten_entry packet (tracking_of there)) paths)
 
-module _ {K P : Type 0} (spaces : Spaces P) (paths : OfPaths (Path K)) (balanced : AreBalanced spaces paths) (space : SpaceId) (number : ℕ) (packet : Packet P) (own : packet.path_generation ≡ generation_of paths.current.ledger) (above : next_number_of (space_of space spaces) ≤ number) where
-  pub can_track_here : (here : Space P) → here ≡ space_of space spaces → CanTrackOn paths number packet here
-  can_track_here here same = let Can : Space P → Type 0 = CanTrackOn paths number packet in subst Can (sym same) (can_track spaces paths balanced space number packet own above)
+module _ {K P M : Type 0} (spaces : Spaces P M) (paths : OfPaths (Path K)) (balanced : AreBalanced spaces paths) (space : SpaceId) (number : ℕ) (packet : Packet P M) (own : packet.path_generation ≡ generation_of paths.current.ledger) (above : next_number_of (space_of space spaces) ≤ number) where
+  pub can_track_here : (here : Space P M) → here ≡ space_of space spaces → CanTrackOn paths number packet here
+  can_track_here here same = let Can : Space P M → Type 0 = CanTrackOn paths number packet in subst Can (sym same) (can_track spaces paths balanced space number packet own above)
 
-  pub sent_balanced : (here : Space P) (then : OfPaths (Path K)) → (¬ IsTooLarge packet.largest_acked) → here ≡ space_sends number packet (space_of space spaces)
+  pub sent_balanced : (here : Space P M) (then : OfPaths (Path K)) → (¬ IsTooLarge packet.largest_acked) → here ≡ space_sends number packet (space_of space spaces)
       → then ≡ paths_after_sending packet (forgotten_entry packet (tracking_of (space_of space spaces))) paths → AreBalanced (with_space spaces space here) then
   sent_balanced here then small is counts =
-      let Come : Space P → Type 0 = HasGreatestCome in
+      let Come : Space P M → Type 0 = HasGreatestCome in
       let Balanced : OfPaths (Path K) → Type 0 = AreBalanced (with_space spaces space here) in
       subst Balanced (sym counts) (sent spaces paths balanced space number packet here own above small (ap tracking_of is) (ap next_number_of is) (subst Come (sym is) (balanced.coherent space).received))
 
 -- what is known of the paths then: the controller was told
-module _ {K P : Type 0} (packet : Packet P) (there : Space P) (change : PathState K → PathState K) (paths : OfPaths (Path K)) where
-  abbrev forgotten : Option (ℕ × Packet P)
+module _ {K P M : Type 0} (packet : Packet P M) (there : Space P M) (change : PathState K → PathState K) (paths : OfPaths (Path K)) where
+  abbrev forgotten : Option (ℕ × Packet P M)
   forgotten = forgotten_entry packet (tracking_of there)
 
   abbrev known_as : ℕ → Option (PathKnown K) → OfPaths (PathKnown K)
@@ -61,15 +61,16 @@ module _ {K P : Type 0} (packet : Packet P) (there : Space P) (change : PathStat
       ∙ ap (known_as (generation_of paths.current.ledger)) (previous_known paths.previous)
 
 -- what the event comes to
-module _ {K Q S M P : Type 0} (q : QueueMeaning Q S P) (old : Parts K P) (balanced : AreBalanced old.spaces old.paths) (space : SpaceId) (now size : ℕ) (ack_eliciting : Bool) (largest_acked : Option ℕ) (queue : Q) (frames : M)
+module _ {K Q S M P : Type 0} (q : QueueMeaning Q S M P) (old : Parts K P M) (balanced : AreBalanced old.spaces old.paths) (space : SpaceId) (now size : ℕ) (ack_eliciting : Bool) (largest_acked : Option ℕ) (queue : Q) (frames : M)
     (live : is_discarded space old.discarded ≡ false) (small : ¬ IsTooLarge largest_acked) where
-  abbrev packet_at_generation : ℕ → Packet P
-  packet_at_generation generation = packet_sent generation now size ack_eliciting largest_acked (q.contents queue)
+  abbrev packet_at_generation : ℕ → Packet P M
+  packet_at_generation generation =
+      packet_sent generation now size ack_eliciting largest_acked (q.contents queue) frames
 
-  abbrev here_then : Space P
+  abbrev here_then : Space P M
   here_then = space_of space old.spaces
 
-  pub send_changes : (generation number : ℕ) (there : Space P) (skipping : Skipping) (paths : OfPaths (Path K)) (forgotten : Option ℕ)
+  pub send_changes : (generation number : ℕ) (there : Space P M) (skipping : Skipping) (paths : OfPaths (Path K)) (forgotten : Option ℕ)
       → generation ≡ generation_of old.paths.current.ledger → number ≡ number_behind old.skipping.filter space (next_number_of here_then) → number < 2 ^ 62
       → (¬ Overflows (counters_of old.paths.current.ledger) (packet_at_generation generation))
       → forgotten ≡ entry_number (forgotten_entry (packet_at_generation generation) (tracking_of here_then))

@@ -7,7 +7,7 @@ use Rattle.quic_recovery.specs.Entries.{logs_of}
 use Rattle.quic_recovery.specs.History.{Beginning, History, Reply}
 use Rattle.quic_recovery.specs.Known.{first_path, settings_of}
 
-module _ {F K Q S M P : Type 0} (beginning : Beginning F K Q S P) where
+module _ {F K Q S M P : Type 0} (beginning : Beginning F K Q S M P) where
   -- all that happened on each path that lives
   abbrev pub pasts_of : History Q S M P → OfPaths (PathPast K)
   pasts_of history = pasts_by (settings_of beginning) (first_path beginning) (logs_of beginning history).paths

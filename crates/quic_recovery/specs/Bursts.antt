@@ -9,7 +9,7 @@ use Rattle.quic_recovery.specs.Amplification.{pasts_of}
 use Rattle.quic_recovery.specs.History.{Beginning, History, Reply}
 use Rattle.quic_recovery.specs.Search.{entries_on}
 
-module _ {F K Q S M P : Type 0} (beginning : Beginning F K Q S P) where
+module _ {F K Q S M P : Type 0} (beginning : Beginning F K Q S M P) where
   -- where the end of losses reports a black hole, four bursts of packets above the least MTU stand: closed since the last report,
   -- reset or fresh path, and not refuted
   abbrev pub NeedsFourBursts : History Q S M P → Event Q S M P → Reply Q → Type 0

@@ -28,12 +28,12 @@ use Rattle.recovery_ledger.specs.SpaceLog.{SpaceEntry, heard, heard_again, sends
 use Rattle.recovery_base.specs.TimerLog.{TimerEntry}
 
 -- what happens in one space is nothing to another
-abbrev pub here : {P : Type 0} → SpaceId → SpaceId → SpaceEntry P → Option (SpaceEntry P)
+abbrev pub here : {P M : Type 0} → SpaceId → SpaceId → SpaceEntry P M → Option (SpaceEntry P M)
 here other space entry = if same_space other space then Some entry else None
 
 -- what one event is to each part, if anything
-pub record Entries (P : Type 0) : Type 0 where
-  pub spaces : SpaceId → Option (SpaceEntry P)
+pub record Entries (P M : Type 0) : Type 0 where
+  pub spaces : SpaceId → Option (SpaceEntry P M)
   pub discarded : Option SpaceId
   pub requests : Option RequestEntry
   pub timers : Option TimerEntry
@@ -44,7 +44,7 @@ pub record Entries (P : Type 0) : Type 0 where
   -- the largest size that the peer takes
   pub limits : Option ℕ
 
-abbrev pub nothing : {P : Type 0} → Entries P
+abbrev pub nothing : {P M : Type 0} → Entries P M
 nothing = record {
   spaces = λ space. None;
   discarded = None;
@@ -57,25 +57,25 @@ nothing = record {
 }
 
 -- something that happens in one space alone
-abbrev pub in_space : {P : Type 0} → SpaceId → SpaceEntry P → Entries P
+abbrev pub in_space : {P M : Type 0} → SpaceId → SpaceEntry P M → Entries P M
 in_space space entry = record nothing { spaces = λ other. here space other entry }
 
 -- something that happens on a path alone
-abbrev pub on_path : {P : Type 0} → PathsEntry → Entries P
+abbrev pub on_path : {P M : Type 0} → PathsEntry → Entries P M
 on_path entry = record nothing { paths = entry ∷ [] }
 
-module _ {K P : Type 0} (known : Known K P) where
+module _ {K P M : Type 0} (known : Known K P M) where
   -- ---- what the controller of the path in use is told (RFC 9002, 7)
 
   -- a packet that goes out, under the next number of its space
   abbrev pub sent_call : SpaceId → ℕ → ℕ → ControllerCall
   sent_call space now size = sends_bytes now size (number_in known space)
 
-  abbrev pub is_own : Packet P → Bool
+  abbrev pub is_own : Packet P M → Bool
   is_own packet = packet.path_generation == known.paths.current.generation
 
   -- an acknowledged packet, where it was tracked, went out on the path and elicits an ACK
-  abbrev pub acked_entry : ℕ → Bool → Option (Packet P) → List PathsEntry
+  abbrev pub acked_entry : ℕ → Bool → Option (Packet P M) → List PathsEntry
   acked_entry now app_limited None = []
   acked_entry now app_limited (Some packet) =
       let rtt = known.paths.current.state.rtt in
@@ -96,13 +96,13 @@ module _ {K P : Type 0} (known : Known K P) where
       let seen = on_current (searches call) ∷ [] in
       if changes then on_current (tells (takes_mtu after.mtu)) ∷ seen else seen
 
-  abbrev pub acked_search : SpaceId → ℕ → Option (Packet P) → List PathsEntry
+  abbrev pub acked_search : SpaceId → ℕ → Option (Packet P M) → List PathsEntry
   acked_search space number None = []
   acked_search space number (Some packet) =
       let probed = is_path_probe space number known.paths.current.state in
       if is_data space then searched probed (acks_packet number packet.size) else []
 
-  abbrev pub lost_search : SpaceId → ℕ → Option (Packet P) → List PathsEntry
+  abbrev pub lost_search : SpaceId → ℕ → Option (Packet P M) → List PathsEntry
   lost_search space number None = []
   lost_search space number (Some packet) =
       let call = loss_call number packet.size known.paths.current.state.discovery in
@@ -111,9 +111,10 @@ module _ {K P : Type 0} (known : Known K P) where
   -- ---- packets
 
   -- a packet is sent on the path in use
-  abbrev pub sending : SpaceId → ℕ → ℕ → Bool → Option ℕ → P → Entries P
-  sending space now size eliciting largest contents =
-      record (in_space space (sends (number_in known space) (packet_now known now size eliciting largest contents))) {
+  abbrev pub sending : SpaceId → ℕ → ℕ → Bool → Option ℕ → P → M → Entries P M
+  sending space now size eliciting largest contents frames =
+      let packet = packet_now known now size eliciting largest contents frames in
+      record (in_space space (sends (number_in known space) packet)) {
         paths = on_current (tells (sent_call space now size)) ∷ [];
       }
 
@@ -131,18 +132,18 @@ module _ {K P : Type 0} (known : Known K P) where
 -- ---- the table: one line an event, or two where its answer says what it was
 
 -- a refused event is nothing, but for a request of ACKs whose number is kept
-abbrev pub refused : {Q S M P : Type 0} → Event Q S M P → Refusal → Entries P
+abbrev pub refused : {Q S M P : Type 0} → Event Q S M P → Refusal → Entries P M
 refused (AckFrequencyIn frame) DelayTooSmall = record nothing { requests = Some (too_small frame) }
 refused event refusal = nothing
 
-module _ {K Q S M P : Type 0} (q : QueueMeaning Q S P) where
+module _ {K Q S M P : Type 0} (q : QueueMeaning Q S M P) where
   -- what an event is by its answer, and by what was known before it
-  abbrev pub answered : Known K P → Event Q S M P → Answer Q → Entries P
+  abbrev pub answered : Known K P M → Event Q S M P → Answer Q → Entries P M
   answered known (Received space now number eliciting) (New arm) =
       in_space space (heard now number eliciting)
   answered known (Received space now number eliciting) answer = in_space space (heard_again number)
   answered known (Send space now size eliciting largest queue frames) answer =
-      sending known space now size eliciting largest (q.contents queue)
+      sending known space now size eliciting largest (q.contents queue) frames
   answered known (Acked space now number app_limited) answer =
       let packet = packet_at (tracked_known known space) number in
       record (in_space space (acknowledged number)) {
@@ -180,7 +181,7 @@ module _ {K Q S M P : Type 0} (q : QueueMeaning Q S P) where
   answered known (EndAcks now app_limited largest) answer =
       on_path (on_current (tells (end_call known now app_limited largest)))
   answered known (PollMtu now) (Probe number size) =
-      record (sending known Data now size true None q.words.empty) {
+      record (sending known Data now size true None q.words.empty q.blank) {
         paths = searched known false (polls now number)
             ++ on_current (tells (sent_call known Data now size)) ∷ [];
       }
@@ -199,13 +200,13 @@ module _ {K Q S M P : Type 0} (q : QueueMeaning Q S P) where
   answered known DropPrevious answer = on_path drops_previous
   answered known event answer = nothing
 
-  abbrev pub entries_of : Known K P → Event Q S M P → Reply Q → Entries P
+  abbrev pub entries_of : Known K P M → Event Q S M P → Reply Q → Entries P M
   entries_of known event (Ok answer) = answered known event answer
   entries_of known event (Err refusal) = refused event refusal
 
 -- ---- the logs of all parts
 
-abbrev pub logs_with : {P : Type 0} → Entries P → Logs P → Logs P
+abbrev pub logs_with : {P M : Type 0} → Entries P M → Logs P M → Logs P M
 logs_with entries logs = record {
   spaces = λ space. onto (entries.spaces space) (logs.spaces space);
   discarded = onto entries.discarded logs.discarded;
@@ -218,7 +219,7 @@ logs_with entries logs = record {
 }
 
 -- the logs of a history: what each event was, by what the logs before it know
-abbrev pub logs_of : {F K Q S M P : Type 0} → Beginning F K Q S P → History Q S M P → Logs P
+abbrev pub logs_of : {F K Q S M P : Type 0} → Beginning F K Q S M P → History Q S M P → Logs P M
 logs_of beginning [] = no_logs
 logs_of beginning (happened ∷ earlier) =
     let logs = logs_of beginning earlier in

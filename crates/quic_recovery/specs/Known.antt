@@ -24,13 +24,13 @@ use Rattle.recovery_ledger.specs.Tracked.{Sent, sent_by, packet_sent}
 
 -- what replies and entries depend on, but for the sets of numbers: values, which are the same by the state and by
 -- the logs
-pub record SpaceKnown (P : Type 0) : Type 0 where
+pub record SpaceKnown (P M : Type 0) : Type 0 where
   -- the space was discarded
   pub discarded : Bool
   -- what decides of its next ACK
   pub counts : AckCounts
   -- its packets
-  pub sent : Sent P
+  pub sent : Sent P M
   -- what is to be sent again, what probes ask for, and the counts of ECN
   pub queued : Queued P
 
@@ -41,8 +41,8 @@ pub record Numbering : Type 0 where
   -- the greatest skip below the last one
   pub skipped : Option ℕ
 
-pub record Known (K P : Type 0) : Type 0 where
-  pub spaces : SpaceId → SpaceKnown P
+pub record Known (K P M : Type 0) : Type 0 where
+  pub spaces : SpaceId → SpaceKnown P M
   pub numbers : Numbering
   -- the number of the last ACK_FREQUENCY frame that was taken
   pub last_asked : Option ℕ
@@ -58,31 +58,31 @@ pub record Known (K P : Type 0) : Type 0 where
   pub peer_limit : Option ℕ
 
 -- the packets that each space tracks
-abbrev pub tracked_known : {K P : Type 0} → Known K P → SpaceId → Packets P
+abbrev pub tracked_known : {K P M : Type 0} → Known K P M → SpaceId → Packets P M
 tracked_known known space = (known.spaces space).sent.tracked
 
 -- a packet as it is sent on the path in use
-abbrev pub packet_now : {K P : Type 0} → Known K P → ℕ → ℕ → Bool → Option ℕ → P → Packet P
+abbrev pub packet_now : {K P M : Type 0} → Known K P M → ℕ → ℕ → Bool → Option ℕ → P → M → Packet P M
 packet_now known = packet_sent known.paths.current.generation
 
 -- the number that is given out next in a space
-abbrev pub number_in : {K P : Type 0} → Known K P → SpaceId → ℕ
+abbrev pub number_in : {K P M : Type 0} → Known K P M → SpaceId → ℕ
 number_in known Initial = (known.spaces Initial).sent.next
 number_in known Handshake = (known.spaces Handshake).sent.next
 number_in known Data = known.numbers.next
 
 -- what is in flight on a path
-abbrev pub in_flight_on : {K P : Type 0} → Known K P → PathKnown K → InFlight
+abbrev pub in_flight_on : {K P M : Type 0} → Known K P M → PathKnown K → InFlight
 in_flight_on known path = in_flight path.generation (tracked_known known)
 
 -- what is in flight on the path in use
-abbrev pub current_in_flight : {K P : Type 0} → Known K P → InFlight
+abbrev pub current_in_flight : {K P M : Type 0} → Known K P M → InFlight
 current_in_flight known = in_flight_on known known.paths.current
 
 -- ---- the logs of all parts
 
-pub record Logs (P : Type 0) : Type 0 where
-  pub spaces : SpaceId → List (SpaceEntry P)
+pub record Logs (P M : Type 0) : Type 0 where
+  pub spaces : SpaceId → List (SpaceEntry P M)
   pub discarded : List SpaceId
   pub requests : List RequestEntry
   pub timers : List TimerEntry
@@ -91,7 +91,7 @@ pub record Logs (P : Type 0) : Type 0 where
   pub paths : List PathsEntry
   pub limits : List ℕ
 
-abbrev pub no_logs : {P : Type 0} → Logs P
+abbrev pub no_logs : {P M : Type 0} → Logs P M
 no_logs = record {
   spaces = λ space. [];
   discarded = [];
@@ -104,7 +104,7 @@ no_logs = record {
 }
 
 -- what the logs know, in a run that begins so
-abbrev pub first_ids : {F K Q S P : Type 0} → Beginning F K Q S P → FirstIds
+abbrev pub first_ids : {F K Q S M P : Type 0} → Beginning F K Q S M P → FirstIds
 first_ids beginning = record {
   cid_len = beginning.config.cid_len;
   cid_lifetime = beginning.config.cid_lifetime;
@@ -113,11 +113,11 @@ first_ids beginning = record {
 }
 
 -- how all paths are made
-abbrev pub settings_of : {F K Q S P : Type 0} → Beginning F K Q S P → PathSettings K
+abbrev pub settings_of : {F K Q S M P : Type 0} → Beginning F K Q S M P → PathSettings K
 settings_of beginning = path_settings beginning.built beginning.words beginning.config.allow_mtud beginning.config.transport
 
 -- the first path
-abbrev pub first_path : {F K Q S P : Type 0} → Beginning F K Q S P → PathMaking K
+abbrev pub first_path : {F K Q S M P : Type 0} → Beginning F K Q S M P → PathMaking K
 first_path beginning =
     let config = beginning.config in
     making_fresh (settings_of beginning) config.remote config.validated None beginning.start
@@ -128,13 +128,13 @@ last_limit [] = None
 last_limit (size ∷ earlier) = Some size
 
 -- where the next number of 1-RTT packets is n, or one more where that is skipped
-abbrev pub numbering_by : {F K Q S P : Type 0} → Beginning F K Q S P → ℕ → Numbering
+abbrev pub numbering_by : {F K Q S M P : Type 0} → Beginning F K Q S M P → ℕ → Numbering
 numbering_by beginning n = record {
   next = number_from beginning.config.skips beginning.random n;
   skipped = skip_before beginning.config.skips beginning.random n;
 }
 
-abbrev pub known_by : {F K Q S P : Type 0} → Beginning F K Q S P → Logs P → Known K P
+abbrev pub known_by : {F K Q S M P : Type 0} → Beginning F K Q S M P → Logs P M → Known K P M
 known_by beginning logs =
     let words = beginning.queue.words in
     record {

@@ -24,7 +24,7 @@ abbrev pub delay_in : {Q : Type 0} → Answer Q → Option ℕ
 delay_in (Delayed until) = Some until
 delay_in answer = None
 
-module _ {F K Q S M P : Type 0} (beginning : Beginning F K Q S P) where
+module _ {F K Q S M P : Type 0} (beginning : Beginning F K Q S M P) where
   -- this holds of the pacer of the path in use, of a call of it for so many bytes, and of its delay
   abbrev pub OnCall : (PathPast K → PacerCall → Option ℕ → Type 0) → History Q S M P → ℕ → ℕ → Option ℕ → Type 0
   OnCall Holds history now bytes given =

@@ -11,11 +11,11 @@ use Rattle.recovery_ledger.specs.Spaces.{Spaces}
 use Rattle.recovery_paths.specs.PathMaking.{PathSettings}
 use Rattle.recovery_skips.specs.Filters.{Skipping}
 
--- K is what contracts see of a controller, and P of a queue of what is sent again
-pub record Parts (K P : Type 0) : Type 0 where
+-- K is what contracts see of a controller, P of a queue of what is sent again, and M is what a packet says besides
+pub record Parts (K P M : Type 0) : Type 0 where
   -- how its paths are made
   pub settings : PathSettings K
-  pub spaces : Spaces P
+  pub spaces : Spaces P M
   pub discarded : DiscardedSpaces
   pub paths : OfPaths (Path K)
   pub peer_limit : Option ℕ

@@ -22,7 +22,7 @@ use Rattle.quic_recovery.specs.Known.{known_by, settings_of, tracked_known}
 abbrev pub entries_on : {K : Type 0} → PathPast K → List MtuEntry
 entries_on past = entries_by past.making.discovery past.searched
 
-module _ {F K Q S P : Type 0} (beginning : Beginning F K Q S P) where
+module _ {F K Q S M P : Type 0} (beginning : Beginning F K Q S M P) where
   -- how paths are searched, where that is allowed and their settings say how
   abbrev pub discovery_settings : Option MtuDiscoveryConfig
   discovery_settings = if beginning.config.allow_mtud then beginning.config.transport.mtu_discovery_config else None
@@ -32,12 +32,12 @@ module _ {F K Q S P : Type 0} (beginning : Beginning F K Q S P) where
   WhereSearched Holds = ForSome discovery_settings (λ settings. 3 ≤ settings.minimum_change → Holds settings)
 
 -- what the size of a packet gives, where there is one
-abbrev pub of_packet : {P : Type 0} → (ℕ → MtuEntry) → Option (Packet P) → List MtuEntry
+abbrev pub of_packet : {P M : Type 0} → (ℕ → MtuEntry) → Option (Packet P M) → List MtuEntry
 of_packet entry packet = option_to_list (option_map (λ packet. entry packet.size) packet)
 
-module _ {F K Q S M P : Type 0} (beginning : Beginning F K Q S P) where
+module _ {F K Q S M P : Type 0} (beginning : Beginning F K Q S M P) where
   -- the packet of 1-RTT keys that is tracked under a number
-  abbrev pub data_packet : History Q S M P → ℕ → Option (Packet P)
+  abbrev pub data_packet : History Q S M P → ℕ → Option (Packet P M)
   data_packet history = packet_at (tracked_known (known_by beginning (logs_of beginning history)) Data)
 
   -- what an event is to the search on the path in use, read off its answer

@@ -9,7 +9,7 @@ pub invariant_of-self : goal.invariant_of-self
 invariant_of-self g c =
     let balanced = c.args.self.now.balanced in
     let there = c.behind-self.view_is ∙ c.index_mut.ensures.value in
-    let Holds : Space _ → Type 0 = HasGreatestCome in
+    let Holds : Space _ _ → Type 0 = HasGreatestCome in
     let came = subst Holds (sym there) (balanced.coherent c.args.space).received in
     record {
       balanced = kept c.args.self.now.spaces c.args.self.now.paths balanced c.args.space _ (ap packets_of there)

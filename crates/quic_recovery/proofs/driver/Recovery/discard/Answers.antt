@@ -17,11 +17,11 @@ invariant_of-self-2 g c =
     let balanced = now.balanced in
     let old = space_of c.args.space now.spaces in
     let here = c.forget_all.new.space in
-    let empty = c.forget_all.ensures.space ∙ ap (λ (s : Space _). space_empties s) c.index_mut.ensures.value in
-    let Holds : Space _ → Type 0 = HasGreatestCome in
+    let empty = c.forget_all.ensures.space ∙ ap (λ (s : Space _ _). space_empties s) c.index_mut.ensures.value in
+    let Holds : Space _ _ → Type 0 = HasGreatestCome in
     let come = subst Holds (sym empty) (balanced.coherent c.args.space).received in
     let coherent = coherent_emptied old here (balanced.coherent c.args.space) come (ap tracking_of empty) (ap next_number_of empty) in
-    let left = c.forget_all.ensures.paths ∙ ap (λ (s : Space _). paths_without (packets_of s) now.paths) c.index_mut.ensures.value in
+    let left = c.forget_all.ensures.paths ∙ ap (λ (s : Space _ _). paths_without (packets_of s) now.paths) c.index_mut.ensures.value in
     let Balanced : OfPaths (Path _) → Type 0 = AreBalanced (with_space now.spaces c.args.space here) in
     record {
       balanced = subst Balanced (sym left) (emptied now.spaces now.paths balanced c.args.space here (ap packets_of empty) coherent);
@@ -32,6 +32,6 @@ pub returns : goal.returns
 returns g c =
     let now = parts_of c.args.self.now in
     let there = c.index_mut.ensures.value in
-    discard_changes (queue_meaning g.Q.RetransmitQueue.contents g.Q.RetransmitQueue.words) now c.args.space c.forget_all.new.space c.insert.new.self c.forget_all.new.self (sym c.if-contains.ensures)
-    (c.forget_all.ensures.space ∙ ap (λ (s : Space _). space_empties s) there) c.insert.ensures
-    (c.forget_all.ensures.paths ∙ ap (λ (s : Space _). paths_without (packets_of s) now.paths) there)
+    discard_changes (queue_meaning g.Q.RetransmitQueue.contents g.Q.RetransmitQueue.words g.Q.RetransmitQueue.blank) now c.args.space c.forget_all.new.space c.insert.new.self c.forget_all.new.self (sym c.if-contains.ensures)
+    (c.forget_all.ensures.space ∙ ap (λ (s : Space _ _). space_empties s) there) c.insert.ensures
+    (c.forget_all.ensures.paths ∙ ap (λ (s : Space _ _). paths_without (packets_of s) now.paths) there)

@@ -19,7 +19,7 @@ pub returns : goal.returns
 returns g c =
     let words = g.Q.RetransmitQueue.words in
     let random = g.R.Rng.stream c.args.rng in
-    let beginning = begins g.F.ControllerFactory.built g.F.Controller.Controller.words (queue_meaning g.Q.RetransmitQueue.contents words) c.args.config c.args.now random in
+    let beginning = begins g.F.ControllerFactory.built g.F.Controller.Controller.words (queue_meaning g.Q.RetransmitQueue.contents words g.Q.RetransmitQueue.blank) c.args.config c.args.now random in
     let made = c.new-2.ensures in
     let balanced = balanced_first c.new-2.result c.first_path.result c.new-4.result c.new-4.ensures made.packets made.acks c.first_path.ensures.ledger in
     let spaces : (space : SpaceId) → SpaceLeft words c.args.now [] (space_of space c.new-2.result) = λ space. fresh_space words c.args.now _ (made.numbers space) (made.acks space) (made.packets space) (made.next space) (made.received space) (made.kept space) (made.queued space) in
