@@ -7,6 +7,7 @@ use Rattle.std.specs.Cmp.{nat_cmp_is, nat_cmp_total, Equal-is, tied_itself}
 use Rattle.std.specs.BTreeMap.{is_at, insert_entry}
 use Rattle.std.proofs.lemmas.List.Sums.{sum_by-cons}
 use Rattle.std.proofs.lemmas.Map.Lookups.{exact_unsigned}
+pub use Rattle.recovery_slots.proofs.EntryLaws.{AllBelow, all_below}
 use Rattle.recovery_ledger.specs.Packets.{Packet, Packets, packet_at, without, without_some, with_contents, replaced, carrying, AreBelow, HasSize, is_above, is_silent_above, silent_above, least_number, forgotten_silent, forgotten_number, entry_at, entry_number, numbered}
 use Rattle.recovery_ledger.specs.Counts.{silent_count, eliciting_count, size_count}
 
@@ -31,22 +32,6 @@ module _ {P M : Type 0} where
 
   pub no_packet : {A : Type 0} (packet : Packet P M) → None ≡ Some packet → A
   no_packet packet e = cc
-
-  -- every number of the list is below another
-  abbrev pub AllBelow : Packets P M → ℕ → Type 0
-  AllBelow [] limit = Unit {0}
-  AllBelow (entry ∷ packets) limit = (entry.0 < limit) × AllBelow packets limit
-
-  pub all_below : (packets : Packets P M) (limit : ℕ) → AreBelow packets limit → AllBelow packets limit
-  all_below [] limit below = tt
-  all_below (entry ∷ packets) limit below = (below entry.0 entry.1 (ap (λ b. cond b (Some entry.1) (packet_at packets entry.0)) (at_itself entry.0)), all_below packets limit later)
-    where
-      later : AreBelow packets limit
-      later number packet found = go (is_at (nat_cmp number) entry.0) refl
-        where
-          go : (b : Bool) → is_at (nat_cmp number) entry.0 ≡ b → number < limit
-          go true at = below number entry.1 (ap (λ b. cond b (Some entry.1) (packet_at packets number)) at)
-          go false at = below number packet (ap (λ b. cond b (Some entry.1) (packet_at packets number)) at ∙ found)
 
   pub are_below : (packets : Packets P M) (limit : ℕ) → AllBelow packets limit → AreBelow packets limit
   are_below [] limit below number packet found = no_packet packet found

@@ -43,9 +43,11 @@ impl<Q: RetransmitQueue> Model for SentPackets<Q> {
 
     ghost Value = { Tracking Q.Contents Q.Meta };
 
-    ghost view = { λ a. record { packets = entries_of a.packets; last_eliciting = a.last_eliciting } };
+    ghost view = { λ a.
+        record { packets = entries_of a.packets; last_eliciting = a.last_eliciting } };
 
-    ghost invariant = { λ a. AreTracked Q.words a.packets a.last_eliciting a.silent a.sized a.silent_from a.filled_from };
+    ghost invariant = { λ a.
+        AreTracked Q.words a.packets a.last_eliciting a.silent a.sized a.silent_from a.filled_from };
 }
 
 impl<Q> SentPackets<Q>
@@ -89,8 +91,10 @@ where
 
     /// The number that is forgotten when a packet is sent.
     fn forgotten(&self, packet: &SentPacket<Q>) -> Option<u64>
-        ensures number { result ≡ forgotten_number self.now.last_eliciting packet.now self.now.packets }
-        ensures least { IfSome result (λ least. AreAboveFrom self.now.last_eliciting least self.now.packets) }
+        ensures number { result
+            ≡ forgotten_number self.now.last_eliciting packet.now self.now.packets }
+        ensures least { IfSome result
+            (λ least. AreAboveFrom self.now.last_eliciting least self.now.packets) }
     {
         if packet.ack_eliciting || self.silent < MAX_SILENT {
             return None;
@@ -230,7 +234,8 @@ where
     Q::Meta: Drop,
     requires found { AreAboveFrom last from (entries_of packets.now) }
     requires small { AreBelow (entries_of packets.now) (2 ^ 64) }
-    ensures first { result ≡ least_number (filter (λ entry. is_above last entry.0) (entries_of packets.now)) }
+    ensures first { result
+        ≡ least_number (filter (λ entry. is_above last entry.0) (entries_of packets.now)) }
     ensures least { IfSome result (λ least. AreAboveFrom last least (entries_of packets.now)) }
 {
     match last {

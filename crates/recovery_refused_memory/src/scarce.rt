@@ -8,6 +8,7 @@ use quic_recovery::congestion::{Controller, ControllerFactory, ControllerMetrics
 use quic_recovery::rtt::RttEstimator;
 use quic_recovery::time::Instant;
 use recovery_halving::{Halving, HalvingConfig};
+use recovery_items::items::ItemQueue;
 use recovery_queue::queue::RetransmitQueue;
 use std::alloc::Global;
 use std::marker::Model;
@@ -23,7 +24,8 @@ pub fn is_refused(alloc: Global) -> bool {
 /// Contracts see the list of the items.
 #[derive(Drop)]
 pub struct ScarceQueue {
-    items: Vec<u64>,
+    items: ItemQueue,
+    alloc: Global,
 }
 
 impl Model for ScarceQueue {
@@ -31,7 +33,7 @@ impl Model for ScarceQueue {
 
     ghost Value = { List ℕ };
 
-    ghost view = { λ queue. queue.items.items };
+    ghost view = { λ queue. queue.items };
 }
 
 impl ScarceQueue {
@@ -39,14 +41,18 @@ impl ScarceQueue {
     pub fn from_items(items: Vec<u64>) -> Self
         ensures { result ≡ items.items }
     {
-        ScarceQueue { items }
+        let alloc = *items.allocator();
+        ScarceQueue {
+            items: ItemQueue::from_items(items),
+            alloc,
+        }
     }
 
     /// The items, in the order in which they came.
     pub fn items(&self) -> &[u64]
         ensures { result.now ≡ self.now }
     {
-        self.items.as_slice()
+        self.items.items()
     }
 }
 
@@ -68,21 +74,25 @@ impl RetransmitQueue for ScarceQueue {
 
     fn empty(alloc: Global) -> Self {
         ScarceQueue {
-            items: Vec::new(alloc),
+            items: ItemQueue::empty(alloc),
+            alloc,
         }
     }
 
-    fn is_empty(&self, _streams: &()) -> bool {
-        self.items.is_empty()
+    fn is_empty(&self, streams: &()) -> bool {
+        self.items.is_empty(streams)
     }
 
-    fn append(&mut self, mut other: Self) -> Result<(), Self> {
-        if is_refused(*self.items.allocator()) {
+    fn append(&mut self, other: Self) -> Result<(), Self> {
+        if is_refused(self.alloc) {
             return Err(other);
         }
-        match self.items.append(&mut other.items) {
+        match self.items.append(other.items) {
             Ok(()) => Ok(()),
-            Err(_) => Err(other),
+            Err(items) => Err(ScarceQueue {
+                items,
+                alloc: other.alloc,
+            }),
         }
     }
 

@@ -6,9 +6,9 @@ use Rattle.std.specs.Ordering.{nat_cmp}
 use Rattle.std.specs.BTreeMap.{is_at}
 use Rattle.std.specs.Map.{lookup, remove_entry, set_value}
 use Rattle.std.proofs.lemmas.Bool.{cases_lt}
-use Rattle.std.proofs.lemmas.List.{set_at, set-set, length-set, get_or-set_same, reverse-append}
+use Rattle.std.proofs.lemmas.List.{set_at, set-set, length-set, length-drop, get_or-set_same, reverse-append}
 use Rattle.recovery_slots.specs.declared.slots.Slot.{Slot}
-use Rattle.recovery_slots.specs.Slots.{filed, entries_of, item_at, AreRising, IsSlotAt, Divides, IsHeldAt, IsAboveAll, IsFrontEmpty, IsBackFrom, Replaces, Finds, is_filled, is_from, first_number, AreFrom, StaysRising}
+use Rattle.recovery_slots.specs.Slots.{filed, entries_of, item_at, AreRising, IsSlotAt, Divides, IsHeldAt, IsAboveAll, IsFrontEmpty, IsBackFrom, Replaces, Finds, is_filled, is_below, is_from, first_number, AreFrom, StaysRising}
 use Rattle.recovery_slots.proofs.SlotLaws.{at_itself, slot_at, slot_within, one_slot}
 
 abbrev pub one_if : Bool → ℕ
@@ -22,6 +22,10 @@ byte_is false = refl
 pub byte_small : (b : Bool) → bool_byte b ≤ 1
 byte_small true = omega arith
 byte_small false = omega arith
+
+at_most_one : (b : Bool) → one_if b ≤ 1
+at_most_one true = omega arith
+at_most_one false = omega arith
 
 module _ {T : Type 0} where
   filed-append : (number : ℕ) (item : Option T) (first second : List (ℕ × T))
@@ -299,16 +303,16 @@ module _ {T : Type 0} where
 
   -- ---- one slot more at the end
 
-  abbrev pub AllUnder : List (ℕ × T) → ℕ → Type 0
-  AllUnder [] limit = Unit {0}
-  AllUnder (entry ∷ entries) limit = (entry.0 < limit) × AllUnder entries limit
+  abbrev pub AllBelow : List (ℕ × T) → ℕ → Type 0
+  AllBelow [] limit = Unit {0}
+  AllBelow (entry ∷ entries) limit = (entry.0 < limit) × AllBelow entries limit
 
-  pub all_under : (entries : List (ℕ × T)) (limit : ℕ) → IsAboveAll entries limit → AllUnder entries limit
-  all_under [] limit above = tt
-  all_under (entry ∷ entries) limit above = (
+  pub all_below : (entries : List (ℕ × T)) (limit : ℕ) → IsAboveAll entries limit → AllBelow entries limit
+  all_below [] limit above = tt
+  all_below (entry ∷ entries) limit above = (
     above entry.0 entry.1
         (ap (λ b. cond b (Some entry.1) (lookup (is_at (nat_cmp entry.0)) entries)) (at_itself entry.0)),
-    all_under entries limit later,
+    all_below entries limit later,
   )
     where
       later : IsAboveAll entries limit
@@ -320,13 +324,13 @@ module _ {T : Type 0} where
           go false at = above number item
               (ap (λ b. cond b (Some entry.1) (lookup (is_at (nat_cmp number)) entries)) at ∙ found)
 
-  last_under : (before : List (ℕ × T)) (number limit : ℕ) (item : T) → AllUnder (before ++ (number, item) ∷ []) limit
+  last_below : (before : List (ℕ × T)) (number limit : ℕ) (item : T) → AllBelow (before ++ (number, item) ∷ []) limit
       → number < limit
-  last_under [] number limit item under = under.0
-  last_under (entry ∷ before) number limit item under = last_under before number limit item under.1
+  last_below [] number limit item under = under.0
+  last_below (entry ∷ before) number limit item under = last_below before number limit item under.1
 
   -- a slot at the end with too high a number is empty
-  pub entries_cut : (slots before : List (Slot T)) (slot : Slot T) (number : ℕ) → AllUnder (entries_of slots) number
+  pub entries_cut : (slots before : List (Slot T)) (slot : Slot T) (number : ℕ) → AllBelow (entries_of slots) number
       → slots ≡ before ++ slot ∷ [] → number ≤ slot.number → entries_of before ≡ entries_of slots
   entries_cut slots before slot number under is high = go slot.item refl
     where
@@ -337,8 +341,8 @@ module _ {T : Type 0} where
       go None none = sym (whole ∙ ap (λ (i : Option T). entries_of before ++ filed slot.number i []) none
           ∙ append-nil (entries_of before))
       go (Some item) some =
-          let h = last_under (entries_of before) slot.number number item
-          (subst (λ (es : List (ℕ × T)). AllUnder es number)
+          let h = last_below (entries_of before) slot.number number item
+          (subst (λ (es : List (ℕ × T)). AllBelow es number)
           (whole ∙ ap (λ (i : Option T). entries_of before ++ filed slot.number i []) some) under) in
           absurd (omega (arith, h, high))
 
@@ -402,12 +406,8 @@ module _ {T : Type 0} where
   entries_fit (slot ∷ slots) =
       let later = entries_fit slots in
       let here = filed_count slot.number slot.item (entries_of slots) in
-      let one = at_most (is_some slot.item) in
+      let one = at_most_one (is_some slot.item) in
       omega (arith, later, here, one)
-    where
-      at_most : (b : Bool) → one_if b ≤ 1
-      at_most true = omega arith
-      at_most false = omega arith
 
   pub tail_empty : (old new : List (Slot T)) (popped : Option (Slot T)) → old ≡ option_to_list popped ++ new
       → IsFrontEmpty old → entries_of new ≡ entries_of old
@@ -428,7 +428,7 @@ module _ {T : Type 0} where
       last zs z = ap (λ (ss : List (Slot T)). get_or ss 0 x) (reverse-append zs (z ∷ []))
 
   pub cut_empty : (old new : List (Slot T)) (popped : Option (Slot T)) (number : ℕ)
-      → old ≡ new ++ option_to_list popped → AllUnder (entries_of old) number → IsBackFrom number old
+      → old ≡ new ++ option_to_list popped → AllBelow (entries_of old) number → IsBackFrom number old
       → entries_of new ≡ entries_of old
   cut_empty old new None number is under back = ap entries_of (sym (is ∙ append-nil new))
   cut_empty old new (Some slot) number is under back =
@@ -463,7 +463,7 @@ module _ {T : Type 0} where
       record {
         entries =
             let under =
-            subst (λ es. AllUnder es number) (sym before.entries) (all_under (entries_of old) number above) in
+            subst (λ es. AllBelow es number) (sym before.entries) (all_below (entries_of old) number above) in
             cut_empty mid new popped number is under back ∙ before.entries;
         rising = λ first end rising. cut_rises mid new popped first end is (before.rising first end rising);
         fewer = (let fewer = before.fewer in let h = popped_len popped mid_len new_len len in omega (arith, fewer, h));
@@ -729,3 +729,49 @@ module _ {T : Type 0} where
       none_behind [] (suc p) le = refl
       none_behind (s ∷ ss) zero le = absurd (omega (arith, le))
       none_behind (s ∷ ss) (suc p) le = none_behind ss p (omega (arith, le))
+
+  -- ---- how many are filed before a number's place, and from it on
+
+  split_count : (entries : List (ℕ × T)) (number : ℕ)
+      → length (filter (is_below number) entries) + length (filter (is_from number) entries) ≡ length entries
+  split_count [] number = omega arith
+  split_count (entry ∷ entries) number = go (nat_lt entry.0 number) (split_count entries number)
+    where
+      below : List (ℕ × T)
+      below = filter (is_below number) entries
+
+      from : List (ℕ × T)
+      from = filter (is_from number) entries
+
+      go : (b : Bool) → length below + length from ≡ length entries
+          → length (cond b (entry ∷ below) below) + length (cond (not b) (entry ∷ from) from) ≡ length (entry ∷ entries)
+      go true later = omega (arith, later)
+      go false later = omega (arith, later)
+
+  -- no more are filed before a place than there are slots
+  entries_before : (slots : List (Slot T)) (place : ℕ)
+      → length (entries_of slots) ≤ place + length (entries_of (drop place slots))
+  entries_before slots zero = omega arith
+  entries_before [] (suc place) = omega arith
+  entries_before (slot ∷ slots) (suc place) =
+      let later = entries_before slots place in
+      let here = filed_count slot.number slot.item (entries_of slots) in
+      let one = at_most_one (is_some slot.item) in
+      omega (arith, later, here, one)
+
+  module _ (slots : List (Slot T)) (number place : ℕ) (divides : Divides slots number place) where
+    from_place : length (entries_of (drop place slots)) ≡ length (filter (is_from number) (entries_of slots))
+    from_place = ap (λ (es : List (ℕ × T)). length es) (divided slots number place divides)
+
+    pub filed_before : length (filter (is_below number) (entries_of slots)) ≤ place
+    filed_before =
+        let all = split_count (entries_of slots) number in
+        let before = entries_before slots place in
+        omega (arith, all, before, from_place)
+
+    pub filed_behind : place ≤ length slots
+        → place + length (filter (is_from number) (entries_of slots)) ≤ length slots
+    filed_behind within =
+        let fit = entries_fit (drop place slots) in
+        let left = length-drop place slots in
+        omega (arith, within, fit, left, from_place)

@@ -118,6 +118,10 @@ is_filled slot = is_some slot.item
 
 -- ---- from a number on
 
+-- the number is below another
+abbrev pub is_below : {T : Type 0} → ℕ → ℕ × T → Bool
+is_below number entry = nat_lt entry.0 number
+
 -- the number is not below another
 abbrev pub is_from : {T : Type 0} → ℕ → ℕ × T → Bool
 is_from number entry = not (nat_lt entry.0 number)

@@ -1,37 +1,48 @@
 use Rattle.std.proofs.Common.{ap, ◌∙◌}
 use Rattle.recovery_ledger.specs.Packets.{Packet, with_contents}
-use Rattle.recovery_ledger.proofs.TrackedLaws.{exchanged, exchanged_some, tracked_carrying, carried, carried_found, carried_queue}
+use Rattle.recovery_ledger.proofs.TrackedLaws.{Exchanges, exchanged, exchanged_some, tracked_carrying, carried, carried_found, carried_queue}
 use Rattle.recovery_ledger.proofs.sent_packets.SentPackets.swap_queue.Goals as goal
 
+-- what both replacements leave
+done : (g : _) (c : goal.Joined-replace-2 g)
+    → Exchanges c.self.inside.packets c.args.number c.in-Some-replace.packet
+    (g.Q.RetransmitQueue.contents c.args.queue.now) c.replace-2.new.self
+done g c =
+    let contents = g.Q.RetransmitQueue.contents in
+    exchanged c.self.inside.packets c.replace.new.self c.replace-2.new.self c.args.number c.in-Some.place c.find.result
+    c.in-Some-replace.packet _ c.replace.result c.replace-2.result (contents c.args.queue.now) c.find.ensures
+    c.in-Some.is c.replace.ensures c.in-Some-replace.is c.replace-2.ensures
+    (ap (with_contents (contents c.swap.new.x)) c.packet.view_is
+    ∙ ap (λ (q : g.row.Q.Denot). with_contents (contents q) c.in-Some-replace.packet) c.swap.ensures.x_after)
+
 pub unreachable-requires : goal.unreachable-requires
-unreachable-requires g c = exchanged_some c.self.inside.packets c.replace.new.self c.args.number c.in-Some.place c.find.result c.replace.result c.find.ensures c.in-Some.is c.replace.ensures c.in_default-replace.is
+unreachable-requires g c =
+    exchanged_some c.self.inside.packets c.replace.new.self c.args.number c.in-Some.place c.find.result
+    c.replace.result c.find.ensures c.in-Some.is c.replace.ensures c.in_default-replace.is
 
 pub invariant_of-self : goal.invariant_of-self
 invariant_of-self g c =
-    let contents = g.Q.RetransmitQueue.contents in
-    let done = exchanged c.self.inside.packets c.replace.new.self c.replace-2.new.self c.args.number c.in-Some.place c.find.result c.in-Some-replace.packet _ c.replace.result c.replace-2.result (contents c.args.queue.now) c.find.ensures c.in-Some.is c.replace.ensures c.in-Some-replace.is c.replace-2.ensures
-    (ap (with_contents (contents c.swap.new.x)) c.packet.view_is ∙ ap (λ (q : g.row.Q.Denot). with_contents (contents q) c.in-Some-replace.packet) c.swap.ensures.x_after) in
-    tracked_carrying g.Q.RetransmitQueue.words c.self.inside.packets c.replace-2.new.self c.self.inside.last_eliciting c.self.inside.silent c.self.inside.sized c.self.inside.silent_from c.self.inside.filled_from c.filled_with-self-inside.result c.self.invariant c.args.number c.in-Some-replace.packet
-    (contents c.args.queue.now) done.found done.entries done.kept c.filled_with-self-inside.ensures.below c.filled_with-self-inside.ensures.void
+    let inside = c.self.inside in
+    let all = done g c in
+    tracked_carrying g.Q.RetransmitQueue.words inside.packets c.replace-2.new.self inside.last_eliciting inside.silent
+    inside.sized inside.silent_from inside.filled_from c.filled_with-self-inside.result c.self.invariant c.args.number
+    c.in-Some-replace.packet (g.Q.RetransmitQueue.contents c.args.queue.now) all.found all.entries all.kept
+    c.filled_with-self-inside.ensures.below c.filled_with-self-inside.ensures.void
 
 pub returns-clause-found : goal.returns-clause-found
 returns-clause-found g c =
-    let contents = g.Q.RetransmitQueue.contents in
-    let done = exchanged c.self.inside.packets c.replace.new.self c.replace-2.new.self c.args.number c.in-Some.place c.find.result c.in-Some-replace.packet _ c.replace.result c.replace-2.result (contents c.args.queue.now) c.find.ensures c.in-Some.is c.replace.ensures c.in-Some-replace.is c.replace-2.ensures
-    (ap (with_contents (contents c.swap.new.x)) c.packet.view_is ∙ ap (λ (q : g.row.Q.Denot). with_contents (contents q) c.in-Some-replace.packet) c.swap.ensures.x_after) in
-    carried_found c.self.inside.packets c.replace-2.new.self c.self.inside.last_eliciting c.args.self.now c.args.number c.in-Some-replace.packet (contents c.args.queue.now) done c.self.view_is
+    carried_found c.self.inside.packets c.replace-2.new.self c.self.inside.last_eliciting c.args.self.now
+    c.args.number c.in-Some-replace.packet (g.Q.RetransmitQueue.contents c.args.queue.now) (done g c) c.self.view_is
 
 pub returns-clause-after : goal.returns-clause-after
 returns-clause-after g c =
-    let contents = g.Q.RetransmitQueue.contents in
-    let done = exchanged c.self.inside.packets c.replace.new.self c.replace-2.new.self c.args.number c.in-Some.place c.find.result c.in-Some-replace.packet _ c.replace.result c.replace-2.result (contents c.args.queue.now) c.find.ensures c.in-Some.is c.replace.ensures c.in-Some-replace.is c.replace-2.ensures
-    (ap (with_contents (contents c.swap.new.x)) c.packet.view_is ∙ ap (λ (q : g.row.Q.Denot). with_contents (contents q) c.in-Some-replace.packet) c.swap.ensures.x_after) in
-    carried c.self.inside.packets c.replace-2.new.self c.self.inside.last_eliciting c.args.self.now c.args.number c.in-Some-replace.packet (contents c.args.queue.now) done c.self.view_is
+    carried c.self.inside.packets c.replace-2.new.self c.self.inside.last_eliciting c.args.self.now c.args.number
+    c.in-Some-replace.packet (g.Q.RetransmitQueue.contents c.args.queue.now) (done g c) c.self.view_is
 
 pub returns-clause-queue : goal.returns-clause-queue
 returns-clause-queue g c =
     let contents = g.Q.RetransmitQueue.contents in
-    let done = exchanged c.self.inside.packets c.replace.new.self c.replace-2.new.self c.args.number c.in-Some.place c.find.result c.in-Some-replace.packet _ c.replace.result c.replace-2.result (contents c.args.queue.now) c.find.ensures c.in-Some.is c.replace.ensures c.in-Some-replace.is c.replace-2.ensures
-    (ap (with_contents (contents c.swap.new.x)) c.packet.view_is ∙ ap (λ (q : g.row.Q.Denot). with_contents (contents q) c.in-Some-replace.packet) c.swap.ensures.x_after) in
     ap contents c.swap.ensures.y_after ∙ ap (λ (p : Packet _ _). p.retransmits) c.packet.view_is
-    ∙ carried_queue c.self.inside.packets c.replace-2.new.self c.self.inside.last_eliciting c.args.self.now c.args.number c.in-Some-replace.packet (contents c.args.queue.now) done c.self.view_is (contents c.args.queue.now)
+    ∙ carried_queue c.self.inside.packets c.replace-2.new.self c.self.inside.last_eliciting c.args.self.now
+    c.args.number c.in-Some-replace.packet (contents c.args.queue.now) (done g c) c.self.view_is
+    (contents c.args.queue.now)
