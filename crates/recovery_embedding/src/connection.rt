@@ -7,13 +7,13 @@ use quic_recovery::config::TransportConfig;
 use quic_recovery::congestion::NewRenoConfig;
 use quic_recovery::time::{Duration, Instant};
 use quic_recovery::timer::Timer;
-use quic_recovery::{Answer, Event, Recovery, RecoveryConfig, Refusal};
+use quic_recovery::{Answer, Event, LiveRecovery, RecoveryConfig, Refusal};
 use rand_pcg::Pcg32;
 use recovery_items::items::ItemQueue;
 use recovery_skips::Skips;
 use std::net::SocketAddr;
 
-/// How late this end's ACKs may be (RFC 9000, 18.2: max_ack_delay).
+/// How late this end's ACKs may be until the peer asks for another delay (RFC 9000, 18.2: max_ack_delay).
 const MAX_ACK_DELAY: u64 = 25;
 
 /// What the recovery starts with: the default settings of paths, with NewReno; a client, whose peer's
@@ -37,9 +37,9 @@ pub fn config(remote: SocketAddr) -> RecoveryConfig<NewRenoConfig>
     }
 }
 
-/// The recovery of this stack: its controllers are NewReno's, its packets carry numbered items, and its skips are drawn
-/// from the words of `Pcg32`.
-pub type StackRecovery = Recovery<NewRenoConfig, ItemQueue, Pcg32>;
+/// The recovery of this stack, with its past: its controllers are NewReno's, its packets carry numbered items, and its skips
+/// are drawn from the words of `Pcg32`.
+pub type StackRecovery = LiveRecovery<NewRenoConfig, ItemQueue, Pcg32>;
 
 /// One end of a connection.
 #[derive(Drop)]
@@ -71,7 +71,8 @@ impl Connection {
         }
     }
 
-    /// A packet comes in: whether it is new. Where the answer says so, the timer for a late ACK is set.
+    /// A packet comes in: whether it is new. Where the answer says so, the timer for a late ACK is set, as late as the peer
+    /// asked last.
     pub fn hear(&mut self, now: Instant, number: u64) -> Result<bool, Refusal> {
         let packet = Event::Received {
             space: SpaceId::Data,
@@ -85,9 +86,10 @@ impl Connection {
             Err(refusal) => return Err(refusal),
         };
         if arm {
+            let delay = self.recovery.recovery().ack_frequency().max_ack_delay;
             self.tell(Event::SetTimer {
                 timer: Timer::MaxAckDelay,
-                time: now + Duration::from_millis(MAX_ACK_DELAY),
+                time: now + delay,
             })?;
         }
         Ok(true)
@@ -133,11 +135,11 @@ impl Connection {
 
     /// The bytes in flight on the path in use.
     pub fn in_flight(&self) -> u64 {
-        self.recovery.current().in_flight().bytes
+        self.recovery.recovery().current().in_flight().bytes
     }
 
     /// When the next timer expires.
     pub fn next_timeout(&self) -> Option<Instant> {
-        self.recovery.timers().next_timeout()
+        self.recovery.recovery().timers().next_timeout()
     }
 }

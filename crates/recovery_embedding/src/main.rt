@@ -7,7 +7,7 @@ mod connection;
 use connection::Connection;
 use quic_recovery::below::NoMemory;
 use quic_recovery::time::{Duration, Instant};
-use quic_recovery::{Recovery, Refusal};
+use quic_recovery::{LiveRecovery, Refusal};
 use rand_core::SeedableRng;
 use rand_pcg::Pcg32;
 use recovery_items::items::ItemQueue;
@@ -74,7 +74,7 @@ fn run(rt: &HostRuntime) -> Result<(), Failure> {
     let config = connection::config(peer);
     // A program that prints the same each time: a stack seeds a generator that its peers cannot guess.
     let rng = Pcg32::seed_from_u64(0);
-    let recovery = Recovery::new(rt.alloc(), config, rng, at(0))?;
+    let recovery = LiveRecovery::new(rt.alloc(), config, rng, at(0))?;
     let mut connection = Connection::new(recovery);
     exchange(rt, &mut connection)
 }
