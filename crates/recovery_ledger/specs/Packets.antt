@@ -4,8 +4,8 @@ use Rattle.std.specs.Ordering.{nat_cmp}
 use Rattle.std.specs.BTreeMap.{is_at}
 use Rattle.std.specs.Map.{lookup, remove_entry, set_value}
 
--- a packet as contracts see it; the contents P are what its queue holds (RFC 9000, 13.3), and the M is what
--- else is said of it
+-- a packet as contracts see it; the contents P are what its queue holds (RFC 9000, 13.3), and M is what else an
+-- application keeps of it
 pub record Packet (P M : Type 0) : Type 0 where
   -- the path's generation
   pub path_generation : ℕ
