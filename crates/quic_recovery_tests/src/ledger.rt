@@ -1,6 +1,6 @@
 //! Packet number spaces and paths. What no run reaches, since the numbers or bytes before it are too many, is proved for
 //! every state that stands there, and not run.
-ghost use Rattle.std.specs.Prelude.{◌≡◌, true};
+ghost use Rattle.std.specs.Prelude.{◌≡◌, IfSome, true};
 
 use quic_recovery::congestion::{NewReno, NewRenoConfig};
 use quic_recovery::driver::Recovery;
@@ -41,6 +41,29 @@ fn a_space_begins_at_0(rt: HostRuntime) {
     assert!(rt; space.sent_with_keys == 1);
     assert!(rt; space.take(0).is_none());
     assert!(rt; space.take_first().is_none());
+}
+
+/// What an application keeps of the one packet that was sent, as it comes back with it.
+fn frames_back(alloc: Global, frames: u64, as_first: bool) -> Option<u64>
+    ensures { IfSome result (λ back. back ≡ frames) }
+{
+    let mut space = PacketSpace::<Tally>::new(alloc, at(0));
+    let mut sent = packet(0, 9);
+    sent.stream_frames = frames;
+    space.sent(0, sent).ok()?;
+    if as_first {
+        let (_, packet) = space.take_first()?;
+        Some(packet.stream_frames)
+    } else {
+        let packet = space.take(0)?;
+        Some(packet.stream_frames)
+    }
+}
+
+#[test]
+fn frames_come_back_with_their_packet(rt: HostRuntime) {
+    assert!(rt; frames_back(rt.alloc(), 7, false) == Some(7));
+    assert!(rt; frames_back(rt.alloc(), 7, true) == Some(7));
 }
 
 /// The first cause in order is told, and what is refused keeps the old counts. No run has counts of ECT(1).

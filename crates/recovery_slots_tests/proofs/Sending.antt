@@ -4,15 +4,15 @@ use Rattle.recovery_ledger.specs.Packets.{Packet, Tracking, no_packets, AreBelow
 use Rattle.recovery_ledger.specs.Spaces.{Space, tracking_of, packets_of, with_tracking}
 use Rattle.recovery_ledger.proofs.PacketLaws.{all_below, are_below, AllBelow-push, AllBelow-without_some}
 
-pub record IsBelow {P : Type 0} (space : Space P) (number : ℕ) : Type 0 where
+pub record IsBelow {P M : Type 0} (space : Space P M) (number : ℕ) : Type 0 where
   pub packets : AreBelow (packets_of space) number
   pub last : IsAboveLast (tracking_of space).last_eliciting number
 
 one_number : (m n : ℕ) → Some m ≡ Some n → m ≡ n
 one_number m n e = cc
 
-pub sent_below : {P : Type 0} (old new : Space P) (number : ℕ) (packet : Packet P) → IsBelow old number → new ≡ with_tracking (after_sending number packet (tracking_of old)) old → IsBelow new (number + 1)
-sent_below {P} old new number packet below is = subst (λ (s : Space P). IsBelow s (number + 1)) (sym is) (record {
+pub sent_below : {P M : Type 0} (old new : Space P M) (number : ℕ) (packet : Packet P M) → IsBelow old number → new ≡ with_tracking (after_sending number packet (tracking_of old)) old → IsBelow new (number + 1)
+sent_below {P} {M} old new number packet below is = subst (λ (s : Space P M). IsBelow s (number + 1)) (sym is) (record {
   packets = are_below _ _ (AllBelow-push (without_some (packets_of old) forgotten) number packet (AllBelow-without_some (packets_of old) forgotten number (all_below (packets_of old) number below.packets)));
   last = go packet.ack_eliciting;
 })
@@ -25,10 +25,10 @@ sent_below {P} old new number packet below is = subst (λ (s : Space P). IsBelow
     go false m e = let h : m < number = below.last m e in omega (arith, h)
 
 -- nothing was sent
-pub none_below : {P : Type 0} (space : Space P) → tracking_of space ≡ no_packets → IsBelow space 0
-none_below {P} space none = record {
-  packets = subst (λ (t : Tracking P). AreBelow t.packets 0) (sym none) (are_below [] 0 tt);
-  last = subst (λ (t : Tracking P). IsAboveLast t.last_eliciting 0) (sym none) (λ m e. absurd (none_is_some m e));
+pub none_below : {P M : Type 0} (space : Space P M) → tracking_of space ≡ no_packets → IsBelow space 0
+none_below {P} {M} space none = record {
+  packets = subst (λ (t : Tracking P M). AreBelow t.packets 0) (sym none) (are_below [] 0 tt);
+  last = subst (λ (t : Tracking P M). IsAboveLast t.last_eliciting 0) (sym none) (λ m e. absurd (none_is_some m e));
 }
   where
     none_is_some : (m : ℕ) → None ≡ Some m → ⊥
