@@ -47,7 +47,8 @@ impl<Q: RetransmitQueue> Model for SentPackets<Q> {
         record { packets = entries_of a.packets; last_eliciting = a.last_eliciting } };
 
     ghost invariant = { λ a.
-        AreTracked Q.words a.packets a.last_eliciting a.silent a.sized a.silent_from a.filled_from };
+        AreTracked Q.words a.packets a.last_eliciting
+        a.silent a.sized a.silent_from a.filled_from };
 }
 
 impl<Q> SentPackets<Q>

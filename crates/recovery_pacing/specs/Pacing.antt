@@ -88,6 +88,7 @@ less_tokens bytes old = record old { tokens = old.tokens - bytes }
 
 -- ---- what holds of every bucket
 
+-- no more tokens than it takes; and it takes ten to 256 packets of the MTU of the last call: bursts are limited, as 7.7 asks
 pub record IsBucketSound (bucket : Bucket) : Type 0 where
   pub tokens : bucket.tokens ≤ bucket.capacity
   pub least : 10 * bucket.mtu ≤ bucket.capacity
