@@ -1,14 +1,16 @@
 -- What the layer above keeps with each path and each space (RFC 9000, 8.2, 13.4 and 19.6; RFC 9002, 6.1.2 and 7.6).
-use Rattle.std.specs.Prelude.{◌≡◌, ℕ, true, false, Option, None, Ok}
+use Rattle.std.specs.Prelude.{◌≡◌, ℕ, true, false, Option, option_map, None, Ok}
 use Rattle.recovery_base.specs.declared.below.frames.EcnCounts.{EcnCounts}
 use Rattle.recovery_ledger.specs.Queued.{no_ecn}
 use Rattle.recovery_ledger.specs.Spaces.{Space}
-use Rattle.recovery_paths.specs.PathLog.{OfPaths, OnEachPath, moved_to}
+use Rattle.recovery_paths.specs.declared.live_paths.PathName.{PathName}
+use Rattle.recovery_paths.specs.PathLog.{OfPaths, OnEachPath, moved_to, on_path_of, path_of}
 use Rattle.recovery_paths.specs.PathMaking.{marks_made}
-use Rattle.recovery_paths.specs.PathStates.{PathMarks}
+use Rattle.recovery_paths.specs.PathStates.{PathMarks, with_marks}
 use Rattle.quic_recovery.specs.declared.event.Event.{Event}
 use Rattle.quic_recovery.specs.declared.event.Event.TheVariants.{NewPath, DropPrevious}
 use Rattle.quic_recovery.specs.History.{Reply}
+use Rattle.quic_recovery.specs.Parts.{Parts}
 
 -- ---- paths
 
@@ -23,6 +25,14 @@ marks_after event reply old = old
 -- nothing was challenged on any path, and packets are marked on each
 abbrev pub AreFresh : OfPaths PathMarks → Type 0
 AreFresh = OnEachPath (λ marks. marks ≡ marks_made None)
+
+-- what is kept with the path of a name, where it lives
+abbrev pub marks_at : {K P M : Type 0} → PathName → Parts K P M → Option PathMarks
+marks_at name recovery = option_map (λ path. path.marks) (path_of name recovery.paths)
+
+-- something else is kept with it
+abbrev pub with_marks_at : {K P M : Type 0} → PathName → PathMarks → Parts K P M → Parts K P M
+with_marks_at name marks recovery = record recovery { paths = on_path_of name (with_marks marks) recovery.paths }
 
 -- ---- spaces
 

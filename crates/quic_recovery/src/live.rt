@@ -1,8 +1,7 @@
-//! The recovery of a connection that lives: its events come one at a time, and each finds the whole past behind it.
-ghost use Rattle.std.specs.Prelude.{◌≡◌, ◌≤◌, ◌^◌, IfOk, option_map};
-ghost use Rattle.recovery_paths.specs.PathLog.{on_path_of, path_of};
-ghost use Rattle.recovery_paths.specs.PathStates.{with_marks};
+//! The recovery of a connection that lives: its events come one at a time, and each finds the past behind it.
+ghost use Rattle.std.specs.Prelude.{◌≡◌, ◌≤◌, ◌^◌, IfOk};
 ghost use Rattle.recovery_skips.specs.Skips.{IsSkips};
+ghost use Rattle.quic_recovery.specs.Above.{marks_at, with_marks_at};
 ghost use Rattle.quic_recovery.specs.History.{begins, queue_meaning};
 ghost use Rattle.quic_recovery.specs.Past.{Came, CameSomehow, GoesOn, WentOn, no_past};
 ghost use Rattle.quic_recovery.specs.State.{parts_of};
@@ -25,7 +24,8 @@ use std::alloc::Global;
 #[derive(Drop)]
 pub struct LiveRecovery<F: ControllerFactory, Q: RetransmitQueue, R: Rng> {
     recovery: Recovery<F, Q, R>,
-    ghost came: { ∥ CameSomehow F.built F.Controller.words (queue_meaning Q.contents Q.words Q.blank) (parts_of recovery) ∥₁ },
+    ghost came: { let queues = queue_meaning Q.contents Q.words Q.blank in
+        ∥ CameSomehow F.built F.Controller.words queues (parts_of recovery) ∥₁ },
 }
 
 impl<F, Q, R> LiveRecovery<F, Q, R>
@@ -68,20 +68,22 @@ where
     pub fn apply(&mut self, event: Event<Q>) -> Result<Answer<Q>, Refusal>
         // So it is for whatever beginning and past it came by,
         ensures goes_on { let queues = queue_meaning Q.contents Q.words Q.blank in
-            GoesOn F.built F.Controller.words queues (parts_of self.old.recovery) event result (parts_of self.new.recovery) }
+            GoesOn F.built F.Controller.words queues
+            (parts_of self.old.recovery) event result (parts_of self.new.recovery) }
 
         // and there is one.
         ensures went_on { let queues = queue_meaning Q.contents Q.words Q.blank in
-            ∥ WentOn F.built F.Controller.words queues (parts_of self.old.recovery) event result (parts_of self.new.recovery) ∥₁ }
+            ∥ WentOn F.built F.Controller.words queues
+            (parts_of self.old.recovery) event result (parts_of self.new.recovery) ∥₁ }
     {
         self.recovery.apply(event)
     }
 
     /// The layer above keeps this with a path from now on, as [`Recovery::set_marks`] says. No event is told of it.
     pub fn set_marks(&mut self, path: PathName, marks: PathMarks) -> Option<PathMarks>
-        ensures before { result ≡ option_map (λ path. path.marks) (path_of path (parts_of self.old.recovery).paths) }
-        ensures after { let old = parts_of self.old.recovery in
-            parts_of self.new.recovery ≡ record old { paths = on_path_of path (with_marks marks) old.paths } }
+        ensures before { result ≡ marks_at path (parts_of self.old.recovery) }
+        ensures after { parts_of self.new.recovery
+            ≡ with_marks_at path marks (parts_of self.old.recovery) }
     {
         self.recovery.set_marks(path, marks)
     }
