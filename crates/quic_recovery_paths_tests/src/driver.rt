@@ -16,6 +16,7 @@ use std::alloc::Global;
 use std::process::Abort;
 
 mod discovery;
+mod marks;
 mod moves;
 mod paths;
 mod probes;

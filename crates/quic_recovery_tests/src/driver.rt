@@ -8,7 +8,7 @@ use quic_recovery::driver::{Recovery, RecoveryConfig};
 use quic_recovery::spaces::PacketSpace;
 use rand_core::Rng;
 use rand_pcg::Pcg32;
-use recovery_base::below::SpaceId;
+use recovery_base::below::{EcnCounts, SpaceId};
 use recovery_base::timer::Timer;
 use recovery_rows::config::{settings, settings_with, words};
 use recovery_rows::events::*;
@@ -22,6 +22,7 @@ use std::process::Abort;
 mod acks;
 mod ids;
 mod items;
+mod live;
 mod refusals;
 mod skips;
 
@@ -100,6 +101,19 @@ fn kept<'a>(rt: &impl Abort, recovery: &'a Reno, space: SpaceId) -> &'a PacketSp
     match recovery.space(space) {
         Some(here) => here,
         None => panic!(rt; "the space is discarded"),
+    }
+}
+
+/// Nothing is held for lost, nothing was sent in CRYPTO frames, and no packet came with an ECN codepoint.
+#[test]
+fn a_fresh_space(rt: HostRuntime) {
+    let recovery = fresh(&rt, rt.alloc());
+    for space in [SpaceId::Initial, SpaceId::Handshake, SpaceId::Data] {
+        let here = kept(&rt, &recovery, space);
+        let is_fresh = here.loss_time == None
+            && here.crypto_offset == 0
+            && here.ecn_counters == EcnCounts::ZERO;
+        assert!(rt; is_fresh, "a fresh space");
     }
 }
 

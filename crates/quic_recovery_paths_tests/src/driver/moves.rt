@@ -4,13 +4,13 @@ use quic_recovery::congestion::NewReno;
 use quic_recovery::paths::PathData;
 use std::net::{IpAddr, Ipv4Addr, SocketAddr};
 
-const DROP: Event = Event::DropPrevious;
+pub(super) const DROP: Event = Event::DropPrevious;
 
 const VALIDATED_BEFORE: Event = Event::Validated {
     path: PathName::Previous,
 };
 
-fn reset() -> Event {
+pub(super) fn reset() -> Event {
     Event::ResetPath { now: at(0) }
 }
 
@@ -19,7 +19,7 @@ fn address(port: u16) -> SocketAddr {
     SocketAddr::new(IpAddr::V4(Ipv4Addr::new(192, 0, 2, 1)), port)
 }
 
-fn move_to(port: u16, fresh: bool) -> (Event, Reply) {
+pub(super) fn move_to(port: u16, fresh: bool) -> (Event, Reply) {
     let event = Event::NewPath {
         now: at(0),
         remote: address(port),
@@ -48,7 +48,7 @@ fn poll() -> Event {
     Event::PollMtu { now: at(0) }
 }
 
-fn transmit(bytes: u16, checked: bool) -> Event {
+pub(super) fn transmit(bytes: u16, checked: bool) -> Event {
     Event::Transmit {
         now: at(0),
         bytes,
@@ -56,7 +56,7 @@ fn transmit(bytes: u16, checked: bool) -> Event {
     }
 }
 
-fn sample(rtt: u64) -> Event {
+pub(super) fn sample(rtt: u64) -> Event {
     Event::Sample {
         delay: Duration::from_nanos(0),
         rtt: Duration::from_millis(rtt),
@@ -67,7 +67,7 @@ fn pacer_check(bytes: u64) -> Event {
     Event::PacerCheck { now: at(0), bytes }
 }
 
-fn congestion() -> Event {
+pub(super) fn congestion() -> Event {
     Event::Congestion {
         now: at(2),
         sent: at(1),
@@ -180,7 +180,7 @@ fn a_packet_of_another_path_is_forgotten(rt: HostRuntime) {
 
 /// What a path was sampled, whether it is validated, and its totals, generation and MTU.
 #[derive(PartialEq, Drop)]
-struct Kept {
+pub(super) struct Kept {
     port: u16,
     rtt: Duration,
     validated: bool,
@@ -202,12 +202,12 @@ fn kept_of(path: &PathData<NewReno>) -> Kept {
     }
 }
 
-fn leaves_kept(left: &Reno, previous: Option<Kept>, current: Kept) -> bool {
+pub(super) fn leaves_kept(left: &Reno, previous: Option<Kept>, current: Kept) -> bool {
     left.previous().map(kept_of) == previous && kept_of(left.current()) == current
 }
 
 /// A path that was sampled and used, and whose MTU was found.
-fn kept_used() -> Kept {
+pub(super) fn kept_used() -> Kept {
     Kept {
         port: 4433,
         rtt: Duration::from_millis(400),
@@ -220,7 +220,7 @@ fn kept_used() -> Kept {
 }
 
 /// What brings the first path there, and then one event more.
-fn used(last: (Event, Reply)) -> [(Event, Reply); 7] {
+pub(super) fn used(last: (Event, Reply)) -> [(Event, Reply); 7] {
     [
         (sample(400), DONE),
         (VALIDATED, DONE),
