@@ -87,7 +87,8 @@ impl PendingAcks {
 
     /// The longest delay is over: an ACK is required at once exactly where an ack-eliciting packet came since the last one.
     pub fn on_max_ack_delay_timeout(&mut self)
-        ensures { self.new ≡ with_required (nat_lt 0 self.old.eliciting) self.old }
+        ensures requires_one { self.new ≡ with_required (nat_lt 0 self.old.eliciting) self.old }
+        ensures sound { AreAcksSound self.new }
     {
         self.immediate_ack_required = self.ack_eliciting_since_last_ack_sent > 0;
     }
@@ -175,7 +176,8 @@ impl PendingAcks {
 
     /// An ACK was sent, which is taken to hold all numbers that are to be acknowledged.
     pub fn acks_sent(&mut self)
-        ensures { self.new ≡ acks_sent self.old }
+        ensures sends { self.new ≡ acks_sent self.old }
+        ensures sound { AreAcksSound self.new }
     {
         self.immediate_ack_required = false;
         self.ack_eliciting_since_last_ack_sent = 0;
