@@ -4,7 +4,7 @@ ghost use Rattle.recovery_skips.specs.Skips.{IsSkips};
 ghost use Rattle.quic_recovery.specs.Above.{marks_at, with_marks_at};
 ghost use Rattle.quic_recovery.specs.History.{begins, queue_meaning};
 ghost use Rattle.quic_recovery.specs.Past.{Came, CameSomehow, GoesOn, WentOn, no_past};
-ghost use Rattle.quic_recovery.specs.State.{parts_of};
+ghost use Rattle.quic_recovery.specs.State.{parts_of, known_to, Changes, InFlightLeft};
 
 use crate::driver::{Recovery, RecoveryConfig};
 use crate::event::{Answer, Event, PathName, Refusal};
@@ -66,12 +66,19 @@ where
     /// is what that past says, every promise of whole runs holds at this moment, and from that past the recovery has gone on by
     /// this event and this reply.
     pub fn apply(&mut self, event: Event<Q>) -> Result<Answer<Q>, Refusal>
-        // So it is for whatever beginning and past it came by,
+        // What the event is told, by the state before it, and what it changes.
+        ensures changes { let queues = queue_meaning Q.contents Q.words Q.blank in
+            Changes queues (parts_of self.old.recovery) event result (parts_of self.new.recovery) }
+
+        // Then the bytes in flight on each path are sums over the packets tracked (RFC 9002, B.2).
+        ensures in_flight { let new = parts_of self.new.recovery in InFlightLeft (known_to new) new.paths }
+
+        // Whatever the beginning and the past by which the recovery came here, it goes on from them,
         ensures goes_on { let queues = queue_meaning Q.contents Q.words Q.blank in
             GoesOn F.built F.Controller.words queues
             (parts_of self.old.recovery) event result (parts_of self.new.recovery) }
 
-        // and there is one.
+        // and there are such.
         ensures went_on { let queues = queue_meaning Q.contents Q.words Q.blank in
             ∥ WentOn F.built F.Controller.words queues
             (parts_of self.old.recovery) event result (parts_of self.new.recovery) ∥₁ }
