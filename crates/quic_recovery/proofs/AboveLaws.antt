@@ -51,7 +51,10 @@ module _ {K : Type 0} (change : Path K → Path K) (keeps : (path : Path K) → 
       → (let new : OfPaths (Path K) = record { current = current; previous = option_map change paths.previous } in paths_marks new) ≡ paths_marks paths
   both_marks current paths same =
       let old = paths.previous in
-      ap (λ (m : PathMarks). let all : OfPaths PathMarks = record { current = m; previous = option_map (λ path. path.marks) (option_map change old) } in all) same
+      ap (λ (m : PathMarks). let all : OfPaths PathMarks = record {
+        current = m;
+        previous = option_map (λ path. path.marks) (option_map change old);
+      } in all) same
       ∙ ap (λ (o : Option PathMarks). let all : OfPaths PathMarks = record { current = paths.current.marks; previous = o } in all) (previous_marks old)
 
 -- a path alone, as it is made

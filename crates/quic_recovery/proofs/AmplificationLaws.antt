@@ -35,7 +35,9 @@ delayed_is_not_sent : {A Q : Type 0} {until : ℕ} → (let t : Answer Q = Trans
 delayed_is_not_sent e = cc
 
 -- what was transmitted was neither blocked nor delayed
-sent_freely : {K Q : Type 0} (words : ControllerWords K) (blocked : Bool) (delay : Option ℕ) → (let t : Answer Q = Transmitted in t ≡ cond blocked Blocked (delayed_or words t delay)) → (blocked ≡ false) × (delay ≡ None)
+sent_freely : {K Q : Type 0} (words : ControllerWords K) (blocked : Bool) (delay : Option ℕ)
+    → (let t : Answer Q = Transmitted in t ≡ cond blocked Blocked (delayed_or words t delay)) → (blocked ≡ false)
+    × (delay ≡ None)
 sent_freely words true delay is = blocked_is_not_sent is
 sent_freely words false None is = (refl, refl)
 sent_freely words false (Some until) is = delayed_is_not_sent is
@@ -53,19 +55,26 @@ module _ {K P M : Type 0} (settings : PathSettings K) (known : Known K P M) wher
   searched_allowed true call turn = (tt, (turn, tt))
   searched_allowed false call turn = (turn, tt)
 
-  data_allowed : (is_data : Bool) (changes : Bool) (call : MtuCall) → IsInTurnNow call → AreAllowed settings known.paths (cond is_data (searched known changes call) [])
+  data_allowed : (is_data : Bool) (changes : Bool) (call : MtuCall) → IsInTurnNow call
+      → AreAllowed settings known.paths (cond is_data (searched known changes call) [])
   data_allowed true changes call turn = searched_allowed changes call turn
   data_allowed false changes call turn = tt
 
   -- the search first, then the acknowledged packet
-  acked_with : (own : Bool) (call : ControllerCall) (entries : List PathsEntry) → AreAllowed settings known.paths entries → AreAllowed settings known.paths (cond own (on_current (tells call) ∷ []) [] ++ entries)
+  acked_with : (own : Bool) (call : ControllerCall) (entries : List PathsEntry)
+      → AreAllowed settings known.paths entries
+      → AreAllowed settings known.paths (cond own (on_current (tells call) ∷ []) [] ++ entries)
   acked_with true call entries allowed = (tt, allowed)
   acked_with false call entries allowed = allowed
 
-  acked_allowed : (space : SpaceId) (now number : ℕ) (app_limited : Bool) (packet : Option (Packet P M)) → AreAllowed settings known.paths (acked_entry known now app_limited packet ++ acked_search known space number packet)
+  acked_allowed : (space : SpaceId) (now number : ℕ) (app_limited : Bool) (packet : Option (Packet P M))
+      → AreAllowed settings known.paths (acked_entry known now app_limited packet
+      ++ acked_search known space number packet)
   acked_allowed space now number app_limited None = tt
   acked_allowed space now number app_limited (Some packet) =
-      acked_with (is_own known packet && packet.ack_eliciting) _ (acked_search known space number (Some packet)) (data_allowed (is_data space) (is_path_probe space number known.paths.current.state) (acks_packet number packet.size) tt)
+      acked_with (is_own known packet && packet.ack_eliciting) _ (acked_search known space number (Some packet))
+      (data_allowed (is_data space) (is_path_probe space number known.paths.current.state)
+      (acks_packet number packet.size) tt)
 
   lost_allowed : (space : SpaceId) (number : ℕ) (packet : Option (Packet P M)) → AreAllowed settings known.paths (lost_search known space number packet)
   lost_allowed space number None = tt
@@ -74,7 +83,8 @@ module _ {K P M : Type 0} (settings : PathSettings K) (known : Known K P M) wher
       data_allowed (is_data space) false (loss_call number packet.size old) (loss_in_turn (is_probe number old) number packet.size old)
 
 module _ {K Q S M P : Type 0} (q : QueueMeaning Q S M P) (settings : PathSettings K) (heard : SpaceId → Heard) (known : Known K P M) where
-  answer_allowed : (event : Event Q S M P) (answer : Answer Q) → ToldBy q settings.words heard known event (Ok answer) → AreAllowed settings known.paths (answered q known event answer).paths
+  answer_allowed : (event : Event Q S M P) (answer : Answer Q) → ToldBy q settings.words heard known event (Ok answer)
+      → AreAllowed settings known.paths (answered q known event answer).paths
   answer_allowed (Transmit now bytes true) Transmitted told =
       let path = known.paths.current.state in
       (sent_freely settings.words (is_blocked path bytes) (path_delay settings.words now bytes path) told.1, tt)
@@ -90,7 +100,8 @@ module _ {K Q S M P : Type 0} (q : QueueMeaning Q S M P) (settings : PathSetting
   answer_allowed (PacerCheck now bytes) answer told = (tt, tt)
   answer_allowed (Congestion now sent persistent bytes) answer told = (tt, tt)
   answer_allowed (EndAcks now app_limited largest) answer told = (tt, tt)
-  answer_allowed (Acked space now number app_limited) answer told = acked_allowed settings known space now number app_limited (packet_at (tracked_known known space) number)
+  answer_allowed (Acked space now number app_limited) answer told = acked_allowed settings known space now number
+      app_limited (packet_at (tracked_known known space) number)
   answer_allowed (Lost space number) answer told = lost_allowed settings known space number (packet_at (tracked_known known space) number)
   answer_allowed (PollMtu now) (Probe number size) told = (tt, (tt, tt))
   answer_allowed (PollMtu now) answer told = (tt, tt)
@@ -112,15 +123,19 @@ module _ {K Q S M P : Type 0} (q : QueueMeaning Q S M P) (settings : PathSetting
   refusal_allowed event refusal = tt
 
   -- what an event is to the paths, where it was told so
-  pub is_allowed : (event : Event Q S M P) (reply : Reply Q) → ToldBy q settings.words heard known event reply → AreAllowed settings known.paths (entries_of q known event reply).paths
+  pub is_allowed : (event : Event Q S M P) (reply : Reply Q) → ToldBy q settings.words heard known event reply
+      → AreAllowed settings known.paths (entries_of q known event reply).paths
   is_allowed event (Ok answer) told = answer_allowed event answer told
   is_allowed event (Err refusal) told = refusal_allowed event refusal
 
 -- what holds of an event because of what each event keeps holds throughout a run
-module _ {F K Q S M P : Type 0} (beginning : Beginning F K Q S M P) (Kept : History Q S M P → Type 0) (Holds : History Q S M P → Event Q S M P → Reply Q → Type 0) where
-  pub throughout_kept : ((before : History Q S M P) (event : Event Q S M P) (reply : Reply Q) → Told beginning before event reply → Kept before → Kept ((event, reply) ∷ before))
+module _ {F K Q S M P : Type 0} (beginning : Beginning F K Q S M P) (Kept : History Q S M P → Type 0)
+    (Holds : History Q S M P → Event Q S M P → Reply Q → Type 0) where
+  pub throughout_kept : ((before : History Q S M P) (event : Event Q S M P) (reply : Reply Q)
+      → Told beginning before event reply → Kept before → Kept ((event, reply) ∷ before))
       → ((before : History Q S M P) (event : Event Q S M P) (reply : Reply Q) → Told beginning before event reply → Kept before → Holds before event reply)
-      → (before : History Q S M P) (events : List (Event Q S M P)) (replies : List (Reply Q)) → ThroughoutFrom (Told beginning) before events replies → Kept before → ThroughoutFrom Holds before events replies
+      → (before : History Q S M P) (events : List (Event Q S M P)) (replies : List (Reply Q))
+      → ThroughoutFrom (Told beginning) before events replies → Kept before → ThroughoutFrom Holds before events replies
   throughout_kept keeps holds before [] [] told kept = tt
   throughout_kept keeps holds before (event ∷ events) (reply ∷ replies) told kept =
       (holds before event reply told.0 kept, throughout_kept keeps holds ((event, reply) ∷ before) events replies told.1 (keeps before event reply told.0 kept))
@@ -129,14 +144,19 @@ module _ {F K Q S M P : Type 0} (beginning : Beginning F K Q S M P) (Kept : Hist
 
 module _ {F K Q S M P : Type 0} (beginning : Beginning F K Q S M P) where
   -- an event keeps the bound
-  after_one : (before : History Q S M P) (event : Event Q S M P) (reply : Reply Q) → Told beginning before event reply → OnEachPath IsWithinThreefold (pasts_of beginning before) → KeepsThreefold beginning before event reply
+  after_one : (before : History Q S M P) (event : Event Q S M P) (reply : Reply Q) → Told beginning before event reply
+      → OnEachPath IsWithinThreefold (pasts_of beginning before) → KeepsThreefold beginning before event reply
   after_one before event reply told within =
       let logs = logs_of beginning before in
       let known = known_by beginning logs in
-      threefold_after (settings_of beginning) (first_path beginning) (entries_of beginning.queue known event reply).paths logs.paths (is_allowed beginning.queue (settings_of beginning) _ known event reply told) within
+      threefold_after (settings_of beginning) (first_path beginning)
+      (entries_of beginning.queue known event reply).paths logs.paths
+      (is_allowed beginning.queue (settings_of beginning) _ known event reply told) within
 
   -- throughout a run
-  pub threefold : (events : List (Event Q S M P)) (replies : List (Reply Q)) → Throughout (Told beginning) events replies → Throughout (KeepsThreefold beginning) events replies
+  pub threefold : (events : List (Event Q S M P)) (replies : List (Reply Q))
+      → Throughout (Told beginning) events replies → Throughout (KeepsThreefold beginning) events replies
   threefold events replies told =
       let within : History Q S M P → Type 0 = λ before. OnEachPath IsWithinThreefold (pasts_of beginning before) in
-      throughout_kept beginning within (KeepsThreefold beginning) after_one after_one [] events replies told (within_at_first (settings_of beginning) (first_path beginning))
+      throughout_kept beginning within (KeepsThreefold beginning) after_one after_one [] events replies told
+      (within_at_first (settings_of beginning) (first_path beginning))

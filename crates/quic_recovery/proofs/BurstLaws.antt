@@ -29,7 +29,8 @@ use Rattle.quic_recovery.proofs.FateLaws.{log_of_data, fates_depart, once_before
 -- ---- the search of the path in use was told nothing as it was made
 
 -- with a search or without one
-discovery_untold : {F : Type 0} (limit : Option ℕ) (config : TransportConfig F) (settings : Option MtuDiscoveryConfig) → IsUntold (discovery_with limit config settings)
+discovery_untold : {F : Type 0} (limit : Option ℕ) (config : TransportConfig F) (settings : Option MtuDiscoveryConfig)
+    → IsUntold (discovery_with limit config settings)
 discovery_untold limit config None = discovery_disabled_untold _ _
 discovery_untold limit config (Some settings) = discovery_made_untold _ _ limit settings
 
@@ -52,7 +53,8 @@ module _ {F K Q S M P : Type 0} (beginning : Beginning F K Q S M P) where
   -- ---- a report comes at four
 
   -- where four have closed unanswered, the answer is a report
-  comes_one : (before : History Q S M P) (event : Event Q S M P) (reply : Reply Q) → Told beginning before event reply → ComesAtFourBursts beginning before event reply
+  comes_one : (before : History Q S M P) (event : Event Q S M P) (reply : Reply Q) → Told beginning before event reply
+      → ComesAtFourBursts beginning before event reply
   comes_one before (LossesDone now) (Ok answer) told = λ many.
       let past = (pasts_of beginning before).current in
       let reply : Answer Q → Reply Q = λ a. Ok a in
@@ -64,7 +66,9 @@ module _ {F K Q S M P : Type 0} (beginning : Beginning F K Q S M P) where
   comes_one before event reply told = tt
 
   -- from a moment on
-  comes_from : (before : History Q S M P) (events : List (Event Q S M P)) (replies : List (Reply Q)) → ThroughoutFrom (Told beginning) before events replies → ThroughoutFrom (ComesAtFourBursts beginning) before events replies
+  comes_from : (before : History Q S M P) (events : List (Event Q S M P)) (replies : List (Reply Q))
+      → ThroughoutFrom (Told beginning) before events replies
+      → ThroughoutFrom (ComesAtFourBursts beginning) before events replies
   comes_from before [] [] told = tt
   comes_from before (event ∷ events) (reply ∷ replies) told =
       (comes_one before event reply told.0, comes_from ((event, reply) ∷ before) events replies told.1)
@@ -72,7 +76,8 @@ module _ {F K Q S M P : Type 0} (beginning : Beginning F K Q S M P) where
   comes_from before (event ∷ events) [] told = absurd told
 
   -- throughout a run
-  pub comes_at_four : (events : List (Event Q S M P)) (replies : List (Reply Q)) → Throughout (Told beginning) events replies → Throughout (ComesAtFourBursts beginning) events replies
+  pub comes_at_four : (events : List (Event Q S M P)) (replies : List (Reply Q))
+      → Throughout (Told beginning) events replies → Throughout (ComesAtFourBursts beginning) events replies
   comes_at_four = comes_from []
 
   -- ---- a report needs four
@@ -82,7 +87,8 @@ module _ {F K Q S M P : Type 0} (beginning : Beginning F K Q S M P) where
   HaveLeftOnce history = LeaveOnce (log_of_data beginning history)
 
   -- where a hole is reported, four stand
-  needs_by : (before : History Q S M P) (now : ℕ) → HaveLeftOnce before → (hole : Bool) → reports_there before ≡ hole → NeedsFourBursts beginning before (LossesDone now) (Ok (BlackHole hole))
+  needs_by : (before : History Q S M P) (now : ℕ) → HaveLeftOnce before → (hole : Bool) → reports_there before ≡ hole
+      → NeedsFourBursts beginning before (LossesDone now) (Ok (BlackHole hole))
   needs_by before now once true is =
       let past = (pasts_of beginning before).current in
       let apart = apart_once past.making.discovery past.searched (λ number. omega (arith, fates_depart beginning number before, once number)) in
@@ -90,7 +96,8 @@ module _ {F K Q S M P : Type 0} (beginning : Beginning F K Q S M P) where
   needs_by before now once false is = tt
 
   -- so where the answer says one
-  needs_one : (before : History Q S M P) (event : Event Q S M P) (reply : Reply Q) → Told beginning before event reply → HaveLeftOnce before → NeedsFourBursts beginning before event reply
+  needs_one : (before : History Q S M P) (event : Event Q S M P) (reply : Reply Q) → Told beginning before event reply
+      → HaveLeftOnce before → NeedsFourBursts beginning before event reply
   needs_one before (LossesDone now) (Ok answer) told once =
       let N : Answer Q → Type 0 = λ a. NeedsFourBursts beginning before (LossesDone now) (Ok a) in
       subst N (sym told) (needs_by before now once (reports_there before) refl)
@@ -98,13 +105,18 @@ module _ {F K Q S M P : Type 0} (beginning : Beginning F K Q S M P) where
   needs_one before event reply told once = tt
 
   -- from a moment on, in a run after which no number has left twice
-  needs_from : (before : History Q S M P) (events : List (Event Q S M P)) (replies : List (Reply Q)) → ThroughoutFrom (Told beginning) before events replies → HaveLeftOnce (history_from before events replies) → ThroughoutFrom (NeedsFourBursts beginning) before events replies
+  needs_from : (before : History Q S M P) (events : List (Event Q S M P)) (replies : List (Reply Q))
+      → ThroughoutFrom (Told beginning) before events replies → HaveLeftOnce (history_from before events replies)
+      → ThroughoutFrom (NeedsFourBursts beginning) before events replies
   needs_from before [] [] told once = tt
-  needs_from before (event ∷ events) (reply ∷ replies) told once =
-      (needs_one before event reply told.0 (once_before beginning before (event ∷ events) (reply ∷ replies) once), needs_from ((event, reply) ∷ before) events replies told.1 once)
+  needs_from before (event ∷ events) (reply ∷ replies) told once = (
+    needs_one before event reply told.0 (once_before beginning before (event ∷ events) (reply ∷ replies) once),
+    needs_from ((event, reply) ∷ before) events replies told.1 once,
+  )
   needs_from before [] (reply ∷ replies) told once = absurd told
   needs_from before (event ∷ events) [] told once = absurd told
 
   -- throughout a run
-  pub needs_four : (events : List (Event Q S M P)) (replies : List (Reply Q)) → Throughout (Told beginning) events replies → Throughout (NeedsFourBursts beginning) events replies
+  pub needs_four : (events : List (Event Q S M P)) (replies : List (Reply Q))
+      → Throughout (Told beginning) events replies → Throughout (NeedsFourBursts beginning) events replies
   needs_four events replies told = needs_from [] events replies told (leave_once_in beginning events replies told Data)

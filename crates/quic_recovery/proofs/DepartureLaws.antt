@@ -61,7 +61,8 @@ module _ {F K Q S M P : Type 0} (beginning : Beginning F K Q S M P) (before : Hi
   is_new Handshake = omega arith
   is_new Data = number_from_above beginning.config.skips beginning.random (sent_in Data).next
 
-  answer_leaves : (event : Event Q S M P) (answer : Answer Q) → Told beginning before event (Ok answer) → Leaves (answered beginning.queue (known_by beginning (logs_of beginning before)) event answer).spaces
+  answer_leaves : (event : Event Q S M P) (answer : Answer Q) → Told beginning before event (Ok answer)
+      → Leaves (answered beginning.queue (known_by beginning (logs_of beginning before)) event answer).spaces
   answer_leaves (Acked space now number app_limited) answer told = in_one sent_in space (acknowledged number) (tracked _ told.1.0)
   answer_leaves (Lost space number) answer told = in_one sent_in space (loses number) (tracked _ told.1.0)
   answer_leaves (Received space now number eliciting) (New arm) told = stays space (heard now number eliciting) (λ sent. tt)
@@ -94,11 +95,13 @@ module _ {F K Q S M P : Type 0} (beginning : Beginning F K Q S M P) (before : Hi
   refusal_leaves (AckFrequencyIn frame) refusal = λ space. tt
   refusal_leaves event refusal = λ space. tt
 
-  is_leaving : (event : Event Q S M P) (reply : Reply Q) → Told beginning before event reply → Leaves (entries_of beginning.queue (known_by beginning (logs_of beginning before)) event reply).spaces
+  is_leaving : (event : Event Q S M P) (reply : Reply Q) → Told beginning before event reply
+      → Leaves (entries_of beginning.queue (known_by beginning (logs_of beginning before)) event reply).spaces
   is_leaving event (Ok answer) told = answer_leaves event answer told
   is_leaving event (Err refusal) told = refusal_leaves event refusal
 
-onto_once : {P M S : Type 0} (words : QueueWords P S) (entry : Option (SpaceEntry P M)) (log : List (SpaceEntry P M)) → LeavesIf entry (sent_by words log) → ComeOnce words log → ComeOnce words (onto entry log)
+onto_once : {P M S : Type 0} (words : QueueWords P S) (entry : Option (SpaceEntry P M)) (log : List (SpaceEntry P M))
+    → LeavesIf entry (sent_by words log) → ComeOnce words log → ComeOnce words (onto entry log)
 onto_once words None log leaves come = come
 onto_once words (Some entry) log leaves come = come_once words entry log leaves come
 
@@ -106,12 +109,19 @@ module _ {F K Q S M P : Type 0} (beginning : Beginning F K Q S M P) where
   abbrev AllOnce : History Q S M P → Type 0
   AllOnce history = (space : SpaceId) → ComeOnce beginning.queue.words ((logs_of beginning history).spaces space)
 
-  all_once : (before : History Q S M P) (events : List (Event Q S M P)) (replies : List (Reply Q)) → ThroughoutFrom (Told beginning) before events replies → AllOnce before → AllOnce (history_from before events replies)
+  all_once : (before : History Q S M P) (events : List (Event Q S M P)) (replies : List (Reply Q))
+      → ThroughoutFrom (Told beginning) before events replies → AllOnce before
+      → AllOnce (history_from before events replies)
   all_once before [] replies told come = come
   all_once before (event ∷ events) (reply ∷ replies) told come =
-      all_once ((event, reply) ∷ before) events replies told.1 (λ space. onto_once beginning.queue.words _ ((logs_of beginning before).spaces space) (is_leaving beginning before event reply told.0 space) (come space))
+      all_once ((event, reply) ∷ before) events replies told.1
+      (λ space. onto_once beginning.queue.words _ ((logs_of beginning before).spaces space)
+      (is_leaving beginning before event reply told.0 space) (come space))
   all_once before (event ∷ events) [] told come = absurd told
 
   -- throughout a run
-  pub leave_once_in : (events : List (Event Q S M P)) (replies : List (Reply Q)) → Throughout (Told beginning) events replies → PacketsLeaveOnce beginning (history events replies)
-  leave_once_in events replies told = λ space. leave_once beginning.queue.words ((logs_of beginning (history events replies)).spaces space) (all_once [] events replies told (λ any. none_came beginning.queue.words) space)
+  pub leave_once_in : (events : List (Event Q S M P)) (replies : List (Reply Q))
+      → Throughout (Told beginning) events replies → PacketsLeaveOnce beginning (history events replies)
+  leave_once_in events replies told = λ space. leave_once beginning.queue.words
+      ((logs_of beginning (history events replies)).spaces space)
+      (all_once [] events replies told (λ any. none_came beginning.queue.words) space)

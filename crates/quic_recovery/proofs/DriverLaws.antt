@@ -33,20 +33,23 @@ use Rattle.quic_recovery.specs.Replies.{reply_to}
 use Rattle.quic_recovery.specs.State.{Changes, Steps, SkippingStep, known_to}
 
 -- a space that is put back as it was
-pub with_same_space : {P M : Type 0} (spaces : Spaces P M) (space : SpaceId) (there : Space P M) → there ≡ space_of space spaces → with_space spaces space there ≡ spaces
+pub with_same_space : {P M : Type 0} (spaces : Spaces P M) (space : SpaceId) (there : Space P M)
+    → there ≡ space_of space spaces → with_space spaces space there ≡ spaces
 with_same_space spaces Initial there same = ap (with_space spaces Initial) same
 with_same_space spaces Handshake there same = ap (with_space spaces Handshake) same
 with_same_space spaces Data there same = ap (with_space spaces Data) same
 
 -- what is no packet of 1-RTT keys that is sent leaves the skipped numbers
-pub skips_nothing : {P M : Type 0} (space : SpaceId) (entry : SpaceEntry P M) (n : ℕ) (skipping : Skipping) → SkippingStep (Some entry) n skipping skipping → SkippingStep (here space Data entry) n skipping skipping
+pub skips_nothing : {P M : Type 0} (space : SpaceId) (entry : SpaceEntry P M) (n : ℕ) (skipping : Skipping)
+    → SkippingStep (Some entry) n skipping skipping → SkippingStep (here space Data entry) n skipping skipping
 skips_nothing Initial entry n skipping same = refl
 skips_nothing Handshake entry n skipping same = refl
 skips_nothing Data entry n skipping same = same
 
 module _ {P M S : Type 0} (words : QueueWords P S) where
   -- one space changes, and the others stay
-  pub spaces_step : (entry : SpaceEntry P M) (spaces : Spaces P M) (changed : SpaceId) (there : Space P M) → SpaceStep words entry (space_of changed spaces) there
+  pub spaces_step : (entry : SpaceEntry P M) (spaces : Spaces P M) (changed : SpaceId) (there : Space P M)
+      → SpaceStep words entry (space_of changed spaces) there
       → (space : SpaceId) → StepBy (SpaceStep words) (here changed space entry) (space_of space spaces) (space_of space (with_space spaces changed there))
   spaces_step entry spaces Initial there change Initial = change
   spaces_step entry spaces Initial there change Handshake = refl
@@ -77,9 +80,13 @@ module _ {K P M S : Type 0} (words : QueueWords P S) where
   }
 
   -- an event in one space, which may draw the next skip, and be something to the paths
-  pub space_changes : (old : Parts K P M) (space : SpaceId) (entry : SpaceEntry P M) (there : Space P M) (skipping : Skipping) (entries : List PathsEntry) (paths : OfPaths (Path K))
-      → SpaceStep words entry (space_of space old.spaces) there → SkippingStep (here space Data entry) (next_number_of (space_of Data old.spaces)) old.skipping skipping → PathsStep old.settings entries (paths_known old.paths) (paths_known paths)
-      → Steps words (record (in_space space entry) { paths = entries }) old (record old { spaces = with_space old.spaces space there; skipping = skipping; paths = paths })
+  pub space_changes : (old : Parts K P M) (space : SpaceId) (entry : SpaceEntry P M) (there : Space P M)
+      (skipping : Skipping) (entries : List PathsEntry) (paths : OfPaths (Path K))
+      → SpaceStep words entry (space_of space old.spaces) there
+      → SkippingStep (here space Data entry) (next_number_of (space_of Data old.spaces)) old.skipping skipping
+      → PathsStep old.settings entries (paths_known old.paths) (paths_known paths)
+      → Steps words (record (in_space space entry) { paths = entries }) old
+      (record old { spaces = with_space old.spaces space there; skipping = skipping; paths = paths })
   space_changes old space entry there skipping entries paths step skips same = record {
     settings = refl;
     spaces = spaces_step words entry old.spaces space there step;
@@ -95,10 +102,15 @@ module _ {K P M S : Type 0} (words : QueueWords P S) where
 
 -- ---- a received packet
 
-module _ {K Q S M P : Type 0} (q : QueueMeaning Q S M P) (old : Parts K P M) (space : SpaceId) (now number : ℕ) (ack_eliciting : Bool) (there : Space P M) (live : is_discarded space old.discarded ≡ false) where
+module _ {K Q S M P : Type 0} (q : QueueMeaning Q S M P) (old : Parts K P M) (space : SpaceId) (now number : ℕ)
+    (ack_eliciting : Bool) (there : Space P M) (live : is_discarded space old.discarded ≡ false) where
   -- the space is put back as it was
-  kept_changes : (error : ReceiveError) → ReceiveReply (heard_of (space_of space old.spaces)) (counts_of (acks_of (space_of space old.spaces))) number ack_eliciting (Err error)
-      → (record old { spaces = with_space old.spaces space there }) ≡ old → Changes {M = M} q old (Received space now number ack_eliciting) (reply_to (Err error)) (record old { spaces = with_space old.spaces space there })
+  kept_changes : (error : ReceiveError)
+      → ReceiveReply (heard_of (space_of space old.spaces)) (counts_of (acks_of (space_of space old.spaces))) number
+      ack_eliciting (Err error)
+      → (record old { spaces = with_space old.spaces space there }) ≡ old
+      → Changes {M = M} q old (Received space now number ack_eliciting) (reply_to (Err error))
+      (record old { spaces = with_space old.spaces space there })
   kept_changes NumberTooLarge large same = record {
     told = (fails _ live, large);
     steps = nothing_changes q.words old (record old { spaces = with_space old.spaces space there }) same;
@@ -114,17 +126,20 @@ module _ {K Q S M P : Type 0} (q : QueueMeaning Q S M P) (old : Parts K P M) (sp
 
   pub received_changes : (receipt : Result Receipt ReceiveError)
       → ReceiveReply (heard_of (space_of space old.spaces)) (counts_of (acks_of (space_of space old.spaces))) number ack_eliciting receipt
-      → IfOk receipt (λ r. SpaceStep q.words (came now number ack_eliciting r) (space_of space old.spaces) there) → OnErr receipt (there ≡ space_of space old.spaces)
+      → IfOk receipt (λ r. SpaceStep q.words (came now number ack_eliciting r) (space_of space old.spaces) there)
+      → OnErr receipt (there ≡ space_of space old.spaces)
       → Changes {M = M} q old (Received space now number ack_eliciting) (reply_to receipt) (record old { spaces = with_space old.spaces space there })
   received_changes (Ok (New arm)) is step kept = record {
     told = (fails _ live, ((λ most. absurd (omega (arith, is.0))), is.1));
-    steps = space_changes q.words old space (heard now number ack_eliciting) there old.skipping [] old.paths step (skips_nothing space (heard now number ack_eliciting) _ old.skipping refl) refl;
+    steps = space_changes q.words old space (heard now number ack_eliciting) there old.skipping [] old.paths step
+        (skips_nothing space (heard now number ack_eliciting) _ old.skipping refl) refl;
     marks = refl;
     refused = tt;
   }
   received_changes (Ok Duplicate) is step kept = record {
     told = (fails _ live, ((λ most. absurd (omega (arith, is.0))), is.1));
-    steps = space_changes q.words old space (heard_again number) there old.skipping [] old.paths step (skips_nothing space (heard_again number) _ old.skipping refl) refl;
+    steps = space_changes q.words old space (heard_again number) there old.skipping [] old.paths step
+        (skips_nothing space (heard_again number) _ old.skipping refl) refl;
     marks = refl;
     refused = tt;
   }
@@ -132,28 +147,51 @@ module _ {K Q S M P : Type 0} (q : QueueMeaning Q S M P) (old : Parts K P M) (sp
       kept_changes error is (ap (λ (spaces : Spaces P M). record old { spaces = spaces }) (with_same_space old.spaces space there kept))
 
 -- what a received packet changes leaves the tracked packets, and the greatest ack-eliciting number was received
-pub received_keeps : {P M S : Type 0} (words : QueueWords P S) (now number : ℕ) (ack_eliciting : Bool) (receipt : Result Receipt ReceiveError) (old new : Space P M) → HasGreatestCome old → IfOk receipt (λ r. SpaceStep words (came now number ack_eliciting r) old new) → OnErr receipt (new ≡ old)
+pub received_keeps : {P M S : Type 0} (words : QueueWords P S) (now number : ℕ) (ack_eliciting : Bool)
+    (receipt : Result Receipt ReceiveError) (old new : Space P M) → HasGreatestCome old
+    → IfOk receipt (λ r. SpaceStep words (came now number ack_eliciting r) old new) → OnErr receipt (new ≡ old)
     → (tracking_of new ≡ tracking_of old) × (next_number_of new ≡ next_number_of old) × HasGreatestCome new
-received_keeps words now number ack_eliciting (Ok (New arm)) old new come step kept = (ap tracking_of step.others, ap next_number_of step.others, heard_greatest old new now number ack_eliciting come step)
-received_keeps words now number ack_eliciting (Ok Duplicate) old new come step kept = (ap tracking_of step.1, ap next_number_of step.1, let Holds : Space _ _ → Type 0 = HasGreatestCome in subst Holds (sym step.1) come)
-received_keeps words now number ack_eliciting (Err refused) old new come step kept = (ap tracking_of kept, ap next_number_of kept, let Holds : Space _ _ → Type 0 = HasGreatestCome in subst Holds (sym kept) come)
+received_keeps words now number ack_eliciting (Ok (New arm)) old new come step kept = (
+  ap tracking_of step.others,
+  ap next_number_of step.others,
+  heard_greatest old new now number ack_eliciting come step,
+)
+received_keeps words now number ack_eliciting (Ok Duplicate) old new come step kept = (
+  ap tracking_of step.1,
+  ap next_number_of step.1,
+  let Holds : Space _ _
+      → Type 0 = HasGreatestCome in subst Holds (sym step.1) come,
+)
+received_keeps words now number ack_eliciting (Err refused) old new come step kept = (
+  ap tracking_of kept,
+  ap next_number_of kept,
+  let Holds : Space _ _
+      → Type 0 = HasGreatestCome in subst Holds (sym kept) come,
+)
 
 -- ---- a packet that is sent
 
-module _ {K Q S M P : Type 0} (q : QueueMeaning Q S M P) (old : Parts K P M) (space : SpaceId) (now size : ℕ) (ack_eliciting : Bool) (largest_acked : Option ℕ) (queue : Q) (frames : M) where
+module _ {K Q S M P : Type 0} (q : QueueMeaning Q S M P) (old : Parts K P M) (space : SpaceId) (now size : ℕ)
+    (ack_eliciting : Bool) (largest_acked : Option ℕ) (queue : Q) (frames : M) where
   abbrev packet_then : Packet P M
   packet_then = packet_sent (generation_of old.paths.current.ledger) now size ack_eliciting largest_acked (q.contents queue) frames
 
   pub sent_changes : (there : Space P M) (skipping : Skipping) (paths : OfPaths (Path K)) (number : ℕ) (forgotten : Option ℕ)
-      → is_discarded space old.discarded ≡ false → (¬ IsTooLarge largest_acked) → number_in (known_to old) space < 2 ^ 62 → (¬ Overflows (current_in_flight (known_to old)) packet_then)
-      → number ≡ number_in (known_to old) space → forgotten ≡ forgotten_number (tracking_of (space_of space old.spaces)).last_eliciting packet_then (tracked_by old.spaces space)
+      → is_discarded space old.discarded ≡ false → (¬ IsTooLarge largest_acked)
+      → number_in (known_to old) space < 2 ^ 62 → (¬ Overflows (current_in_flight (known_to old)) packet_then)
+      → number ≡ number_in (known_to old) space
+      → forgotten ≡ forgotten_number (tracking_of (space_of space old.spaces)).last_eliciting packet_then
+      (tracked_by old.spaces space)
       → SpaceStep q.words (sends (number_in (known_to old) space) packet_then) (space_of space old.spaces) there
       → SkippingStep (here space Data (sends (number_in (known_to old) space) packet_then)) (next_number_of (space_of Data old.spaces)) old.skipping skipping
-      → PathsStep old.settings (on_current (tells (sends_bytes now size (number_in (known_to old) space))) ∷ []) (paths_known old.paths) (paths_known paths) → paths_marks paths ≡ paths_marks old.paths
-      → Changes q old (Send space now size ack_eliciting largest_acked queue frames) (Ok (Sent number forgotten)) (record old { spaces = with_space old.spaces space there; skipping = skipping; paths = paths })
+      → PathsStep old.settings (on_current (tells (sends_bytes now size (number_in (known_to old) space))) ∷ [])
+      (paths_known old.paths) (paths_known paths) → paths_marks paths ≡ paths_marks old.paths
+      → Changes q old (Send space now size ack_eliciting largest_acked queue frames) (Ok (Sent number forgotten))
+      (record old { spaces = with_space old.spaces space there; skipping = skipping; paths = paths })
   sent_changes there skipping paths number forgotten live small left fits is_next is_forgotten step skips told marked = record {
     told = (fails _ live, (small, ((λ most. absurd (omega (arith, most, left))), (fits, ap₂ (λ n f. Sent n f) is_next is_forgotten))));
-    steps = space_changes q.words old space (sends (number_in (known_to old) space) packet_then) there skipping (on_current (tells (sends_bytes now size (number_in (known_to old) space))) ∷ []) paths step skips told;
+    steps = space_changes q.words old space (sends (number_in (known_to old) space) packet_then) there skipping
+        (on_current (tells (sends_bytes now size (number_in (known_to old) space))) ∷ []) paths step skips told;
     marks = marked;
     refused = tt;
   }

@@ -44,16 +44,20 @@ module _ {K P M : Type 0} (settings : PathSettings K) (first : PathMaking K) (lo
   searched_seen true call = refl
   searched_seen false call = refl
 
-  data_seen : (in_data changes : Bool) (call : MtuCall) → entries_with (if in_data then searched known changes call else []) ≡ (if in_data then seen call ∷ before else before)
+  data_seen : (in_data changes : Bool) (call : MtuCall)
+      → entries_with (if in_data then searched known changes call else [])
+      ≡ (if in_data then seen call ∷ before else before)
   data_seen true changes call = searched_seen changes call
   data_seen false changes call = refl
 
-  acked_with : (own : Bool) (call : ControllerCall) (entries : List PathsEntry) → entries_with ((if own then on_current (tells call) ∷ [] else []) ++ entries) ≡ entries_with entries
+  acked_with : (own : Bool) (call : ControllerCall) (entries : List PathsEntry)
+      → entries_with ((if own then on_current (tells call) ∷ [] else []) ++ entries) ≡ entries_with entries
   acked_with true call entries = refl
   acked_with false call entries = refl
 
   acked_seen : (space : SpaceId) (now number : ℕ) (app_limited : Bool) (packet : Option (Packet P M))
-      → entries_with (acked_entry known now app_limited packet ++ acked_search known space number packet) ≡ (if is_data space then of_packet (acked number) packet else []) ++ before
+      → entries_with (acked_entry known now app_limited packet ++ acked_search known space number packet)
+      ≡ (if is_data space then of_packet (acked number) packet else []) ++ before
   acked_seen space.Initial now number app_limited None = refl
   acked_seen space.Handshake now number app_limited None = refl
   acked_seen space.Data now number app_limited None = refl
@@ -64,12 +68,15 @@ module _ {K P M : Type 0} (settings : PathSettings K) (first : PathMaking K) (lo
       let call = acks_packet number packet.size in
       acked_with (is_own known packet && packet.ack_eliciting) _ (searched known probed call) ∙ searched_seen probed call
 
-  lost_seen : (own : Bool) (number bytes : ℕ) → entries_with (searched known false (if own then loses_probe else loses number bytes)) ≡ (if own then probe_lost else lost number bytes) ∷ before
+  lost_seen : (own : Bool) (number bytes : ℕ)
+      → entries_with (searched known false (if own then loses_probe else loses number bytes))
+      ≡ (if own then probe_lost else lost number bytes) ∷ before
   lost_seen true number bytes = refl
   lost_seen false number bytes = refl
 
   -- outside 1-RTT keys nothing is seen
-  lost_unseen : (space : SpaceId) (number : ℕ) (packet : Option (Packet P M)) → is_data space ≡ false → entries_with (lost_search known space number packet) ≡ before
+  lost_unseen : (space : SpaceId) (number : ℕ) (packet : Option (Packet P M)) → is_data space ≡ false
+      → entries_with (lost_search known space number packet) ≡ before
   lost_unseen space number None other = refl
   lost_unseen space number (Some packet) other =
       let call = loss_call number packet.size known.paths.current.state.discovery in
@@ -92,7 +99,8 @@ module _ {F K Q S M P : Type 0} (beginning : Beginning F K Q S M P) (past : Hist
   abbrev log : List PathsEntry
   log = (logs_of beginning past).paths
 
-  polled : (now : ℕ) (given : Answer Q) (size : Option ℕ) → poll_of now known.paths.current.state.discovery ≡ size → ProbeOutReply beginning.queue known now size (Ok given) → IsEntered (PollMtu now) given
+  polled : (now : ℕ) (given : Answer Q) (size : Option ℕ) → poll_of now known.paths.current.state.discovery ≡ size
+      → ProbeOutReply beginning.queue known now size (Ok given) → IsEntered (PollMtu now) given
   polled now given None is told =
       let entries = entries_on (pasts_of beginning past).current in
       subst (IsEntered (PollMtu now)) (sym told) (ap (λ p. poll_entry now known.numbers.next p ∷ entries) is)
@@ -104,9 +112,11 @@ module _ {F K Q S M P : Type 0} (beginning : Beginning F K Q S M P) (past : Hist
   answered_entered (PollMtu now) given told = polled now given (poll_of now known.paths.current.state.discovery) refl told.1.1
   answered_entered (PeerLimit size) given told = refl
   answered_entered (Acked space.Initial now number app_limited) given told =
-      acked_seen (settings_of beginning) (first_path beginning) log known space.Initial now number app_limited (packet_at (tracked_known known space.Initial) number)
+      acked_seen (settings_of beginning) (first_path beginning) log known space.Initial now number app_limited
+      (packet_at (tracked_known known space.Initial) number)
   answered_entered (Acked space.Handshake now number app_limited) given told =
-      acked_seen (settings_of beginning) (first_path beginning) log known space.Handshake now number app_limited (packet_at (tracked_known known space.Handshake) number)
+      acked_seen (settings_of beginning) (first_path beginning) log known space.Handshake now number app_limited
+      (packet_at (tracked_known known space.Handshake) number)
   answered_entered (Acked space.Data now number app_limited) given told =
       acked_seen (settings_of beginning) (first_path beginning) log known space.Data now number app_limited (data_packet beginning past number)
   answered_entered (Lost space.Initial number) given told =
@@ -149,7 +159,10 @@ module _ {F K Q S M P : Type 0} (beginning : Beginning F K Q S M P) (past : Hist
   entered_one event (Err refusal) told = refused_entered event refusal
 
 -- throughout a run
-pub entries_told : {F K Q S M P : Type 0} (beginning : Beginning F K Q S M P) (events : List (Event Q S M P)) (replies : List (Reply Q)) → Throughout (Told beginning) events replies → Throughout (EntersAsTold beginning) events replies
+pub entries_told : {F K Q S M P : Type 0} (beginning : Beginning F K Q S M P) (events : List (Event Q S M P))
+    (replies : List (Reply Q)) → Throughout (Told beginning) events replies
+    → Throughout (EntersAsTold beginning) events replies
 entries_told {F} {K} {Q} {S} {M} {P} beginning events replies told =
     let always : History Q S M P → Type 0 = λ past. Unit {0} in
-    throughout_kept beginning always (EntersAsTold beginning) (λ past event reply told kept. tt) (λ past event reply told kept. entered_one beginning past event reply told) [] events replies told tt
+    throughout_kept beginning always (EntersAsTold beginning) (λ past event reply told kept. tt)
+    (λ past event reply told kept. entered_one beginning past event reply told) [] events replies told tt

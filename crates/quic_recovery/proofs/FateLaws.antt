@@ -25,7 +25,8 @@ use Rattle.quic_recovery.specs.Known.{Known, known_by, first_path, settings_of, 
 use Rattle.quic_recovery.specs.Logs.{onto}
 
 -- an entry's own departures are added to those before it
-departures-onto : {P M : Type 0} (number : ℕ) (entry : Option (SpaceEntry P M)) (log : List (SpaceEntry P M)) → departures number (onto entry log) ≡ departures number log + departures number (onto entry [])
+departures-onto : {P M : Type 0} (number : ℕ) (entry : Option (SpaceEntry P M)) (log : List (SpaceEntry P M))
+    → departures number (onto entry log) ≡ departures number log + departures number (onto entry [])
 departures-onto number None log = omega arith
 departures-onto number (Some (acknowledged other)) log = omega arith
 departures-onto number (Some (loses other)) log = omega arith
@@ -66,7 +67,8 @@ module _ {K P M : Type 0} (known : Known K P M) (number : ℕ) where
 
   -- what is told of an acknowledged packet
   acked_departs : (space : SpaceId) (now other : ℕ) (app_limited : Bool) (packet : Option (Packet P M))
-      → told_in number (acked_entry known now app_limited packet ++ acked_search known space other packet) ≤ departures {P = P} {M = M} number (onto (here space Data (acknowledged other)) [])
+      → told_in number (acked_entry known now app_limited packet ++ acked_search known space other packet) ≤ departures
+      {P = P} {M = M} number (onto (here space Data (acknowledged other)) [])
   acked_departs space now other app_limited None = omega arith
   acked_departs Initial now other app_limited (Some packet) =
       omega (arith, told-append number (acked_entry known now app_limited (Some packet)) [], acked_entry_tells now app_limited (Some packet))
@@ -74,10 +76,18 @@ module _ {K P M : Type 0} (known : Known K P M) (number : ℕ) where
       omega (arith, told-append number (acked_entry known now app_limited (Some packet)) [], acked_entry_tells now app_limited (Some packet))
   acked_departs Data now other app_limited (Some packet) =
       let seen = searched known (is_path_probe Data other known.paths.current.state) (acks_packet other packet.size) in
-      omega (arith, told-append number (acked_entry known now app_limited (Some packet)) seen, acked_entry_tells now app_limited (Some packet), searched_tells (is_path_probe Data other known.paths.current.state) (acks_packet other packet.size))
+      omega (
+        arith,
+        told-append number (acked_entry known now app_limited (Some packet)) seen,
+        acked_entry_tells now app_limited (Some packet),
+        searched_tells
+            (is_path_probe Data other known.paths.current.state) (acks_packet other packet.size),
+      )
 
   -- and of a lost one
-  lost_departs : (space : SpaceId) (other : ℕ) (packet : Option (Packet P M)) → told_in number (lost_search known space other packet) ≤ departures {P = P} {M = M} number (onto (here space Data (loses other)) [])
+  lost_departs : (space : SpaceId) (other : ℕ) (packet : Option (Packet P M))
+      → told_in number (lost_search known space other packet) ≤ departures {P = P} {M = M} number
+      (onto (here space Data (loses other)) [])
   lost_departs space other None = omega arith
   lost_departs Initial other (Some packet) = omega arith
   lost_departs Handshake other (Some packet) = omega arith
@@ -92,7 +102,8 @@ Departs number entries = told_in number entries.paths ≤ departures number (ont
 module _ {K Q S M P : Type 0} (q : QueueMeaning Q S M P) (known : Known K P M) (number : ℕ) where
   -- by each event
   answer_departs : (event : Event Q S M P) (answer : Answer Q) → Departs number (answered q known event answer)
-  answer_departs (Acked space now other app_limited) answer = acked_departs known number space now other app_limited (packet_at (tracked_known known space) other)
+  answer_departs (Acked space now other app_limited) answer = acked_departs known number space now other app_limited
+      (packet_at (tracked_known known space) other)
   answer_departs (Lost space other) answer = lost_departs known number space other (packet_at (tracked_known known space) other)
   answer_departs (LossesDone now) answer = omega (arith, searched_tells known number (reports known.paths.current.state.discovery) (losses_end now))
   answer_departs (PollMtu now) (Probe other size) = omega arith
@@ -142,14 +153,27 @@ module _ {F K Q S M P : Type 0} (beginning : Beginning F K Q S M P) where
   told_departs number (happened ∷ earlier) =
       let logs = logs_of beginning earlier in
       let entries = entries_of beginning.queue (known_by beginning logs) happened.0 happened.1 in
-      omega (arith, told_departs number earlier, told-append number entries.paths logs.paths, departures-onto number (entries.spaces Data) (logs.spaces Data), event_departs beginning.queue (known_by beginning logs) number happened.0 happened.1)
+      omega (
+        arith,
+        told_departs number earlier,
+        told-append number entries.paths logs.paths,
+        departures-onto number (entries.spaces Data) (logs.spaces Data),
+        event_departs beginning.queue (known_by beginning logs) number happened.0 happened.1,
+      )
 
   -- at each moment a number was told at most as often to the search of the path in use as it left its space
-  pub fates_depart : (number : ℕ) (history : History Q S M P) → fates number (pasts_of beginning history).current.searched ≤ departures number (log_of_data history)
-  fates_depart number history = omega (arith, fates_by (settings_of beginning) number (first_path beginning) (logs_of beginning history).paths, told_departs number history)
+  pub fates_depart : (number : ℕ) (history : History Q S M P)
+      → fates number (pasts_of beginning history).current.searched ≤ departures number (log_of_data history)
+  fates_depart number history = omega (
+    arith,
+    fates_by (settings_of beginning) number (first_path beginning)
+        (logs_of beginning history).paths,
+    told_departs number history,
+  )
 
   -- what leaves once in a whole run has left once at most up to each moment
-  pub once_before : (before : History Q S M P) (events : List (Event Q S M P)) (replies : List (Reply Q)) → LeaveOnce (log_of_data (history_from before events replies)) → LeaveOnce (log_of_data before)
+  pub once_before : (before : History Q S M P) (events : List (Event Q S M P)) (replies : List (Reply Q))
+      → LeaveOnce (log_of_data (history_from before events replies)) → LeaveOnce (log_of_data before)
   once_before before [] replies once = once
   once_before before (event ∷ events) [] once = once
   once_before before (event ∷ events) (reply ∷ replies) once = λ number.

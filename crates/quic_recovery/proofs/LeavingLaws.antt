@@ -24,7 +24,8 @@ use Rattle.quic_recovery.proofs.AboveLaws.{both_marks}
 use Rattle.quic_recovery.proofs.DriverLaws.{space_changes, skips_nothing}
 
 -- what leaves a path changes nothing that is known of it
-previous_known : {K P M : Type 0} (packet : Packet P M) (path : Option (Path K)) → option_map path_known (option_map (left_by packet) path) ≡ option_map path_known path
+previous_known : {K P M : Type 0} (packet : Packet P M) (path : Option (Path K))
+    → option_map path_known (option_map (left_by packet) path) ≡ option_map path_known path
 previous_known packet None = refl
 previous_known packet (Some path) = refl
 
@@ -33,10 +34,14 @@ module _ {K P M : Type 0} (old : Parts K P M) (space : SpaceId) (number : ℕ) (
   with_previous current previous = record { current = current; previous = previous }
 
   -- the entries of an acknowledged packet are what its path does: the search first, then the controller
-  pub acked_path : (now : ℕ) (app_limited : Bool) → PathsStep old.settings (acked_entry (known_to old) now app_limited (Some packet) ++ acked_search (known_to old) space number (Some packet)) (paths_known old.paths) (paths_known (paths_acking old.settings.words space number now app_limited packet old.paths))
+  pub acked_path : (now : ℕ) (app_limited : Bool)
+      → PathsStep old.settings (acked_entry (known_to old) now app_limited (Some packet)
+      ++ acked_search (known_to old) space number (Some packet)) (paths_known old.paths)
+      (paths_known (paths_acking old.settings.words space number now app_limited packet old.paths))
   acked_path now app_limited =
       ap (with_previous _) (previous_known packet old.paths.previous)
-      ∙ go (packet.path_generation == generation_of old.paths.current.ledger && packet.ack_eliciting) (is_data space) (is_path_probe space number old.paths.current.state)
+      ∙ go (packet.path_generation == generation_of old.paths.current.ledger && packet.ack_eliciting) (is_data space)
+      (is_path_probe space number old.paths.current.state)
     where
       call : MtuCall
       call = acks_packet number packet.size
@@ -54,9 +59,15 @@ module _ {K P M : Type 0} (old : Parts K P M) (space : SpaceId) (number : ℕ) (
       told state = after_telling old.settings.words (acks now packet.time_sent packet.size app_limited state.rtt) state
 
       go : (own in_data probe : Bool) → let searched = cond in_data (after probe) path.state in
-          let known : OfPaths (PathKnown K) = record { current = record { generation = generation_of path.ledger; state = cond own (told searched) searched }; previous = option_map path_known old.paths.previous } in
-          known ≡ paths_after (known_with old.settings) (known_following old.settings) (cond own (on_current (tells (acks now packet.time_sent packet.size app_limited path.state.rtt)) ∷ []) []
-          ++ cond in_data (cond probe (on_current (tells (takes_mtu seen.discovery.mtu)) ∷ on_current (searches call) ∷ []) (on_current (searches call) ∷ [])) []) (paths_known old.paths)
+          let known : OfPaths (PathKnown K) = record {
+            current =
+                record { generation = generation_of path.ledger; state = cond own (told searched) searched };
+            previous = option_map path_known old.paths.previous;
+          } in
+          known ≡ paths_after (known_with old.settings) (known_following old.settings)
+          (cond own (on_current (tells (acks now packet.time_sent packet.size app_limited path.state.rtt)) ∷ []) []
+          ++ cond in_data (cond probe (on_current (tells (takes_mtu seen.discovery.mtu)) ∷ on_current (searches call) ∷
+          []) (on_current (searches call) ∷ [])) []) (paths_known old.paths)
       go true true true = refl
       go true true false = refl
       go true false probe = refl
@@ -64,7 +75,8 @@ module _ {K P M : Type 0} (old : Parts K P M) (space : SpaceId) (number : ℕ) (
       go false true false = refl
       go false false probe = refl
 
-  pub lost_path : PathsStep old.settings (lost_search (known_to old) space number (Some packet)) (paths_known old.paths) (paths_known (paths_losing space number packet old.paths))
+  pub lost_path : PathsStep old.settings (lost_search (known_to old) space number (Some packet)) (paths_known old.paths)
+      (paths_known (paths_losing space number packet old.paths))
   lost_path = ap (with_previous _) (previous_known packet old.paths.previous) ∙ go (is_data space)
     where
       call : MtuCall
@@ -73,8 +85,16 @@ module _ {K P M : Type 0} (old : Parts K P M) (space : SpaceId) (number : ℕ) (
       path : Path K
       path = old.paths.current
 
-      go : (in_data : Bool) → let known : OfPaths (PathKnown K) = record { current = record { generation = generation_of path.ledger; state = cond in_data (after_searching call path.state) path.state }; previous = option_map path_known old.paths.previous } in
-          known ≡ paths_after (known_with old.settings) (known_following old.settings) (cond in_data (on_current (searches call) ∷ []) []) (paths_known old.paths)
+      go : (in_data : Bool) → let known : OfPaths (PathKnown K) =
+          record {
+            current = record {
+              generation = generation_of path.ledger;
+              state = cond in_data (after_searching call path.state) path.state;
+            };
+            previous = option_map path_known old.paths.previous;
+          } in
+          known ≡ paths_after (known_with old.settings) (known_following old.settings)
+          (cond in_data (on_current (searches call) ∷ []) []) (paths_known old.paths)
       go true = refl
       go false = refl
 
@@ -83,23 +103,36 @@ some_is_not_none packet e = cc
 
 -- ---- what the events come to
 
-module _ {K Q S M P : Type 0} (q : QueueMeaning Q S M P) (old : Parts K P M) (space : SpaceId) (number : ℕ) (packet : Packet P M) (there : Space P M) (paths : OfPaths (Path K)) (probe : Bool) (live : is_discarded space old.discarded ≡ false) (found : packet_at (tracked_by old.spaces space) number ≡ Some packet) (is_probe : probe ≡ is_path_probe space number old.paths.current.state) where
-  pub acked_changes : (now : ℕ) (app_limited : Bool) → SpaceAcks number (space_of space old.spaces) there → paths ≡ paths_acking old.settings.words space number now app_limited packet old.paths
-      → Changes {M = M} q old (Acked space now number app_limited) (Ok (answer.Acked probe)) (record old { spaces = with_space old.spaces space there; paths = paths })
+module _ {K Q S M P : Type 0} (q : QueueMeaning Q S M P) (old : Parts K P M) (space : SpaceId) (number : ℕ)
+    (packet : Packet P M) (there : Space P M) (paths : OfPaths (Path K)) (probe : Bool)
+    (live : is_discarded space old.discarded ≡ false) (found : packet_at (tracked_by old.spaces space) number
+    ≡ Some packet) (is_probe : probe ≡ is_path_probe space number old.paths.current.state) where
+  pub acked_changes : (now : ℕ) (app_limited : Bool) → SpaceAcks number (space_of space old.spaces) there
+      → paths ≡ paths_acking old.settings.words space number now app_limited packet old.paths
+      → Changes {M = M} q old (Acked space now number app_limited) (Ok (answer.Acked probe))
+      (record old { spaces = with_space old.spaces space there; paths = paths })
   acked_changes now app_limited step is =
       let known = known_to old in
-      let Stepped : Option (Packet P M) → Type 0 = λ p. PathsStep old.settings (acked_entry known now app_limited p ++ acked_search known space number p) (paths_known old.paths) (paths_known paths) in
-      let entries = acked_entry known now app_limited (packet_at (tracked_by old.spaces space) number) ++ acked_search known space number (packet_at (tracked_by old.spaces space) number) in
+      let Stepped : Option (Packet P M) → Type 0 = λ p. PathsStep old.settings
+      (acked_entry known now app_limited p ++ acked_search known space number p) (paths_known old.paths)
+      (paths_known paths) in
+      let entries = acked_entry known now app_limited (packet_at (tracked_by old.spaces space) number)
+      ++ acked_search known space number (packet_at (tracked_by old.spaces space) number) in
       let path_step = subst Stepped (sym found) (ap (λ (p : OfPaths (Path K)). paths_known p) is ∙ acked_path old space number packet now app_limited) in
       record {
         told = (fails _ live, ((λ none. some_is_not_none packet (sym found ∙ none)), ap (λ b. answer.Acked b) is_probe));
-        steps = space_changes q.words old space (acknowledged number) there old.skipping entries paths step (skips_nothing space (acknowledged number) _ old.skipping refl) path_step;
-        marks = ap (λ (p : OfPaths (Path K)). paths_marks p) is ∙ both_marks (left_by packet) (λ path. refl) (paths_acking old.settings.words space number now app_limited packet old.paths).current old.paths refl;
+        steps = space_changes q.words old space (acknowledged number) there old.skipping entries paths step
+            (skips_nothing space (acknowledged number) _ old.skipping refl) path_step;
+        marks = ap (λ (p : OfPaths (Path K)). paths_marks p) is
+            ∙ both_marks (left_by packet) (λ path. refl) (paths_acking old.settings.words space number now app_limited
+            packet old.paths).current old.paths refl;
         refused = tt;
       }
 
   -- the packet that was lost is handed back without its contents
-  pub lost_changes : (lost : Packet P M) → lost ≡ with_contents q.words.empty packet → SpaceStep q.words (loses number) (space_of space old.spaces) there → paths ≡ paths_losing space number lost old.paths
+  pub lost_changes : (lost : Packet P M) → lost ≡ with_contents q.words.empty packet
+      → SpaceStep q.words (loses number) (space_of space old.spaces) there
+      → paths ≡ paths_losing space number lost old.paths
       → Changes {M = M} q old (Lost space number) (Ok (answer.Lost probe)) (record old { spaces = with_space old.spaces space there; paths = paths })
   lost_changes lost emptied step is =
       let known = known_to old in
@@ -108,7 +141,11 @@ module _ {K Q S M P : Type 0} (q : QueueMeaning Q S M P) (old : Parts K P M) (sp
       let path_step = subst Stepped (sym found) (ap (λ (p : OfPaths (Path K)). paths_known p) (is ∙ same) ∙ lost_path old space number packet) in
       record {
         told = (fails _ live, ((λ none. some_is_not_none packet (sym found ∙ none)), ap (λ b. answer.Lost b) is_probe));
-        steps = space_changes q.words old space (loses number) there old.skipping (lost_search known space number (packet_at (tracked_by old.spaces space) number)) paths step (skips_nothing space (loses number) _ old.skipping refl) path_step;
-        marks = ap (λ (p : OfPaths (Path K)). paths_marks p) is ∙ both_marks (left_by lost) (λ path. refl) (paths_losing space number lost old.paths).current old.paths refl;
+        steps = space_changes q.words old space (loses number) there old.skipping
+            (lost_search known space number (packet_at (tracked_by old.spaces space) number)) paths step
+            (skips_nothing space (loses number) _ old.skipping refl) path_step;
+        marks = ap (λ (p : OfPaths (Path K)). paths_marks p) is
+            ∙ both_marks (left_by lost) (λ path. refl) (paths_losing space number lost old.paths).current old.paths
+            refl;
         refused = tt;
       }

@@ -53,10 +53,15 @@ module _ {F K Q S M P : Type 0} (beginning : Beginning F K Q S M P) where
   -- ---- what is in flight
 
   -- the packets that the spaces track are those of their logs
-  tracked_same : (logs : Logs P M) (spaces : Spaces P M) → ((space : SpaceId) → SpaceLeft beginning.queue.words beginning.start (logs.spaces space) (space_of space spaces)) → tracked_by spaces ≡ (λ space. (sent_by beginning.queue.words (logs.spaces space)).tracked)
+  tracked_same : (logs : Logs P M) (spaces : Spaces P M)
+      → ((space : SpaceId) → SpaceLeft beginning.queue.words beginning.start (logs.spaces space)
+      (space_of space spaces)) → tracked_by spaces ≡ (λ space.
+      (sent_by beginning.queue.words (logs.spaces space)).tracked)
   tracked_same logs spaces left = fun_ext (λ space. ap (λ (s : Sent P M). s.tracked) (left space).sent)
 
-  pub in_flight_law : (logs : Logs P M) (spaces : Spaces P M) (paths : OfPaths (Path K)) → ((space : SpaceId) → SpaceLeft beginning.queue.words beginning.start (logs.spaces space) (space_of space spaces)) → AreBalanced spaces paths → InFlightLeft (known_by beginning logs) paths
+  pub in_flight_law : (logs : Logs P M) (spaces : Spaces P M) (paths : OfPaths (Path K))
+      → ((space : SpaceId) → SpaceLeft beginning.queue.words beginning.start (logs.spaces space)
+      (space_of space spaces)) → AreBalanced spaces paths → InFlightLeft (known_by beginning logs) paths
   in_flight_law logs spaces paths left balanced = record {
     current = on_path paths.current balanced.current;
     previous = λ path is. on_path path (balanced.previous path is);
@@ -74,7 +79,8 @@ module _ {F K Q S M P : Type 0} (beginning : Beginning F K Q S M P) where
   numbered next skipped = record { next = next; skipped = skipped }
 
   -- the filter knows the number behind the last one, and the skip before it
-  numbering_same : (logs : Logs P M) (state : Parts K P M) → LeftBy beginning logs state → numbering_of state ≡ numbering_by beginning (sent_by beginning.queue.words (logs.spaces Data)).next
+  numbering_same : (logs : Logs P M) (state : Parts K P M) → LeftBy beginning logs state
+      → numbering_of state ≡ numbering_by beginning (sent_by beginning.queue.words (logs.spaces Data)).next
   numbering_same logs state left =
       let skips = beginning.config.skips in
       let n = (sent_by beginning.queue.words (logs.spaces Data)).next in
@@ -128,13 +134,16 @@ module _ {F K Q S M P : Type 0} (beginning : Beginning F K Q S M P) where
           ap (λ d. space_known d (counts_of (acks_of there)) (sent_of there) (queued_of there)) (left.discarded space)
           ∙ ap (λ (c : AckCounts). space_known (was_discarded space logs.discarded) c (sent_of there) (queued_of there)) (left.spaces space).acks.counts
           ∙ ap (λ (s : Sent P M). space_known (was_discarded space logs.discarded) (counts_by log) s (queued_of there)) (left.spaces space).sent
-          ∙ ap (λ (u : Queued P). space_known (was_discarded space logs.discarded) (counts_by log) (sent_by beginning.queue.words log) u) (left.spaces space).queued
+          ∙ ap (λ (u : Queued P). space_known (was_discarded space logs.discarded) (counts_by log)
+          (sent_by beginning.queue.words log) u) (left.spaces space).queued
 
 -- ---- one event more
 
 module _ {F K Q S M P : Type 0} (beginning : Beginning F K Q S M P) where
   -- the steps, by what the logs know
-  pub changes_by_logs : (logs : Logs P M) (old : Parts K P M) (event : Event Q S M P) (reply : Reply Q) (new : Parts K P M) → LeftBy beginning logs old → Changes beginning.queue old event reply new → ChangesBy beginning.queue (known_by beginning logs) old event reply new
+  pub changes_by_logs : (logs : Logs P M) (old : Parts K P M) (event : Event Q S M P) (reply : Reply Q)
+      (new : Parts K P M) → LeftBy beginning logs old → Changes beginning.queue old event reply new
+      → ChangesBy beginning.queue (known_by beginning logs) old event reply new
   changes_by_logs logs old event reply new left changes =
       let Holds : Known K P M → Type 0 = λ known. ChangesBy beginning.queue known old event reply new in
       subst Holds (known_same beginning logs old left) changes
@@ -147,16 +156,21 @@ moved_next empty nothing_found sent = refl
 
 module _ {F K Q S M P : Type 0} (beginning : Beginning F K Q S M P) where
   -- the skips below the next number, with one entry more
-  skipping_law : (entry : Option (SpaceEntry P M)) (log : List (SpaceEntry P M)) (n : ℕ) (old new : Skipping) → n ≡ (sent_by beginning.queue.words log).next → old ≡ skipping_at beginning.config.skips beginning.random (sent_by beginning.queue.words log).next
+  skipping_law : (entry : Option (SpaceEntry P M)) (log : List (SpaceEntry P M)) (n : ℕ) (old new : Skipping)
+      → n ≡ (sent_by beginning.queue.words log).next
+      → old ≡ skipping_at beginning.config.skips beginning.random (sent_by beginning.queue.words log).next
       → SkippingStep entry n old new → new ≡ skipping_at beginning.config.skips beginning.random (sent_by beginning.queue.words (onto entry log)).next
   skipping_law (Some (sends number packet)) log n old new next left step =
-      (allocated beginning.config.skips beginning.random n number old new (left ∙ ap (skipping_at beginning.config.skips beginning.random) (sym next)) step.0 step.1).1
+      (allocated beginning.config.skips beginning.random n number old new
+      (left ∙ ap (skipping_at beginning.config.skips beginning.random) (sym next)) step.0 step.1).1
   skipping_law None log n old new next left step = step ∙ left
   skipping_law (Some (heard now number eliciting)) log n old new next left step = step ∙ left
   skipping_law (Some (heard_again number)) log n old new next left step = step ∙ left
   skipping_law (Some (acknowledged number)) log n old new next left step = step ∙ left
   skipping_law (Some (loses number)) log n old new next left step = step ∙ left
-  skipping_law (Some (probes immediate found)) log n old new next left step = step ∙ left ∙ ap (skipping_at beginning.config.skips beginning.random) (sym (moved_next beginning.queue.words.empty found (sent_by beginning.queue.words log)))
+  skipping_law (Some (probes immediate found)) log n old new next left step = step ∙ left
+      ∙ ap (skipping_at beginning.config.skips beginning.random)
+      (sym (moved_next beginning.queue.words.empty found (sent_by beginning.queue.words log)))
   skipping_law (Some takes_pending) log n old new next left step = step ∙ left
   skipping_law (Some (feeds_back counts)) log n old new next left step = step ∙ left
   skipping_law (Some emptied) log n old new next left step = step ∙ left
@@ -164,19 +178,23 @@ module _ {F K Q S M P : Type 0} (beginning : Beginning F K Q S M P) where
   skipping_law (Some ack_is_late) log n old new next left step = step ∙ left
   skipping_law (Some (asked frame)) log n old new next left step = step ∙ left
 
-  pub left_after : (logs : Logs P M) (entries : Entries P M) (old new : Parts K P M) → LeftBy beginning logs old → Steps beginning.queue.words entries old new → AreBalanced new.spaces new.paths → LeftBy beginning (logs_with entries logs) new
+  pub left_after : (logs : Logs P M) (entries : Entries P M) (old new : Parts K P M) → LeftBy beginning logs old
+      → Steps beginning.queue.words entries old new → AreBalanced new.spaces new.paths
+      → LeftBy beginning (logs_with entries logs) new
   left_after logs entries old new left steps balanced = record {
     settings = steps.settings ∙ left.settings;
     spaces = spaces;
     beside = λ space. beside_stays beginning.queue.words (entries.spaces space) _ _ (steps.spaces space) ∙ left.beside space;
     discarded = left_by DiscardedStep DiscardedLeft discarded_law entries.discarded logs.discarded _ _ left.discarded steps.discarded;
-    skipping = skipping_law (entries.spaces Data) (logs.spaces Data) (next_number_of (space_of Data old.spaces)) old.skipping new.skipping (ap (λ (s : Sent P M). s.next) (left.spaces Data).sent) left.skipping steps.skipping;
+    skipping = skipping_law (entries.spaces Data) (logs.spaces Data) (next_number_of (space_of Data old.spaces))
+        old.skipping new.skipping (ap (λ (s : Sent P M). s.next) (left.spaces Data).sent) left.skipping steps.skipping;
     frequency = left_by RequestStep (FrequencyLeft first) (request_law first) entries.requests logs.requests _ _ left.frequency steps.frequency;
     timers = left_by TimerStep TimersLeft timer_law entries.timers logs.timers _ _ left.timers steps.timers;
     remote_ids = left_by RemoteStep (RemoteIdsLeft initial) (remote_law initial) entries.remote_ids logs.remote_ids _ _ left.remote_ids steps.remote_ids;
     local_ids = left_by LocalStep (LocalIdsLeft ids) (local_law ids) entries.local_ids logs.local_ids _ _ left.local_ids steps.local_ids;
     paths = paths;
-    limits = left_by LimitStep (λ log limit. limit ≡ last_limit log) (λ size log old_limit new_limit same step. step) entries.limits logs.limits _ _ left.limits steps.limits;
+    limits = left_by LimitStep (λ log limit. limit ≡ last_limit log) (λ size log old_limit new_limit same step. step)
+        entries.limits logs.limits _ _ left.limits steps.limits;
     in_flight = in_flight_law beginning (logs_with entries logs) new.spaces new.paths spaces balanced;
   }
     where
@@ -190,7 +208,9 @@ module _ {F K Q S M P : Type 0} (beginning : Beginning F K Q S M P) where
       ids = first_ids beginning
 
       spaces : (space : SpaceId) → SpaceLeft beginning.queue.words beginning.start ((logs_with entries logs).spaces space) (space_of space new.spaces)
-      spaces space = left_by (SpaceStep beginning.queue.words) (SpaceLeft beginning.queue.words beginning.start) (space_law beginning.queue.words beginning.start) (entries.spaces space) (logs.spaces space) _ _ (left.spaces space) (steps.spaces space)
+      spaces space = left_by (SpaceStep beginning.queue.words) (SpaceLeft beginning.queue.words beginning.start)
+          (space_law beginning.queue.words beginning.start) (entries.spaces space) (logs.spaces space) _ _
+          (left.spaces space) (steps.spaces space)
 
       path : PathMaking K
       path = first_path beginning
@@ -203,7 +223,9 @@ module _ {F K Q S M P : Type 0} (beginning : Beginning F K Q S M P) where
 -- ---- a fresh start
 
 -- one path of generation 0, and spaces that track nothing
-pub balanced_first : {K P M : Type 0} (spaces : Spaces P M) (path : Path K) (paths : OfPaths (Path K)) → paths ≡ record { current = path; previous = None } → ((space : SpaceId) → tracking_of (space_of space spaces) ≡ no_packets) → ((space : SpaceId) → acks_of (space_of space spaces) ≡ new_acks [])
+pub balanced_first : {K P M : Type 0} (spaces : Spaces P M) (path : Path K) (paths : OfPaths (Path K)) → paths
+    ≡ record { current = path; previous = None } → ((space : SpaceId) → tracking_of (space_of space spaces)
+    ≡ no_packets) → ((space : SpaceId) → acks_of (space_of space spaces) ≡ new_acks [])
     → path.ledger ≡ fresh_ledger 0 → AreBalanced spaces paths
 balanced_first {K} {P} {M} spaces path paths is none no_acks ledger =
     let Sums : OfPaths (Path K) → Type 0 = AreBalanced spaces in
@@ -211,9 +233,12 @@ balanced_first {K} {P} {M} spaces path paths is none no_acks ledger =
 
 module _ {F K Q S M P : Type 0} (beginning : Beginning F K Q S M P) where
   -- the first path, as it was made
-  pub paths_first : (path : Path K) (paths : OfPaths (Path K)) → paths ≡ record { current = path; previous = None } → path.ledger ≡ fresh_ledger 0 → path.state ≡ state_made (first_path beginning) → PathsLeft (settings_of beginning) (first_path beginning) [] (paths_known paths)
+  pub paths_first : (path : Path K) (paths : OfPaths (Path K)) → paths ≡ record { current = path; previous = None }
+      → path.ledger ≡ fresh_ledger 0 → path.state ≡ state_made (first_path beginning)
+      → PathsLeft (settings_of beginning) (first_path beginning) [] (paths_known paths)
   paths_first path paths is ledger state =
-      ap (λ (p : OfPaths (Path K)). paths_known p) is ∙ ap (λ (l : PathLedger). known (generation_of l) path.state) ledger ∙ ap (λ (s : PathState K). known 0 s) state
+      ap (λ (p : OfPaths (Path K)). paths_known p) is ∙ ap (λ (l : PathLedger). known (generation_of l) path.state)
+      ledger ∙ ap (λ (s : PathState K). known 0 s) state
     where
       known : ℕ → PathState K → OfPaths (PathKnown K)
       known generation s = record { current = record { generation = generation; state = s }; previous = None }

@@ -29,7 +29,8 @@ module _ {F K Q S M P : Type 0} (beginning : Beginning F K Q S M P) (queue : Q) 
   pacing_is_stopped : last_set Pacing (logs_of beginning row).timers ≡ None
   pacing_is_stopped = refl
 
-  one_is_tracked : (sent_by beginning.queue.words ((logs_of beginning row).spaces Initial)).tracked ≡ (0, packet_sent 0 7 500 true None (beginning.queue.contents queue) frames) ∷ []
+  one_is_tracked : (sent_by beginning.queue.words ((logs_of beginning row).spaces Initial)).tracked
+      ≡ (0, packet_sent 0 7 500 true None (beginning.queue.contents queue) frames) ∷ []
   one_is_tracked = refl
 
   nothing_in_handshake : (logs_of beginning row).spaces Handshake ≡ []

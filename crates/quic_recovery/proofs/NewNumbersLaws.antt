@@ -111,7 +111,10 @@ module _ (Numbers : ℕ → Type 0) (came : List ℕ) (same : (m : ℕ) → In m
           → IsNew Numbers n
       go (inl all) = inl (λ m in_set. ltb-true m n (all_to _ came all m ((same m).1 in_set)))
       go (inr other) =
-          inr ((λ in_set. let is = member_from n came ((same n).1 in_set) in cc (is, other.0)), λ m in_set. leb-true m (n + 128) (all_to _ came other.1 m ((same m).1 in_set)))
+          inr (
+            (λ in_set. let is = member_from n came ((same n).1 in_set) in cc (is, other.0)),
+            λ m in_set. leb-true m (n + 128) (all_to _ came other.1 m ((same m).1 in_set)),
+          )
 
 -- ---- what came, and which spaces were discarded
 
@@ -227,7 +230,8 @@ module _ {F K Q S M P : Type 0} (beginning : Beginning F K Q S M P) where
 
 -- ---- the verdict
 
-module _ {Q P M : Type 0} (known : SpaceKnown P M) (heard : Heard) (number : ℕ) (eliciting : Bool) (new : Bool) (yes : IsNew heard.came number → new ≡ true) (no : ¬ IsNew heard.came number → new ≡ false) where
+module _ {Q P M : Type 0} (known : SpaceKnown P M) (heard : Heard) (number : ℕ) (eliciting : Bool) (new : Bool)
+    (yes : IsNew heard.came number → new ≡ true) (no : ¬ IsNew heard.came number → new ≡ false) where
   fine : (reply : Reply Q)
       → Answers (IsNew heard.came number) (ReceivedAnswer heard known.counts number eliciting) reply
       → IsVerdict false false new reply
@@ -238,7 +242,8 @@ module _ {Q P M : Type 0} (known : SpaceKnown P M) (heard : Heard) (number : ℕ
   fine (Err refusal) told = absurd told
 
   sized : (large : Bool) → (2 ^ 62 ≤ number → large ≡ true) → (large ≡ true → 2 ^ 62 ≤ number) → (reply : Reply Q)
-      → Refuses NumberTooLarge (2 ^ 62 ≤ number) (Answers (IsNew heard.came number) (ReceivedAnswer heard known.counts number eliciting)) reply → IsVerdict false large new reply
+      → Refuses NumberTooLarge (2 ^ 62 ≤ number) (Answers (IsNew heard.came number)
+      (ReceivedAnswer heard known.counts number eliciting)) reply → IsVerdict false large new reply
   sized true is to (Ok answer) told = absurd (told.0 (to refl))
   sized true is to (Err NumberTooLarge) told = refl
   sized true is to (Err refusal) told = absurd (told.0 (to refl))
@@ -248,7 +253,9 @@ module _ {Q P M : Type 0} (known : SpaceKnown P M) (heard : Heard) (number : ℕ
 
   opened : (discarded large : Bool) → (2 ^ 62 ≤ number → large ≡ true) → (large ≡ true → 2 ^ 62 ≤ number)
       → (reply : Reply Q)
-      → Refuses SpaceDiscarded (discarded ≡ true) (Refuses NumberTooLarge (2 ^ 62 ≤ number) (Answers (IsNew heard.came number) (ReceivedAnswer heard known.counts number eliciting))) reply → IsVerdict discarded large new reply
+      → Refuses SpaceDiscarded (discarded ≡ true) (Refuses NumberTooLarge (2 ^ 62 ≤ number)
+      (Answers (IsNew heard.came number) (ReceivedAnswer heard known.counts number eliciting))) reply
+      → IsVerdict discarded large new reply
   opened true large is to (Ok answer) told = absurd (told.0 refl)
   opened true large is to (Err SpaceDiscarded) told = refl
   opened true large is to (Err refusal) told = absurd (told.0 refl)
@@ -266,8 +273,12 @@ module _ {F K Q S M P : Type 0} (beginning : Beginning F K Q S M P) where
       let same = all_came beginning history space in
       let new = is_new came number in
       let yes = new_from (CameIn (logs.spaces space)) came same number in
-      let no : ¬ IsNew (CameIn (logs.spaces space)) number → new ≡ false = λ other. false_from_ne_true new (λ is. other (new_to (CameIn (logs.spaces space)) came same number is)) in
-      let verdict = opened ((known_by beginning logs).spaces space) heard number eliciting new yes no (was_discarded space logs.discarded) (nat_le (2 ^ 62) number) (le-leb (2 ^ 62) number) (leb-true (2 ^ 62) number) reply told in
+      let no : ¬ IsNew (CameIn (logs.spaces space)) number → new
+      ≡ false = λ other. false_from_ne_true new (λ is. other
+      (new_to (CameIn (logs.spaces space)) came same number is)) in
+      let verdict = opened ((known_by beginning logs).spaces space) heard number eliciting new yes no
+      (was_discarded space logs.discarded) (nat_le (2 ^ 62) number) (le-leb (2 ^ 62) number)
+      (leb-true (2 ^ 62) number) reply told in
       subst (λ d. IsVerdict d (nat_le (2 ^ 62) number) new reply) (sym (all_dropped beginning history space)) verdict
 
   -- what an event is told, it is told of new numbers

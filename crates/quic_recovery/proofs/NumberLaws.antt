@@ -24,14 +24,17 @@ number_above filter Data n = go (is_at n filter.skip)
     go false = omega arith
 
 -- the number behind the last one is the one that is known
-pub number_known : {K P M : Type 0} (state : Parts K P M) (space : SpaceId) → number_behind state.skipping.filter space (next_number_of (space_of space state.spaces)) ≡ number_in (known_to state) space
+pub number_known : {K P M : Type 0} (state : Parts K P M) (space : SpaceId)
+    → number_behind state.skipping.filter space (next_number_of (space_of space state.spaces))
+    ≡ number_in (known_to state) space
 number_known state Initial = refl
 number_known state Handshake = refl
 number_known state Data = refl
 
 -- a number is given out: of 1-RTT packets, the skips go on behind it
 pub number_skips : {P M : Type 0} (spaces : Spaces P M) (space : SpaceId) (number : ℕ) (packet : Packet P M) (old new : Skipping)
-    → number ≡ number_behind old.filter space (next_number_of (space_of space spaces)) → new ≡ skipping_behind space (next_number_of (space_of space spaces)) old
+    → number ≡ number_behind old.filter space (next_number_of (space_of space spaces))
+    → new ≡ skipping_behind space (next_number_of (space_of space spaces)) old
     → SkippingStep (here space Data (sends number packet)) (next_number_of (space_of Data spaces)) old new
 number_skips spaces Initial number packet old new is then = then
 number_skips spaces Handshake number packet old new is then = then

@@ -31,11 +31,13 @@ module _ {F K Q S M P : Type 0} (beginning : Beginning F K Q S M P) where
   HavePassedThere history = OnEachPath HavePassedOn (pasts_of beginning history)
 
   -- an event keeps that
-  passed_one : (before : History Q S M P) (event : Event Q S M P) (reply : Reply Q) → Told beginning before event reply → HavePassedThere before → HavePassedThere ((event, reply) ∷ before)
+  passed_one : (before : History Q S M P) (event : Event Q S M P) (reply : Reply Q) → Told beginning before event reply
+      → HavePassedThere before → HavePassedThere ((event, reply) ∷ before)
   passed_one before event reply told passed =
       let logs = logs_of beginning before in
       let known = known_by beginning logs in
-      passed_after (settings_of beginning) (first_path beginning) (entries_of beginning.queue known event reply).paths logs.paths (is_allowed beginning.queue (settings_of beginning) _ known event reply told) passed
+      passed_after (settings_of beginning) (first_path beginning) (entries_of beginning.queue known event reply).paths
+      logs.paths (is_allowed beginning.queue (settings_of beginning) _ known event reply told) passed
 
   -- what the pacer of the path in use answers to a call
   abbrev delay_there : History Q S M P → ℕ → ℕ → Option ℕ
@@ -43,7 +45,9 @@ module _ {F K Q S M P : Type 0} (beginning : Beginning F K Q S M P) where
 
   -- what holds of each call and its answer holds at each event
   module _ (Holds : PathPast K → PacerCall → Option ℕ → Type 0) where
-    checks_by : (before : History Q S M P) (now bytes : ℕ) (given : Option ℕ) → OnCall beginning Holds before now bytes given → AtCalls beginning Holds before (PacerCheck now bytes) (Ok (delayed_or beginning.words Ready given))
+    checks_by : (before : History Q S M P) (now bytes : ℕ) (given : Option ℕ)
+        → OnCall beginning Holds before now bytes given
+        → AtCalls beginning Holds before (PacerCheck now bytes) (Ok (delayed_or beginning.words Ready given))
     checks_by before now bytes None by = by
     checks_by before now bytes (Some until) by = by
 
@@ -68,33 +72,47 @@ module _ {F K Q S M P : Type 0} (beginning : Beginning F K Q S M P) where
     at_calls before event reply told holds = tt
 
   -- each call is answered by the balance
-  delays_one : (before : History Q S M P) (event : Event Q S M P) (reply : Reply Q) → Told beginning before event reply → HavePassedThere before → DelaysByBalance beginning before event reply
+  delays_one : (before : History Q S M P) (event : Event Q S M P) (reply : Reply Q) → Told beginning before event reply
+      → HavePassedThere before → DelaysByBalance beginning before event reply
   delays_one before event reply told passed =
       let past = (pasts_of beginning before).current in
       at_calls IsByBalance before event reply told
-      (λ now bytes checked. delays_by (bucket_of past.making.pacer) past.pacing (pacer_call beginning.words (state_of (settings_of beginning) past) now bytes) refl checked passed.0)
+      (λ now bytes checked. delays_by (bucket_of past.making.pacer) past.pacing
+      (pacer_call beginning.words (state_of (settings_of beginning) past) now bytes) refl checked passed.0)
 
   -- what was delayed passes soon
-  passes_one : (before : History Q S M P) (event : Event Q S M P) (reply : Reply Q) → Told beginning before event reply → HavePassedThere before → PassesSoon beginning before event reply
+  passes_one : (before : History Q S M P) (event : Event Q S M P) (reply : Reply Q) → Told beginning before event reply
+      → HavePassedThere before → PassesSoon beginning before event reply
   passes_one before event reply told passed =
       let past = (pasts_of beginning before).current in
       at_calls (λ past. PassesBehind (bucket_of past.making.pacer) past.pacing) before event reply told
       (λ now bytes. passes_behind (bucket_of past.making.pacer) past.pacing (pacer_call beginning.words (state_of (settings_of beginning) past) now bytes))
 
   -- after an event each pacer keeps its rate
-  pace_one : (before : History Q S M P) (event : Event Q S M P) (reply : Reply Q) → Told beginning before event reply → HavePassedThere before → KeepsPace beginning before event reply
+  pace_one : (before : History Q S M P) (event : Event Q S M P) (reply : Reply Q) → Told beginning before event reply
+      → HavePassedThere before → KeepsPace beginning before event reply
   pace_one before event reply told passed =
-      let after = passed_one before event reply told passed in (keeps_pace (pasts_of beginning ((event, reply) ∷ before)).current after.0, λ past is. keeps_pace past (after.1 past is))
+      let after = passed_one before event reply told passed in (
+        keeps_pace
+            (pasts_of beginning ((event, reply) ∷ before)).current after.0,
+        λ past is. keeps_pace past (after.1 past is),
+      )
 
   -- throughout a run
-  pub delayed : (events : List (Event Q S M P)) (replies : List (Reply Q)) → Throughout (Told beginning) events replies → Throughout (DelaysByBalance beginning) events replies
+  pub delayed : (events : List (Event Q S M P)) (replies : List (Reply Q)) → Throughout (Told beginning) events replies
+      → Throughout (DelaysByBalance beginning) events replies
   delayed events replies told =
-      throughout_kept beginning HavePassedThere (DelaysByBalance beginning) passed_one delays_one [] events replies told (passed_at_first (settings_of beginning) (first_path beginning))
+      throughout_kept beginning HavePassedThere (DelaysByBalance beginning) passed_one delays_one [] events replies told
+      (passed_at_first (settings_of beginning) (first_path beginning))
 
-  pub rate : (events : List (Event Q S M P)) (replies : List (Reply Q)) → Throughout (Told beginning) events replies → Throughout (KeepsPace beginning) events replies
+  pub rate : (events : List (Event Q S M P)) (replies : List (Reply Q)) → Throughout (Told beginning) events replies
+      → Throughout (KeepsPace beginning) events replies
   rate events replies told =
-      throughout_kept beginning HavePassedThere (KeepsPace beginning) passed_one pace_one [] events replies told (passed_at_first (settings_of beginning) (first_path beginning))
+      throughout_kept beginning HavePassedThere (KeepsPace beginning) passed_one pace_one [] events replies told
+      (passed_at_first (settings_of beginning) (first_path beginning))
 
-  pub soon : (events : List (Event Q S M P)) (replies : List (Reply Q)) → Throughout (Told beginning) events replies → Throughout (PassesSoon beginning) events replies
+  pub soon : (events : List (Event Q S M P)) (replies : List (Reply Q)) → Throughout (Told beginning) events replies
+      → Throughout (PassesSoon beginning) events replies
   soon events replies told =
-      throughout_kept beginning HavePassedThere (PassesSoon beginning) passed_one passes_one [] events replies told (passed_at_first (settings_of beginning) (first_path beginning))
+      throughout_kept beginning HavePassedThere (PassesSoon beginning) passed_one passes_one [] events replies told
+      (passed_at_first (settings_of beginning) (first_path beginning))

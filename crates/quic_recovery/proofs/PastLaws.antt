@@ -5,7 +5,7 @@ use Rattle.recovery_congestion.specs.Controllers.{ControllerWords}
 use Rattle.recovery_paths.specs.Balance.{AreBalanced}
 use Rattle.quic_recovery.specs.declared.event.Event.{Event}
 use Rattle.quic_recovery.specs.Entries.{entries_of, logs_of}
-use Rattle.quic_recovery.specs.History.{Beginning, History, QueueMeaning, Reply, history_from, Throughout, ThroughoutFrom}
+use Rattle.quic_recovery.specs.History.{Beginning, History, QueueMeaning, Reply, history, history_from, Throughout, ThroughoutFrom}
 use Rattle.quic_recovery.specs.Known.{known_by}
 use Rattle.quic_recovery.specs.Parts.{Parts}
 use Rattle.quic_recovery.specs.Past.{Past, more, history_of, Came, CameSomehow, GoesOn, GoesOnFrom, StaysOn, WentOn}
@@ -14,7 +14,7 @@ use Rattle.quic_recovery.specs.Amplification.{KeepsThreefold}
 use Rattle.quic_recovery.specs.Bursts.{ComesAtFourBursts, NeedsFourBursts}
 use Rattle.quic_recovery.specs.Pacing.{DelaysByBalance, KeepsPace, PassesSoon}
 use Rattle.quic_recovery.specs.Search.{EndsNear, EntersAsTold, LimitsOutside, ProbesInTurn, SearchesFew, TellsProbes, UsesMtu}
-use Rattle.quic_recovery.specs.Departures.{PacketsLeaveOnce}
+use Rattle.quic_recovery.specs.Promises.Once.{LeaveOnceEach}
 use Rattle.quic_recovery.specs.Told.{Told}
 use Rattle.quic_recovery.proofs.AmplificationLaws.{threefold}
 use Rattle.quic_recovery.proofs.BurstLaws.{comes_at_four, needs_four}
@@ -22,6 +22,7 @@ use Rattle.quic_recovery.proofs.DepartureLaws.{leave_once_in}
 use Rattle.quic_recovery.proofs.EnteredLaws.{entries_told}
 use Rattle.quic_recovery.proofs.LeftLaws.{changes_by_logs, left_after}
 use Rattle.quic_recovery.proofs.NewNumbersLaws.{numbers_told}
+use Rattle.quic_recovery.proofs.OnceLaws.{leave_once_each}
 use Rattle.quic_recovery.proofs.PacingLaws.{delayed, rate, soon}
 use Rattle.quic_recovery.proofs.Runs.{history_from-push, throughout_push}
 use Rattle.quic_recovery.proofs.SearchLaws.{searches, ends, probes, limits, tells, mtu}
@@ -56,7 +57,7 @@ module _ {F K Q S M P : Type 0} (beginning : Beginning F K Q S M P) where
       let last : (H : History Q S M P → Event Q S M P → Reply Q → Type 0) → Throughout H events replies → H before event reply = λ H holds.
       last_of (Told beginning) H event reply [] past.events past.replies came.told holds in
       let Leaves : History Q S M P → Type 0 = λ h. Left beginning h new in
-      let Leave : History Q S M P → Type 0 = λ h. PacketsLeaveOnce beginning h in
+      let Leave : History Q S M P → Type 0 = LeaveOnceEach in
       record {
         history = longer;
         keeps = record {
@@ -76,7 +77,7 @@ module _ {F K Q S M P : Type 0} (beginning : Beginning F K Q S M P) where
           mtu = last (UsesMtu beginning) (mtu beginning events replies all);
           needs_four = last (NeedsFourBursts beginning) (needs_four beginning events replies all);
           comes_at_four = last (ComesAtFourBursts beginning) (comes_at_four beginning events replies all);
-          once = subst Leave longer (leave_once_in beginning events replies all);
+          once = subst Leave longer (leave_once_each beginning (history events replies) (leave_once_in beginning events replies all));
         };
         came = record {
           told = all;
@@ -90,14 +91,7 @@ module _ {F K Q S M P : Type 0} (built : F → ℕ → ℕ → K) (words : Contr
     (event : Event Q S M P) (reply : Reply Q) (new : Parts K P M) (on : GoesOn built words queue old event reply new) where
   -- from a past by which it came here it went on
   went : CameSomehow built words queue old → WentOn built words queue old event reply new
-  went by = record {
-    config = by.config;
-    start = by.start;
-    random = by.random;
-    past = by.past;
-    came = by.came;
-    goes = on by.config by.start by.random by.past by.came;
-  }
+  went by = record { origin = by; goes = on by.config by.start by.random by.past by.came }
 
   pub went_on : ∥ CameSomehow built words queue old ∥₁ → ∥ WentOn built words queue old event reply new ∥₁
   went_on by = ∥∥₁_map by went

@@ -61,7 +61,8 @@ module _ {K P M : Type 0} (packets : Packets P M) where
 module _ {K Q S M P : Type 0} (q : QueueMeaning Q S M P) (old : Parts K P M) (space : SpaceId) where
   -- its packets leave it and the paths, nothing is to be sent again, and it is noted
   pub discard_changes : (there : Space P M) (discarded : DiscardedSpaces) (paths : OfPaths (Path K)) → is_discarded space old.discarded ≡ false
-      → there ≡ space_discards q.words (space_of space old.spaces) → DiscardedStep space old.discarded discarded → paths ≡ paths_without (tracked_by old.spaces space) old.paths
+      → there ≡ space_discards q.words (space_of space old.spaces) → DiscardedStep space old.discarded discarded
+      → paths ≡ paths_without (tracked_by old.spaces space) old.paths
       → Changes {M = M} q old (DiscardSpace space) (Ok Done) (record old { spaces = with_space old.spaces space there; discarded = discarded; paths = paths })
   discard_changes there discarded paths live empty noted left = record {
     told = (fails _ live, refl);
@@ -77,7 +78,9 @@ module _ {K Q S M P : Type 0} (q : QueueMeaning Q S M P) (old : Parts K P M) (sp
       paths = ap (λ (p : OfPaths (Path K)). paths_known p) left ∙ paths_known_without (tracked_by old.spaces space) old.paths;
       limits = refl;
     };
-    marks = ap (λ (p : OfPaths (Path K)). paths_marks p) left ∙ both_marks (on_ledger (ledger_without (tracked_by old.spaces space))) (λ path. refl) (paths_without (tracked_by old.spaces space) old.paths).current old.paths refl;
+    marks = ap (λ (p : OfPaths (Path K)). paths_marks p) left
+        ∙ both_marks (on_ledger (ledger_without (tracked_by old.spaces space))) (λ path. refl)
+        (paths_without (tracked_by old.spaces space) old.paths).current old.paths refl;
     refused = tt;
   }
 
@@ -86,7 +89,8 @@ module _ {K Q S M P : Type 0} (q : QueueMeaning Q S M P) (old : Parts K P M) (sp
 -- causes of refusal in their order, of which the second does not hold, are the others in theirs
 module _ (First Second Third Fourth One Other : Type 0) (none : ¬ Second) (alike : One → Other) where
   pub but_second : (first second third fourth : Bool)
-      → MatchBool first First ((¬ First) × MatchBool second Second ((¬ Second) × MatchBool third Third ((¬ Third) × MatchBool fourth Fourth ((¬ Fourth) × One))))
+      → MatchBool first First ((¬ First) × MatchBool second Second
+      ((¬ Second) × MatchBool third Third ((¬ Third) × MatchBool fourth Fourth ((¬ Fourth) × One))))
       → MatchBool first First ((¬ First) × MatchBool third Third ((¬ Third) × MatchBool fourth Fourth ((¬ Fourth) × Other)))
   but_second true second third fourth is = is
   but_second false true third fourth is = absurd (none is.1)
@@ -95,7 +99,8 @@ module _ (First Second Third Fourth One Other : Type 0) (none : ¬ Second) (alik
   but_second false false false false is = (is.0, (is.1.1.0, (is.1.1.1.0, alike is.1.1.1.1)))
 
 -- want of memory refuses whatever is answered else
-refused_alike : {Q : Type 0} (Grows : Type 0) (One Other : Answer Q → Type 0) (refusal : Refusal) → Answers Grows One (Err refusal) → Answers Grows Other (Err refusal)
+refused_alike : {Q : Type 0} (Grows : Type 0) (One Other : Answer Q → Type 0) (refusal : Refusal)
+    → Answers Grows One (Err refusal) → Answers Grows Other (Err refusal)
 refused_alike Grows One Other NoMemory is = is
 refused_alike Grows One Other other is = is
 
@@ -119,21 +124,29 @@ module _ {K Q S M P : Type 0} (q : QueueMeaning Q S M P) (old then : Parts K P M
   Over carried = Overflows (current_in_flight known) (probe_of carried)
 
   -- where the probe cannot be sent the event is refused likewise
-  pub probe_refused : (refusal : Refusal) → Changes {M = M} q old (Send Data now size true None queue frames) (Err refusal) then → Changes {M = M} q old (PollMtu now) (Err refusal) then
+  pub probe_refused : (refusal : Refusal) → Changes {M = M} q old (Send Data now size true None queue frames)
+      (Err refusal) then → Changes {M = M} q old (PollMtu now) (Err refusal) then
   probe_refused refusal sent =
-      let Told : P × M → Type 0 = λ carried. SendReply {Q = Q} (known.spaces Data) (current_in_flight known) (number_in known Data) (probe_of carried) (Err refusal) in
-      let Out : Option ℕ → Type 0 = λ due. InSpace (known.spaces Data) (Refuses NumbersExhausted (2 ^ 62 ≤ known.numbers.next) (ProbeOutReply q known now due)) (Err refusal) in
+      let Told : P × M → Type 0 = λ carried. SendReply {Q = Q} (known.spaces Data) (current_in_flight known)
+      (number_in known Data) (probe_of carried) (Err refusal) in
+      let Out : Option ℕ → Type 0 = λ due. InSpace (known.spaces Data)
+      (Refuses NumbersExhausted (2 ^ 62 ≤ known.numbers.next) (ProbeOutReply q known now due)) (Err refusal) in
       let sent_as : Answer Q = Sent (number_in known Data) (forgotten_by (known.spaces Data).sent (probe_of nothing_carried)) in
       record {
-        told = subst Out (sym due) (but_second _ _ _ (Over nothing_carried) _ _ (λ large. large) (refused_alike (Unit {0}) (λ answer. answer ≡ sent_as) (λ answer. answer ≡ Probe known.numbers.next size) refusal)
-            (same_refusal refusal SpaceDiscarded) (same_refusal refusal NumberTooLarge) (same_refusal refusal NumbersExhausted) (same_refusal refusal Overflow) (subst Told carries_nothing sent.told));
+        told = subst Out (sym due) (but_second _ _ _ (Over nothing_carried) _ _ (λ large. large)
+            (refused_alike (Unit {0}) (λ answer. answer ≡ sent_as) (λ answer. answer ≡ Probe known.numbers.next size)
+            refusal)
+            (same_refusal refusal SpaceDiscarded) (same_refusal refusal NumberTooLarge)
+            (same_refusal refusal NumbersExhausted) (same_refusal refusal Overflow)
+            (subst Told carries_nothing sent.told));
         steps = sent.steps;
         marks = sent.marks;
         refused = sent.refused;
       }
 
   -- once it is sent the search goes on from where it was asked
-  pub probe_changes : (number : ℕ) (discovery : Discovery) (path : Path K) (answer : Answer Q) → number ≡ number_in known Data → discovery ≡ discovery_after (polls now number) old.paths.current.state.discovery
+  pub probe_changes : (number : ℕ) (discovery : Discovery) (path : Path K) (answer : Answer Q)
+      → number ≡ number_in known Data → discovery ≡ discovery_after (polls now number) old.paths.current.state.discovery
       → path ≡ on_state (with_discovery discovery) then.paths.current → Changes {M = M} q old (Send Data now size true None queue frames) (Ok answer) then
       → Changes {M = M} q old (PollMtu now) (Ok (Probe number size)) (record then { paths = record then.paths { current = path } })
   probe_changes number discovery path answer is polled goes_on sent =
@@ -142,8 +155,10 @@ module _ {K Q S M P : Type 0} (q : QueueMeaning Q S M P) (old then : Parts K P M
       let Sending : P × M → Type 0 =
       λ carried. Steps q.words (sending known Data now size true None carried.0 carried.1) old then in
       let steps = subst Sending carries_nothing sent.steps in
-      let told : OfPaths (PathKnown K) = paths_after (known_with old.settings) (known_following old.settings) (on_current (tells (sent_call known Data now size)) ∷ []) (paths_known old.paths) in
-      let seen : Discovery → OfPaths (PathKnown K) → OfPaths (PathKnown K) = λ found all. record all { current = record all.current { state = with_discovery found all.current.state } } in
+      let told : OfPaths (PathKnown K) = paths_after (known_with old.settings) (known_following old.settings)
+      (on_current (tells (sent_call known Data now size)) ∷ []) (paths_known old.paths) in
+      let seen : Discovery → OfPaths (PathKnown K) → OfPaths (PathKnown K) = λ found all. record all
+      { current = record all.current { state = with_discovery found all.current.state } } in
       record {
         told = (sent.told.0, (sent.told.1.1.0, subst Out (sym due) (subst Fitting carries_nothing sent.told.1.1.1.0, ap (λ n. Probe n size) is)));
         steps = record {
@@ -155,7 +170,8 @@ module _ {K Q S M P : Type 0} (q : QueueMeaning Q S M P) (old then : Parts K P M
           timers = steps.timers;
           remote_ids = steps.remote_ids;
           local_ids = steps.local_ids;
-          paths = ap (λ (p : Path K). let all : OfPaths (Path K) = record then.paths { current = p } in paths_known all) goes_on ∙ ap (seen discovery) steps.paths ∙ ap (λ found. seen found told) polled;
+          paths = ap (λ (p : Path K). let all : OfPaths (Path K) = record then.paths { current = p } in paths_known all)
+              goes_on ∙ ap (seen discovery) steps.paths ∙ ap (λ found. seen found told) polled;
           limits = steps.limits;
         };
         marks = ap (λ (p : Path K). let all : OfPaths (Path K) = record then.paths { current = p } in paths_marks all) goes_on ∙ sent.marks;

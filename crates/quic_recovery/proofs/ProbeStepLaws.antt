@@ -43,11 +43,15 @@ module _ {K P M : Type 0} (spaces : Spaces P M) (paths : OfPaths (Path K)) (bala
   pub stays_balanced : (space : SpaceId) (here : Space P M) → Stays (space_of space spaces) here → AreBalanced (with_space spaces space here) paths
   stays_balanced space here stays =
       kept spaces paths balanced space here (ap (λ (t : Tracking P M). t.packets) stays.tracking)
-      (coherent_kept (space_of space spaces) here (balanced.coherent space) (come_kept (space_of space spaces) here (balanced.coherent space).received stays.acks stays.dedup) stays.tracking stays.next)
+      (coherent_kept (space_of space spaces) here (balanced.coherent space)
+      (come_kept (space_of space spaces) here (balanced.coherent space).received stays.acks stays.dedup)
+      stays.tracking stays.next)
 
   -- a probe is asked for, unless memory is refused
-  pub probe_balanced : {S A B : Type 0} (words : QueueWords P S) (space : SpaceId) (immediate : Bool) (found : ProbeFound) (result : Result A B) (here : Space P M)
-      → OnOk result (SpaceStep words (probes immediate found) (space_of space spaces) here) → OnErr result (here ≡ space_of space spaces) → AreBalanced (with_space spaces space here) paths
+  pub probe_balanced : {S A B : Type 0} (words : QueueWords P S) (space : SpaceId) (immediate : Bool)
+      (found : ProbeFound) (result : Result A B) (here : Space P M)
+      → OnOk result (SpaceStep words (probes immediate found) (space_of space spaces) here)
+      → OnErr result (here ≡ space_of space spaces) → AreBalanced (with_space spaces space here) paths
   probe_balanced words space immediate found (Ok answer) here step same =
       let Balanced : Space P M → Type 0 = λ there. AreBalanced (with_space spaces space there) paths in
       subst Balanced (sym step) (probed spaces paths balanced words space immediate found)
@@ -56,18 +60,29 @@ module _ {K P M : Type 0} (spaces : Spaces P M) (paths : OfPaths (Path K)) (bala
       subst Balanced (sym (with_same_space spaces space here same)) balanced
 
 -- counts of ECN are kept, or refused
-pub fed_back_stays : {P M S A B : Type 0} (words : QueueWords P S) (counts : EcnCounts) (result : Result A B) (old new : Space P M) → OnOk result (SpaceStep words (feeds_back counts) old new) → OnErr result (new ≡ old) → Stays old new
-fed_back_stays words counts (Ok answer) old new step same = stays_as (record old { ecn_feedback = counts }) old new step (record { tracking = refl; next = refl; acks = refl; dedup = refl })
+pub fed_back_stays : {P M S A B : Type 0} (words : QueueWords P S) (counts : EcnCounts) (result : Result A B)
+    (old new : Space P M) → OnOk result (SpaceStep words (feeds_back counts) old new) → OnErr result (new ≡ old)
+    → Stays old new
+fed_back_stays words counts (Ok answer) old new step same = stays_as (record old { ecn_feedback = counts }) old new step
+    (record { tracking = refl; next = refl; acks = refl; dedup = refl })
 fed_back_stays words counts (Err error) old new step same = stays_as old old new same (record { tracking = refl; next = refl; acks = refl; dedup = refl })
 
 -- a refusal for which a space is put back as it was
-pub put_back : {K Q S M P : Type 0} (q : QueueMeaning Q S M P) (old : Parts K P M) (event : Event Q S M P) (refusal : Refusal) (space : SpaceId) (there : Space P M) → there ≡ space_of space old.spaces → refused event refusal ≡ nothing
-    → ToldBy q old.settings.words (heard_to old) (known_to old) event (Err refusal) → Changes q old event (Err refusal) (record old { spaces = with_space old.spaces space there })
+pub put_back : {K Q S M P : Type 0} (q : QueueMeaning Q S M P) (old : Parts K P M) (event : Event Q S M P)
+    (refusal : Refusal) (space : SpaceId) (there : Space P M) → there ≡ space_of space old.spaces
+    → refused event refusal ≡ nothing
+    → ToldBy q old.settings.words (heard_to old) (known_to old) event (Err refusal)
+    → Changes q old event (Err refusal) (record old { spaces = with_space old.spaces space there })
 put_back {K} {Q} {S} {M} {P} q old event refusal space there same is_nothing told =
     let new : Parts K P M = record old { spaces = with_space old.spaces space there } in
     let kept : new ≡ old = ap (λ (spaces : Spaces P M). record old { spaces = spaces }) (with_same_space old.spaces space there same) in
     let Stepped : Entries P M → Type 0 = λ entries. Steps q.words entries old new in
-    record { told = told; steps = subst Stepped (sym is_nothing) (nothing_changes q.words old new kept); marks = sym (marks_refused event refusal (paths_marks old.paths)); refused = kept }
+    record {
+      told = told;
+      steps = subst Stepped (sym is_nothing) (nothing_changes q.words old new kept);
+      marks = sym (marks_refused event refusal (paths_marks old.paths));
+      refused = kept;
+    }
 
 -- ---- acknowledgements of skipped numbers
 
@@ -84,7 +99,9 @@ lies_in low high n is = let tests = both (nat_le low n) (nat_le n high) is in (l
 lies_there : (low high n : ℕ) → (low ≤ n) × (n ≤ high) → IsTrue (nat_le low n && nat_le n high)
 lies_there low high n is = ap (λ (b : Bool). b && nat_le n high) (le-leb low n is.0) ∙ le-leb n high is.1
 
-module _ {K P M : Type 0} (known : Known K P M) (range : RangeInclusive ℕ) (low high : ℕ) (start : range_inclusive_start range ≡ low) (end : range_inclusive_end range ≡ high) (whole : range_inclusive_exhausted range ≡ false) where
+module _ {K P M : Type 0} (known : Known K P M) (range : RangeInclusive ℕ) (low high : ℕ)
+    (start : range_inclusive_start range ≡ low) (end : range_inclusive_end range ≡ high)
+    (whole : range_inclusive_exhausted range ≡ false) where
   -- where the range is whole, it holds what lies between its ends
   holds_between : (n : ℕ) → range_holds range n ≡ (nat_le low n && nat_le n high)
   holds_between n =

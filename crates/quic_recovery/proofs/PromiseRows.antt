@@ -1,5 +1,5 @@
 -- Worked rows of the promises of events and answers alone, computed: with the right answer each holds, and with a wrong one it does not.
-use Rattle.std.proofs.Common.{ℕ, ◌^◌, true, false, [], ◌∷◌, Some, Ok, Err, refl}
+use Rattle.std.proofs.Common.{◌≡◌, ℕ, ◌^◌, true, false, [], ◌∷◌, Some, Ok, Err, refl}
 use Rattle.recovery_base.specs.declared.below.SpaceId.TheVariants.{Initial, Data}
 use Rattle.recovery_base.specs.declared.timer.Timer.TheVariants.{Idle, Pacing}
 use Rattle.quic_recovery.specs.declared.event.Event.{Event}
@@ -8,6 +8,7 @@ use Rattle.quic_recovery.specs.declared.event.Answer.TheVariants as answer
 use Rattle.quic_recovery.specs.declared.event.Refusal.TheVariants as refusal
 use Rattle.quic_recovery.specs.History.{History, Reply}
 use Rattle.quic_recovery.specs.Promises.NewNumbers.{CallsNew}
+use Rattle.quic_recovery.specs.Promises.Once.{departures_of}
 use Rattle.quic_recovery.specs.Promises.Timeouts.{TellsTimers}
 
 module _ (Q S M P : Type 0) where
@@ -54,3 +55,20 @@ module _ (Q S M P : Type 0) where
 
   both_set : TellsTimers ((event.SetTimer Pacing 30, Ok answer.Done) ∷ timers) event.NextTimeout (Ok (answer.Timeout (Some 30)))
   both_set = refl
+
+  -- ---- packets leave once: number 4 of 1-RTT packets was acknowledged, and 5 of Initial ones was lost
+
+  abbrev left : History Q S M P
+  left = (event.Acked Data 9 4 false, Ok (answer.Acked false)) ∷ (event.Lost Initial 5, Ok (answer.Lost false)) ∷ []
+
+  one_left : departures_of Data 4 left ≡ 1
+  one_left = refl
+
+  none_left_elsewhere : departures_of Initial 4 left ≡ 0
+  none_left_elsewhere = refl
+
+  lost_too_is_twice : departures_of Data 4 ((event.Lost Data 4, Ok (answer.Lost false)) ∷ left) ≡ 2
+  lost_too_is_twice = refl
+
+  refused_is_none : departures_of Data 4 ((event.Lost Data 4, Err refusal.NotTracked) ∷ left) ≡ 1
+  refused_is_none = refl

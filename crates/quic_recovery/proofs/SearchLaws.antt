@@ -47,7 +47,8 @@ none_is_no_probe : {A Q : Type 0} {number size : ℕ} → (let p : Answer Q = No
 none_is_no_probe e = cc
 
 -- an upper bound is a `u16`
-pub bound_in : (o : Option MtuDiscoveryConfig) (values : List Val) → Is (row (the_type the_row)) o values → ForSome o (λ settings. settings.upper_bound < 2 ^ 16)
+pub bound_in : (o : Option MtuDiscoveryConfig) (values : List Val) → Is (row (the_type the_row)) o values
+    → ForSome o (λ settings. settings.upper_bound < 2 ^ 16)
 bound_in None values is = λ settings none. absurd (cc)
 bound_in (Some own) values is = λ settings some. subst (λ (s : MtuDiscoveryConfig). s.upper_bound < 2 ^ 16) (some_same some) is.1.1.1.1.0.1.1.1.0.1
 
@@ -64,12 +65,16 @@ module _ {K Q S M P : Type 0} (q : QueueMeaning Q S M P) (known : Known K P M) (
 
 module _ {K Q S M P : Type 0} (q : QueueMeaning Q S M P) (known : Known K P M) (settings : MtuDiscoveryConfig) (now next : ℕ) (earlier : List MtuEntry) where
   -- a poll that is answered by a probe gives one
-  probe_out : (answer : Option ℕ) (number size : ℕ) → ProbeOutReply q known now answer (Ok (Probe number size)) → ProbesInSearch settings (poll_entry now next answer ∷ earlier) → ProbesInSearch settings (probed now number size ∷ earlier)
+  probe_out : (answer : Option ℕ) (number size : ℕ) → ProbeOutReply q known now answer (Ok (Probe number size))
+      → ProbesInSearch settings (poll_entry now next answer ∷ earlier)
+      → ProbesInSearch settings (probed now number size ∷ earlier)
   probe_out None number size told inside = no_probe_is_none told
   probe_out (Some own) number size told inside = inside
 
   -- a poll that is answered by no probe gives none
-  none_out : (made : _) (answer : Option ℕ) → ProbeOutReply q known now answer (Ok NoProbe) → EndsNearBest made settings (poll_entry now next answer ∷ earlier) → EndsNearBest made settings (unprobed now ∷ earlier)
+  none_out : (made : _) (answer : Option ℕ) → ProbeOutReply q known now answer (Ok NoProbe)
+      → EndsNearBest made settings (poll_entry now next answer ∷ earlier)
+      → EndsNearBest made settings (unprobed now ∷ earlier)
   none_out made None told near = near
   none_out made (Some own) told near = none_is_no_probe told.1
 
@@ -91,16 +96,19 @@ module _ {F K Q S M P : Type 0} (beginning : Beginning F K Q S M P) where
   AreSearched history = OnEachPath (IsSearched beginning) (pasts_of beginning history)
 
   -- an event keeps that
-  searched_one : (before : History Q S M P) (event : Event Q S M P) (reply : Reply Q) → Told beginning before event reply → AreSearched before → AreSearched ((event, reply) ∷ before)
+  searched_one : (before : History Q S M P) (event : Event Q S M P) (reply : Reply Q)
+      → Told beginning before event reply → AreSearched before → AreSearched ((event, reply) ∷ before)
   searched_one before event reply told searched =
       let logs = logs_of beginning before in
       let known = known_by beginning logs in
-      searched_over (settings_of beginning) (discovery_settings beginning) (fresh_is beginning) (first_path beginning) (entries_of beginning.queue known event reply).paths logs.paths
+      searched_over (settings_of beginning) (discovery_settings beginning) (fresh_is beginning) (first_path beginning)
+      (entries_of beginning.queue known event reply).paths logs.paths
       (is_allowed beginning.queue (settings_of beginning) _ known event reply told) searched
 
   -- the upper bound is a `u16`
   module _ (small : ForSome (discovery_settings beginning) (λ settings. settings.upper_bound < 2 ^ 16)) where
-    few_one : (before : History Q S M P) (event : Event Q S M P) (reply : Reply Q) → Told beginning before event reply → AreSearched before → SearchesFew beginning before event reply
+    few_one : (before : History Q S M P) (event : Event Q S M P) (reply : Reply Q) → Told beginning before event reply
+        → AreSearched before → SearchesFew beginning before event reply
     few_one before event reply told searched = λ settings is change. (
         let after = searched_one before event reply told searched in
         let few : (past : PathPast K) → IsPathSearchedBy (discovery_settings beginning) past → TakesFew (entries_on past) = λ past by.
@@ -108,7 +116,8 @@ module _ {F K Q S M P : Type 0} (beginning : Beginning F K Q S M P) where
         (few (pasts_of beginning ((event, reply) ∷ before)).current after.0, λ past lives. few past (after.1 past lives))
         )
 
-    ends_one : (before : History Q S M P) (event : Event Q S M P) (reply : Reply Q) → Told beginning before event reply → AreSearched before → EndsNear beginning before event reply
+    ends_one : (before : History Q S M P) (event : Event Q S M P) (reply : Reply Q) → Told beginning before event reply
+        → AreSearched before → EndsNear beginning before event reply
     ends_one before (PollMtu now) (Ok NoProbe) told searched = λ settings is change. (
         let known = known_by beginning (logs_of beginning before) in
         let past = (pasts_of beginning before).current in
@@ -121,13 +130,17 @@ module _ {F K Q S M P : Type 0} (beginning : Beginning F K Q S M P) where
         )
     ends_one before event reply told searched = tt
 
-    pub searches : (events : List (Event Q S M P)) (replies : List (Reply Q)) → Throughout (Told beginning) events replies → Throughout (SearchesFew beginning) events replies
-    searches events replies told = throughout_kept beginning AreSearched (SearchesFew beginning) searched_one few_one [] events replies told (first_is beginning)
+    pub searches : (events : List (Event Q S M P)) (replies : List (Reply Q))
+        → Throughout (Told beginning) events replies → Throughout (SearchesFew beginning) events replies
+    searches events replies told = throughout_kept beginning AreSearched (SearchesFew beginning) searched_one few_one []
+        events replies told (first_is beginning)
 
-    pub ends : (events : List (Event Q S M P)) (replies : List (Reply Q)) → Throughout (Told beginning) events replies → Throughout (EndsNear beginning) events replies
+    pub ends : (events : List (Event Q S M P)) (replies : List (Reply Q)) → Throughout (Told beginning) events replies
+        → Throughout (EndsNear beginning) events replies
     ends events replies told = throughout_kept beginning AreSearched (EndsNear beginning) searched_one ends_one [] events replies told (first_is beginning)
 
-  probes_one : (before : History Q S M P) (event : Event Q S M P) (reply : Reply Q) → Told beginning before event reply → AreSearched before → ProbesInTurn beginning before event reply
+  probes_one : (before : History Q S M P) (event : Event Q S M P) (reply : Reply Q) → Told beginning before event reply
+      → AreSearched before → ProbesInTurn beginning before event reply
   probes_one before (PollMtu now) (Ok (Probe number size)) told searched = go (discovery_settings beginning) refl
     where
       known : Known K P M
@@ -139,8 +152,10 @@ module _ {F K Q S M P : Type 0} (beginning : Beginning F K Q S M P) where
       answer : Option ℕ
       answer = poll_of now (state_of (settings_of beginning) past).discovery
 
-      go : (by : Option MtuDiscoveryConfig) → discovery_settings beginning ≡ by → IsSomeAnd by (λ settings. ProbesInSearch settings (probed now number size ∷ entries_on past))
-      go None is = unanswered beginning.queue known now answer number size (unsearched past.making.discovery (searched.0.settings_are ∙ is) now past.searched) told.1.1
+      go : (by : Option MtuDiscoveryConfig) → discovery_settings beginning ≡ by
+          → IsSomeAnd by (λ settings. ProbesInSearch settings (probed now number size ∷ entries_on past))
+      go None is = unanswered beginning.queue known now answer number size
+          (unsearched past.making.discovery (searched.0.settings_are ∙ is) now past.searched) told.1.1
       go (Some settings) is =
           let next = known.numbers.next in
           probe_out beginning.queue known settings now next (entries_on past) answer number size told.1.1
@@ -148,7 +163,8 @@ module _ {F K Q S M P : Type 0} (beginning : Beginning F K Q S M P) where
   probes_one before event reply told searched = tt
 
   -- a search runs on the path in use exactly where its entries say so
-  limits_one : (before : History Q S M P) (event : Event Q S M P) (reply : Reply Q) → Told beginning before event reply → AreSearched before → LimitsOutside beginning before event reply
+  limits_one : (before : History Q S M P) (event : Event Q S M P) (reply : Reply Q) → Told beginning before event reply
+      → AreSearched before → LimitsOutside beginning before event reply
   limits_one before (PeerLimit size) (Err Searching) told searched =
       let past = (pasts_of beginning before).current in
       sym (search_runs_by past.making.discovery searched.0.untold past.searched) ∙ told.1
@@ -164,25 +180,34 @@ module _ {F K Q S M P : Type 0} (beginning : Beginning F K Q S M P) where
       let past = (pasts_of beginning before).current in
       ap (λ probe. is_data space && probe) (is_probe_by past.making.discovery searched.0.untold past.searched number)
 
-  tells_one : (before : History Q S M P) (event : Event Q S M P) (reply : Reply Q) → Told beginning before event reply → AreSearched before → TellsProbes beginning before event reply
-  tells_one before (Acked space now number app_limited) (Ok given) told searched = told.1.1 ∙ ap (λ probe. answer.Acked probe) (probe_same before searched space number)
+  tells_one : (before : History Q S M P) (event : Event Q S M P) (reply : Reply Q) → Told beginning before event reply
+      → AreSearched before → TellsProbes beginning before event reply
+  tells_one before (Acked space now number app_limited) (Ok given) told searched = told.1.1
+      ∙ ap (λ probe. answer.Acked probe) (probe_same before searched space number)
   tells_one before (Lost space number) (Ok given) told searched = told.1.1 ∙ ap (λ probe. answer.Lost probe) (probe_same before searched space number)
   tells_one before event reply told searched = tt
 
-  mtu_one : (before : History Q S M P) (event : Event Q S M P) (reply : Reply Q) → Told beginning before event reply → AreSearched before → UsesMtu beginning before event reply
+  mtu_one : (before : History Q S M P) (event : Event Q S M P) (reply : Reply Q) → Told beginning before event reply
+      → AreSearched before → UsesMtu beginning before event reply
   mtu_one before event reply told searched =
       let after = searched_one before event reply told searched in
       let past = (pasts_of beginning ((event, reply) ∷ before)).current in
       (mtu_by past.making.discovery after.0.untold past.searched, λ past lives. mtu_by past.making.discovery (after.1 past lives).untold past.searched)
 
-  pub probes : (events : List (Event Q S M P)) (replies : List (Reply Q)) → Throughout (Told beginning) events replies → Throughout (ProbesInTurn beginning) events replies
-  probes events replies told = throughout_kept beginning AreSearched (ProbesInTurn beginning) searched_one probes_one [] events replies told (first_is beginning)
+  pub probes : (events : List (Event Q S M P)) (replies : List (Reply Q)) → Throughout (Told beginning) events replies
+      → Throughout (ProbesInTurn beginning) events replies
+  probes events replies told = throughout_kept beginning AreSearched (ProbesInTurn beginning) searched_one probes_one []
+      events replies told (first_is beginning)
 
-  pub limits : (events : List (Event Q S M P)) (replies : List (Reply Q)) → Throughout (Told beginning) events replies → Throughout (LimitsOutside beginning) events replies
-  limits events replies told = throughout_kept beginning AreSearched (LimitsOutside beginning) searched_one limits_one [] events replies told (first_is beginning)
+  pub limits : (events : List (Event Q S M P)) (replies : List (Reply Q)) → Throughout (Told beginning) events replies
+      → Throughout (LimitsOutside beginning) events replies
+  limits events replies told = throughout_kept beginning AreSearched (LimitsOutside beginning) searched_one limits_one
+      [] events replies told (first_is beginning)
 
-  pub tells : (events : List (Event Q S M P)) (replies : List (Reply Q)) → Throughout (Told beginning) events replies → Throughout (TellsProbes beginning) events replies
+  pub tells : (events : List (Event Q S M P)) (replies : List (Reply Q)) → Throughout (Told beginning) events replies
+      → Throughout (TellsProbes beginning) events replies
   tells events replies told = throughout_kept beginning AreSearched (TellsProbes beginning) searched_one tells_one [] events replies told (first_is beginning)
 
-  pub mtu : (events : List (Event Q S M P)) (replies : List (Reply Q)) → Throughout (Told beginning) events replies → Throughout (UsesMtu beginning) events replies
+  pub mtu : (events : List (Event Q S M P)) (replies : List (Reply Q)) → Throughout (Told beginning) events replies
+      → Throughout (UsesMtu beginning) events replies
   mtu events replies told = throughout_kept beginning AreSearched (UsesMtu beginning) searched_one mtu_one [] events replies told (first_is beginning)

@@ -33,16 +33,21 @@ use Rattle.quic_recovery.proofs.NumberLaws.{number_above, number_known, number_s
 abbrev pub paths_telling : {K P M : Type 0} → Packet P M → Space P M → (PathState K → PathState K) → OfPaths (Path K) → OfPaths (Path K)
 paths_telling packet there change paths = on_path_of Current (on_state change) (paths_after_sending packet (forgotten_entry packet (tracking_of there)) paths)
 
-module _ {K P M : Type 0} (spaces : Spaces P M) (paths : OfPaths (Path K)) (balanced : AreBalanced spaces paths) (space : SpaceId) (number : ℕ) (packet : Packet P M) (own : packet.path_generation ≡ generation_of paths.current.ledger) (above : next_number_of (space_of space spaces) ≤ number) where
+module _ {K P M : Type 0} (spaces : Spaces P M) (paths : OfPaths (Path K)) (balanced : AreBalanced spaces paths)
+    (space : SpaceId) (number : ℕ) (packet : Packet P M) (own : packet.path_generation
+    ≡ generation_of paths.current.ledger) (above : next_number_of (space_of space spaces) ≤ number) where
   pub can_track_here : (here : Space P M) → here ≡ space_of space spaces → CanTrackOn paths number packet here
-  can_track_here here same = let Can : Space P M → Type 0 = CanTrackOn paths number packet in subst Can (sym same) (can_track spaces paths balanced space number packet own above)
+  can_track_here here same = let Can : Space P M → Type 0 = CanTrackOn paths number packet in subst Can (sym same)
+      (can_track spaces paths balanced space number packet own above)
 
-  pub sent_balanced : (here : Space P M) (then : OfPaths (Path K)) → (¬ IsTooLarge packet.largest_acked) → here ≡ space_sends number packet (space_of space spaces)
+  pub sent_balanced : (here : Space P M) (then : OfPaths (Path K)) → (¬ IsTooLarge packet.largest_acked)
+      → here ≡ space_sends number packet (space_of space spaces)
       → then ≡ paths_after_sending packet (forgotten_entry packet (tracking_of (space_of space spaces))) paths → AreBalanced (with_space spaces space here) then
   sent_balanced here then small is counts =
       let Come : Space P M → Type 0 = HasGreatestCome in
       let Balanced : OfPaths (Path K) → Type 0 = AreBalanced (with_space spaces space here) in
-      subst Balanced (sym counts) (sent spaces paths balanced space number packet here own above small (ap tracking_of is) (ap next_number_of is) (subst Come (sym is) (balanced.coherent space).received))
+      subst Balanced (sym counts) (sent spaces paths balanced space number packet here own above small
+      (ap tracking_of is) (ap next_number_of is) (subst Come (sym is) (balanced.coherent space).received))
 
 -- what is known of the paths then: the controller was told
 module _ {K P M : Type 0} (packet : Packet P M) (there : Space P M) (change : PathState K → PathState K) (paths : OfPaths (Path K)) where
@@ -52,21 +57,30 @@ module _ {K P M : Type 0} (packet : Packet P M) (there : Space P M) (change : Pa
   abbrev known_as : ℕ → Option (PathKnown K) → OfPaths (PathKnown K)
   known_as generation previous = record { current = record { generation = generation; state = change paths.current.state }; previous = previous }
 
-  previous_known : (previous : Option (Path K)) → option_map path_known (option_map (on_ledger (λ ledger. after_forgetting ledger forgotten)) previous) ≡ option_map path_known previous
+  previous_known : (previous : Option (Path K))
+      → option_map path_known (option_map (on_ledger (λ ledger. after_forgetting ledger forgotten)) previous)
+      ≡ option_map path_known previous
   previous_known None = refl
-  previous_known (Some path) = ap (λ (g : ℕ). let known : PathKnown K = record { generation = g; state = path.state } in Some known) (generation_after_forgetting path.ledger forgotten)
+  previous_known (Some path) = ap (λ (g : ℕ). let known : PathKnown K =
+      record { generation = g; state = path.state } in Some known) (generation_after_forgetting path.ledger forgotten)
 
-  pub telling_known : paths_known (paths_telling packet there change paths) ≡ known_as (generation_of paths.current.ledger) (option_map path_known paths.previous)
+  pub telling_known : paths_known (paths_telling packet there change paths)
+      ≡ known_as (generation_of paths.current.ledger) (option_map path_known paths.previous)
   telling_known =
-      ap (λ (g : ℕ). known_as g (option_map path_known (option_map (on_ledger (λ ledger. after_forgetting ledger forgotten)) paths.previous))) (generation_after_sending paths.current.ledger packet forgotten)
+      ap (λ (g : ℕ). known_as g (option_map path_known (option_map
+      (on_ledger (λ ledger. after_forgetting ledger forgotten)) paths.previous)))
+      (generation_after_sending paths.current.ledger packet forgotten)
       ∙ ap (known_as (generation_of paths.current.ledger)) (previous_known paths.previous)
 
   -- what the layer above keeps with the paths stays
   pub telling_marks : paths_marks (paths_telling packet there change paths) ≡ paths_marks paths
-  telling_marks = both_marks (on_ledger (λ ledger. after_forgetting ledger forgotten)) (λ path. refl) (paths_telling packet there change paths).current paths refl
+  telling_marks = both_marks (on_ledger (λ ledger. after_forgetting ledger forgotten)) (λ path. refl)
+      (paths_telling packet there change paths).current paths refl
 
 -- what the event comes to
-module _ {K Q S M P : Type 0} (q : QueueMeaning Q S M P) (old : Parts K P M) (balanced : AreBalanced old.spaces old.paths) (space : SpaceId) (now size : ℕ) (ack_eliciting : Bool) (largest_acked : Option ℕ) (queue : Q) (frames : M)
+module _ {K Q S M P : Type 0} (q : QueueMeaning Q S M P) (old : Parts K P M)
+    (balanced : AreBalanced old.spaces old.paths) (space : SpaceId) (now size : ℕ) (ack_eliciting : Bool)
+    (largest_acked : Option ℕ) (queue : Q) (frames : M)
     (live : is_discarded space old.discarded ≡ false) (small : ¬ IsTooLarge largest_acked) where
   abbrev packet_at_generation : ℕ → Packet P M
   packet_at_generation generation =
@@ -81,18 +95,28 @@ module _ {K Q S M P : Type 0} (q : QueueMeaning Q S M P) (old : Parts K P M) (ba
       → forgotten ≡ entry_number (forgotten_entry (packet_at_generation generation) (tracking_of here_then))
       → there ≡ space_sends number (packet_at_generation generation) here_then → skipping ≡ skipping_behind space (next_number_of here_then) old.skipping
       → paths ≡ paths_telling (packet_at_generation generation) here_then (after_telling old.settings.words (sends_bytes now size number)) old.paths
-      → Changes q old (Send space now size ack_eliciting largest_acked queue frames) (Ok (Sent number forgotten)) (record old { spaces = with_space old.spaces space there; skipping = skipping; paths = paths })
+      → Changes q old (Send space now size ack_eliciting largest_acked queue frames) (Ok (Sent number forgotten))
+      (record old { spaces = with_space old.spaces space there; skipping = skipping; paths = paths })
   send_changes generation number there skipping paths forgotten own is left fits gone sends draws tells =
       let Reached : ℕ → Type 0 = λ g.
-      (¬ Overflows (counters_of old.paths.current.ledger) (packet_at_generation g)) → forgotten ≡ entry_number (forgotten_entry (packet_at_generation g) (tracking_of here_then))
-      → there ≡ space_sends number (packet_at_generation g) here_then → paths ≡ paths_telling (packet_at_generation g) here_then (after_telling old.settings.words (sends_bytes now size number)) old.paths
-      → Changes q old (Send space now size ack_eliciting largest_acked queue frames) (Ok (Sent number forgotten)) (record old { spaces = with_space old.spaces space there; skipping = skipping; paths = paths }) in
+      (¬ Overflows (counters_of old.paths.current.ledger) (packet_at_generation g)) → forgotten
+      ≡ entry_number (forgotten_entry (packet_at_generation g) (tracking_of here_then))
+      → there ≡ space_sends number (packet_at_generation g) here_then
+      → paths ≡ paths_telling (packet_at_generation g) here_then
+      (after_telling old.settings.words (sends_bytes now size number)) old.paths
+      → Changes q old (Send space now size ack_eliciting largest_acked queue frames) (Ok (Sent number forgotten))
+      (record old { spaces = with_space old.spaces space there; skipping = skipping; paths = paths }) in
       subst Reached (sym own) by_own fits gone sends tells
     where
-      by_own : (¬ Overflows (counters_of old.paths.current.ledger) (packet_at_generation (generation_of old.paths.current.ledger))) → forgotten ≡ entry_number (forgotten_entry (packet_at_generation (generation_of old.paths.current.ledger)) (tracking_of here_then))
+      by_own : (¬ Overflows (counters_of old.paths.current.ledger)
+          (packet_at_generation (generation_of old.paths.current.ledger))) → forgotten
+          ≡ entry_number (forgotten_entry (packet_at_generation (generation_of old.paths.current.ledger))
+          (tracking_of here_then))
           → there ≡ space_sends number (packet_at_generation (generation_of old.paths.current.ledger)) here_then
-          → paths ≡ paths_telling (packet_at_generation (generation_of old.paths.current.ledger)) here_then (after_telling old.settings.words (sends_bytes now size number)) old.paths
-          → Changes q old (Send space now size ack_eliciting largest_acked queue frames) (Ok (Sent number forgotten)) (record old { spaces = with_space old.spaces space there; skipping = skipping; paths = paths })
+          → paths ≡ paths_telling (packet_at_generation (generation_of old.paths.current.ledger)) here_then
+          (after_telling old.settings.words (sends_bytes now size number)) old.paths
+          → Changes q old (Send space now size ack_eliciting largest_acked queue frames) (Ok (Sent number forgotten))
+          (record old { spaces = with_space old.spaces space there; skipping = skipping; paths = paths })
       by_own fits gone sends tells =
           let packet = packet_at_generation (generation_of old.paths.current.ledger) in
           let Fits : InFlight → Type 0 = λ f. ¬ Overflows f packet in
@@ -101,9 +125,15 @@ module _ {K Q S M P : Type 0} (q : QueueMeaning Q S M P) (old : Parts K P M) (ba
           let above = number_above old.skipping.filter space (next_number_of here_then) in
           let above_known : next_number_of here_then ≤ number_in (known_to old) space = omega (arith, above, is, is_known) in
           let step = sends ∙ ap (λ (n : ℕ). space_sends n packet here_then) is_known in
-          let told = ap (λ (p : OfPaths (Path K)). paths_known p) tells ∙ telling_known packet here_then (after_telling old.settings.words (sends_bytes now size number)) old.paths
-          ∙ ap (λ (n : ℕ). known_as packet here_then (after_telling old.settings.words (sends_bytes now size n)) old.paths (generation_of old.paths.current.ledger) (option_map path_known old.paths.previous)) is_known in
+          let told = ap (λ (p : OfPaths (Path K)). paths_known p) tells
+          ∙ telling_known packet here_then (after_telling old.settings.words (sends_bytes now size number))
+          old.paths
+          ∙ ap (λ (n : ℕ). known_as packet here_then (after_telling old.settings.words (sends_bytes now size n))
+          old.paths (generation_of old.paths.current.ledger) (option_map path_known old.paths.previous)) is_known in
           sent_changes q old space now size ack_eliciting largest_acked queue frames there skipping paths number forgotten live small small_number
-          (subst Fits balanced.current fits) is_known (gone ∙ entry_number_of (tracking_of here_then).last_eliciting packet (packets_of here_then)) (above_known, step)
+          (subst Fits balanced.current fits) is_known (gone ∙ entry_number_of (tracking_of here_then).last_eliciting
+          packet (packets_of here_then)) (above_known, step)
           (number_skips old.spaces space (number_in (known_to old) space) packet old.skipping skipping (sym (number_known old space)) draws) told
-          (ap (λ (p : OfPaths (Path K)). paths_marks p) tells ∙ telling_marks (packet_at_generation (generation_of old.paths.current.ledger)) here_then (after_telling old.settings.words (sends_bytes now size number)) old.paths)
+          (ap (λ (p : OfPaths (Path K)). paths_marks p) tells
+          ∙ telling_marks (packet_at_generation (generation_of old.paths.current.ledger)) here_then
+          (after_telling old.settings.words (sends_bytes now size number)) old.paths)

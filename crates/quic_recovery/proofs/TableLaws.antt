@@ -320,7 +320,8 @@ module _ {Q S M P : Type 0} (q : QueueMeaning Q S M P) where
   pub decides : {K : Type 0} (words : ControllerWords K) (heard : SpaceId → Heard) (known : Known K P M) (event : Event Q S M P)
       → Decides (ToldBy q words heard known event)
   decides words heard known (Received space now number eliciting) =
-      in_space (known.spaces space) _ (refuses_decide refusal.NumberTooLarge _ _ refl (answers_decide _ _ (received_agree (heard space) (known.spaces space).counts number eliciting)))
+      in_space (known.spaces space) _ (refuses_decide refusal.NumberTooLarge _ _ refl
+      (answers_decide _ _ (received_agree (heard space) (known.spaces space).counts number eliciting)))
   decides words heard known (Send space now size eliciting largest queue frames) =
       in_space (known.spaces space) _
       (refuses_decide refusal.NumberTooLarge _ _ refl
@@ -342,7 +343,8 @@ module _ {Q S M P : Type 0} (q : QueueMeaning Q S M P) where
       refuses_decide refusal.NumberTooLarge _ _ refl (refuses_decide refusal.BadRange _ _ refl (answers_decide _ _ (is_agree answer.Done)))
   decides words heard known IdTimeout = is_decided (timeout_answer known.local_ids)
   decides words heard known (PeerRetired sequence limit) =
-      refuses_decide refusal.CidsNotInUse _ _ refl (refuses_decide refusal.UnissuedCid _ _ refl (always_decide _ (room_agree (without_number sequence known.local_ids) limit)))
+      refuses_decide refusal.CidsNotInUse _ _ refl (refuses_decide refusal.UnissuedCid _ _ refl
+      (always_decide _ (room_agree (without_number sequence known.local_ids) limit)))
   decides words heard known (AckFrequencyIn frame) =
       in_space (known.spaces Data) _ (refuses_decide refusal.DelayTooSmall _ _ refl (always_decide _ (flag_agree _)))
   decides words heard known (AcksSent space) = in_space (known.spaces space) _ (is_decided answer.Done)
@@ -369,9 +371,11 @@ module _ {Q S M P : Type 0} (q : QueueMeaning Q S M P) where
       in_space (known.spaces space) _ (ecn_decides (known.spaces space) newly counts)
   decides words heard known (CheckAck space low high) =
       in_space (known.spaces space) _
-      (refuses_decide refusal.NumberTooLarge _ _ refl (refuses_decide refusal.BadRange _ _ refl (refuses_decide refusal.SkippedAcked _ _ refl (is_decided answer.Done))))
+      (refuses_decide refusal.NumberTooLarge _ _ refl (refuses_decide refusal.BadRange _ _ refl
+      (refuses_decide refusal.SkippedAcked _ _ refl (is_decided answer.Done))))
   decides words heard known (QueueProbe space immediate streams) =
-      in_space (known.spaces space) _ (answers_decide _ _ (probe_agree (known.spaces space) streams (heard space) immediate (found_in known q.words streams space)))
+      in_space (known.spaces space) _ (answers_decide _ _ (probe_agree (known.spaces space) streams (heard space)
+      immediate (found_in known q.words streams space)))
   decides words heard known (TakePending space) =
       in_space (known.spaces space) _ (always_decide _ (pending_agree (known.spaces space)))
   decides words heard known (NewPath now remote is_fresh) =
@@ -407,7 +411,8 @@ module _ {F K Q S M P : Type 0} (beginning : Beginning F K Q S M P) (history : H
       → one ≢ Err refusal.NoMemory → other ≢ Err refusal.NoMemory → SameReply beginning.queue.contents one other
   one_reply_to event one other told_one told_other here there =
       let logs = logs_of beginning history in
-      decides beginning.queue beginning.words (λ space. heard_by beginning.queue.words (logs.spaces space)) (known_by beginning logs) event one other here there told_one told_other
+      decides beginning.queue beginning.words (λ space. heard_by beginning.queue.words (logs.spaces space))
+      (known_by beginning logs) event one other here there told_one told_other
 
   iff_both : {A B C : Type 0} → A ↔ C → B ↔ C → A ↔ B
   iff_both a b = (λ x. b.1 (a.0 x), λ y. a.1 (b.0 y))

@@ -21,7 +21,8 @@ use Rattle.quic_recovery.specs.Promises.Timeouts.{earlier_of, every_timer, least
 
 -- ---- the moments are those of the log
 
-module _ {K Q S M P : Type 0} (q : QueueMeaning Q S M P) (known : Known K P M) (earlier : History Q S M P) (log : List TimerEntry) (timer : Timer) (same : moment_of earlier timer ≡ last_set timer log) where
+module _ {K Q S M P : Type 0} (q : QueueMeaning Q S M P) (known : Known K P M) (earlier : History Q S M P)
+    (log : List TimerEntry) (timer : Timer) (same : moment_of earlier timer ≡ last_set timer log) where
   answer_same : (event : Event Q S M P) (answer : Answer Q)
       → moment_of ((event, Ok answer) ∷ earlier) timer ≡ last_set timer (onto (answered q known event answer).timers log)
   answer_same (SetTimer other time) answer = ap (λ o. if same_timer timer other then Some time else o) same

@@ -7,11 +7,11 @@ use Rattle.quic_recovery.specs.declared.driver.RecoveryConfig.{RecoveryConfig}
 use Rattle.quic_recovery.specs.declared.event.Event.{Event}
 use Rattle.quic_recovery.specs.Amplification.{KeepsThreefold}
 use Rattle.quic_recovery.specs.Bursts.{ComesAtFourBursts, NeedsFourBursts}
-use Rattle.quic_recovery.specs.Departures.{PacketsLeaveOnce}
 use Rattle.quic_recovery.specs.History.{Beginning, History, Reply, QueueMeaning, Throughout, begins, history}
 use Rattle.quic_recovery.specs.Pacing.{DelaysByBalance, KeepsPace, PassesSoon}
 use Rattle.quic_recovery.specs.Parts.{Parts}
 use Rattle.quic_recovery.specs.Promises.NewNumbers.{CallsNew}
+use Rattle.quic_recovery.specs.Promises.Once.{LeaveOnceEach}
 use Rattle.quic_recovery.specs.Promises.Timeouts.{TellsTimers}
 use Rattle.quic_recovery.specs.Search.{EndsNear, EntersAsTold, LimitsOutside, ProbesInTurn, SearchesFew, TellsProbes, UsesMtu}
 use Rattle.quic_recovery.specs.State.{Left}
@@ -61,7 +61,7 @@ module _ {F K Q S M P : Type 0} (beginning : Beginning F K Q S M P) where
     pub mtu : UsesMtu beginning before event reply
     pub needs_four : NeedsFourBursts beginning before event reply
     pub comes_at_four : ComesAtFourBursts beginning before event reply
-    pub once : PacketsLeaveOnce beginning ((event, reply) ∷ before)
+    pub once : LeaveOnceEach ((event, reply) ∷ before)
 
   -- from a past to that past with one event more
   pub record GoesOnFrom (past : Past Q S M P) (event : Event Q S M P) (reply : Reply Q) (new : Parts K P M) : Type 0 where
@@ -76,22 +76,18 @@ module _ {F K Q S M P : Type 0} (built : F → ℕ → ℕ → K) (words : Contr
       let beginning = begins built words queue config start random in
       Came beginning past old → GoesOnFrom beginning past event reply new
 
-  -- from some past by which it came here it went on
-  pub record WentOn (old : Parts K P M) (event : Event Q S M P) (reply : Reply Q) (new : Parts K P M) : Type 0 where
-    pub config : RecoveryConfig F
-    pub start : ℕ
-    pub random : Stream
-    pub past : Past Q S M P
-    pub came : Came (begins built words queue config start random) past old
-    pub goes : GoesOnFrom (begins built words queue config start random) past event reply new
-
-  -- by some past it came here
+  -- from some beginning and by some past it came here
   pub record CameSomehow (recovery : Parts K P M) : Type 0 where
     pub config : RecoveryConfig F
     pub start : ℕ
     pub random : Stream
     pub past : Past Q S M P
     pub came : Came (begins built words queue config start random) past recovery
+
+  -- from there it went on
+  pub record WentOn (old : Parts K P M) (event : Event Q S M P) (reply : Reply Q) (new : Parts K P M) : Type 0 where
+    pub origin : CameSomehow old
+    pub goes : GoesOnFrom (begins built words queue origin.config origin.start origin.random) origin.past event reply new
 
   -- it is all the same for its past
   abbrev pub StaysOn : Parts K P M → Parts K P M → Type 0

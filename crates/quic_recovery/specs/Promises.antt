@@ -1,3 +1,4 @@
 -- Promises of events and answers alone: each is read without any other.
 pub mod NewNumbers
+pub mod Once
 pub mod Timeouts

@@ -8,7 +8,8 @@ use Rattle.recovery_base.specs.Ranges.{InRanges}
 use Rattle.recovery_acks.specs.Acks.{Acks, HasReached, IsOutOfOrder, Receives, ReceivesEliciting, counted, number_or_zero}
 
 -- the greatest number has been reached where both have
-pub reaches : (Known : ℕ → Type 0) (before : Option ℕ) (number : ℕ) → HasReached Known number → IfSome before (HasReached Known) → HasReached Known (max (unwrap_or before 0) number)
+pub reaches : (Known : ℕ → Type 0) (before : Option ℕ) (number : ℕ) → HasReached Known number
+    → IfSome before (HasReached Known) → HasReached Known (max (unwrap_or before 0) number)
 reaches Known None number reached earlier = (reached.0, reached.1, let h : number ≤ reached.0 = reached.2 in omega arith)
 reaches Known (Some k) number reached earlier = go (cases_lt k number)
   where
@@ -16,7 +17,9 @@ reaches Known (Some k) number reached earlier = go (cases_lt k number)
     go (inl below) = (reached.0, reached.1, let h : number ≤ reached.0 = reached.2 in omega arith)
     go (inr above) = (earlier.0, earlier.1, let h : k ≤ earlier.0 = earlier.2 in omega arith)
 
-pub eliciting_receives : (Known : ℕ → Type 0) (old new : Acks) (now number : ℕ) (ack_eliciting arm : Bool) → ack_eliciting ≡ true → ReceivesEliciting Known old now number arm new → Receives Known old now number ack_eliciting arm new
+pub eliciting_receives : (Known : ℕ → Type 0) (old new : Acks) (now number : ℕ) (ack_eliciting arm : Bool)
+    → ack_eliciting ≡ true → ReceivesEliciting Known old now number arm new
+    → Receives Known old now number ack_eliciting arm new
 eliciting_receives Known old new now number true arm is received = received
 eliciting_receives Known old new now number false arm is received = absurd (false≢true is)
 
@@ -75,8 +78,12 @@ module _ (Known : ℕ → Type 0) (old : Acks) (now number greatest count : ℕ)
       }
 
 -- what is out of order by one set is so by another, from which the same numbers are missing
-pub out_of_order_by : (A B : ℕ → Type 0) → ((low high : ℕ) (found : Option ℕ) → IsLeastMissing A low high found → IsLeastMissing B low high found) → (threshold : ℕ) (acknowledged : Option ℕ) (before greatest number : ℕ)
+pub out_of_order_by : (A B : ℕ → Type 0)
+    → ((low high : ℕ) (found : Option ℕ) → IsLeastMissing A low high found → IsLeastMissing B low high found)
+    → (threshold : ℕ) (acknowledged : Option ℕ) (before greatest number : ℕ)
     → IsOutOfOrder A threshold acknowledged before greatest number → IsOutOfOrder B threshold acknowledged before greatest number
-out_of_order_by A B missing threshold acknowledged before greatest number (inl one) = inl (one.0, elim one.1 [ inl below ↦ inl below | inr gap ↦ inr (gap.0, missing before number (Some gap.0) gap.1) ])
-out_of_order_by A B missing threshold (Some k) before greatest number (inr more) = inr (more.0, (more.1.0, (more.1.1.0, missing (k - threshold + 1) greatest (Some more.1.1.0) more.1.1.1, more.1.1.2)))
+out_of_order_by A B missing threshold acknowledged before greatest number (inl one) = inl
+    (one.0, elim one.1 [ inl below ↦ inl below | inr gap ↦ inr (gap.0, missing before number (Some gap.0) gap.1) ])
+out_of_order_by A B missing threshold (Some k) before greatest number (inr more) = inr
+    (more.0, (more.1.0, (more.1.1.0, missing (k - threshold + 1) greatest (Some more.1.1.0) more.1.1.1, more.1.1.2)))
 out_of_order_by A B missing threshold None before greatest number (inr more) = absurd more.1

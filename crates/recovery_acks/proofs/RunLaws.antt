@@ -9,23 +9,40 @@ use Rattle.recovery_base.specs.Ranges.{InRanges, AreApart, InsertsOne}
 use Rattle.recovery_base.proofs.RangeLaws.{Ranges, in_above, apart_rest}
 use Rattle.recovery_acks.specs.Runs.{EndsRun, Ascend, AtMost, IsInHighest}
 
-ascend_as : (P Q : ℕ → Type 0) (low other : ℕ) (numbers : List ℕ) → other ≤ low → ((n : ℕ) → low ≤ n → P n → Q n) → Ascend P low numbers → Ascend Q other numbers
+ascend_as : (P Q : ℕ → Type 0) (low other : ℕ) (numbers : List ℕ) → other ≤ low → ((n : ℕ) → low ≤ n → P n → Q n)
+    → Ascend P low numbers → Ascend Q other numbers
 unfolding Ascend
 ascend_as P Q low other [] less step up = tt
-ascend_as P Q low other (n ∷ others) less step up = let h : low ≤ n = up.0 in (omega arith, step n up.0 up.1, ascend_as P Q (n + 1) (n + 1) others (omega arith) (λ m above p. step m (omega arith) p) up.2)
+ascend_as P Q low other (n ∷ others) less step up = let h : low ≤ n =
+    up.0 in (
+      omega arith,
+      step n up.0 up.1,
+      ascend_as P Q (n + 1) (n + 1) others (omega arith)
+          (λ m above p. step m (omega arith) p) up.2,
+    )
 
 -- the end of a run above the first range is one in the others
-end_behind : (low : ℕ) (range : Range ℕ) (others : Ranges) → AreApart low (range ∷ others) → (n : ℕ) → range.end ≤ n → EndsRun (InRanges (range ∷ others)) n → EndsRun (InRanges others) n
+end_behind : (low : ℕ) (range : Range ℕ) (others : Ranges) → AreApart low (range ∷ others) → (n : ℕ) → range.end ≤ n
+    → EndsRun (InRanges (range ∷ others)) n → EndsRun (InRanges others) n
 unfolding InRanges
-end_behind low range others apart n above ends = (elim ends.0 [ inl here ↦ (let h : n < range.end = here.1 in absurd (omega arith)) | inr there ↦ there ], λ next. ends.1 (inr next))
+end_behind low range others apart n above ends = (
+  elim ends.0
+      [ inl here ↦ (let h : n < range.end = here.1 in absurd (omega arith)) | inr there ↦ there ],
+  λ next. ends.1 (inr next),
+)
 
 -- and the other way
-end_before : (low : ℕ) (range : Range ℕ) (others : Ranges) → AreApart low (range ∷ others) → (n : ℕ) → range.end ≤ n → EndsRun (InRanges others) n → EndsRun (InRanges (range ∷ others)) n
+end_before : (low : ℕ) (range : Range ℕ) (others : Ranges) → AreApart low (range ∷ others) → (n : ℕ) → range.end ≤ n
+    → EndsRun (InRanges others) n → EndsRun (InRanges (range ∷ others)) n
 unfolding InRanges
-end_before low range others apart n above ends = (inr ends.0, λ next. elim next [ inl here ↦ (let h : n + 1 < range.end = here.1 in omega arith) | inr there ↦ ends.1 there ])
+end_before low range others apart n above ends = (
+  inr ends.0,
+  λ next. elim next [ inl here ↦ (let h : n + 1 < range.end = here.1 in omega arith) | inr there ↦ ends.1 there ],
+)
 
 -- there are at most as many ends as ranges
-few_ends : (low from : ℕ) (ranges : Ranges) → AreApart low ranges → (numbers : List ℕ) → Ascend (EndsRun (InRanges ranges)) from numbers → length numbers ≤ length ranges
+few_ends : (low from : ℕ) (ranges : Ranges) → AreApart low ranges → (numbers : List ℕ)
+    → Ascend (EndsRun (InRanges ranges)) from numbers → length numbers ≤ length ranges
 unfolding Ascend InRanges AreApart
 few_ends low from ranges apart [] up = omega arith
 few_ends low from [] apart (n ∷ numbers) up = absurd up.1.0
@@ -43,13 +60,18 @@ few_ends low from (range ∷ others) apart (n ∷ numbers) up = go (λ start ns 
       | inr over ↦ over
     ]
 
-    go : ((start : ℕ) (ns : List ℕ) → Ascend (EndsRun (InRanges others)) start ns → length ns ≤ length others) → (n < range.end) ⊎ (range.end ≤ n) → length (n ∷ numbers) ≤ length (range ∷ others)
+    go : ((start : ℕ) (ns : List ℕ) → Ascend (EndsRun (InRanges others)) start ns → length ns ≤ length others)
+        → (n < range.end) ⊎ (range.end ≤ n) → length (n ∷ numbers) ≤ length (range ∷ others)
     go fewer (inl below) =
         let reached : range.end ≤ n + 1 = first_ends below in
-        let h : length numbers ≤ length others = fewer (n + 1) numbers (ascend_as (EndsRun (InRanges (range ∷ others))) (EndsRun (InRanges others)) (n + 1) (n + 1) numbers (omega arith) (λ m above ends. end_behind low range others apart m (omega arith) ends) up.2) in
+        let h : length numbers ≤ length others = fewer (n + 1) numbers
+        (ascend_as (EndsRun (InRanges (range ∷ others))) (EndsRun (InRanges others)) (n + 1) (n + 1) numbers
+        (omega arith) (λ m above ends. end_behind low range others apart m (omega arith) ends) up.2) in
         omega arith
     go fewer (inr past) =
-        let h : length (n ∷ numbers) ≤ length others = fewer n (n ∷ numbers) (ascend_as (EndsRun (InRanges (range ∷ others))) (EndsRun (InRanges others)) n n (n ∷ numbers) (omega arith) (λ m above ends. end_behind low range others apart m (omega arith) ends) (omega arith, up.1, up.2)) in
+        let h : length (n ∷ numbers) ≤ length others = fewer n (n ∷ numbers)
+        (ascend_as (EndsRun (InRanges (range ∷ others))) (EndsRun (InRanges others)) n n (n ∷ numbers) (omega arith)
+        (λ m above ends. end_behind low range others apart m (omega arith) ends) (omega arith, up.1, up.2)) in
         omega arith
 
 -- the ends of the runs
@@ -76,13 +98,28 @@ end_of_first low range others apart =
 ends_ascend : (low : ℕ) (ranges : Ranges) → AreApart low ranges → Ascend (EndsRun (InRanges ranges)) low (ends ranges)
 unfolding Ascend AreApart ends
 ends_ascend low [] apart = tt
-ends_ascend low (range ∷ others) apart =
-    (let a : low ≤ range.start = apart.0 in let b : range.start < range.end = apart.1 in omega arith, end_of_first low range others apart, ascend_as (EndsRun (InRanges others)) (EndsRun (InRanges (range ∷ others))) (range.end + 1) (range.end - 1 + 1) (ends others) (omega arith) (λ m above here. end_before low range others apart m (omega arith) here) (ends_ascend (range.end + 1) others apart.2))
+ends_ascend low (range ∷ others) apart = (
+  let a : low ≤ range.start = apart.0 in let b : range.start < range.end = apart.1 in omega arith,
+  end_of_first low range others apart,
+  ascend_as (EndsRun (InRanges others)) (EndsRun (InRanges (range ∷ others)))
+      (range.end + 1) (range.end - 1 + 1) (ends others) (omega arith)
+      (λ m above here. end_before low range others apart m (omega arith) here)
+      (ends_ascend (range.end + 1) others apart.2),
+)
 
 pub highest_all : (ranges : Ranges) → AreApart 0 ranges → length ranges ≤ 64 → (n : ℕ) → InRanges ranges n ↔ IsInHighest 64 (InRanges ranges) n
-highest_all ranges apart few n = (λ here. (here, λ numbers up. let h : length numbers ≤ length ranges = few_ends 0 0 ranges apart numbers (ascend_as (λ m. (n ≤ m) × EndsRun (InRanges ranges) m) (EndsRun (InRanges ranges)) 0 0 numbers (omega arith) (λ m above both. both.1) up) in omega arith), λ both. both.0)
+highest_all ranges apart few n = (
+  λ here. (
+    here,
+    λ numbers up. let h : length numbers ≤ length ranges = few_ends 0 0
+        ranges apart numbers (ascend_as (λ m. (n ≤ m) × EndsRun (InRanges ranges) m) (EndsRun (InRanges ranges)) 0 0 numbers
+        (omega arith) (λ m above both. both.1) up) in omega arith,
+  ),
+  λ both. both.0,
+)
 
-pub highest_rest : (range : Range ℕ) (others : Ranges) → AreApart 0 (range ∷ others) → length others ≡ 64 → (n : ℕ) → InRanges others n ↔ IsInHighest 64 (InRanges (range ∷ others)) n
+pub highest_rest : (range : Range ℕ) (others : Ranges) → AreApart 0 (range ∷ others) → length others ≡ 64 → (n : ℕ)
+    → InRanges others n ↔ IsInHighest 64 (InRanges (range ∷ others)) n
 unfolding InRanges AreApart Ascend ends
 highest_rest range others apart size n = (to, λ both. from both.0 both.1)
   where
@@ -91,7 +128,10 @@ highest_rest range others apart size n = (to, λ both. from both.0 both.1)
       inr here,
       λ numbers up.
           let past : range.end + 1 ≤ n = in_above (range.end + 1) others n apart.2 here in
-          let h : length numbers ≤ length others = few_ends (range.end + 1) 0 others apart.2 numbers (ascend_as (λ m. (n ≤ m) × EndsRun (InRanges (range ∷ others)) m) (EndsRun (InRanges others)) 0 0 numbers (omega arith) (λ m above both. let k : n ≤ m = both.0 in end_behind 0 range others apart m (omega arith) both.1) up) in
+          let h : length numbers ≤ length others = few_ends (range.end + 1) 0 others apart.2 numbers
+          (ascend_as (λ m. (n ≤ m) × EndsRun (InRanges (range ∷ others)) m) (EndsRun (InRanges others)) 0 0 numbers
+          (omega arith) (λ m above both. let k : n ≤ m = both.0 in end_behind 0 range others apart m (omega arith)
+          both.1) up) in
           omega arith,
     )
 
@@ -101,13 +141,20 @@ highest_rest range others apart size n = (to, λ both. from both.0 both.1)
         let inside : n < range.end = here.1 in
         let all = ends_ascend 0 (range ∷ others) apart in
         let raised : Ascend (EndsRun (InRanges (range ∷ others))) (range.end - 1) (ends (range ∷ others)) = (omega arith, all.1, all.2) in
-        let many : length (ends (range ∷ others)) ≤ 64 = few (ends (range ∷ others)) (ascend_as (EndsRun (InRanges (range ∷ others))) (λ m. (n ≤ m) × EndsRun (InRanges (range ∷ others)) m) (range.end - 1) 0 (ends (range ∷ others)) (omega arith) (λ m above ends'. (omega arith, ends')) raised) in
+        let many : length (ends (range ∷ others)) ≤ 64 = few (ends (range ∷ others))
+        (ascend_as (EndsRun (InRanges (range ∷ others))) (λ m. (n ≤ m) × EndsRun (InRanges (range ∷ others)) m)
+        (range.end - 1) 0 (ends (range ∷ others)) (omega arith) (λ m above ends'. (omega arith, ends')) raised) in
         let size' : length (ends (range ∷ others)) ≡ length (range ∷ others) = length-ends (range ∷ others) in
         absurd (omega arith)
 
 -- the highest runs of sets with the same numbers
 pub highest_alike : (A B : ℕ → Type 0) → ((n : ℕ) → A n ↔ B n) → (count n : ℕ) → IsInHighest count A n → IsInHighest count B n
-highest_alike A B alike count n high = ((alike n).0 high.0, λ numbers up. high.1 numbers (ascend_as (λ m. (n ≤ m) × EndsRun B m) (λ m. (n ≤ m) × EndsRun A m) 0 0 numbers (omega arith) (λ m above both. (both.0, ((alike m).1 both.1.0, λ next. both.1.1 ((alike (m + 1)).0 next)))) up))
+highest_alike A B alike count n high = (
+  (alike n).0 high.0,
+  λ numbers up. high.1 numbers
+      (ascend_as (λ m. (n ≤ m) × EndsRun B m) (λ m. (n ≤ m) × EndsRun A m) 0 0 numbers (omega arith)
+      (λ m above both. (both.0, ((alike m).1 both.1.0, λ next. both.1.1 ((alike (m + 1)).0 next)))) up),
+)
 
 -- ---- a number more
 
@@ -117,7 +164,9 @@ module _ (old mid : Ranges) (number : ℕ) (is_new : Bool) (inserted : InsertsOn
       let all = highest_all mid inserted.apart few n in
       (λ here. highest_alike (InRanges mid) (With number (InRanges old)) inserted.numbers 64 n (all.0 here), λ high. (inserted.numbers n).1 high.0)
 
-  pub inserted_cut : length old ≤ 64 → 64 < length mid → (popped : Option (Range ℕ)) (new : Ranges) → mid ≡ option_to_list popped ++ new → IfNone popped (mid ≡ []) → ((n : ℕ) → InRanges new n ↔ IsInHighest 64 (With number (InRanges old)) n) × (length new ≤ 64) × AreApart 0 new
+  pub inserted_cut : length old ≤ 64 → 64 < length mid → (popped : Option (Range ℕ)) (new : Ranges)
+      → mid ≡ option_to_list popped ++ new → IfNone popped (mid ≡ [])
+      → ((n : ℕ) → InRanges new n ↔ IsInHighest 64 (With number (InRanges old)) n) × (length new ≤ 64) × AreApart 0 new
   inserted_cut few many None new is none = absurd (let h : length mid ≡ 0 = ap length none in omega arith)
   inserted_cut few many (Some range) new is none =
       let apart : AreApart 0 (range ∷ new) = subst (λ (rs : Ranges). AreApart 0 rs) is inserted.apart in
@@ -125,15 +174,21 @@ module _ (old mid : Ranges) (number : ℕ) (is_new : Bool) (inserted : InsertsOn
       let bound : length mid ≤ length old + 1 = inserted.count in
       let sixty_four : length new ≡ 64 = omega arith in (
         λ n. (
-          λ here. highest_alike (InRanges mid) (With number (InRanges old)) inserted.numbers 64 n (subst (λ (rs : Ranges). IsInHighest 64 (InRanges rs) n) (sym is) ((highest_rest range new apart sixty_four n).0 here)),
-          λ high. (highest_rest range new apart sixty_four n).1 (subst (λ (rs : Ranges). IsInHighest 64 (InRanges rs) n) is (highest_alike (With number (InRanges old)) (InRanges mid) (λ m. ((inserted.numbers m).1, (inserted.numbers m).0)) 64 n high)),
+          λ here. highest_alike (InRanges mid) (With number (InRanges old)) inserted.numbers 64 n
+              (subst (λ (rs : Ranges). IsInHighest 64 (InRanges rs) n) (sym is)
+              ((highest_rest range new apart sixty_four n).0 here)),
+          λ high. (highest_rest range new apart sixty_four n).1
+              (subst (λ (rs : Ranges). IsInHighest 64 (InRanges rs) n) is
+              (highest_alike (With number (InRanges old)) (InRanges mid)
+              (λ m. ((inserted.numbers m).1, (inserted.numbers m).0)) 64 n high)),
         ),
         omega arith,
         apart_rest 0 range new apart,
       )
 
 -- where more than 64 ranges stood before the cut, some stand after it
-pub some_after_cut : (mid new : Ranges) (popped : Option (Range ℕ)) → 64 < length mid → mid ≡ option_to_list popped ++ new → AreApart 0 new → (n : ℕ) × InRanges new n
+pub some_after_cut : (mid new : Ranges) (popped : Option (Range ℕ)) → 64 < length mid
+    → mid ≡ option_to_list popped ++ new → AreApart 0 new → (n : ℕ) × InRanges new n
 unfolding InRanges AreApart
 some_after_cut mid [] None many is apart = absurd (let h : length mid ≡ 0 = ap length is in omega arith)
 some_after_cut mid [] (Some range) many is apart = absurd (let h : length mid ≡ 1 = ap length is in omega arith)

@@ -8,7 +8,8 @@ use Rattle.recovery_base.proofs.KnownLaws.{known_below, known_greatest}
 use Rattle.recovery_base.proofs.WindowLaws.{HasGreatest, window_of_all, greatest_with, missing_with}
 
 -- sets from which the same numbers are missing
-pub least_missing_by : (A B : ℕ → Type 0) → ((m : ℕ) → IsMissing A m ↔ IsMissing B m) → (low high : ℕ) (found : Option ℕ) → IsLeastMissing A low high found → IsLeastMissing B low high found
+pub least_missing_by : (A B : ℕ → Type 0) → ((m : ℕ) → IsMissing A m ↔ IsMissing B m)
+    → (low high : ℕ) (found : Option ℕ) → IsLeastMissing A low high found → IsLeastMissing B low high found
 least_missing_by A B same low high None none = λ m above below missing. none m above below ((same m).1 missing)
 least_missing_by A B same low high (Some n) least = (least.0, least.1, (same n).0 least.2, λ m above below missing. least.3 m above below ((same m).1 missing))
 
@@ -47,7 +48,11 @@ unfolding Has
 has_greatest dedup = go (cases_lt 0 dedup.next)
   where
     go : (0 < dedup.next) ⊎ (dedup.next ≤ 0) → HasGreatest (Has dedup)
-    go (inl some) = inr (dedup.next - 1, known_greatest (IsSet dedup.window) dedup.next some, λ m here. let h : m < dedup.next = known_below (IsSet dedup.window) dedup.next m here in omega arith)
+    go (inl some) = inr (
+      dedup.next - 1,
+      known_greatest (IsSet dedup.window) dedup.next some,
+      λ m here. let h : m < dedup.next = known_below (IsSet dedup.window) dedup.next m here in omega arith,
+    )
     go (inr none) = inl (λ m here. let h : m < dedup.next = known_below (IsSet dedup.window) dedup.next m here in absurd (omega arith))
 
 -- a number that does not exceed a set with a greatest one is reached by it
@@ -60,7 +65,8 @@ reached Numbers (inr g) n within = go (cases_lt g.0 n)
     go (inr below) = (g.0, g.1, below)
 
 -- what was reached is reached when one number more came
-pub stays_reached : (Old New : ℕ → Type 0) (number : ℕ) → HasGreatest Old → ((n : ℕ) → New n ↔ Recent (With number Old) n) → (n : ℕ) → ¬ Exceeds Old n → ¬ Exceeds New n
+pub stays_reached : (Old New : ℕ → Type 0) (number : ℕ) → HasGreatest Old
+    → ((n : ℕ) → New n ↔ Recent (With number Old) n) → (n : ℕ) → ¬ Exceeds Old n → ¬ Exceeds New n
 stays_reached Old New number greatest step n within exceeds = within (go (greatest_with Old number greatest))
   where
     go : HasGreatest (With number Old) → Exceeds Old n

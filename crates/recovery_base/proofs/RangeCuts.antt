@@ -14,7 +14,9 @@ unfoldable pub NoneSpans : ℕ → ℕ → Ranges → Type 0
 NoneSpans start end [] = Unit {0}
 NoneSpans start end (range ∷ others) = ((range.start < start) → range.end ≤ end) × NoneSpans start end others
 
-clipped_by : (start end : ℕ) (range : Range ℕ) (below : Bool) → ltb range.start start ≡ below → clipped start end range ≡ cond below (span range.start (min range.end start)) (span (max range.start end) range.end)
+clipped_by : (start end : ℕ) (range : Range ℕ) (below : Bool) → ltb range.start start ≡ below
+    → clipped start end range ≡ cond below (span range.start (min range.end start))
+    (span (max range.start end) range.end)
 clipped_by start end range below is = ap (λ b. cond b (span range.start (min range.end start)) (span (max range.start end) range.end)) is
 
 record Clips (start end : ℕ) (range new : Range ℕ) : Type 0 where
@@ -23,7 +25,8 @@ record Clips (start end : ℕ) (range new : Range ℕ) : Type 0 where
   keeps : (n : ℕ) → range.start ≤ n → n < range.end → ¬ IsBetween start end n → (new.start ≤ n) × (n < new.end)
   takes : (n : ℕ) → new.start ≤ n → n < new.end → ¬ IsBetween start end n
 
-clips : (start end : ℕ) (range : Range ℕ) → start < end → ((range.start < start) → range.end ≤ end) → (below : Bool) → ltb range.start start ≡ below → Clips start end range (clipped start end range)
+clips : (start end : ℕ) (range : Range ℕ) → start < end → ((range.start < start) → range.end ≤ end) → (below : Bool)
+    → ltb range.start start ≡ below → Clips start end range (clipped start end range)
 clips start end range some short true is =
     let lower : range.start < start = ltb-true range.start start is in
     let under : range.end ≤ end = short lower in
@@ -47,7 +50,9 @@ record Cut (start end low : ℕ) (ranges new : Ranges) : Type 0 where
   to : (n : ℕ) → InRanges new n → InRanges ranges n × ¬ IsBetween start end n
   from : (n : ℕ) → InRanges ranges n → ¬ IsBetween start end n → InRanges new n
 
-cut_one : (start end low : ℕ) (range new : Range ℕ) (others left : Ranges) → low ≤ range.start → range.start < range.end → Clips start end range new → Cut start end (range.end + 1) others left → (some : Bool) → is_some_range new ≡ some → Cut start end low (range ∷ others) (cond some (new ∷ left) left)
+cut_one : (start end low : ℕ) (range new : Range ℕ) (others left : Ranges) → low ≤ range.start → range.start < range.end
+    → Clips start end range new → Cut start end (range.end + 1) others left → (some : Bool) → is_some_range new ≡ some
+    → Cut start end low (range ∷ others) (cond some (new ∷ left) left)
 unfolding InRanges AreApart
 cut_one start end low range new others left first filled clip rest true is =
     let a : range.start ≤ new.start = clip.from in
@@ -71,7 +76,8 @@ cut_one start end low range new others left first filled clip rest false is =
       ];
     }
 
-cut_all : (start end low : ℕ) (ranges : Ranges) → start < end → NoneSpans start end ranges → AreApart low ranges → Cut start end low ranges (cut_ranges start end ranges)
+cut_all : (start end low : ℕ) (ranges : Ranges) → start < end → NoneSpans start end ranges → AreApart low ranges
+    → Cut start end low ranges (cut_ranges start end ranges)
 unfolding NoneSpans AreApart InRanges
 cut_all start end low [] some none apart = record { apart = tt; to = λ n here. absurd here; from = λ n here out. here }
 cut_all start end low (range ∷ others) some none apart =
@@ -86,10 +92,12 @@ count_one false range left others less = omega arith
 
 cut_count : (start end : ℕ) (ranges : Ranges) → length (cut_ranges start end ranges) ≤ length ranges
 cut_count start end [] = omega arith
-cut_count start end (range ∷ others) = count_one (is_some_range (clipped start end range)) (clipped start end range) (cut_ranges start end others) others (cut_count start end others)
+cut_count start end (range ∷ others) = count_one (is_some_range (clipped start end range)) (clipped start end range)
+    (cut_ranges start end others) others (cut_count start end others)
 
 -- what a cut leaves, where some number leaves
-pub cut_removes : (start end : ℕ) (ranges : Ranges) → start < end → NoneSpans start end ranges → AreApart 0 ranges → (n : ℕ) × InRanges ranges n × IsBetween start end n → Removes ranges start end true (cut_ranges start end ranges)
+pub cut_removes : (start end : ℕ) (ranges : Ranges) → start < end → NoneSpans start end ranges → AreApart 0 ranges
+    → (n : ℕ) × InRanges ranges n × IsBetween start end n → Removes ranges start end true (cut_ranges start end ranges)
 cut_removes start end ranges some none apart one =
     let cut = cut_all start end 0 ranges some none apart in
     record {
@@ -100,7 +108,8 @@ cut_removes start end ranges some none apart one =
     }
 
 -- nothing leaves
-pub removes_none : (start end : ℕ) (ranges : Ranges) → AreApart 0 ranges → ((n : ℕ) → IsBetween start end n → ¬ InRanges ranges n) → Removes ranges start end false ranges
+pub removes_none : (start end : ℕ) (ranges : Ranges) → AreApart 0 ranges
+    → ((n : ℕ) → IsBetween start end n → ¬ InRanges ranges n) → Removes ranges start end false ranges
 removes_none start end ranges apart none = record {
   answer = none;
   numbers = λ n. (λ here. (here, λ between. none n between here), λ both. both.0);
@@ -116,31 +125,48 @@ spans_joined start end (range ∷ before) after first second = (first.0, spans_j
 below_spans : (start end low : ℕ) (before : Ranges) → start < end → AreApart low before → floor_above low before ≤ start + 1 → NoneSpans start end before
 unfolding NoneSpans AreApart floor_above
 below_spans start end low [] some apart below = tt
-below_spans start end low (range ∷ before) some apart below = (λ _. (let h : range.end + 1 ≤ floor_above (range.end + 1) before = floor_grows (range.end + 1) before apart.2 in omega arith), below_spans start end (range.end + 1) before some apart.2 below)
+below_spans start end low (range ∷ before) some apart below = (
+  λ _. (let h : range.end + 1 ≤ floor_above (range.end + 1) before = floor_grows (range.end + 1) before
+      apart.2 in omega arith),
+  below_spans start end (range.end + 1) before some apart.2 below,
+)
 
 above_spans : (start end low : ℕ) (after : Ranges) → start ≤ low → AreApart low after → NoneSpans start end after
 unfolding NoneSpans AreApart
 above_spans start end low [] above apart = tt
-above_spans start end low (range ∷ after) above apart = let a : low ≤ range.start = apart.0 in let b : range.start < range.end = apart.1 in (λ lower. absurd (omega arith), above_spans start end (range.end + 1) after (omega arith) apart.2)
+above_spans start end low (range ∷ after) above apart = let a : low ≤ range.start = apart.0 in let b : range.start <
+    range.end = apart.1 in (
+      λ lower. absurd (omega arith),
+      above_spans start end (range.end + 1) after (omega arith)
+          apart.2,
+    )
 
 in_far_below : (low : ℕ) (ranges : Ranges) (n : ℕ) → AreApart low ranges → InRanges ranges n → n + 1 < floor_above low ranges
 unfolding InRanges AreApart floor_above
 in_far_below low [] n apart here = absurd here
-in_far_below low (range ∷ others) n apart (inl here) = let h : n < range.end = here.1 in let f : range.end + 1 ≤ floor_above (range.end + 1) others = floor_grows (range.end + 1) others apart.2 in omega arith
+in_far_below low (range ∷ others) n apart (inl here) = let h : n < range.end = here.1 in let f : range.end + 1 ≤
+    floor_above (range.end + 1) others = floor_grows (range.end + 1) others apart.2 in omega arith
 in_far_below low (range ∷ others) n apart (inr there) = in_far_below (range.end + 1) others n apart.2 there
 
 -- ---- numbers out of the ranges, by places
 
 module _ (ranges : Ranges) (start end at : ℕ) (apart : AreApart 0 ranges) (some : start < end) (place : IsPlace ranges (start + 1) at) where
   far_below : (n : ℕ) → InRanges (take at ranges) n → n < start
-  far_below n here = let h : n + 1 < floor_above 0 (take at ranges) = in_far_below 0 (take at ranges) n (apart_left 0 (take at ranges) (drop at ranges) (subst (λ (rs : Ranges). AreApart 0 rs) (sym (take-append-drop at ranges)) apart)) here in let k : floor_above 0 (take at ranges) ≤ start + 1 = place.below in omega arith
+  far_below n here = let h : n + 1 < floor_above 0 (take at ranges) = in_far_below 0 (take at ranges) n
+      (apart_left 0 (take at ranges) (drop at ranges) (subst (λ (rs : Ranges). AreApart 0 rs)
+      (sym (take-append-drop at ranges)) apart)) here in let k : floor_above 0 (take at ranges) ≤ start + 1 =
+      place.below in omega arith
 
   pub none_at_end : at ≡ length ranges → Removes ranges start end false ranges
-  none_at_end last = removes_none start end ranges apart (λ n between here. let h : n < start = far_below n (subst (λ (rs : Ranges). InRanges rs n) (sym (take_all at ranges (omega arith))) here) in let k : start ≤ n = between.0 in omega arith)
+  none_at_end last = removes_none start end ranges apart (λ n between here. let h : n < start = far_below n
+      (subst (λ (rs : Ranges). InRanges rs n) (sym (take_all at ranges (omega arith))) here) in let k : start ≤ n =
+      between.0 in omega arith)
 
   module _ (range : Range ℕ) (within : at < length ranges) (is : range ≡ get_or ranges at range) where
     split : take at ranges ++ (range ∷ drop (suc at) ranges) ≡ ranges
-    split = ap (λ (r : Range ℕ). take at ranges ++ (r ∷ drop (suc at) ranges)) is ∙ ap (λ (rs : Ranges). take at ranges ++ rs) (sym (drop-cons ranges at range within)) ∙ take-append-drop at ranges
+    split = ap (λ (r : Range ℕ). take at ranges ++ (r ∷ drop (suc at) ranges)) is
+        ∙ ap (λ (rs : Ranges). take at ranges ++ rs) (sym (drop-cons ranges at range within))
+        ∙ take-append-drop at ranges
 
     apart_split : AreApart 0 (take at ranges ++ (range ∷ drop (suc at) ranges))
     apart_split = subst (λ (rs : Ranges). AreApart 0 rs) (sym split) apart
@@ -149,33 +175,58 @@ module _ (ranges : Ranges) (start end at : ℕ) (apart : AreApart 0 ranges) (som
     right = apart_right 0 (take at ranges) (range ∷ drop (suc at) ranges) apart_split
 
     ends_past : start < range.end
-    ends_past = let h : start + 1 ≤ range.end = subst (λ (rs : Ranges). EndsFrom (start + 1) rs) (sym (ap (λ (r : Range ℕ). r ∷ drop (suc at) ranges) is ∙ sym (drop-cons ranges at range within))) place.above in omega arith
+    ends_past = let h : start + 1 ≤ range.end = subst (λ (rs : Ranges). EndsFrom (start + 1) rs)
+        (sym (ap (λ (r : Range ℕ). r ∷ drop (suc at) ranges) is ∙ sym (drop-cons ranges at range within)))
+        place.above in omega arith
 
     pub none_before : end ≤ range.start → Removes ranges start end false ranges
     unfolding AreApart
-    none_before past = removes_none start end ranges apart (λ n between here. elim (in_joined (take at ranges) (range ∷ drop (suc at) ranges) n (subst (λ (rs : Ranges). InRanges rs n) (sym split) here)) [
-      | inl h ↦ (let a : n < start = far_below n h in let b : start ≤ n = between.0 in omega arith)
-      | inr h ↦ (let a : range.start ≤ n = in_above range.start (range ∷ drop (suc at) ranges) n (omega arith, right.1, right.2) h in let b : n < end = between.1 in omega arith)
-    ])
+    none_before past = removes_none start end ranges apart (λ n between here. elim
+        (in_joined (take at ranges) (range ∷ drop (suc at) ranges) n
+        (subst (λ (rs : Ranges). InRanges rs n) (sym split) here)) [
+          | inl h ↦ (let a : n < start = far_below n h in let b : start ≤ n = between.0 in omega arith)
+          | inr h ↦ (let a : range.start ≤ n = in_above range.start (range ∷ drop (suc at) ranges) n
+              (omega arith, right.1, right.2) h in let b : n < end = between.1 in omega arith)
+        ])
 
     one : range.start < end → (n : ℕ) × InRanges ranges n × IsBetween start end n
     unfolding InRanges AreApart
-    one before = (max range.start start, subst (λ (rs : Ranges). InRanges rs (max range.start start)) split (in_right (take at ranges) (range ∷ drop (suc at) ranges) (max range.start start) (inl (omega arith, let a : range.start < range.end = right.1 in let b : start < range.end = ends_past in omega arith))), (omega arith, omega arith))
+    one before = (
+      max range.start start,
+      subst (λ (rs : Ranges). InRanges rs (max range.start start)) split
+          (in_right (take at ranges) (range ∷ drop (suc at) ranges) (max range.start start)
+          (inl (
+            omega arith,
+            let a : range.start < range.end = right.1 in let b : start < range.end = ends_past in omega
+                arith,
+          ))),
+      (omega arith, omega arith),
+    )
 
     pub none_spans : ((range.start < start) → range.end ≤ end) → NoneSpans start end ranges
     unfolding NoneSpans AreApart
-    none_spans short = subst (λ (rs : Ranges). NoneSpans start end rs) split (spans_joined start end (take at ranges) (range ∷ drop (suc at) ranges) (below_spans start end 0 (take at ranges) some (apart_left 0 (take at ranges) (range ∷ drop (suc at) ranges) apart_split) place.below) (short, above_spans start end (range.end + 1) (drop (suc at) ranges) (let h : start < range.end = ends_past in omega arith) right.2))
+    none_spans short = subst (λ (rs : Ranges). NoneSpans start end rs) split
+        (spans_joined start end (take at ranges) (range ∷ drop (suc at) ranges)
+        (below_spans start end 0 (take at ranges) some (apart_left 0 (take at ranges) (range ∷ drop (suc at) ranges)
+        apart_split) place.below) (
+          short,
+          above_spans start end (range.end + 1) (drop (suc at) ranges)
+              (let h : start < range.end = ends_past in omega arith) right.2,
+        ))
 
     pub cut_at : range.start < end → ((range.start < start) → range.end ≤ end) → Removes ranges start end true (cut_ranges start end ranges)
     cut_at before short = cut_removes start end ranges some (none_spans short) apart (one before)
 
     -- a range that holds numbers on both sides becomes two
-    pub splits : range.start < start → end < range.end → Removes ranges start end true (set (insert ranges (at + 1) (span end range.end)) at (span range.start start))
+    pub splits : range.start < start → end < range.end
+        → Removes ranges start end true (set (insert ranges (at + 1) (span end range.end)) at (span range.start start))
     unfolding InRanges AreApart
     splits lower upper = subst (λ (rs : Ranges). Removes ranges start end true rs) (sym made) (record {
       answer = one (omega arith);
       numbers = λ n. (to n, λ both. from n both.0 both.1);
-      apart = apart_joined 0 (take at ranges) (span range.start start ∷ span end range.end ∷ drop (suc at) ranges) (apart_left 0 (take at ranges) (range ∷ drop (suc at) ranges) apart_split) (right.0, lower, (omega arith, upper, right.2));
+      apart = apart_joined 0 (take at ranges) (span range.start start ∷ span end range.end ∷ drop (suc at) ranges)
+          (apart_left 0 (take at ranges) (range ∷ drop (suc at) ranges) apart_split)
+          (right.0, lower, (omega arith, upper, right.2));
       count = λ zero. absurd (omega arith);
     })
       where
@@ -183,24 +234,49 @@ module _ (ranges : Ranges) (start end at : ℕ) (apart : AreApart 0 ranges) (som
         front = ap (λ i. take i ranges) (add-one at) ∙ take-suc ranges at range within ∙ ap (λ (r : Range ℕ). take at ranges ++ (r ∷ [])) (sym is)
 
         put : insert ranges (at + 1) (span end range.end) ≡ take at ranges ++ (range ∷ span end range.end ∷ drop (suc at) ranges)
-        put = ap (λ (rs : Ranges). rs ++ span end range.end ∷ drop (at + 1) ranges) front ∙ append_assoc (take at ranges) (range ∷ []) (span end range.end ∷ drop (at + 1) ranges) ∙ ap (λ i. take at ranges ++ (range ∷ span end range.end ∷ drop i ranges)) (add-one at)
+        put = ap (λ (rs : Ranges). rs ++ span end range.end ∷ drop (at + 1) ranges) front
+            ∙ append_assoc (take at ranges) (range ∷ []) (span end range.end ∷ drop (at + 1) ranges)
+            ∙ ap (λ i. take at ranges ++ (range ∷ span end range.end ∷ drop i ranges)) (add-one at)
 
-        made : set (insert ranges (at + 1) (span end range.end)) at (span range.start start) ≡ take at ranges ++ (span range.start start ∷ span end range.end ∷ drop (suc at) ranges)
-        made = ap (λ (rs : Ranges). set rs at (span range.start start)) put ∙ set_at (take at ranges) range (span end range.end ∷ drop (suc at) ranges) (span range.start start) at (length-take-le at ranges (omega arith))
+        made : set (insert ranges (at + 1) (span end range.end)) at (span range.start start) ≡ take at ranges
+            ++ (span range.start start ∷ span end range.end ∷ drop (suc at) ranges)
+        made = ap (λ (rs : Ranges). set rs at (span range.start start)) put
+            ∙ set_at (take at ranges) range (span end range.end ∷ drop (suc at) ranges) (span range.start start) at
+            (length-take-le at ranges (omega arith))
 
-        to : (n : ℕ) → InRanges (take at ranges ++ (span range.start start ∷ span end range.end ∷ drop (suc at) ranges)) n → InRanges ranges n × ¬ IsBetween start end n
+        to : (n : ℕ)
+            → InRanges (take at ranges ++ (span range.start start ∷ span end range.end ∷ drop (suc at) ranges)) n
+            → InRanges ranges n × ¬ IsBetween start end n
         to n here = elim (in_joined (take at ranges) (span range.start start ∷ span end range.end ∷ drop (suc at) ranges) n here) [
-          | inl h ↦ (subst (λ (rs : Ranges). InRanges rs n) split (in_left (take at ranges) (range ∷ drop (suc at) ranges) n h), λ between. let a : n < start = far_below n h in let b : start ≤ n = between.0 in omega arith)
+          | inl h ↦ (
+            subst (λ (rs : Ranges). InRanges rs n) split
+                (in_left (take at ranges) (range ∷ drop (suc at) ranges) n h),
+            λ between. let a : n < start = far_below n h in let b : start ≤ n = between.0 in omega arith,
+          )
           | inr h ↦ elim h [
-            | inl k ↦ (let a : n < start = k.1 in (subst (λ (rs : Ranges). InRanges rs n) split (in_right (take at ranges) (range ∷ drop (suc at) ranges) n (inl (k.0, omega arith))), λ between. let b : start ≤ n = between.0 in omega arith))
+            | inl k ↦ (let a : n < start = k.1 in (
+              subst (λ (rs : Ranges). InRanges rs n) split
+                  (in_right (take at ranges) (range ∷ drop (suc at) ranges) n (inl (k.0, omega arith))),
+              λ between. let b : start ≤ n = between.0 in omega arith,
+            ))
             | inr rest ↦ elim rest [
-              | inl k ↦ (let a : end ≤ n = k.0 in (subst (λ (rs : Ranges). InRanges rs n) split (in_right (take at ranges) (range ∷ drop (suc at) ranges) n (inl (omega arith, k.1))), λ between. let b : n < end = between.1 in omega arith))
-              | inr k ↦ (subst (λ (rs : Ranges). InRanges rs n) split (in_right (take at ranges) (range ∷ drop (suc at) ranges) n (inr k)), λ between. let a : range.end + 1 ≤ n = in_above (range.end + 1) (drop (suc at) ranges) n right.2 k in let b : n < end = between.1 in omega arith)
+              | inl k ↦ (let a : end ≤ n = k.0 in (
+                subst (λ (rs : Ranges). InRanges rs n) split
+                    (in_right (take at ranges) (range ∷ drop (suc at) ranges) n (inl (omega arith, k.1))),
+                λ between. let b : n < end = between.1 in omega arith,
+              ))
+              | inr k ↦ (
+                subst (λ (rs : Ranges). InRanges rs n) split
+                    (in_right (take at ranges) (range ∷ drop (suc at) ranges) n (inr k)),
+                λ between. let a : range.end + 1 ≤ n = in_above (range.end + 1) (drop (suc at) ranges) n right.2
+                    k in let b : n < end = between.1 in omega arith,
+              )
             ]
           ]
         ]
 
-        from : (n : ℕ) → InRanges ranges n → ¬ IsBetween start end n → InRanges (take at ranges ++ (span range.start start ∷ span end range.end ∷ drop (suc at) ranges)) n
+        from : (n : ℕ) → InRanges ranges n → ¬ IsBetween start end n
+            → InRanges (take at ranges ++ (span range.start start ∷ span end range.end ∷ drop (suc at) ranges)) n
         from n here out = elim (in_joined (take at ranges) (range ∷ drop (suc at) ranges) n (subst (λ (rs : Ranges). InRanges rs n) (sym split) here)) [
           | inl h ↦ in_left (take at ranges) (span range.start start ∷ span end range.end ∷ drop (suc at) ranges) n h
           | inr h ↦ in_right (take at ranges) (span range.start start ∷ span end range.end ∷ drop (suc at) ranges) n (elim h [

@@ -32,7 +32,8 @@ apart_lower low other (range ∷ others) less apart = (let h : low ≤ range.sta
 
 pub apart_rest : (low : ℕ) (range : Range ℕ) (others : Ranges) → AreApart low (range ∷ others) → AreApart low others
 unfolding AreApart
-apart_rest low range others apart = apart_lower (range.end + 1) low others (let a : low ≤ range.start = apart.0 in let b : range.start < range.end = apart.1 in omega arith) apart.2
+apart_rest low range others apart = apart_lower (range.end + 1) low others
+    (let a : low ≤ range.start = apart.0 in let b : range.start < range.end = apart.1 in omega arith) apart.2
 
 -- ranges before others
 
@@ -90,7 +91,8 @@ floor_grows low (range ∷ others) apart =
 pub in_below : (low : ℕ) (ranges : Ranges) (n : ℕ) → AreApart low ranges → InRanges ranges n → n < floor_above low ranges
 unfolding InRanges AreApart floor_above
 in_below low [] n apart here = absurd here
-in_below low (range ∷ others) n apart (inl here) = let h : n < range.end = here.1 in let f : range.end + 1 ≤ floor_above (range.end + 1) others = floor_grows (range.end + 1) others apart.2 in omega arith
+in_below low (range ∷ others) n apart (inl here) = let h : n < range.end = here.1 in let f : range.end + 1 ≤ floor_above
+    (range.end + 1) others = floor_grows (range.end + 1) others apart.2 in omega arith
 in_below low (range ∷ others) n apart (inr there) = in_below (range.end + 1) others n apart.2 there
 
 -- the first of some ranges begins above x
@@ -106,7 +108,10 @@ apart_raised low x (range ∷ others) above apart = (let h : x < range.start = a
 -- ---- one number more
 
 -- some ranges stand for others with the number
-replaced : (before old new after : Ranges) (x : ℕ) → AreApart 0 (before ++ (old ++ after)) → AreApart (floor_above 0 before) (new ++ after) → ((n : ℕ) → InRanges new n ↔ With x (InRanges old) n) → length new ≤ length old + 1 → (¬ InRanges (before ++ (old ++ after)) x) → InsertsOne (before ++ (old ++ after)) x true (before ++ (new ++ after))
+replaced : (before old new after : Ranges) (x : ℕ) → AreApart 0 (before ++ (old ++ after))
+    → AreApart (floor_above 0 before) (new ++ after) → ((n : ℕ) → InRanges new n ↔ With x (InRanges old) n)
+    → length new ≤ length old + 1 → (¬ InRanges (before ++ (old ++ after)) x)
+    → InsertsOne (before ++ (old ++ after)) x true (before ++ (new ++ after))
 replaced before old new after x apart fits numbers few absent = record {
   answer = absent;
   numbers = λ n. (to n, from n);
@@ -143,9 +148,14 @@ absent_above : (low : ℕ) (ranges : Ranges) (x : ℕ) → x < low → AreApart 
 absent_above low ranges x less apart here = let h : low ≤ x = in_above low ranges x apart here in omega arith
 
 module _ (before : Ranges) (x : ℕ) (low : floor_above 0 before ≤ x) where
-  pub adds_alone : (after : Ranges) → AreApart 0 (before ++ after) → BeginsAbove (x + 1) after → InsertsOne (before ++ after) x true (before ++ (span x (x + 1) ∷ after))
+  pub adds_alone : (after : Ranges) → AreApart 0 (before ++ after) → BeginsAbove (x + 1) after
+      → InsertsOne (before ++ after) x true (before ++ (span x (x + 1) ∷ after))
   unfolding AreApart InRanges
-  adds_alone after apart above = replaced before [] (span x (x + 1) ∷ []) after x apart (low, omega arith, apart_raised (floor_above 0 before) (x + 1) after above (apart_right 0 before after apart)) (λ n. (to n, from n)) (omega arith) (absent_from before after x low apart (absent_above (x + 1 + 1) after x (omega arith) (apart_raised (floor_above 0 before) (x + 1) after above (apart_right 0 before after apart))))
+  adds_alone after apart above = replaced before [] (span x (x + 1) ∷ []) after x apart
+      (low, omega arith, apart_raised (floor_above 0 before) (x + 1) after above (apart_right 0 before after apart))
+      (λ n. (to n, from n)) (omega arith) (absent_from before after x low apart
+      (absent_above (x + 1 + 1) after x (omega arith) (apart_raised (floor_above 0 before) (x + 1) after above
+      (apart_right 0 before after apart))))
     where
       to : (n : ℕ) → InRanges (span x (x + 1) ∷ []) n → With x (InRanges []) n
       to n (inl here) = let a : x ≤ n = here.0 in let b : n < x + 1 = here.1 in inl (omega arith)
@@ -155,9 +165,13 @@ module _ (before : Ranges) (x : ℕ) (low : floor_above 0 before ≤ x) where
       from n (inl same) = inl (omega arith, omega arith)
       from n (inr none) = absurd none
 
-  pub adds_below : (range : Range ℕ) (after : Ranges) → AreApart 0 (before ++ (range ∷ after)) → x + 1 ≡ range.start → InsertsOne (before ++ (range ∷ after)) x true (before ++ (span x range.end ∷ after))
+  pub adds_below : (range : Range ℕ) (after : Ranges) → AreApart 0 (before ++ (range ∷ after)) → x + 1 ≡ range.start
+      → InsertsOne (before ++ (range ∷ after)) x true (before ++ (span x range.end ∷ after))
   unfolding AreApart InRanges
-  adds_below range after apart touches = replaced before (range ∷ []) (span x range.end ∷ []) after x apart (low, (let h : range.start < range.end = right.1 in omega arith), right.2) (λ n. (to n, from n)) (omega arith) (absent_from before (range ∷ after) x low apart (absent_above (x + 1) (range ∷ after) x (omega arith) (omega arith, right.1, right.2)))
+  adds_below range after apart touches = replaced before (range ∷ []) (span x range.end ∷ []) after x apart
+      (low, (let h : range.start < range.end = right.1 in omega arith), right.2) (λ n. (to n, from n)) (omega arith)
+      (absent_from before (range ∷ after) x low apart (absent_above (x + 1) (range ∷ after) x (omega arith)
+      (omega arith, right.1, right.2)))
     where
       right : AreApart (floor_above 0 before) (range ∷ after)
       right = apart_right 0 before (range ∷ after) apart
@@ -171,9 +185,17 @@ module _ (before : Ranges) (x : ℕ) (low : floor_above 0 before ≤ x) where
       from n (inr (inl here)) = inl (let a : range.start ≤ n = here.0 in omega arith, here.1)
       from n (inr (inr none)) = absurd none
 
-  pub adds_above : (range : Range ℕ) (after : Ranges) → AreApart 0 (before ++ (range ∷ after)) → range.end ≡ x → BeginsAbove (x + 1) after → InsertsOne (before ++ (range ∷ after)) x true (before ++ (span range.start (x + 1) ∷ after))
+  pub adds_above : (range : Range ℕ) (after : Ranges) → AreApart 0 (before ++ (range ∷ after)) → range.end ≡ x
+      → BeginsAbove (x + 1) after
+      → InsertsOne (before ++ (range ∷ after)) x true (before ++ (span range.start (x + 1) ∷ after))
   unfolding AreApart InRanges
-  adds_above range after apart touches above = replaced before (range ∷ []) (span range.start (x + 1) ∷ []) after x apart (right.0, (let h : range.start < range.end = right.1 in omega arith), apart_raised (range.end + 1) (x + 1) after above right.2) (λ n. (to n, from n)) (omega arith) (absent_from before (range ∷ after) x low apart absent)
+  adds_above range after apart touches above = replaced before (range ∷ []) (span range.start (x + 1) ∷ []) after x
+      apart (
+        right.0,
+        (let h : range.start < range.end = right.1 in omega arith),
+        apart_raised (range.end + 1) (x + 1) after above right.2,
+      ) (λ n. (to n, from n)) (omega arith)
+      (absent_from before (range ∷ after) x low apart absent)
     where
       right : AreApart (floor_above 0 before) (range ∷ after)
       right = apart_right 0 before (range ∷ after) apart
@@ -191,9 +213,16 @@ module _ (before : Ranges) (x : ℕ) (low : floor_above 0 before ≤ x) where
       from n (inr (inl here)) = inl (here.0, let a : n < range.end = here.1 in omega arith)
       from n (inr (inr none)) = absurd none
 
-  pub adds_joining : (range next : Range ℕ) (after : Ranges) → AreApart 0 (before ++ (range ∷ next ∷ after)) → range.end ≡ x → next.start ≡ x + 1 → InsertsOne (before ++ (range ∷ next ∷ after)) x true (before ++ (span range.start next.end ∷ after))
+  pub adds_joining : (range next : Range ℕ) (after : Ranges) → AreApart 0 (before ++ (range ∷ next ∷ after))
+      → range.end ≡ x → next.start ≡ x + 1
+      → InsertsOne (before ++ (range ∷ next ∷ after)) x true (before ++ (span range.start next.end ∷ after))
   unfolding AreApart InRanges
-  adds_joining range next after apart touches follows = replaced before (range ∷ next ∷ []) (span range.start next.end ∷ []) after x apart (right.0, (let h : range.start < range.end = right.1 in let k : next.start < next.end = right.2.1 in omega arith), right.2.2) (λ n. (to n, from n)) (omega arith) (absent_from before (range ∷ next ∷ after) x low apart absent)
+  adds_joining range next after apart touches follows = replaced before (range ∷ next ∷ [])
+      (span range.start next.end ∷ []) after x apart (
+        right.0,
+        (let h : range.start < range.end = right.1 in let k : next.start < next.end = right.2.1 in omega arith),
+        right.2.2,
+      ) (λ n. (to n, from n)) (omega arith) (absent_from before (range ∷ next ∷ after) x low apart absent)
     where
       right : AreApart (floor_above 0 before) (range ∷ next ∷ after)
       right = apart_right 0 before (range ∷ next ∷ after) apart
@@ -215,11 +244,16 @@ module _ (before : Ranges) (x : ℕ) (low : floor_above 0 before ≤ x) where
       from n (inr (inr (inl here))) = let a : next.start ≤ n = here.0 in let h : range.start < range.end = right.1 in inl (omega arith, here.1)
       from n (inr (inr (inr none))) = absurd none
 
-  pub known : (range : Range ℕ) (after : Ranges) → AreApart 0 (before ++ (range ∷ after)) → range.start ≤ x → x < range.end → InsertsOne (before ++ (range ∷ after)) x false (before ++ (range ∷ after))
+  pub known : (range : Range ℕ) (after : Ranges) → AreApart 0 (before ++ (range ∷ after)) → range.start ≤ x
+      → x < range.end → InsertsOne (before ++ (range ∷ after)) x false (before ++ (range ∷ after))
   unfolding AreApart InRanges
   known range after apart from to = record {
     answer = here;
-    numbers = λ n. (λ there. inr there, λ with_x. elim with_x [ inl same ↦ subst (λ k. InRanges (before ++ (range ∷ after)) k) (sym same) here | inr there ↦ there ]);
+    numbers = λ n. (
+      λ there. inr there,
+      λ with_x. elim with_x
+          [ inl same ↦ subst (λ k. InRanges (before ++ (range ∷ after)) k) (sym same) here | inr there ↦ there ],
+    );
     apart = apart;
     count = omega arith;
   }
@@ -235,7 +269,8 @@ module _ (ranges : Ranges) (x at : ℕ) (apart : AreApart 0 ranges) (place : IsP
       let all : take at ranges ≡ ranges = take_all at ranges (omega arith) in
       let none : ranges ++ [] ≡ ranges = append-nil ranges in
       let low : floor_above 0 ranges ≤ x = subst (λ (rs : Ranges). floor_above 0 rs ≤ x) all place.below in
-      subst (λ (rs : Ranges). InsertsOne rs x true (ranges ++ span x (x + 1) ∷ [])) none (adds_alone ranges x low [] (subst (λ (rs : Ranges). AreApart 0 rs) (sym none) apart) tt)
+      subst (λ (rs : Ranges). InsertsOne rs x true (ranges ++ span x (x + 1) ∷ [])) none
+      (adds_alone ranges x low [] (subst (λ (rs : Ranges). AreApart 0 rs) (sym none) apart) tt)
 
   module _ (range : Range ℕ) (within : at < length ranges) (is : range ≡ get_or ranges at range) where
     before : Ranges
@@ -246,7 +281,9 @@ module _ (ranges : Ranges) (x at : ℕ) (apart : AreApart 0 ranges) (place : IsP
 
     split : before ++ (range ∷ after) ≡ ranges
     unfolding before after
-    split = ap (λ (r : Range ℕ). take at ranges ++ (r ∷ drop (suc at) ranges)) is ∙ ap (λ (rs : Ranges). take at ranges ++ rs) (sym (drop-cons ranges at range within)) ∙ take-append-drop at ranges
+    split = ap (λ (r : Range ℕ). take at ranges ++ (r ∷ drop (suc at) ranges)) is
+        ∙ ap (λ (rs : Ranges). take at ranges ++ rs) (sym (drop-cons ranges at range within))
+        ∙ take-append-drop at ranges
 
     apart_split : AreApart 0 (before ++ (range ∷ after))
     apart_split = subst (λ (rs : Ranges). AreApart 0 rs) (sym split) apart
@@ -255,8 +292,10 @@ module _ (ranges : Ranges) (x at : ℕ) (apart : AreApart 0 ranges) (place : IsP
     unfolding before after
     written new = sym (set_split ranges at new within)
 
-    moved : (some : Bool) (new : Range ℕ) → InsertsOne (before ++ (range ∷ after)) x some (before ++ (new ∷ after)) → InsertsOne ranges x some (set ranges at new)
-    moved some new inserted = subst (λ (rs : Ranges). InsertsOne ranges x some rs) (written new) (subst (λ (rs : Ranges). InsertsOne rs x some (before ++ (new ∷ after))) split inserted)
+    moved : (some : Bool) (new : Range ℕ) → InsertsOne (before ++ (range ∷ after)) x some (before ++ (new ∷ after))
+        → InsertsOne ranges x some (set ranges at new)
+    moved some new inserted = subst (λ (rs : Ranges). InsertsOne ranges x some rs) (written new)
+        (subst (λ (rs : Ranges). InsertsOne rs x some (before ++ (new ∷ after))) split inserted)
 
     low : floor_above 0 before ≤ x
     unfolding before
@@ -267,10 +306,13 @@ module _ (ranges : Ranges) (x at : ℕ) (apart : AreApart 0 ranges) (place : IsP
 
     pub inserts_between : x + 1 < range.start → InsertsOne ranges x true (insert ranges at (span x (x + 1)))
     unfolding before
-    inserts_between above = subst (λ (rs : Ranges). InsertsOne rs x true (insert ranges at (span x (x + 1)))) (take-append-drop at ranges) (adds_alone (take at ranges) x low (drop at ranges) (subst (λ (rs : Ranges). AreApart 0 rs) (sym (take-append-drop at ranges)) apart) begins)
+    inserts_between above = subst (λ (rs : Ranges). InsertsOne rs x true (insert ranges at (span x (x + 1))))
+        (take-append-drop at ranges) (adds_alone (take at ranges) x low (drop at ranges)
+        (subst (λ (rs : Ranges). AreApart 0 rs) (sym (take-append-drop at ranges)) apart) begins)
       where
         begins : BeginsAbove (x + 1) (drop at ranges)
-        begins = subst (λ (rs : Ranges). BeginsAbove (x + 1) rs) (ap (λ (r : Range ℕ). r ∷ drop (suc at) ranges) is ∙ sym (drop-cons ranges at range within)) above
+        begins = subst (λ (rs : Ranges). BeginsAbove (x + 1) rs)
+            (ap (λ (r : Range ℕ). r ∷ drop (suc at) ranges) is ∙ sym (drop-cons ranges at range within)) above
 
     pub inserts_below : x + 1 ≡ range.start → InsertsOne ranges x true (set ranges at (span x range.end))
     inserts_below touches = moved true (span x range.end) (adds_below before x low range after apart_split touches)
@@ -281,12 +323,19 @@ module _ (ranges : Ranges) (x at : ℕ) (apart : AreApart 0 ranges) (place : IsP
 
     -- the place tells that x ends the range where it lies past its start and not below its end
     pub ends_at : range.end ≤ x → range.end ≡ x
-    ends_at past = let h : x ≤ range.end = subst (λ (rs : Ranges). EndsFrom x rs) (sym (ap (λ (r : Range ℕ). r ∷ drop (suc at) ranges) is ∙ sym (drop-cons ranges at range within))) place.above in omega arith
+    ends_at past = let h : x ≤ range.end = subst (λ (rs : Ranges). EndsFrom x rs)
+        (sym (ap (λ (r : Range ℕ). r ∷ drop (suc at) ranges) is ∙ sym (drop-cons ranges at range within)))
+        place.above in omega arith
 
-    pub inserts_joining : (next : Range ℕ) → at + 1 < length ranges → next ≡ get_or ranges (at + 1) next → range.end ≡ x → next.start ≡ x + 1 → InsertsOne ranges x true (set (remove ranges (at + 1)) at (span range.start next.end))
+    pub inserts_joining : (next : Range ℕ) → at + 1 < length ranges → next ≡ get_or ranges (at + 1) next → range.end ≡ x
+        → next.start ≡ x + 1 → InsertsOne ranges x true (set (remove ranges (at + 1)) at (span range.start next.end))
     unfolding before after
     inserts_joining next within' is' touches follows =
-        subst (λ (rs : Ranges). InsertsOne ranges x true rs) (sym made) (subst (λ (rs : Ranges). InsertsOne rs x true (before ++ (span range.start next.end ∷ (drop (suc (suc at)) ranges)))) whole (adds_joining before x low range next (drop (suc (suc at)) ranges) (subst (λ (rs : Ranges). AreApart 0 rs) (sym whole) apart) touches follows))
+        subst (λ (rs : Ranges). InsertsOne ranges x true rs) (sym made)
+        (subst (λ (rs : Ranges). InsertsOne rs x true (before
+        ++ (span range.start next.end ∷ (drop (suc (suc at)) ranges)))) whole
+        (adds_joining before x low range next (drop (suc (suc at)) ranges)
+        (subst (λ (rs : Ranges). AreApart 0 rs) (sym whole) apart) touches follows))
       where
         inside : suc at < length ranges
         inside = omega arith
@@ -304,15 +353,20 @@ module _ (ranges : Ranges) (x at : ℕ) (apart : AreApart 0 ranges) (place : IsP
         front = ap (λ i. take i ranges) (add-one at) ∙ take-suc ranges at range within ∙ ap (λ (r : Range ℕ). take at ranges ++ (r ∷ [])) (sym is)
 
         left : remove ranges (at + 1) ≡ before ++ (range ∷ (drop (suc (suc at)) ranges))
-        left = ap (λ (rs : Ranges). rs ++ drop (suc (at + 1)) ranges) front ∙ append_assoc before (range ∷ []) (drop (suc (at + 1)) ranges) ∙ ap (λ i. before ++ (range ∷ drop (suc i) ranges)) (add-one at)
+        left = ap (λ (rs : Ranges). rs ++ drop (suc (at + 1)) ranges) front
+            ∙ append_assoc before (range ∷ []) (drop (suc (at + 1)) ranges)
+            ∙ ap (λ i. before ++ (range ∷ drop (suc i) ranges)) (add-one at)
 
         made : set (remove ranges (at + 1)) at (span range.start next.end) ≡ before ++ (span range.start next.end ∷ (drop (suc (suc at)) ranges))
-        made = ap (λ (rs : Ranges). set rs at (span range.start next.end)) left ∙ set_at before range (drop (suc (suc at)) ranges) (span range.start next.end) at (length-take-le at ranges (omega arith))
+        made = ap (λ (rs : Ranges). set rs at (span range.start next.end)) left
+            ∙ set_at before range (drop (suc (suc at)) ranges) (span range.start next.end) at
+            (length-take-le at ranges (omega arith))
 
     pub none_begins : length ranges ≤ at + 1 → BeginsAbove (x + 1) (drop (suc at) ranges)
     none_begins past = subst (λ (rs : Ranges). BeginsAbove (x + 1) rs) (sym (drop_all (suc at) ranges (omega arith))) tt
 
-    pub next_begins : (next : Range ℕ) → at + 1 < length ranges → next ≡ get_or ranges (at + 1) next → range.end ≡ x → ¬ (next.start ≡ x + 1) → BeginsAbove (x + 1) (drop (suc at) ranges)
+    pub next_begins : (next : Range ℕ) → at + 1 < length ranges → next ≡ get_or ranges (at + 1) next → range.end ≡ x
+        → ¬ (next.start ≡ x + 1) → BeginsAbove (x + 1) (drop (suc at) ranges)
     unfolding after AreApart
     next_begins next within' is' touches other = subst (λ (rs : Ranges). BeginsAbove (x + 1) rs) tail_is past
       where
@@ -330,11 +384,14 @@ module _ (ranges : Ranges) (x at : ℕ) (apart : AreApart 0 ranges) (place : IsP
 
 -- ---- the place of a number
 
-ends_below : (low x : ℕ) (ranges : Ranges) (i : ℕ) → low ≤ x → i ≤ length ranges → ((k : ℕ) (d : Range ℕ) → k < i → (get_or ranges k d).end < x) → floor_above low (take i ranges) ≤ x
+ends_below : (low x : ℕ) (ranges : Ranges) (i : ℕ) → low ≤ x → i ≤ length ranges
+    → ((k : ℕ) (d : Range ℕ) → k < i → (get_or ranges k d).end < x) → floor_above low (take i ranges) ≤ x
 unfolding floor_above
 ends_below low x ranges zero less within below = less
 ends_below low x [] (suc i) less within below = less
-ends_below low x (range ∷ others) (suc i) less within below = ends_below (range.end + 1) x others i (let h : range.end < x = below 0 range (omega arith) in omega arith) (omega arith) (λ k d here. below (suc k) d (omega arith))
+ends_below low x (range ∷ others) (suc i) less within below = ends_below (range.end + 1) x others i
+    (let h : range.end < x = below 0 range (omega arith) in omega arith) (omega arith)
+    (λ k d here. below (suc k) d (omega arith))
 
 ends_from : (x : ℕ) (ranges : Ranges) (i : ℕ) → ((k : ℕ) (d : Range ℕ) → i ≤ k → k < length ranges → x ≤ (get_or ranges k d).end) → EndsFrom x (drop i ranges)
 ends_from x [] zero above = tt
@@ -356,14 +413,17 @@ ends_rise : (low : ℕ) (ranges : Ranges) → AreApart low ranges → IsNonDecre
 unfolding AreApart
 ends_rise low [] apart i j d less within = absurd (omega arith)
 ends_rise low (range ∷ others) apart zero zero d less within = omega arith
-ends_rise low (range ∷ others) apart zero (suc j) d less within = let h : range.end + 1 < (get_or others j d).end = in_order (range.end + 1) others apart.2 j d (omega arith) in omega arith
+ends_rise low (range ∷ others) apart zero (suc j) d less within = let h : range.end + 1 < (get_or others j d).end =
+    in_order (range.end + 1) others apart.2 j d (omega arith) in omega arith
 ends_rise low (range ∷ others) apart (suc i) zero d less within = absurd (omega arith)
 ends_rise low (range ∷ others) apart (suc i) (suc j) d less within = ends_rise (range.end + 1) others apart.2 i j d (omega arith) (omega arith)
 
 pub ends_parted : (ranges : Ranges) (x : ℕ) → AreApart 0 ranges → IsPartitionedBy (λ (r : Range ℕ). ltb r.end x) ranges
 ends_parted ranges x apart = IsPartitionedBy-ltb (λ (r : Range ℕ). r.end) ranges x (ends_rise 0 ranges apart)
 
-pub place_is : (ranges : Ranges) (x at : ℕ) → at ≤ length ranges → IsPartitionPoint (λ (r : Range ℕ). ltb r.end x ≡ true) (λ (r : Range ℕ). ltb r.end x ≡ false) ranges at → IsPlace ranges x at
+pub place_is : (ranges : Ranges) (x at : ℕ) → at ≤ length ranges
+    → IsPartitionPoint (λ (r : Range ℕ). ltb r.end x ≡ true) (λ (r : Range ℕ). ltb r.end x ≡ false) ranges at
+    → IsPlace ranges x at
 place_is ranges x at within parts = record {
   bound = within;
   below = ends_below 0 x ranges at (omega arith) within (λ k d here. ltb-true (get_or ranges k d).end x (parts.0 k d (omega arith) here));
@@ -381,11 +441,13 @@ starts_from low (range ∷ others) apart (suc j) d within =
     omega arith
 
 -- a range ends before a later one begins
-ends_before : (low : ℕ) (ranges : Ranges) → AreApart low ranges → (i j : ℕ) (d : Range ℕ) → i < j → j < length ranges → (get_or ranges i d).end < (get_or ranges j d).start
+ends_before : (low : ℕ) (ranges : Ranges) → AreApart low ranges → (i j : ℕ) (d : Range ℕ) → i < j → j < length ranges
+    → (get_or ranges i d).end < (get_or ranges j d).start
 unfolding AreApart
 ends_before low [] apart i j d less within = absurd (omega arith)
 ends_before low (range ∷ others) apart i zero d less within = absurd (omega arith)
-ends_before low (range ∷ others) apart zero (suc j) d less within = let h : range.end + 1 ≤ (get_or others j d).start = starts_from (range.end + 1) others apart.2 j d (omega arith) in omega arith
+ends_before low (range ∷ others) apart zero (suc j) d less within = let h : range.end + 1 ≤ (get_or others j d).start =
+    starts_from (range.end + 1) others apart.2 j d (omega arith) in omega arith
 ends_before low (range ∷ others) apart (suc i) (suc j) d less within = ends_before (range.end + 1) others apart.2 i j d (omega arith) (omega arith)
 
 -- where there is no range, the place is the first
@@ -394,35 +456,43 @@ unfolding floor_above
 place_of_none ranges x none = record { bound = omega arith; below = omega arith; above = ends_from x ranges 0 (λ k d from within. absurd (present k d within)) }
   where
     present : (k : ℕ) (d : Range ℕ) → k < length ranges → ⊥
-    present k d within = let h : slice_get ranges (length ranges - 1) ≡ Some (get_or ranges (length ranges - 1) d) = slice_get-get_or ranges (length ranges - 1) d (omega arith) in cc
+    present k d within = let h : slice_get ranges (length ranges - 1)
+        ≡ Some (get_or ranges (length ranges - 1) d) = slice_get-get_or ranges (length ranges - 1) d (omega arith) in cc
 
 -- where the last range ends below x, the place is behind it
-pub place_behind : (ranges : Ranges) (x : ℕ) (last : Range ℕ) → AreApart 0 ranges → slice_get ranges (length ranges - 1) ≡ Some last → last.end < x → IsPlace ranges x (length ranges)
+pub place_behind : (ranges : Ranges) (x : ℕ) (last : Range ℕ) → AreApart 0 ranges
+    → slice_get ranges (length ranges - 1) ≡ Some last → last.end < x → IsPlace ranges x (length ranges)
 place_behind ranges x last apart is above = record {
   bound = omega arith;
   below = ends_below 0 x ranges (length ranges) (omega arith) (omega arith) (λ k d here.
       let e : (get_or ranges (length ranges - 1) d).end ≡ last.end = ap (λ (r : Range ℕ). r.end) (get_or_from_slice_get ranges (length ranges - 1) last d is) in
-      let h : (get_or ranges k d).end ≤ (get_or ranges (length ranges - 1) d).end = ends_rise 0 ranges apart k (length ranges - 1) d (omega arith) (omega arith) in
+      let h : (get_or ranges k d).end ≤ (get_or ranges (length ranges - 1) d).end = ends_rise 0 ranges apart k
+      (length ranges - 1) d (omega arith) (omega arith) in
       omega arith);
   above = subst (λ (rs : Ranges). EndsFrom x rs) (sym (drop_all (length ranges) ranges (omega arith))) tt;
 }
 
 -- where x lies in the last range or at its end, the place is that one
-pub place_in_last : (ranges : Ranges) (x : ℕ) (last : Range ℕ) → AreApart 0 ranges → slice_get ranges (length ranges - 1) ≡ Some last → last.start ≤ x → x ≤ last.end → IsPlace ranges x (length ranges - 1)
+pub place_in_last : (ranges : Ranges) (x : ℕ) (last : Range ℕ) → AreApart 0 ranges
+    → slice_get ranges (length ranges - 1) ≡ Some last → last.start ≤ x → x ≤ last.end
+    → IsPlace ranges x (length ranges - 1)
 place_in_last ranges x last apart is from to = record {
   bound = omega arith;
   below = ends_below 0 x ranges (length ranges - 1) (omega arith) (omega arith) (λ k d here.
-      let e : (get_or ranges (length ranges - 1) d).start ≡ last.start = ap (λ (r : Range ℕ). r.start) (get_or_from_slice_get ranges (length ranges - 1) last d is) in
+      let e : (get_or ranges (length ranges - 1) d).start ≡ last.start = ap (λ (r : Range ℕ). r.start)
+      (get_or_from_slice_get ranges (length ranges - 1) last d is) in
       let h : (get_or ranges k d).end < (get_or ranges (length ranges - 1) d).start = ends_before 0 ranges apart k (length ranges - 1) d here (omega arith) in
       omega arith);
   above = ends_from x ranges (length ranges - 1) (λ k d past within.
       let at : k ≡ length ranges - 1 = omega arith in
-      let e : (get_or ranges k d).end ≡ last.end = ap (λ i. (get_or ranges i d).end) at ∙ ap (λ (r : Range ℕ). r.end) (get_or_from_slice_get ranges (length ranges - 1) last d is) in
+      let e : (get_or ranges k d).end ≡ last.end = ap (λ i. (get_or ranges i d).end) at
+      ∙ ap (λ (r : Range ℕ). r.end) (get_or_from_slice_get ranges (length ranges - 1) last d is) in
       omega arith);
 }
 
 -- two reads at one place
-pub same_read : (ranges : Ranges) (at : ℕ) (first second : Range ℕ) → at < length ranges → first ≡ get_or ranges at first → second ≡ get_or ranges at second → first ≡ second
+pub same_read : (ranges : Ranges) (at : ℕ) (first second : Range ℕ) → at < length ranges
+    → first ≡ get_or ranges at first → second ≡ get_or ranges at second → first ≡ second
 same_read ranges at first second within a b = a ∙ get_or_default ranges at first second within ∙ sym b
 
 -- the ranges behind the first
@@ -431,7 +501,8 @@ apart_dropped [] apart = apart
 apart_dropped (range ∷ others) apart = apart_rest 0 range others apart
 
 -- no range, no number; else the first one begins with one
-pub is_empty_told : (ranges : Ranges) (low count : ℕ) → AreApart low ranges → length ranges ≡ count → (empty : Bool) → empty ≡ (count == 0) → MatchBool empty ((n : ℕ) → ¬ InRanges ranges n) ((n : ℕ) × InRanges ranges n)
+pub is_empty_told : (ranges : Ranges) (low count : ℕ) → AreApart low ranges → length ranges ≡ count → (empty : Bool)
+    → empty ≡ (count == 0) → MatchBool empty ((n : ℕ) → ¬ InRanges ranges n) ((n : ℕ) × InRanges ranges n)
 unfolding AreApart InRanges
 is_empty_told [] low count apart size true is = λ n here. here
 is_empty_told [] low count apart size false is = absurd (eqb-false count 0 (sym is) (sym size))

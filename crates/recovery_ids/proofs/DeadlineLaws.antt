@@ -29,7 +29,9 @@ with_deadline-again moment first number deadlines =
     rw (without_last_at-end moment (without_last_at moment deadlines) record { sequence = first; timestamp = moment }, same_moment moment) refl
 
 again_where : (fits : Bool) (moment first number : ℕ) (deadlines : List CidTimestamp) →
-    cond fits (with_deadline record { sequence = number; timestamp = moment } (cond fits (with_deadline record { sequence = first; timestamp = moment } deadlines) deadlines)) (cond fits (with_deadline record { sequence = first; timestamp = moment } deadlines) deadlines)
+    cond fits (with_deadline record { sequence = number; timestamp = moment }
+    (cond fits (with_deadline record { sequence = first; timestamp = moment } deadlines) deadlines))
+    (cond fits (with_deadline record { sequence = first; timestamp = moment } deadlines) deadlines)
     ≡ cond fits (with_deadline record { sequence = number; timestamp = moment } deadlines) deadlines
 again_where true moment first number deadlines = with_deadline-again moment first number deadlines
 again_where false moment first number deadlines = refl
@@ -60,11 +62,13 @@ deadlines_with_each-deadlines_with_last lifetime now (suc count) =
 abbrev numbers_of : List CidTimestamp → List ℕ
 numbers_of deadlines = map (λ deadline. deadline.sequence) deadlines
 
-without_last-rise : (remove : Bool) (low high : ℕ) (last : CidTimestamp) → Rise low high (numbers_of (last ∷ [])) → Rise low high (numbers_of (cond remove [] (last ∷ [])))
+without_last-rise : (remove : Bool) (low high : ℕ) (last : CidTimestamp) → Rise low high (numbers_of (last ∷ []))
+    → Rise low high (numbers_of (cond remove [] (last ∷ [])))
 without_last-rise true low high last rise = let above = rise.0 in let bound : last.sequence + 1 ≤ high = rise.1 in omega arith
 without_last-rise false low high last rise = rise
 
-without_last_at-rise : (moment low high : ℕ) (deadlines : List CidTimestamp) → Rise low high (numbers_of deadlines) → Rise low high (numbers_of (without_last_at moment deadlines))
+without_last_at-rise : (moment low high : ℕ) (deadlines : List CidTimestamp) → Rise low high (numbers_of deadlines)
+    → Rise low high (numbers_of (without_last_at moment deadlines))
 without_last_at-rise moment low high [] rise = rise
 without_last_at-rise moment low high (last ∷ []) rise = without_last-rise (nat_eq last.timestamp moment) low high last rise
 without_last_at-rise moment low high (first ∷ next ∷ later) rise = (rise.0, without_last_at-rise moment (first.sequence + 1) high (next ∷ later) rise.1)
@@ -73,7 +77,8 @@ numbers_of-end : (front : List CidTimestamp) (last : CidTimestamp) → numbers_o
 numbers_of-end [] last = refl
 numbers_of-end (first ∷ front) last = ap (λ rest. first.sequence ∷ rest) (numbers_of-end front last)
 
-with_deadline-rise : (low high : ℕ) (deadline : CidTimestamp) (deadlines : List CidTimestamp) → Rise low deadline.sequence (numbers_of deadlines) → deadline.sequence < high →
+with_deadline-rise : (low high : ℕ) (deadline : CidTimestamp) (deadlines : List CidTimestamp)
+    → Rise low deadline.sequence (numbers_of deadlines) → deadline.sequence < high →
     Rise low high (numbers_of (with_deadline deadline deadlines))
 with_deadline-rise low high deadline deadlines rise below =
     let kept = without_last_at deadline.timestamp deadlines in
@@ -82,7 +87,8 @@ with_deadline-rise low high deadline deadlines rise below =
     (Rise-wider low (deadline.sequence + 1) low high (numbers_of kept ++ range_with_len deadline.sequence 1)
     (Rise-append low deadline.sequence 1 (deadline.sequence + 1) (numbers_of kept) front refl) (omega arith) (omega arith))
 
-rise_where : (fits : Bool) (low high : ℕ) (deadline : CidTimestamp) (deadlines : List CidTimestamp) → Rise low deadline.sequence (numbers_of deadlines) → deadline.sequence < high →
+rise_where : (fits : Bool) (low high : ℕ) (deadline : CidTimestamp) (deadlines : List CidTimestamp)
+    → Rise low deadline.sequence (numbers_of deadlines) → deadline.sequence < high →
     Rise low high (numbers_of (cond fits (with_deadline deadline deadlines) deadlines))
 rise_where true low high deadline deadlines rise below = with_deadline-rise low high deadline deadlines rise below
 rise_where false low high deadline deadlines rise below = Rise-wider low deadline.sequence low high (numbers_of deadlines) rise (omega arith) (omega arith)
@@ -95,11 +101,13 @@ deadlines_with-rise (Some lifetime) now low number high deadlines rise below =
     rise_where (nat_lt (now + lifetime) (2 ^ 64)) low high record { sequence = number; timestamp = now + lifetime } deadlines rise below
 
 -- a deadline for the last number issued, which lies above all others
-pub deadlines_with_last-rise : (lifetime : Option ℕ) (now low bound issued : ℕ) (deadlines : List CidTimestamp) → Rise low bound (numbers_of deadlines) → bound < issued →
+pub deadlines_with_last-rise : (lifetime : Option ℕ) (now low bound issued : ℕ) (deadlines : List CidTimestamp)
+    → Rise low bound (numbers_of deadlines) → bound < issued →
     Rise low issued (numbers_of (deadlines_with_last lifetime now issued deadlines))
 deadlines_with_last-rise lifetime now low bound zero deadlines rise below = absurd (omega arith)
 deadlines_with_last-rise lifetime now low bound (suc number) deadlines rise below =
-    deadlines_with-rise lifetime now low number (suc number) deadlines (Rise-wider low bound low number (numbers_of deadlines) rise (omega arith) (omega arith)) (omega arith)
+    deadlines_with-rise lifetime now low number (suc number) deadlines
+    (Rise-wider low bound low number (numbers_of deadlines) rise (omega arith) (omega arith)) (omega arith)
 
 pub deadlines_with_last-rise_first : (lifetime : Option ℕ) (now issued : ℕ) → Rise 0 issued (numbers_of (deadlines_with_last lifetime now issued []))
 deadlines_with_last-rise_first lifetime now zero = omega arith
@@ -107,7 +115,8 @@ deadlines_with_last-rise_first lifetime now (suc number) = deadlines_with-rise l
 
 -- ---- the last deadline by its place
 
-pub last_at : (moment : ℕ) (deadlines : List CidTimestamp) (place : ℕ) (last : CidTimestamp) → place + 1 ≡ length deadlines → last ≡ get_or deadlines place last →
+pub last_at : (moment : ℕ) (deadlines : List CidTimestamp) (place : ℕ) (last : CidTimestamp)
+    → place + 1 ≡ length deadlines → last ≡ get_or deadlines place last →
     without_last_at moment deadlines ≡ cond (nat_eq last.timestamp moment) (take place deadlines) deadlines
 last_at moment [] place last ends there = absurd (omega arith)
 last_at moment (only ∷ []) zero last ends there = rw there refl

@@ -27,4 +27,8 @@ length-filter_map h (x ∷ xs) = omega (arith, length-cons_option (h x) (filter_
 
 -- at most as many ids are held as are stored
 pub length-items_from : (ids : RemoteIds) → length (items_from 0 ids) ≤ active_connection_id_limit
-length-items_from ids = omega (arith, length-filter_map (item_at ids) (range_with_len 0 active_connection_id_limit), length-range_with_len 0 active_connection_id_limit)
+length-items_from ids = omega (
+  arith,
+  length-filter_map (item_at ids) (range_with_len 0 active_connection_id_limit),
+  length-range_with_len 0 active_connection_id_limit,
+)

@@ -11,7 +11,9 @@ use Rattle.recovery_ids.specs.LocalLog.{FirstIds, LocalEntry, issues, passes, re
 -- ---- numbers issued and retired
 
 -- a number that the peer did not retire is left by the filter
-last_kept : (retired : ℕ → Bool) (issued : ℕ) → retired issued ≡ false → filter (λ n. not (retired n)) (range_with_len 0 issued) ++ issued ∷ [] ≡ filter (λ n. not (retired n)) (range_with_len 0 (suc issued))
+last_kept : (retired : ℕ → Bool) (issued : ℕ) → retired issued ≡ false
+    → filter (λ n. not (retired n)) (range_with_len 0 issued) ++ issued ∷ []
+    ≡ filter (λ n. not (retired n)) (range_with_len 0 (suc issued))
 last_kept retired issued kept =
     let last : filter (λ n. not (retired n)) (issued ∷ []) ≡ issued ∷ [] = rw kept refl in
     ap (λ (ns : List ℕ). filter (λ n. not (retired n)) (range_with_len 0 issued) ++ ns) (sym last)
@@ -28,7 +30,9 @@ all_kept retired issued (suc count) kept =
     let next : suc issued ≡ issued + 1 = omega arith in
     let ends : issued + 1 + count ≡ issued + suc count = omega arith in
     sym (append_assoc (filter (λ n. not (retired n)) (range_with_len 0 issued)) (issued ∷ []) (range_with_len (issued + 1) count))
-    ∙ ap (λ (ns : List ℕ). ns ++ range_with_len (issued + 1) count) (last_kept retired issued (kept issued (omega arith)) ∙ ap (λ (n : ℕ). filter (λ n. not (retired n)) (range_with_len 0 n)) next)
+    ∙ ap (λ (ns : List ℕ). ns ++ range_with_len (issued + 1) count)
+    (last_kept retired issued (kept issued (omega arith))
+    ∙ ap (λ (n : ℕ). filter (λ n. not (retired n)) (range_with_len 0 n)) next)
     ∙ all_kept retired (issued + 1) count (λ n above. kept n (omega arith))
     ∙ ap (λ (n : ℕ). filter (λ n. not (retired n)) (range_with_len 0 n)) ends
 
@@ -50,7 +54,8 @@ all_unretired (n ∷ ns) = ap (λ rest. n ∷ rest) (all_unretired ns)
 
 -- ---- at the beginning
 
-pub local_ids_first : (first : FirstIds) (ids : LocalIds) → ids ≡ first_issued first.cid_len first.cid_lifetime first.start first.issued → LocalIdsLeft first [] ids
+pub local_ids_first : (first : FirstIds) (ids : LocalIds)
+    → ids ≡ first_issued first.cid_len first.cid_lifetime first.start first.issued → LocalIdsLeft first [] ids
 local_ids_first first ids is =
     let made = first_issued first.cid_len first.cid_lifetime first.start first.issued in
     record {
@@ -63,12 +68,24 @@ local_ids_first first ids is =
 module _ (ids : LocalIds) (retired : ℕ → Bool) (now : ℕ) (kept : (n : ℕ) → ids.issued ≤ n → retired n ≡ false)
     (unretired : ids.unretired ≡ filter (λ n. not (retired n)) (range_with_len 0 ids.issued)) where
   more_issued : (count : ℕ) → with_issued count now ids
-      ≡ record ids { issued = ids.issued + count; unretired = filter (λ n. not (retired n)) (range_with_len 0 (ids.issued + count)); deadlines = deadlines_with_batch ids.cid_lifetime now ids.issued count ids.deadlines }
+      ≡ record ids {
+        issued = ids.issued + count;
+        unretired = filter (λ n. not (retired n))
+            (range_with_len 0 (ids.issued + count));
+        deadlines = deadlines_with_batch ids.cid_lifetime now ids.issued
+            count ids.deadlines;
+      }
   more_issued zero =
       let none : ids.issued + zero ≡ ids.issued = omega arith in
-      ap (λ (ns : List ℕ). record ids { unretired = ns }) unretired ∙ ap (λ (n : ℕ). record ids { issued = n; unretired = filter (λ n. not (retired n)) (range_with_len 0 n) }) (sym none)
+      ap (λ (ns : List ℕ). record ids { unretired = ns }) unretired
+      ∙ ap (λ (n : ℕ). record ids { issued = n; unretired = filter (λ n. not (retired n)) (range_with_len 0 n) })
+      (sym none)
   more_issued (suc count) =
-      ap (λ (ns : List ℕ). record ids { issued = ids.issued + suc count; unretired = ns; deadlines = deadlines_with_batch ids.cid_lifetime now ids.issued (suc count) ids.deadlines })
+      ap (λ (ns : List ℕ). record ids {
+        issued = ids.issued + suc count;
+        unretired = ns;
+        deadlines = deadlines_with_batch ids.cid_lifetime now ids.issued (suc count) ids.deadlines;
+      })
       (ap (λ (ns : List ℕ). ns ++ range_with_len ids.issued (suc count)) unretired ∙ all_kept retired ids.issued (suc count) kept)
 
 -- ---- what an entry leaves
@@ -81,7 +98,8 @@ not_retired first log retired n above = go (was_retired log n) refl
     go true is = let below = retired n is in absurd (omega arith)
     go false is = refl
 
-pub local_law : (first : FirstIds) (entry : LocalEntry) (log : List LocalEntry) (old new : LocalIds) → LocalIdsLeft first log old → LocalStep entry old new → LocalIdsLeft first (entry ∷ log) new
+pub local_law : (first : FirstIds) (entry : LocalEntry) (log : List LocalEntry) (old new : LocalIds)
+    → LocalIdsLeft first log old → LocalStep entry old new → LocalIdsLeft first (entry ∷ log) new
 local_law first (issues now count) log old new left step = record {
   same = step ∙ ap (with_issued count now) left.same
       ∙ more_issued (local_ids_by first log) (was_retired log) now (not_retired first log left.retired) refl count;
@@ -100,13 +118,19 @@ local_law first passes log old new left step = record {
 
     go : (b : Bool) → (if b
         then record (local_ids_with first log marks) { deadlines = drop 1 (deadlines_by first log) }
-        else record (local_ids_with first log marks) { deadlines = drop 1 (deadlines_by first log); retired_below = marks.retire_prior_to; retire_prior_to = next_mark marks.retire_prior_to (deadlines_by first log) })
+        else record (local_ids_with first log marks) {
+          deadlines = drop 1 (deadlines_by first log);
+          retired_below = marks.retire_prior_to;
+          retire_prior_to = next_mark marks.retire_prior_to
+              (deadlines_by first log);
+        })
         ≡ local_ids_with first (passes ∷ log) (if b then marks else moved)
     go true = refl
     go false = refl
 local_law first (retires sequence) log old new left step = record {
   same = step.1 ∙ ap (without_number sequence) left.same
-      ∙ ap (λ (ns : List ℕ). record (local_ids_by first log) { unretired = ns }) (both_kept (λ n. n == sequence) (was_retired log) (range_with_len 0 (issued_by first log)));
+      ∙ ap (λ (ns : List ℕ). record (local_ids_by first log) { unretired = ns })
+      (both_kept (λ n. n == sequence) (was_retired log) (range_with_len 0 (issued_by first log)));
   retired = λ number was.
       let issued : sequence < old.issued = step.0 in
       let by_history : old.issued ≡ issued_by first log = ap (λ (ids : LocalIds). ids.issued) left.same in

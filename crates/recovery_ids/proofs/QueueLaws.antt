@@ -19,7 +19,8 @@ with_id-there : (number : ℕ) (entry : HeldId) (held : Table) → with_id numbe
 with_id-there number entry held = grind (arith, nat_tests)
 
 -- a frame's number is at or above the least number held once it is in the table
-pub least_at_most : (held : Table) (low least number : ℕ) (entry : HeldId) → IsLeastHeld held low least → held number ≡ Some entry → low ≤ number → least ≤ number
+pub least_at_most : (held : Table) (low least number : ℕ) (entry : HeldId) → IsLeastHeld held low least
+    → held number ≡ Some entry → low ≤ number → least ≤ number
 least_at_most held low least number entry is_least there above =
     let below : number < least → held number ≡ None = is_least.least number above in
     grind (arith, below, there)
@@ -59,7 +60,8 @@ module _ (old lower mid new : Window) (frame : NewConnectionId) (token : List �
 
   held_after : (n : ℕ) → held_at new n ≡ with_frame frame (held_at old) n
   held_after =
-      let table = frame_table frame.sequence low new.start (frame.id, Some frame.reset_token) (held_at old) (held_at mid) (held_at new) mid_table moves.least moves.held (omega (arith, low_is)) in
+      let table = frame_table frame.sequence low new.start (frame.id, Some frame.reset_token) (held_at old)
+      (held_at mid) (held_at new) mid_table moves.least moves.held (omega (arith, low_is)) in
       rw low_is at table
 
   start_held : held_at new new.start ≡ held_at mid new.start

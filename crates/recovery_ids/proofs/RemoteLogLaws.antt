@@ -73,7 +73,8 @@ gives old new frame answer ordered accepts window =
       is_held = is_held;
       least = λ m over below. sym (accepts.held m) ∙ accepts.active.least m (omega arith) below;
     } in
-    let reached : new.active ≤ frame.sequence = least_at_most held low new.active frame.sequence (frame.id, Some frame.reset_token) least (frame_held frame old.held) (omega (arith, accepts.in_window.0)) in
+    let reached : new.active ≤ frame.sequence = least_at_most held low new.active frame.sequence
+    (frame.id, Some frame.reset_token) least (frame_held frame old.held) (omega (arith, accepts.in_window.0)) in
     let found = first_held_is held new.active low active_connection_id_limit least (omega (arith, accepts.in_window.1)) in
     rw found (same_ids new.active held new refl accepts.held)
 

@@ -28,7 +28,8 @@ pub Rise-append : (low first count high : ℕ) (ns : List ℕ) → Rise low firs
 Rise-append low first count high [] rise ends = range_rises low first count high rise ends
 Rise-append low first count high (n ∷ ns) rise ends = (rise.0, Rise-append (n + 1) first count high ns rise.1 ends)
 
-filter_rises : (keep : Bool) (test : ℕ → Bool) (low high n : ℕ) (ns : List ℕ) → low ≤ n → Rise (n + 1) high (filter test ns) → Rise low high (cond keep (n ∷ filter test ns) (filter test ns))
+filter_rises : (keep : Bool) (test : ℕ → Bool) (low high n : ℕ) (ns : List ℕ) → low ≤ n
+    → Rise (n + 1) high (filter test ns) → Rise low high (cond keep (n ∷ filter test ns) (filter test ns))
 filter_rises true test low high n ns below rise = (below, rise)
 filter_rises false test low high n ns below rise = Rise-wider (n + 1) high low high (filter test ns) rise (omega arith) (omega arith)
 

@@ -19,7 +19,8 @@ use Rattle.recovery_ids.proofs.RiseLaws.{Rise-bound, absent_below, list_any-fron
 found_where : (x n : ℕ) → is_at (nat_cmp x) n ≡ nat_eq n x
 found_where x n = go (nat_lt x n) (nat_eq x n) (nat_eq n x) refl refl refl
   where
-    go : (below same : Bool) (other : Bool) → nat_lt x n ≡ below → nat_eq x n ≡ same → nat_eq n x ≡ other → is_eq (cond below Less (cond same Equal Greater)) ≡ other
+    go : (below same : Bool) (other : Bool) → nat_lt x n ≡ below → nat_eq x n ≡ same → nat_eq n x ≡ other
+        → is_eq (cond below Less (cond same Equal Greater)) ≡ other
     go true same false b s o = refl
     go true same true b s o = absurd (grind (arith, nat_tests, b, o))
     go false true true b s o = refl
@@ -84,7 +85,8 @@ drops_one xs ys zs m None first far some last none =
 drops_one xs ys zs m (Some k) first far some last none = pops_last xs ys zs k m first far last
 
 -- numbers that were put to the end leave it again
-pub taken_back : (before : List ℕ) (first count : ℕ) → take (length (before ++ range_with_len first count) - count) (before ++ range_with_len first count) ≡ before
+pub taken_back : (before : List ℕ) (first count : ℕ)
+    → take (length (before ++ range_with_len first count) - count) (before ++ range_with_len first count) ≡ before
 taken_back before first count =
     let run = range_with_len first count in
     let size : length (before ++ run) - count ≡ length before = omega (arith, length-append before run, length-range_with_len first count) in

@@ -16,7 +16,9 @@ pub mark_rises : (mark issued : ℕ) (deadlines : List CidTimestamp) → Rise ma
 mark_rises mark issued [] rise = (omega arith, rise)
 mark_rises mark issued (oldest ∷ later) rise = let first = rise.0 in (omega arith, rise.1)
 
-numbers-drop : (mark issued : ℕ) (deadlines : List CidTimestamp) → Rise mark issued (map (λ deadline. deadline.sequence) deadlines) → Rise mark issued (map (λ deadline. deadline.sequence) (drop 1 deadlines))
+numbers-drop : (mark issued : ℕ) (deadlines : List CidTimestamp)
+    → Rise mark issued (map (λ deadline. deadline.sequence) deadlines)
+    → Rise mark issued (map (λ deadline. deadline.sequence) (drop 1 deadlines))
 numbers-drop mark issued [] rise = rise
 numbers-drop mark issued (oldest ∷ later) rise =
     let first = rise.0 in
@@ -31,7 +33,12 @@ module _ (ids : LocalIds) (sound : AreSound ids) where
   waits here = rw (asked, here) refl
 
   pub waits_sound : AreSound record ids { deadlines = drop 1 ids.deadlines }
-  waits_sound = record { small = sound.small; marks = sound.marks; unretired = sound.unretired; deadlines = numbers-drop ids.retire_prior_to ids.issued ids.deadlines sound.deadlines }
+  waits_sound = record {
+    small = sound.small;
+    marks = sound.marks;
+    unretired = sound.unretired;
+    deadlines = numbers-drop ids.retire_prior_to ids.issued ids.deadlines sound.deadlines;
+  }
 
   pub waits_answer : holds_unretired ids.retire_prior_to ids.retire_prior_to ids ≡ false
   waits_answer = list_any-nowhere ids.retire_prior_to ids.unretired
@@ -41,14 +48,23 @@ module _ (ids : LocalIds) (sound : AreSound ids) where
   moved = record ids { deadlines = drop 1 ids.deadlines; retired_below = ids.retire_prior_to; retire_prior_to = next_mark ids.retire_prior_to ids.deadlines }
 
   pub moves : any_below ids.retire_prior_to ids ≡ false →
-      record ids { deadlines = drop 1 ids.deadlines; retired_below = ids.retire_prior_to; retire_prior_to = next_mark ids.retire_prior_to ids.deadlines } ≡ timed_out ids
+      record ids {
+        deadlines = drop 1 ids.deadlines;
+        retired_below = ids.retire_prior_to;
+        retire_prior_to = next_mark ids.retire_prior_to ids.deadlines;
+      } ≡ timed_out ids
   moves none = rw (asked, none) refl
 
   rises : any_below ids.retire_prior_to ids ≡ false → Rise ids.retire_prior_to ids.issued ids.unretired
-  rises none = Rise-from ids.retired_below ids.issued ids.retire_prior_to ids.unretired sound.unretired none (Rise-bound ids.retire_prior_to ids.issued (map (λ deadline. deadline.sequence) ids.deadlines) sound.deadlines)
+  rises none = Rise-from ids.retired_below ids.issued ids.retire_prior_to ids.unretired sound.unretired none
+      (Rise-bound ids.retire_prior_to ids.issued (map (λ deadline. deadline.sequence) ids.deadlines) sound.deadlines)
 
   pub moves_sound : any_below ids.retire_prior_to ids ≡ false →
-      AreSound record ids { deadlines = drop 1 ids.deadlines; retired_below = ids.retire_prior_to; retire_prior_to = next_mark ids.retire_prior_to ids.deadlines }
+      AreSound record ids {
+        deadlines = drop 1 ids.deadlines;
+        retired_below = ids.retire_prior_to;
+        retire_prior_to = next_mark ids.retire_prior_to ids.deadlines;
+      }
   moves_sound none =
       let mark = mark_rises ids.retire_prior_to ids.issued ids.deadlines sound.deadlines in
       record { small = sound.small; marks = mark.0; unretired = rises none; deadlines = mark.1 }
@@ -67,7 +83,12 @@ module _ (ids : LocalIds) (sound : AreSound ids) where
   issued_more zero now some = absurd (omega arith)
   issued_more (suc count) now some =
       let last : ids.issued + suc count ≡ suc (ids.issued + count) = omega arith in
-      ap (λ deadlines. record ids { issued = ids.issued + suc count; unretired = ids.unretired ++ range_with_len ids.issued (suc count); deadlines = deadlines })
+      ap (λ deadlines. record ids {
+        issued = ids.issued + suc count;
+        unretired = ids.unretired
+            ++ range_with_len ids.issued (suc count);
+        deadlines = deadlines;
+      })
       (rw last refl)
 
   pub issued_sound : (count now : ℕ) → 0 < count → ids.issued + count ≤ 2 ^ 62 →

@@ -16,7 +16,9 @@ module _ {P M : Type 0} where
       some : (p q : Packet P M) → Some p ≡ Some q → p ≡ q
       some p q e = cc
 
-      go : (b : Bool) → cond b (Some entry.1) (packet_at packets number) ≡ Some packet → (packet_at packets number ≡ Some packet → IsAmong packets packet) → (entry.1 ≡ packet) ⊎ IsAmong packets packet
+      go : (b : Bool) → cond b (Some entry.1) (packet_at packets number) ≡ Some packet
+          → (packet_at packets number ≡ Some packet → IsAmong packets packet)
+          → (entry.1 ≡ packet) ⊎ IsAmong packets packet
       go true e later = inl (some entry.1 packet e)
       go false e later = inr (later e)
 
@@ -24,22 +26,29 @@ module _ {P M : Type 0} where
   among_without [] number packet among = among
   among_without (entry ∷ packets) number packet among = go (is_at (nat_cmp number) entry.0) among (among_without packets number packet)
     where
-      go : (b : Bool) → IsAmong (cond b packets (entry ∷ without packets number)) packet → (IsAmong (without packets number) packet → IsAmong packets packet) → (entry.1 ≡ packet) ⊎ IsAmong packets packet
+      go : (b : Bool) → IsAmong (cond b packets (entry ∷ without packets number)) packet
+          → (IsAmong (without packets number) packet → IsAmong packets packet)
+          → (entry.1 ≡ packet) ⊎ IsAmong packets packet
       go true among later = inr among
       go false (inl same) later = inl same
       go false (inr among) later = inr (later among)
 
-  among_push : (packets : Packets P M) (number : ℕ) (more packet : Packet P M) → IsAmong (packets ++ (number, more) ∷ []) packet → IsAmong packets packet ⊎ (more ≡ packet)
+  among_push : (packets : Packets P M) (number : ℕ) (more packet : Packet P M)
+      → IsAmong (packets ++ (number, more) ∷ []) packet → IsAmong packets packet ⊎ (more ≡ packet)
   among_push [] number more packet (inl same) = inr same
   among_push [] number more packet (inr among) = absurd among
   among_push (entry ∷ packets) number more packet (inl same) = inl (inl same)
-  among_push (entry ∷ packets) number more packet (inr among) = elim (among_push packets number more packet among) [ inl there ↦ inl (inr there) | inr same ↦ inr same ]
+  among_push (entry ∷ packets) number more packet (inr among) = elim (among_push packets number more packet among)
+      [ inl there ↦ inl (inr there) | inr same ↦ inr same ]
 
-  among_replaced : (packets : Packets P M) (number : ℕ) (other packet : Packet P M) → IsAmong (replaced number (Some other) packets) packet → IsAmong packets packet ⊎ (other ≡ packet)
+  among_replaced : (packets : Packets P M) (number : ℕ) (other packet : Packet P M)
+      → IsAmong (replaced number (Some other) packets) packet → IsAmong packets packet ⊎ (other ≡ packet)
   among_replaced [] number other packet among = absurd among
   among_replaced (entry ∷ packets) number other packet among = go (is_at (nat_cmp number) entry.0) among (among_replaced packets number other packet)
     where
-      go : (b : Bool) → IsAmong (cond b ((entry.0, other) ∷ packets) (entry ∷ replaced number (Some other) packets)) packet → (IsAmong (replaced number (Some other) packets) packet → IsAmong packets packet ⊎ (other ≡ packet))
+      go : (b : Bool)
+          → IsAmong (cond b ((entry.0, other) ∷ packets) (entry ∷ replaced number (Some other) packets)) packet
+          → (IsAmong (replaced number (Some other) packets) packet → IsAmong packets packet ⊎ (other ≡ packet))
           → ((entry.1 ≡ packet) ⊎ IsAmong packets packet) ⊎ (other ≡ packet)
       go true (inl same) later = inr same
       go true (inr among) later = inl (inr among)
@@ -60,17 +69,21 @@ module _ {P M : Type 0} (Holds : Packet P M → Type 0) where
   all_without_some packets None all = all
   all_without_some packets (Some number) all = all_without packets number all
 
-  pub all_sent : (last : Option ℕ) (number : ℕ) (sent : Packet P M) (packets : Packets P M) → OfAll packets → Holds sent → OfAll (sent_onto last number sent packets)
+  pub all_sent : (last : Option ℕ) (number : ℕ) (sent : Packet P M) (packets : Packets P M) → OfAll packets → Holds sent
+      → OfAll (sent_onto last number sent packets)
   all_sent last number sent packets all one packet among = go (among_push (without_some packets (forgotten_number last sent packets)) number sent packet among)
     where
       go : IsAmong (without_some packets (forgotten_number last sent packets)) packet ⊎ (sent ≡ packet) → Holds packet
       go (inl there) = all_without_some packets (forgotten_number last sent packets) all packet there
       go (inr same) = subst Holds same one
 
-  pub all_carrying : (packets : Packets P M) (number : ℕ) (contents : P) → ((packet : Packet P M) → Holds packet → Holds (with_contents contents packet)) → OfAll packets → OfAll (carrying number contents packets)
+  pub all_carrying : (packets : Packets P M) (number : ℕ) (contents : P)
+      → ((packet : Packet P M) → Holds packet → Holds (with_contents contents packet)) → OfAll packets
+      → OfAll (carrying number contents packets)
   all_carrying packets number contents alike all = go (packet_at packets number) (λ packet found. all packet (among_found packets number packet found))
     where
-      go : (found : Option (Packet P M)) → ((packet : Packet P M) → found ≡ Some packet → Holds packet) → OfAll (replaced number (option_map (with_contents contents) found) packets)
+      go : (found : Option (Packet P M)) → ((packet : Packet P M) → found ≡ Some packet → Holds packet)
+          → OfAll (replaced number (option_map (with_contents contents) found) packets)
       go None none packet among = all packet among
       go (Some old) one packet among = elim (among_replaced packets number (with_contents contents old) packet among) [
         | inl there ↦ all packet there
@@ -84,5 +97,6 @@ module _ {P M : Type 0} where
   abbrev pub Acknowledges : Packet P M → Type 0
   Acknowledges packet = ¬ IsTooLarge packet.largest_acked
 
-  pub acknowledging_found : (packets : Packets P M) → AreAcknowledging packets → (number : ℕ) (packet : Packet P M) → packet_at packets number ≡ Some packet → ¬ IsTooLarge packet.largest_acked
+  pub acknowledging_found : (packets : Packets P M) → AreAcknowledging packets → (number : ℕ) (packet : Packet P M)
+      → packet_at packets number ≡ Some packet → ¬ IsTooLarge packet.largest_acked
   acknowledging_found packets all number packet found = all packet (among_found packets number packet found)

@@ -20,7 +20,8 @@ some_last m n e = cc
 module _ {P M : Type 0} where
   -- ---- one space among three
 
-  pub coherent_with : (spaces : Spaces P M) (space : SpaceId) (here : Space P M) → AreCoherent spaces → IsCoherent here → AreCoherent (with_space spaces space here)
+  pub coherent_with : (spaces : Spaces P M) (space : SpaceId) (here : Space P M) → AreCoherent spaces → IsCoherent here
+      → AreCoherent (with_space spaces space here)
   coherent_with spaces Initial here all one Initial = one
   coherent_with spaces Initial here all one Handshake = all Handshake
   coherent_with spaces Initial here all one Data = all Data
@@ -41,7 +42,9 @@ module _ {P M : Type 0} where
 
   module _ (old here : Space P M) (coherent : IsCoherent old) (received : HasGreatestCome here) where
     -- the packets have numbers below the next one, and acknowledge numbers of packets
-    coherent_by : next_number_of old ≤ next_number_of here → (tracking_of here).last_eliciting ≡ (tracking_of old).last_eliciting → AreBelow (packets_of here) (next_number_of old) → AreAcknowledging (packets_of here) → IsCoherent here
+    coherent_by : next_number_of old ≤ next_number_of here
+        → (tracking_of here).last_eliciting ≡ (tracking_of old).last_eliciting
+        → AreBelow (packets_of here) (next_number_of old) → AreAcknowledging (packets_of here) → IsCoherent here
     coherent_by next last below acknowledging = record {
       packets = are_below _ _ (AllBelow-more (packets_of here) (next_number_of old) (next_number_of here) next (all_below _ _ below));
       last = λ m is. let h : m < next_number_of old = coherent.last m (sym last ∙ is) in omega (arith, h, next);
@@ -55,7 +58,8 @@ module _ {P M : Type 0} where
         let packets : packets_of here ≡ packets_of old = ap (λ (t : Tracking P M). t.packets) same in
         let Below : Packets P M → Type 0 = λ es. AreBelow es (next_number_of old) in
         let Acked : Packets P M → Type 0 = AreAcknowledging in
-        coherent_by (omega (arith, next)) (ap (λ (t : Tracking P M). t.last_eliciting) same) (subst Below (sym packets) coherent.packets) (subst Acked (sym packets) coherent.acknowledging)
+        coherent_by (omega (arith, next)) (ap (λ (t : Tracking P M). t.last_eliciting) same)
+        (subst Below (sym packets) coherent.packets) (subst Acked (sym packets) coherent.acknowledging)
 
     -- a tracked packet leaves
     pub coherent_taken : (number : ℕ) → tracking_of here ≡ after_taking number (tracking_of old) → next_number_of here ≡ next_number_of old → IsCoherent here
@@ -68,7 +72,9 @@ module _ {P M : Type 0} where
         (subst Acked (sym packets) (all_without Acknowledges (packets_of old) number coherent.acknowledging))
 
     -- a tracked packet has other contents
-    pub coherent_carrying : (number : ℕ) (contents : P) → tracking_of here ≡ after_carrying number contents (tracking_of old) → next_number_of here ≡ next_number_of old → IsCoherent here
+    pub coherent_carrying : (number : ℕ) (contents : P)
+        → tracking_of here ≡ after_carrying number contents (tracking_of old) → next_number_of here ≡ next_number_of old
+        → IsCoherent here
     coherent_carrying number contents same next =
         let packets : packets_of here ≡ carrying number contents (packets_of old) = ap (λ (t : Tracking P M). t.packets) same in
         let Below : Packets P M → Type 0 = λ es. AreBelow es (next_number_of old) in
@@ -83,23 +89,30 @@ module _ {P M : Type 0} where
         let packets : packets_of here ≡ [] = ap (λ (t : Tracking P M). t.packets) same in
         let Below : Packets P M → Type 0 = λ es. AreBelow es (next_number_of old) in
         let Acked : Packets P M → Type 0 = AreAcknowledging in
-        coherent_by (omega (arith, next)) (ap (λ (t : Tracking P M). t.last_eliciting) same) (subst Below (sym packets) none_below) (subst Acked (sym packets) (λ packet among. absurd among))
+        coherent_by (omega (arith, next)) (ap (λ (t : Tracking P M). t.last_eliciting) same)
+        (subst Below (sym packets) none_below) (subst Acked (sym packets) (λ packet among. absurd among))
       where
         none_below : (number : ℕ) (packet : Packet P M) → None ≡ Some packet → number < next_number_of old
         none_below number packet e = cc
 
     -- a packet is sent under the next number, or one above it
-    pub coherent_sent : (number : ℕ) (packet : Packet P M) → next_number_of old ≤ number → (¬ IsTooLarge packet.largest_acked) → tracking_of here ≡ after_sending number packet (tracking_of old) → next_number_of here ≡ number + 1 → IsCoherent here
+    pub coherent_sent : (number : ℕ) (packet : Packet P M) → next_number_of old ≤ number
+        → (¬ IsTooLarge packet.largest_acked) → tracking_of here ≡ after_sending number packet (tracking_of old)
+        → next_number_of here ≡ number + 1 → IsCoherent here
     coherent_sent number packet above small tracking next =
         let packets = ap (λ (t : Tracking P M). t.packets) tracking in
         let Limit : ℕ → Type 0 = AreBelow (packets_of here) in
         let Below : Packets P M → Type 0 = λ es. AreBelow es (number + 1) in
         let Acked : Packets P M → Type 0 = AreAcknowledging in
-        let below = AllBelow-without_some (packets_of old) (forgotten_number (tracking_of old).last_eliciting packet (packets_of old)) number (AllBelow-more (packets_of old) (next_number_of old) number above (all_below _ _ coherent.packets)) in
+        let below = AllBelow-without_some (packets_of old) (forgotten_number (tracking_of old).last_eliciting packet
+        (packets_of old)) number (AllBelow-more (packets_of old) (next_number_of old) number above
+        (all_below _ _ coherent.packets)) in
         record {
           packets = subst Limit (sym next) (subst Below (sym packets) (are_below _ _ (AllBelow-push _ number packet below)));
-          last = λ m is. let h : m < number + 1 = go packet.ack_eliciting m (sym (ap (λ (t : Tracking P M). t.last_eliciting) tracking) ∙ is) in omega (arith, h, next);
-          acknowledging = subst Acked (sym packets) (all_sent Acknowledges (tracking_of old).last_eliciting number packet (packets_of old) coherent.acknowledging small);
+          last = λ m is. let h : m < number + 1 = go packet.ack_eliciting m
+              (sym (ap (λ (t : Tracking P M). t.last_eliciting) tracking) ∙ is) in omega (arith, h, next);
+          acknowledging = subst Acked (sym packets) (all_sent Acknowledges (tracking_of old).last_eliciting number
+              packet (packets_of old) coherent.acknowledging small);
           received = received;
         }
       where
@@ -111,9 +124,13 @@ module _ {P M : Type 0} where
 
   module _ {S : Type 0} (words : QueueWords P S) (old : Space P M) (coherent : IsCoherent old) where
     pub coherent_probed : (immediate : Bool) (found : ProbeFound) → IsCoherent (space_probes words immediate found (one_probe_more old))
-    coherent_probed immediate pending_stands = coherent_kept old (space_probes words immediate pending_stands (one_probe_more old)) coherent coherent.received refl refl
-    coherent_probed immediate nothing_found = coherent_kept old (space_probes words immediate nothing_found (one_probe_more old)) coherent coherent.received refl refl
-    coherent_probed immediate (moves number) = coherent_carrying old (space_probes words immediate (moves number) (one_probe_more old)) coherent coherent.received number words.empty refl refl
+    coherent_probed immediate pending_stands = coherent_kept old
+        (space_probes words immediate pending_stands (one_probe_more old)) coherent coherent.received refl refl
+    coherent_probed immediate nothing_found = coherent_kept old
+        (space_probes words immediate nothing_found (one_probe_more old)) coherent coherent.received refl refl
+    coherent_probed immediate (moves number) = coherent_carrying old
+        (space_probes words immediate (moves number) (one_probe_more old)) coherent coherent.received number words.empty
+        refl refl
 
     pub coherent_lost : (number : ℕ) → IsCoherent (space_loses words number old)
     coherent_lost number = coherent_taken old (space_loses words number old) coherent coherent.received number refl refl
@@ -134,5 +151,6 @@ module _ {P M : Type 0} where
       nothing_last : {A : Type 0} (m : ℕ) → None ≡ Some m → A
       nothing_last m e = cc
 
-  pub fresh_coherent : (spaces : Spaces P M) → ((space : SpaceId) → tracking_of (space_of space spaces) ≡ no_packets) → ((space : SpaceId) → acks_of (space_of space spaces) ≡ new_acks []) → AreCoherent spaces
+  pub fresh_coherent : (spaces : Spaces P M) → ((space : SpaceId) → tracking_of (space_of space spaces) ≡ no_packets)
+      → ((space : SpaceId) → acks_of (space_of space spaces) ≡ new_acks []) → AreCoherent spaces
   fresh_coherent spaces none no_acks space = one_fresh (space_of space spaces) (none space) (no_acks space)

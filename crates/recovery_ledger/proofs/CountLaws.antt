@@ -21,7 +21,8 @@ module _ {P M : Type 0} where
 
   module _ (packets : Packets P M) (last : Option ℕ) (silent sized : ℕ) (counted : AreCounted packets last silent sized) where
     -- one more packet that elicits an ACK
-    pub counted_eliciting : (number : ℕ) (packet : Packet P M) → AllBelow packets number → AreCounted (packets ++ (number, packet) ∷ []) (Some number) 0 (sized + size_count packet)
+    pub counted_eliciting : (number : ℕ) (packet : Packet P M) → AllBelow packets number
+        → AreCounted (packets ++ (number, packet) ∷ []) (Some number) 0 (sized + size_count packet)
     counted_eliciting number packet below =
         let silent_push = sum_by_push (silent_count (Some number)) packets (number, packet) in
         let eliciting_push = sum_by_push (eliciting_count (Some number)) packets (number, packet) in
@@ -39,7 +40,8 @@ module _ {P M : Type 0} where
         }
 
     -- one more silent packet
-    pub counted_silent : (number : ℕ) (packet : Packet P M) → IsAboveLast last number → packet.ack_eliciting ≡ false → silent ≤ 1000 → AreCounted (packets ++ (number, packet) ∷ []) last (silent + 1) (sized + size_count packet)
+    pub counted_silent : (number : ℕ) (packet : Packet P M) → IsAboveLast last number → packet.ack_eliciting ≡ false
+        → silent ≤ 1000 → AreCounted (packets ++ (number, packet) ∷ []) last (silent + 1) (sized + size_count packet)
     counted_silent number packet above is_silent room =
         let silent_push = sum_by_push (silent_count last) packets (number, packet) in
         let eliciting_push = sum_by_push (eliciting_count last) packets (number, packet) in
@@ -91,7 +93,9 @@ module _ {P M : Type 0} where
           ap (λ b. cond (b && not packet.ack_eliciting) 1 0) above ∙ ap (λ b. cond (not b) 1 0) is_silent
 
   -- a packet with other contents
-  pub counted_carrying : (packets : Packets P M) (last : Option ℕ) (silent sized : ℕ) → AreCounted packets last silent sized → (number : ℕ) (packet : Packet P M) (contents : P) → packet_at packets number ≡ Some packet
+  pub counted_carrying : (packets : Packets P M) (last : Option ℕ) (silent sized : ℕ)
+      → AreCounted packets last silent sized → (number : ℕ) (packet : Packet P M) (contents : P)
+      → packet_at packets number ≡ Some packet
       → AreCounted (replaced number (Some (with_contents contents packet)) packets) last silent sized
   counted_carrying packets last silent sized counted number packet contents found =
       let other = with_contents contents packet in
@@ -102,13 +106,19 @@ module _ {P M : Type 0} where
         bound = counted.bound;
       }
 
-  pub counted_written : (packets new : Packets P M) (last : Option ℕ) (silent sized : ℕ) → AreCounted packets last silent sized → (number : ℕ) (packet written : Packet P M) (contents : P) → packet_at packets number ≡ Some packet
+  pub counted_written : (packets new : Packets P M) (last : Option ℕ) (silent sized : ℕ)
+      → AreCounted packets last silent sized → (number : ℕ) (packet written : Packet P M) (contents : P)
+      → packet_at packets number ≡ Some packet
       → written ≡ with_contents contents packet → new ≡ replaced number (Some written) packets → AreCounted new last silent sized
   counted_written packets new last silent sized counted number packet written contents found is set =
-      subst (λ (es : Packets P M). AreCounted es last silent sized) (sym (set ∙ ap (λ (p : Packet P M). replaced number (Some p) packets) is)) (counted_carrying packets last silent sized counted number packet contents found)
+      subst (λ (es : Packets P M). AreCounted es last silent sized)
+      (sym (set ∙ ap (λ (p : Packet P M). replaced number (Some p) packets) is))
+      (counted_carrying packets last silent sized counted number packet contents found)
 
   -- one more silent packet, for one that is forgotten
-  pub counted_forgetting : (packets : Packets P M) (last : Option ℕ) (silent sized : ℕ) (counted : AreCounted packets last silent sized) (number : ℕ) (packet : Packet P M) → IsAboveLast last number → packet.ack_eliciting ≡ false
+  pub counted_forgetting : (packets : Packets P M) (last : Option ℕ) (silent sized : ℕ)
+      (counted : AreCounted packets last silent sized) (number : ℕ) (packet : Packet P M) → IsAboveLast last number
+      → packet.ack_eliciting ≡ false
       → (least : ℕ) (gone : Packet P M) → packet_at packets least ≡ Some gone → is_above last least ≡ true
       → AreCounted (without packets least ++ (number, packet) ∷ []) last silent (sized + size_count packet - size_count gone)
   counted_forgetting packets last silent sized counted number packet above is_silent least gone found found_above =
@@ -116,7 +126,8 @@ module _ {P M : Type 0} where
       let one = forgotten_counts packets last silent sized counted least gone found found_above in
       let bound = counted.bound in
       let taken = counted_taken packets last silent sized counted least gone found in
-      let pushed = counted_silent (without packets least) last (silent - silent_count last (least, gone)) (sized - size_count gone) taken number packet above is_silent (omega (arith, one, bound)) in
+      let pushed = counted_silent (without packets least) last (silent - silent_count last (least, gone))
+      (sized - size_count gone) taken number packet above is_silent (omega (arith, one, bound)) in
       let first = pushed.silent_is in
       let third = pushed.sized_is in
       record {
@@ -127,7 +138,9 @@ module _ {P M : Type 0} where
       }
 
   -- the count of sizes tells whether there is one
-  pub has_size_counted : (packets : Packets P M) (last : Option ℕ) (silent sized : ℕ) → AreCounted packets last silent sized → (tracking : Tracking P M) → record { packets = packets; last_eliciting = last } ≡ tracking
+  pub has_size_counted : (packets : Packets P M) (last : Option ℕ) (silent sized : ℕ)
+      → AreCounted packets last silent sized → (tracking : Tracking P M)
+      → record { packets = packets; last_eliciting = last } ≡ tracking
       → IsTrue (not (sized == 0)) ↔ HasSize tracking.packets
   has_size_counted packets last silent sized counted tracking is =
       let same : packets ≡ tracking.packets = ap (λ (t : Tracking P M). t.packets) is in
@@ -147,7 +160,8 @@ module _ {P M : Type 0} where
       test_holds n some = ap not (ne_eqb n 0 some)
 
   -- at most 1001 silent packets are above the last eliciting number
-  pub silent_bound : (packets : Packets P M) (last : Option ℕ) (silent sized : ℕ) → AreCounted packets last silent sized → length (silent_above last packets) ≤ 1001
+  pub silent_bound : (packets : Packets P M) (last : Option ℕ) (silent sized : ℕ) → AreCounted packets last silent sized
+      → length (silent_above last packets) ≤ 1001
   silent_bound packets last silent sized counted =
       let is = silent_count-length last packets in
       let sum = counted.silent_is in
@@ -161,7 +175,8 @@ module _ {P M : Type 0} where
       go true = omega arith
       go false = omega arith
 
-  pub sized_fits : (packets : Packets P M) (last : Option ℕ) (silent sized : ℕ) → AreCounted packets last silent sized → (packet : Packet P M) → length packets < 2 ^ 63 → sized + size_count packet < 2 ^ 64
+  pub sized_fits : (packets : Packets P M) (last : Option ℕ) (silent sized : ℕ) → AreCounted packets last silent sized
+      → (packet : Packet P M) → length packets < 2 ^ 63 → sized + size_count packet < 2 ^ 64
   sized_fits packets last silent sized counted packet few =
       let sum = counted.sized_is in
       let most = sizes-le-length packets in
@@ -178,12 +193,15 @@ module _ {P M : Type 0} where
   pub nothing_forgotten : (last : Option ℕ) (packets : Packets P M) → forgotten_silent last packets ≡ None → length (silent_above last packets) ≤ 1000
   nothing_forgotten last packets none = go (nat_lt 1000 (length (silent_above last packets))) refl none
     where
-      go : (b : Bool) → nat_lt 1000 (length (silent_above last packets)) ≡ b → cond b (least_number (silent_above last packets)) None ≡ None → length (silent_above last packets) ≤ 1000
-      go true many e = let more : 1000 < length (silent_above last packets) = ltb-true _ _ many in absurd (first_of_some (silent_above last packets) (omega arith) e)
+      go : (b : Bool) → nat_lt 1000 (length (silent_above last packets)) ≡ b
+          → cond b (least_number (silent_above last packets)) None ≡ None → length (silent_above last packets) ≤ 1000
+      go true many e = let more : 1000 < length (silent_above last packets) = ltb-true _ _ many in absurd
+          (first_of_some (silent_above last packets) (omega arith) e)
       go false few e = ltb-false _ _ few
 
   -- what is forgotten is the first silent packet, where there are 1001
-  pub is_forgotten : (last : Option ℕ) (packets : Packets P M) (number : ℕ) → forgotten_silent last packets ≡ Some number → least_number (silent_above last packets) ≡ Some number
+  pub is_forgotten : (last : Option ℕ) (packets : Packets P M) (number : ℕ)
+      → forgotten_silent last packets ≡ Some number → least_number (silent_above last packets) ≡ Some number
   is_forgotten last packets number some = go (nat_lt 1000 (length (silent_above last packets))) some
     where
       go : (b : Bool) → cond b (least_number (silent_above last packets)) None ≡ Some number → least_number (silent_above last packets) ≡ Some number
@@ -191,8 +209,10 @@ module _ {P M : Type 0} where
       go false e = none_is_not_some number e
 
   module _ (packets : Packets P M) (last : Option ℕ) (silent sized : ℕ) (counted : AreCounted packets last silent sized) where
-    pub forgotten_found : (number : ℕ) → forgotten_silent last packets ≡ Some number → (packet : Packet P M) × (packet_at packets number ≡ Some packet) × (is_above last number ≡ true)
-    forgotten_found number some = first_above_found last packets number (ap least_number (all_silent last packets counted.others) ∙ is_forgotten last packets number some)
+    pub forgotten_found : (number : ℕ) → forgotten_silent last packets ≡ Some number
+        → (packet : Packet P M) × (packet_at packets number ≡ Some packet) × (is_above last number ≡ true)
+    forgotten_found number some = first_above_found last packets number
+        (ap least_number (all_silent last packets counted.others) ∙ is_forgotten last packets number some)
 
     pub silent_few : forgotten_silent last packets ≡ None → silent ≤ 1000
     silent_few none =
@@ -219,13 +239,26 @@ module _ {P M : Type 0} where
   -- ---- what a packet that is sent leaves
 
   module _ (packets : Packets P M) (last : Option ℕ) (number : ℕ) (packet : Packet P M) where
-    pub sent_eliciting : packet.ack_eliciting ≡ true → record { packets = packets ++ (number, packet) ∷ []; last_eliciting = Some number } ≡ after_sending number packet (record { packets = packets; last_eliciting = last })
-    sent_eliciting e = sym (ap (λ (b : Bool). let t : Tracking P M = record { packets = without_some packets (cond b None (forgotten_silent last packets)) ++ (number, packet) ∷ []; last_eliciting = cond b (Some number) last } in t) e)
+    pub sent_eliciting : packet.ack_eliciting ≡ true → record {
+      packets = packets ++ (number, packet) ∷ [];
+      last_eliciting = Some number;
+    } ≡ after_sending number packet
+        (record { packets = packets; last_eliciting = last })
+    sent_eliciting e = sym (ap (λ (b : Bool). let t : Tracking P M =
+        record {
+          packets = without_some packets (cond b None (forgotten_silent last packets)) ++ (number, packet) ∷ [];
+          last_eliciting = cond b (Some number) last;
+        } in t) e)
 
     pub sent_silent : (forgotten : Option ℕ) → packet.ack_eliciting ≡ false → forgotten_silent last packets ≡ forgotten
-        → record { packets = without_some packets forgotten ++ (number, packet) ∷ []; last_eliciting = last } ≡ after_sending number packet (record { packets = packets; last_eliciting = last })
+        → record { packets = without_some packets forgotten ++ (number, packet) ∷ []; last_eliciting = last }
+        ≡ after_sending number packet (record { packets = packets; last_eliciting = last })
     sent_silent forgotten e f = sym (
-        ap (λ (b : Bool). let t : Tracking P M = record { packets = without_some packets (cond b None (forgotten_silent last packets)) ++ (number, packet) ∷ []; last_eliciting = cond b (Some number) last } in t) e
+        ap (λ (b : Bool). let t : Tracking P M = record {
+          packets = without_some packets
+              (cond b None (forgotten_silent last packets)) ++ (number, packet) ∷ [];
+          last_eliciting = cond b (Some number) last;
+        } in t) e
         ∙ ap (λ (r : Option ℕ). let t : Tracking P M = record { packets = without_some packets r ++ (number, packet) ∷ []; last_eliciting = last } in t) f)
 
     pub forgotten_eliciting : packet.ack_eliciting ≡ true → None ≡ forgotten_number last packet packets

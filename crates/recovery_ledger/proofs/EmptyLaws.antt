@@ -13,14 +13,17 @@ pub record Leaving {P M : Type 0} (then : PathLedger) (all : Packets P M) (path 
   pub generation : generation_of path ≡ generation_of then
   pub counted : IsCountedIn (counters_of path) (generation_of path) rest
   pub bytes : (counters_of path).bytes + sum_by (size_in (generation_of then)) all ≡ (counters_of then).bytes + sum_by (size_in (generation_of then)) rest
-  pub count : (counters_of path).ack_eliciting + sum_by (eliciting_in (generation_of then)) all ≡ (counters_of then).ack_eliciting + sum_by (eliciting_in (generation_of then)) rest
+  pub count : (counters_of path).ack_eliciting + sum_by (eliciting_in (generation_of then)) all
+      ≡ (counters_of then).ack_eliciting + sum_by (eliciting_in (generation_of then)) rest
 
 module _ {P M : Type 0} (then : PathLedger) (all : Packets P M) where
   pub leaving_none : IsCountedIn (counters_of then) (generation_of then) all → Leaving then all then all
   leaving_none counted = record { generation = refl; counted = counted; bytes = refl; count = refl }
 
   -- the first of the rest may leave, and does
-  pub leaving_first : (path : PathLedger) (entry : ℕ × Packet P M) (rest : Packets P M) → Leaving then all path (entry ∷ rest) → IsCountedOn path entry.1 × Leaving then all (after_leaving path entry.1) rest
+  pub leaving_first : (path : PathLedger) (entry : ℕ × Packet P M) (rest : Packets P M)
+      → Leaving then all path (entry ∷ rest)
+      → IsCountedOn path entry.1 × Leaving then all (after_leaving path entry.1) rest
   leaving_first path entry rest leaving =
       let first = first_leaves path entry rest leaving.counted in
       let left = first.2 in
@@ -31,8 +34,15 @@ module _ {P M : Type 0} (then : PathLedger) (all : Packets P M) where
       let bytes = leaving.bytes in
       let count = leaving.count in
       let sizes = sum_by-cons (size_in (generation_of then)) entry rest in
-      let elicitings = sum_by-cons (eliciting_in (generation_of then)) entry rest in
-      (first.0, record { generation = same; counted = first.1; bytes = omega (arith, bytes, sizes, left, size); count = omega (arith, count, elicitings, left_count, one) })
+      let elicitings = sum_by-cons (eliciting_in (generation_of then)) entry rest in (
+        first.0,
+        record {
+          generation = same;
+          counted = first.1;
+          bytes = omega (arith, bytes, sizes, left, size);
+          count = omega (arith, count, elicitings, left_count, one);
+        },
+      )
 
   -- all have left
   pub leaving_all : (path : PathLedger) → Leaving then all path [] → SumsLeave (counters_of then) (generation_of then) all (counters_of path)

@@ -13,7 +13,8 @@ module _ {P M : Type 0} (generation : ℕ) where
   abbrev Is : Packet P M → Type 0
   Is packet = packet.path_generation ≤ generation
 
-  pub up_to_with : (spaces : Spaces P M) (space : SpaceId) (here : Space P M) → AreUpTo generation spaces → IsUpTo generation (packets_of here) → AreUpTo generation (with_space spaces space here)
+  pub up_to_with : (spaces : Spaces P M) (space : SpaceId) (here : Space P M) → AreUpTo generation spaces
+      → IsUpTo generation (packets_of here) → AreUpTo generation (with_space spaces space here)
   up_to_with spaces Initial here all one Initial = one
   up_to_with spaces Initial here all one Handshake = all Handshake
   up_to_with spaces Initial here all one Data = all Data
@@ -41,10 +42,14 @@ module _ {P M : Type 0} (generation : ℕ) where
   pub up_to_carrying : (packets : Packets P M) (number : ℕ) (contents : P) → IsUpTo generation packets → IsUpTo generation (carrying number contents packets)
   up_to_carrying packets number contents all = all_carrying Is packets number contents (λ packet holds. holds) all
 
-  pub up_to_sent : (last : Option ℕ) (number : ℕ) (packet : Packet P M) (packets : Packets P M) → IsUpTo generation packets → packet.path_generation ≤ generation → IsUpTo generation (sent_onto last number packet packets)
+  pub up_to_sent : (last : Option ℕ) (number : ℕ) (packet : Packet P M) (packets : Packets P M)
+      → IsUpTo generation packets → packet.path_generation ≤ generation
+      → IsUpTo generation (sent_onto last number packet packets)
   up_to_sent last number packet packets all one = all_sent Is last number packet packets all one
 
-  pub up_to_probed : {S : Type 0} → (words : QueueWords P S) (immediate : Bool) (found : ProbeFound) (old : Space P M) → IsUpTo generation (packets_of old) → IsUpTo generation (packets_of (space_probes words immediate found (one_probe_more old)))
+  pub up_to_probed : {S : Type 0} → (words : QueueWords P S) (immediate : Bool) (found : ProbeFound) (old : Space P M)
+      → IsUpTo generation (packets_of old)
+      → IsUpTo generation (packets_of (space_probes words immediate found (one_probe_more old)))
   up_to_probed words immediate pending_stands old all = all
   up_to_probed words immediate nothing_found old all = all
   up_to_probed words immediate (moves number) old all = up_to_carrying (packets_of old) number words.empty all

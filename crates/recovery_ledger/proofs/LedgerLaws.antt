@@ -22,14 +22,19 @@ same_counters a b bytes count = ap₂ (λ (m n : ℕ). let c : InFlight = record
 module _ {P M : Type 0} where
   -- ---- one packet
 
-  module _ (path : PathLedger) (number : ℕ) (packet : Packet P M) (enough : size_in (generation_of path) (number, packet) ≤ (counters_of path).bytes) (eliciting : eliciting_in (generation_of path) (number, packet) ≤ (counters_of path).ack_eliciting) where
+  module _ (path : PathLedger) (number : ℕ) (packet : Packet P M)
+      (enough : size_in (generation_of path) (number, packet) ≤ (counters_of path).bytes)
+      (eliciting : eliciting_in (generation_of path) (number, packet) ≤ (counters_of path).ack_eliciting) where
     -- a packet that leaves takes its part from the counters
-    pub leaves : ((counters_left path packet).bytes + size_in (generation_of path) (number, packet) ≡ (counters_of path).bytes) × ((counters_left path packet).ack_eliciting + eliciting_in (generation_of path) (number, packet) ≡ (counters_of path).ack_eliciting)
+    pub leaves : ((counters_left path packet).bytes + size_in (generation_of path) (number, packet)
+        ≡ (counters_of path).bytes) × ((counters_left path packet).ack_eliciting + eliciting_in (generation_of path)
+        (number, packet) ≡ (counters_of path).ack_eliciting)
     leaves = go (packet.path_generation == generation_of path) enough eliciting
       where
         go : (b : Bool) → cond b packet.size 0 ≤ (counters_of path).bytes → cond (b && packet.ack_eliciting) 1 0 ≤ (counters_of path).ack_eliciting
             → ((cond b (without_packet (counters_of path) packet) (counters_of path)).bytes + cond b packet.size 0 ≡ (counters_of path).bytes)
-            × ((cond b (without_packet (counters_of path) packet) (counters_of path)).ack_eliciting + cond (b && packet.ack_eliciting) 1 0 ≡ (counters_of path).ack_eliciting)
+            × ((cond b (without_packet (counters_of path) packet) (counters_of path)).ack_eliciting + cond
+            (b && packet.ack_eliciting) 1 0 ≡ (counters_of path).ack_eliciting)
         go true h k = (omega (arith, h), omega (arith, k))
         go false h k = (omega arith, omega arith)
 
@@ -42,17 +47,21 @@ module _ {P M : Type 0} where
 
   -- a packet of another path leaves nothing
   pub not_leaving : (path : PathLedger) (packet : Packet P M) → packet.path_generation ≢ generation_of path → after_leaving path packet ≡ path
-  not_leaving path packet other = ap (λ (b : Bool). with_counters (cond b (without_packet (counters_of path) packet) (counters_of path)) path) (ne_eqb packet.path_generation (generation_of path) other)
+  not_leaving path packet other = ap (λ (b : Bool). with_counters
+      (cond b (without_packet (counters_of path) packet) (counters_of path)) path)
+      (ne_eqb packet.path_generation (generation_of path) other)
 
   -- ---- one space among three
 
-  pub sums_replaced : (f : ℕ × Packet P M → ℕ) (spaces : Spaces P M) (space : SpaceId) (here : Space P M) (a b : ℕ) → sum_by f (packets_of here) + a ≡ sum_by f (tracked_by spaces space) + b
+  pub sums_replaced : (f : ℕ × Packet P M → ℕ) (spaces : Spaces P M) (space : SpaceId) (here : Space P M) (a b : ℕ)
+      → sum_by f (packets_of here) + a ≡ sum_by f (tracked_by spaces space) + b
       → over_spaces (λ s. sum_by f (tracked_by (with_space spaces space here) s)) + a ≡ over_spaces (λ s. sum_by f (tracked_by spaces s)) + b
   sums_replaced f spaces Initial here a b e = omega (arith, e)
   sums_replaced f spaces Handshake here a b e = omega (arith, e)
   sums_replaced f spaces Data here a b e = omega (arith, e)
 
-  pub part-le : (f : ℕ × Packet P M → ℕ) (spaces : Spaces P M) (space : SpaceId) → sum_by f (tracked_by spaces space) ≤ over_spaces (λ s. sum_by f (tracked_by spaces s))
+  pub part-le : (f : ℕ × Packet P M → ℕ) (spaces : Spaces P M) (space : SpaceId)
+      → sum_by f (tracked_by spaces space) ≤ over_spaces (λ s. sum_by f (tracked_by spaces s))
   part-le f spaces Initial = omega arith
   part-le f spaces Handshake = omega arith
   part-le f spaces Data = omega arith
@@ -74,7 +83,8 @@ module _ {P M : Type 0} where
         (omega (arith, sizes, bytes), omega (arith, elicitings, count))
 
     packet_enough : (space : SpaceId) (number : ℕ) (packet : Packet P M) → packet_at (tracked_by spaces space) number ≡ Some packet
-        → (size_in (generation_of path) (number, packet) ≤ (counters_of path).bytes) × (eliciting_in (generation_of path) (number, packet) ≤ (counters_of path).ack_eliciting)
+        → (size_in (generation_of path) (number, packet) ≤ (counters_of path).bytes)
+        × (eliciting_in (generation_of path) (number, packet) ≤ (counters_of path).ack_eliciting)
     packet_enough space number packet found =
         let all = space_counted space in
         let size = found-le-sum (size_in (generation_of path)) (tracked_by spaces space) number packet found in
@@ -84,7 +94,8 @@ module _ {P M : Type 0} where
         (omega (arith, size, h), omega (arith, one, k))
 
     -- a tracked packet is among those counted, where it is the path's
-    pub packet_counted : (space : SpaceId) (number : ℕ) (packet : Packet P M) → packet_at (tracked_by spaces space) number ≡ Some packet → IsCountedOn path packet
+    pub packet_counted : (space : SpaceId) (number : ℕ) (packet : Packet P M)
+        → packet_at (tracked_by spaces space) number ≡ Some packet → IsCountedOn path packet
     packet_counted space number packet found = let e = packet_enough space number packet found in own_counted path number packet e.0 e.1
 
     -- one space changes, and the counters by as much
@@ -99,29 +110,48 @@ module _ {P M : Type 0} where
         let all_elicitings = sums_replaced (eliciting_in (generation_of path)) spaces space here c d elicitings in
         let old_bytes = counters_bytes in
         let old_count = counters_count in
-        subst Holds (sym same) (same_counters (counters_of new) (in_flight (generation_of path) (tracked_by (with_space spaces space here))) (omega (arith, all_sizes, old_bytes, bytes)) (omega (arith, all_elicitings, old_count, count)))
+        subst Holds (sym same) (same_counters (counters_of new)
+        (in_flight (generation_of path) (tracked_by (with_space spaces space here)))
+        (omega (arith, all_sizes, old_bytes, bytes)) (omega (arith, all_elicitings, old_count, count)))
 
     -- no sum over a space changes
-    balanced_alike : (space : SpaceId) (here : Space P M) → sum_by (size_in (generation_of path)) (packets_of here) ≡ sum_by (size_in (generation_of path)) (tracked_by spaces space)
-        → sum_by (eliciting_in (generation_of path)) (packets_of here) ≡ sum_by (eliciting_in (generation_of path)) (tracked_by spaces space) → IsBalancedOn (with_space spaces space here) path
-    balanced_alike space here sizes elicitings = balanced_by space here path 0 0 0 0 refl (ap (λ (n : ℕ). n + 0) sizes) (ap (λ (n : ℕ). n + 0) elicitings) refl refl
+    balanced_alike : (space : SpaceId) (here : Space P M)
+        → sum_by (size_in (generation_of path)) (packets_of here)
+        ≡ sum_by (size_in (generation_of path)) (tracked_by spaces space)
+        → sum_by (eliciting_in (generation_of path)) (packets_of here)
+        ≡ sum_by (eliciting_in (generation_of path)) (tracked_by spaces space)
+        → IsBalancedOn (with_space spaces space here) path
+    balanced_alike space here sizes elicitings = balanced_by space here path 0 0 0 0 refl (ap (λ (n : ℕ). n + 0) sizes)
+        (ap (λ (n : ℕ). n + 0) elicitings) refl refl
 
     -- nothing that is tracked changes
     pub balanced_kept : (space : SpaceId) (here : Space P M) → packets_of here ≡ tracked_by spaces space → IsBalancedOn (with_space spaces space here) path
-    balanced_kept space here same = balanced_alike space here (ap (sum_by (size_in (generation_of path))) same) (ap (sum_by (eliciting_in (generation_of path))) same)
+    balanced_kept space here same = balanced_alike space here (ap (sum_by (size_in (generation_of path))) same)
+        (ap (sum_by (eliciting_in (generation_of path))) same)
 
     -- a tracked packet has other contents
-    pub balanced_carrying : (space : SpaceId) (here : Space P M) (number : ℕ) (contents : P) → packets_of here ≡ carrying number contents (tracked_by spaces space) → IsBalancedOn (with_space spaces space here) path
+    pub balanced_carrying : (space : SpaceId) (here : Space P M) (number : ℕ) (contents : P)
+        → packets_of here ≡ carrying number contents (tracked_by spaces space)
+        → IsBalancedOn (with_space spaces space here) path
     balanced_carrying space here number contents same =
         balanced_alike space here
-        (ap (sum_by (size_in (generation_of path))) same ∙ sum-carrying (tracked_by spaces space) number (size_in (generation_of path)) contents (λ n packet. refl))
-        (ap (sum_by (eliciting_in (generation_of path))) same ∙ sum-carrying (tracked_by spaces space) number (eliciting_in (generation_of path)) contents (λ n packet. refl))
+        (ap (sum_by (size_in (generation_of path))) same ∙ sum-carrying (tracked_by spaces space) number
+        (size_in (generation_of path)) contents (λ n packet. refl))
+        (ap (sum_by (eliciting_in (generation_of path))) same
+        ∙ sum-carrying (tracked_by spaces space) number (eliciting_in (generation_of path)) contents
+        (λ n packet. refl))
 
     -- a probe is asked for
-    pub balanced_probed : {S : Type 0} → (words : QueueWords P S) (space : SpaceId) (immediate : Bool) (found : ProbeFound) → IsBalancedOn (with_space spaces space (space_probes words immediate found (one_probe_more (space_of space spaces)))) path
-    balanced_probed words space immediate pending_stands = balanced_kept space (space_probes words immediate pending_stands (one_probe_more (space_of space spaces))) refl
-    balanced_probed words space immediate nothing_found = balanced_kept space (space_probes words immediate nothing_found (one_probe_more (space_of space spaces))) refl
-    balanced_probed words space immediate (moves number) = balanced_carrying space (space_probes words immediate (moves number) (one_probe_more (space_of space spaces))) number words.empty refl
+    pub balanced_probed : {S : Type 0}
+        → (words : QueueWords P S) (space : SpaceId) (immediate : Bool) (found : ProbeFound)
+        → IsBalancedOn (with_space spaces space (space_probes words immediate found
+        (one_probe_more (space_of space spaces)))) path
+    balanced_probed words space immediate pending_stands = balanced_kept space
+        (space_probes words immediate pending_stands (one_probe_more (space_of space spaces))) refl
+    balanced_probed words space immediate nothing_found = balanced_kept space
+        (space_probes words immediate nothing_found (one_probe_more (space_of space spaces))) refl
+    balanced_probed words space immediate (moves number) = balanced_carrying space
+        (space_probes words immediate (moves number) (one_probe_more (space_of space spaces))) number words.empty refl
 
     -- a tracked packet leaves
     pub balanced_taken : (space : SpaceId) (here : Space P M) (number : ℕ) (packet : Packet P M) → packet_at (tracked_by spaces space) number ≡ Some packet
@@ -135,18 +165,26 @@ module _ {P M : Type 0} where
         let elicitings = sum-without (eliciting_in (generation_of path)) (tracked_by spaces space) number packet found in
         let here_sizes = ap (λ (es : Packets P M). sum_by (size_in (generation_of path)) es) packets in
         let here_elicitings = ap (λ (es : Packets P M). sum_by (eliciting_in (generation_of path)) es) packets in
-        balanced_by space here (after_leaving path packet) (size_in (generation_of path) (number, packet)) 0 (eliciting_in (generation_of path) (number, packet)) 0 refl
+        balanced_by space here (after_leaving path packet) (size_in (generation_of path) (number, packet)) 0
+        (eliciting_in (generation_of path) (number, packet)) 0 refl
         (omega (arith, sizes, here_sizes)) (omega (arith, elicitings, here_elicitings)) (omega (arith, bytes)) (omega (arith, count))
 
     -- a packet that is lost, as it is handed back, is among those counted, where it is the path's
-    pub lost_counted : (space : SpaceId) (number : ℕ) (contents : P) (packet : Packet P M) → option_map (with_contents contents) (packet_at (tracked_by spaces space) number) ≡ Some packet → IsCountedOn path packet
-    lost_counted space number contents packet is = lost_holds (IsCountedOn path) (packet_at (tracked_by spaces space) number) contents packet is (λ old found. packet_counted space number old found)
+    pub lost_counted : (space : SpaceId) (number : ℕ) (contents : P) (packet : Packet P M)
+        → option_map (with_contents contents) (packet_at (tracked_by spaces space) number) ≡ Some packet
+        → IsCountedOn path packet
+    lost_counted space number contents packet is = lost_holds (IsCountedOn path)
+        (packet_at (tracked_by spaces space) number) contents packet is
+        (λ old found. packet_counted space number old found)
 
     -- and leaves
-    pub balanced_lost : (space : SpaceId) (here : Space P M) (number : ℕ) (contents : P) (packet : Packet P M) → option_map (with_contents contents) (packet_at (tracked_by spaces space) number) ≡ Some packet
+    pub balanced_lost : (space : SpaceId) (here : Space P M) (number : ℕ) (contents : P) (packet : Packet P M)
+        → option_map (with_contents contents) (packet_at (tracked_by spaces space) number) ≡ Some packet
         → packets_of here ≡ without (tracked_by spaces space) number → IsBalancedOn (with_space spaces space here) (after_leaving path packet)
     balanced_lost space here number contents packet is packets =
-        lost_holds (λ (p : Packet P M). IsBalancedOn (with_space spaces space here) (after_leaving path p)) (packet_at (tracked_by spaces space) number) contents packet is (λ old found. balanced_taken space here number old found packets)
+        lost_holds (λ (p : Packet P M). IsBalancedOn (with_space spaces space here) (after_leaving path p))
+        (packet_at (tracked_by spaces space) number) contents packet is
+        (λ old found. balanced_taken space here number old found packets)
 
     -- a space is emptied
     pub balanced_emptied : (space : SpaceId) (here : Space P M) (new : PathLedger) → generation_of new ≡ generation_of path → packets_of here ≡ []
@@ -156,7 +194,8 @@ module _ {P M : Type 0} where
         let here_elicitings = ap (λ (es : Packets P M). sum_by (eliciting_in (generation_of path)) es) packets in
         let bytes = leave.0 in
         let count = leave.1 in
-        balanced_by space here new (sum_by (size_in (generation_of path)) (tracked_by spaces space)) 0 (sum_by (eliciting_in (generation_of path)) (tracked_by spaces space)) 0 same
+        balanced_by space here new (sum_by (size_in (generation_of path)) (tracked_by spaces space)) 0
+        (sum_by (eliciting_in (generation_of path)) (tracked_by spaces space)) 0 same
         (omega (arith, here_sizes)) (omega (arith, here_elicitings)) (omega (arith, bytes)) (omega (arith, count))
 
   -- ---- a space that is emptied packet by packet
@@ -185,17 +224,20 @@ module _ {P M : Type 0} where
   gone f None = 0
   gone f (Some entry) = f entry
 
-  sum-without_some : (f : ℕ × Packet P M → ℕ) (packets : Packets P M) (forgotten : Option ℕ) → sum_by f (without_some packets forgotten) + gone f (entry_at packets forgotten) ≡ sum_by f packets
+  sum-without_some : (f : ℕ × Packet P M → ℕ) (packets : Packets P M) (forgotten : Option ℕ)
+      → sum_by f (without_some packets forgotten) + gone f (entry_at packets forgotten) ≡ sum_by f packets
   sum-without_some f packets None = omega arith
   sum-without_some f packets (Some number) = go (packet_at packets number) refl
     where
-      go : (found : Option (Packet P M)) → packet_at packets number ≡ found → sum_by f (without packets number) + gone f (numbered number found) ≡ sum_by f packets
+      go : (found : Option (Packet P M)) → packet_at packets number ≡ found
+          → sum_by f (without packets number) + gone f (numbered number found) ≡ sum_by f packets
       go None absent = let same = ap (λ (es : Packets P M). sum_by f es) (without-absent packets number absent) in omega (arith, same)
       go (Some packet) found = sum-without f packets number packet found
 
   pub sum-sent_onto : (f : ℕ × Packet P M → ℕ) (last : Option ℕ) (number : ℕ) (packet : Packet P M)
       (packets : Packets P M)
-      → sum_by f (sent_onto last number packet packets) + gone f (entry_at packets (forgotten_number last packet packets)) ≡ sum_by f packets + f (number, packet)
+      → sum_by f (sent_onto last number packet packets) + gone f
+      (entry_at packets (forgotten_number last packet packets)) ≡ sum_by f packets + f (number, packet)
   sum-sent_onto f last number packet packets =
       let push = sum_by_push f (without_some packets (forgotten_number last packet packets)) (number, packet) in
       let left = sum-without_some f packets (forgotten_number last packet packets) in
@@ -203,10 +245,14 @@ module _ {P M : Type 0} where
 
   module _ (path : PathLedger) (packet : Packet P M) where
     -- what the counters are when one packet was perhaps forgotten
-    forgotten_leaves : (counters : InFlight) (forgotten : Option (ℕ × Packet P M)) → (counters_of path).bytes ≤ counters.bytes → (counters_of path).ack_eliciting ≤ counters.ack_eliciting
-        → ((entry : ℕ × Packet P M) → forgotten ≡ Some entry → (size_in (generation_of path) entry ≤ (counters_of path).bytes) × (eliciting_in (generation_of path) entry ≤ (counters_of path).ack_eliciting))
+    forgotten_leaves : (counters : InFlight) (forgotten : Option (ℕ × Packet P M))
+        → (counters_of path).bytes ≤ counters.bytes → (counters_of path).ack_eliciting ≤ counters.ack_eliciting
+        → ((entry : ℕ × Packet P M) → forgotten ≡ Some entry →
+        (size_in (generation_of path) entry ≤ (counters_of path).bytes)
+        × (eliciting_in (generation_of path) entry ≤ (counters_of path).ack_eliciting))
         → ((counters_of (after_forgetting (with_counters counters path) forgotten)).bytes + gone (size_in (generation_of path)) forgotten ≡ counters.bytes)
-        × ((counters_of (after_forgetting (with_counters counters path) forgotten)).ack_eliciting + gone (eliciting_in (generation_of path)) forgotten ≡ counters.ack_eliciting)
+        × ((counters_of (after_forgetting (with_counters counters path) forgotten)).ack_eliciting + gone
+        (eliciting_in (generation_of path)) forgotten ≡ counters.ack_eliciting)
         × (generation_of (after_forgetting (with_counters counters path) forgotten) ≡ generation_of path)
     forgotten_leaves counters None bytes count enough = (omega arith, omega arith, refl)
     forgotten_leaves counters (Some entry) bytes count enough =
@@ -217,34 +263,48 @@ module _ {P M : Type 0} where
         (left.0, left.1, refl)
 
     -- a packet of the path adds its part, and one of another path nothing
-    own_adds : (number : ℕ) → packet.path_generation ≡ generation_of path → (size_in (generation_of path) (number, packet) ≡ packet.size) × (eliciting_in (generation_of path) (number, packet) ≡ eliciting_one packet)
+    own_adds : (number : ℕ) → packet.path_generation ≡ generation_of path
+        → (size_in (generation_of path) (number, packet) ≡ packet.size)
+        × (eliciting_in (generation_of path) (number, packet) ≡ eliciting_one packet)
     own_adds number own =
         let same : (packet.path_generation == generation_of path) ≡ true = eq-eqb packet.path_generation (generation_of path) own in
         (ap (λ b. cond b packet.size 0) same, ap (λ b. cond (b && packet.ack_eliciting) 1 0) same)
 
-    other_adds : (number : ℕ) → packet.path_generation ≢ generation_of path → (size_in (generation_of path) (number, packet) ≡ 0) × (eliciting_in (generation_of path) (number, packet) ≡ 0)
+    other_adds : (number : ℕ) → packet.path_generation ≢ generation_of path
+        → (size_in (generation_of path) (number, packet) ≡ 0) × (eliciting_in (generation_of path) (number, packet) ≡ 0)
     other_adds number other =
         let same : (packet.path_generation == generation_of path) ≡ false = ne_eqb packet.path_generation (generation_of path) other in
         (ap (λ b. cond b packet.size 0) same, ap (λ b. cond (b && packet.ack_eliciting) 1 0) same)
 
   module _ (spaces : Spaces P M) (path : PathLedger) (balanced : IsBalancedOn spaces path) (space : SpaceId) where
-    entry_enough : (forgotten : Option ℕ) (entry : ℕ × Packet P M) → entry_at (tracked_by spaces space) forgotten ≡ Some entry → (size_in (generation_of path) entry ≤ (counters_of path).bytes) × (eliciting_in (generation_of path) entry ≤ (counters_of path).ack_eliciting)
+    entry_enough : (forgotten : Option ℕ) (entry : ℕ × Packet P M)
+        → entry_at (tracked_by spaces space) forgotten ≡ Some entry
+        → (size_in (generation_of path) entry ≤ (counters_of path).bytes)
+        × (eliciting_in (generation_of path) entry ≤ (counters_of path).ack_eliciting)
     entry_enough None entry e = none_is_some entry e
       where
-        none_is_some : (x : ℕ × Packet P M) → None ≡ Some x → (size_in (generation_of path) x ≤ (counters_of path).bytes) × (eliciting_in (generation_of path) x ≤ (counters_of path).ack_eliciting)
+        none_is_some : (x : ℕ × Packet P M) → None ≡ Some x
+            → (size_in (generation_of path) x ≤ (counters_of path).bytes)
+            × (eliciting_in (generation_of path) x ≤ (counters_of path).ack_eliciting)
         none_is_some x e = cc
     entry_enough (Some number) entry e = go (packet_at (tracked_by spaces space) number) refl e
       where
-        none_is_some : (x : ℕ × Packet P M) → None ≡ Some x → (size_in (generation_of path) x ≤ (counters_of path).bytes) × (eliciting_in (generation_of path) x ≤ (counters_of path).ack_eliciting)
+        none_is_some : (x : ℕ × Packet P M) → None ≡ Some x
+            → (size_in (generation_of path) x ≤ (counters_of path).bytes)
+            × (eliciting_in (generation_of path) x ≤ (counters_of path).ack_eliciting)
         none_is_some x e = cc
 
         same_entry : (x y : ℕ × Packet P M) → Some x ≡ Some y → x ≡ y
         same_entry x y e = cc
 
-        go : (found : Option (Packet P M)) → packet_at (tracked_by spaces space) number ≡ found → numbered number found ≡ Some entry → (size_in (generation_of path) entry ≤ (counters_of path).bytes) × (eliciting_in (generation_of path) entry ≤ (counters_of path).ack_eliciting)
+        go : (found : Option (Packet P M)) → packet_at (tracked_by spaces space) number ≡ found
+            → numbered number found ≡ Some entry
+            → (size_in (generation_of path) entry ≤ (counters_of path).bytes)
+            × (eliciting_in (generation_of path) entry ≤ (counters_of path).ack_eliciting)
         go None absent f = none_is_some entry f
         go (Some p) found f =
-            let Holds : ℕ × Packet P M → Type 0 = λ x. (size_in (generation_of path) x ≤ (counters_of path).bytes) × (eliciting_in (generation_of path) x ≤ (counters_of path).ack_eliciting) in
+            let Holds : ℕ × Packet P M → Type 0 = λ x. (size_in (generation_of path) x ≤ (counters_of path).bytes)
+            × (eliciting_in (generation_of path) x ≤ (counters_of path).ack_eliciting) in
             subst Holds (same_entry (number, p) entry f) (packet_enough spaces path balanced space number p found)
 
     module _ (packet : Packet P M) where
@@ -255,15 +315,21 @@ module _ {P M : Type 0} where
           let enough = entry_enough (forgotten_number tracking.last_eliciting packet tracking.packets) entry e in
           own_counted path entry.0 entry.1 enough.0 enough.1
 
-      module _ (here : Space P M) (number : ℕ) (forgotten : Option (ℕ × Packet P M)) (tracking : tracking_of here ≡ after_sending number packet (tracking_of (space_of space spaces))) (is : forgotten ≡ forgotten_entry packet (tracking_of (space_of space spaces))) where
+      module _ (here : Space P M) (number : ℕ) (forgotten : Option (ℕ × Packet P M))
+          (tracking : tracking_of here ≡ after_sending number packet (tracking_of (space_of space spaces)))
+          (is : forgotten ≡ forgotten_entry packet (tracking_of (space_of space spaces))) where
         -- the counters take in what the packet adds, and let go of what is forgotten
-        sent_by_sums : (counters : InFlight) → counters.bytes ≡ (counters_of path).bytes + size_in (generation_of path) (number, packet) → counters.ack_eliciting ≡ (counters_of path).ack_eliciting + eliciting_in (generation_of path) (number, packet)
+        sent_by_sums : (counters : InFlight)
+            → counters.bytes ≡ (counters_of path).bytes + size_in (generation_of path) (number, packet)
+            → counters.ack_eliciting ≡ (counters_of path).ack_eliciting + eliciting_in (generation_of path)
+            (number, packet)
             → IsBalancedOn (with_space spaces space here) (after_forgetting (with_counters counters path) forgotten)
         sent_by_sums counters more more_count =
             let old = tracking_of (space_of space spaces) in
             let last = old.last_eliciting in
             let packets : packets_of here ≡ sent_onto last number packet (tracked_by spaces space) = ap (λ (t : Tracking P M). t.packets) tracking in
-            let left = forgotten_leaves path packet counters forgotten (omega (arith, more)) (omega (arith, more_count)) (λ entry e. entry_enough (forgotten_number last packet (tracked_by spaces space)) entry (sym is ∙ e)) in
+            let left = forgotten_leaves path packet counters forgotten (omega (arith, more)) (omega (arith, more_count))
+            (λ entry e. entry_enough (forgotten_number last packet (tracked_by spaces space)) entry (sym is ∙ e)) in
             let bytes = left.0 in
             let count = left.1 in
             let sizes = sum-sent_onto (size_in (generation_of path)) last number packet (tracked_by spaces space) in
@@ -273,8 +339,12 @@ module _ {P M : Type 0} where
             let gone_sizes = ap (gone (size_in (generation_of path))) is in
             let gone_elicitings = ap (gone (eliciting_in (generation_of path))) is in
             balanced_by spaces path balanced space here (after_forgetting (with_counters counters path) forgotten)
-            (gone (size_in (generation_of path)) forgotten) (size_in (generation_of path) (number, packet)) (gone (eliciting_in (generation_of path)) forgotten) (eliciting_in (generation_of path) (number, packet))
-            left.2 (omega (arith, sizes, here_sizes, gone_sizes)) (omega (arith, elicitings, here_elicitings, gone_elicitings)) (omega (arith, bytes, more)) (omega (arith, count, more_count))
+            (gone (size_in (generation_of path)) forgotten) (size_in (generation_of path) (number, packet))
+            (gone (eliciting_in (generation_of path)) forgotten)
+            (eliciting_in (generation_of path) (number, packet))
+            left.2 (omega (arith, sizes, here_sizes, gone_sizes))
+            (omega (arith, elicitings, here_elicitings, gone_elicitings)) (omega (arith, bytes, more))
+            (omega (arith, count, more_count))
 
         -- a packet is sent on the path
         pub balanced_sent : packet.path_generation ≡ generation_of path → IsBalancedOn (with_space spaces space here) (path_after_sending path packet forgotten)
@@ -285,23 +355,27 @@ module _ {P M : Type 0} where
             sent_by_sums (with_packet (counters_of path) packet) (omega (arith, size)) (omega (arith, one))
 
         -- a packet is sent on another path
-        pub balanced_sent_elsewhere : packet.path_generation ≢ generation_of path → IsBalancedOn (with_space spaces space here) (after_forgetting path forgotten)
+        pub balanced_sent_elsewhere : packet.path_generation ≢ generation_of path
+            → IsBalancedOn (with_space spaces space here) (after_forgetting path forgotten)
         balanced_sent_elsewhere other =
             let adds = other_adds path packet number other in
             let size = adds.0 in
             let one = adds.1 in
             sent_by_sums (counters_of path) (omega (arith, size)) (omega (arith, one))
 
-  pub generation_after_forgetting : (path : PathLedger) (forgotten : Option (ℕ × Packet P M)) → generation_of (after_forgetting path forgotten) ≡ generation_of path
+  pub generation_after_forgetting : (path : PathLedger) (forgotten : Option (ℕ × Packet P M))
+      → generation_of (after_forgetting path forgotten) ≡ generation_of path
   generation_after_forgetting path None = refl
   generation_after_forgetting path (Some entry) = refl
 
-  pub generation_after_sending : (path : PathLedger) (packet : Packet P M) (forgotten : Option (ℕ × Packet P M)) → generation_of (path_after_sending path packet forgotten) ≡ generation_of path
+  pub generation_after_sending : (path : PathLedger) (packet : Packet P M) (forgotten : Option (ℕ × Packet P M))
+      → generation_of (path_after_sending path packet forgotten) ≡ generation_of path
   generation_after_sending path packet forgotten = generation_after_forgetting (with_counters (with_packet (counters_of path) packet) path) forgotten
 
   -- ---- a path on which nothing is in flight
 
-  none_below : (f : ℕ × Packet P M → ℕ) (packets : Packets P M) → ((n : ℕ) (packet : Packet P M) → IsAmong packets packet → f (n, packet) ≡ 0) → sum_by f packets ≡ 0
+  none_below : (f : ℕ × Packet P M → ℕ) (packets : Packets P M)
+      → ((n : ℕ) (packet : Packet P M) → IsAmong packets packet → f (n, packet) ≡ 0) → sum_by f packets ≡ 0
   none_below f [] none = refl
   none_below f (entry ∷ packets) none =
       let cons = sum_by-cons f entry packets in
@@ -310,14 +384,18 @@ module _ {P M : Type 0} where
       omega (arith, cons, first, later)
 
   -- no packet of its generation is tracked yet
-  none_balanced : (spaces : Spaces P M) (path : PathLedger) → ((space : SpaceId) (packet : Packet P M) → IsAmong (tracked_by spaces space) packet → packet.path_generation ≢ generation_of path)
+  none_balanced : (spaces : Spaces P M) (path : PathLedger)
+      → ((space : SpaceId) (packet : Packet P M) → IsAmong (tracked_by spaces space) packet
+      → packet.path_generation ≢ generation_of path)
       → counters_of path ≡ record { bytes = 0; ack_eliciting = 0 } → IsBalancedOn spaces path
   none_balanced spaces path none zero =
       zero ∙ sym (same_counters (in_flight (generation_of path) (tracked_by spaces)) (record { bytes = 0; ack_eliciting = 0 })
       (no_sum (size_in (generation_of path)) (λ number packet other. (other_adds path packet number other).0))
       (no_sum (eliciting_in (generation_of path)) (λ number packet other. (other_adds path packet number other).1)))
     where
-      no_sum : (f : ℕ × Packet P M → ℕ) → ((number : ℕ) (packet : Packet P M) → packet.path_generation ≢ generation_of path → f (number, packet) ≡ 0) → over_spaces (λ s. sum_by f (tracked_by spaces s)) ≡ 0
+      no_sum : (f : ℕ × Packet P M → ℕ)
+          → ((number : ℕ) (packet : Packet P M) → packet.path_generation ≢ generation_of path → f (number, packet) ≡ 0)
+          → over_spaces (λ s. sum_by f (tracked_by spaces s)) ≡ 0
       no_sum f adds =
           let a = none_below f (tracked_by spaces Initial) (λ n packet among. adds n packet (none Initial packet among)) in
           let b = none_below f (tracked_by spaces Handshake) (λ n packet among. adds n packet (none Handshake packet among)) in
@@ -325,11 +403,17 @@ module _ {P M : Type 0} where
           omega (arith, a, b, c)
 
   -- nothing is tracked yet
-  pub fresh_balanced : (spaces : Spaces P M) (path : PathLedger) → ((space : SpaceId) → tracking_of (space_of space spaces) ≡ no_packets) → counters_of path ≡ record { bytes = 0; ack_eliciting = 0 } → IsBalancedOn spaces path
+  pub fresh_balanced : (spaces : Spaces P M) (path : PathLedger)
+      → ((space : SpaceId) → tracking_of (space_of space spaces) ≡ no_packets) → counters_of path
+      ≡ record { bytes = 0; ack_eliciting = 0 } → IsBalancedOn spaces path
   fresh_balanced spaces path none zero =
-      none_balanced spaces path (λ space packet among. let Among : Tracking P M → Type 0 = λ t. IsAmong t.packets packet in absurd (subst Among (none space) among)) zero
+      none_balanced spaces path (λ space packet among. let Among : Tracking P M
+      → Type 0 = λ t. IsAmong t.packets packet in absurd (subst Among (none space) among)) zero
 
   -- a new path has a generation above all that are tracked
-  pub new_path_balanced : (generation : ℕ) (spaces : Spaces P M) (path : PathLedger) → AreUpTo generation spaces → generation < generation_of path → counters_of path ≡ record { bytes = 0; ack_eliciting = 0 } → IsBalancedOn spaces path
+  pub new_path_balanced : (generation : ℕ) (spaces : Spaces P M) (path : PathLedger) → AreUpTo generation spaces
+      → generation < generation_of path → counters_of path ≡ record { bytes = 0; ack_eliciting = 0 }
+      → IsBalancedOn spaces path
   new_path_balanced generation spaces path up_to above zero =
-      none_balanced spaces path (λ space packet among same. let le : packet.path_generation ≤ generation = up_to space packet among in absurd (omega (arith, le, same, above))) zero
+      none_balanced spaces path (λ space packet among same. let le : packet.path_generation ≤ generation = up_to space
+      packet among in absurd (omega (arith, le, same, above))) zero

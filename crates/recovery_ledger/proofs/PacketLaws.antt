@@ -37,32 +37,39 @@ module _ {P M : Type 0} where
   are_below [] limit below number packet found = no_packet packet found
   are_below (entry ∷ packets) limit below number packet found = go (is_at (nat_cmp number) entry.0) refl found (are_below packets limit below.1 number packet)
     where
-      go : (b : Bool) → is_at (nat_cmp number) entry.0 ≡ b → cond b (Some entry.1) (packet_at packets number) ≡ Some packet → (packet_at packets number ≡ Some packet → number < limit) → number < limit
+      go : (b : Bool) → is_at (nat_cmp number) entry.0 ≡ b
+          → cond b (Some entry.1) (packet_at packets number) ≡ Some packet
+          → (packet_at packets number ≡ Some packet → number < limit) → number < limit
       go true at e later = let h : entry.0 ≡ number = number_at number entry.0 at in let below_first : entry.0 < limit = below.0 in omega arith
       go false at e later = later e
 
   -- a number above all others goes to the end
-  pub insert_at_end : (packets : Packets P M) (number : ℕ) (packet : Packet P M) → AllBelow packets number → insert_entry nat_cmp packets number packet ≡ packets ++ (number, packet) ∷ []
+  pub insert_at_end : (packets : Packets P M) (number : ℕ) (packet : Packet P M) → AllBelow packets number
+      → insert_entry nat_cmp packets number packet ≡ packets ++ (number, packet) ∷ []
   insert_at_end [] number packet below = refl
   insert_at_end (entry ∷ packets) number packet below =
       let above : nat_cmp number entry.0 ≡ Greater = sym (nat_cmp_is number entry.0 Greater below.0) in
       ap (λ o. match_ordering o ((number, packet) ∷ entry ∷ packets) ((entry.0, packet) ∷ packets) (entry ∷ insert_entry nat_cmp packets number packet)) above
       ∙ ap (λ (es : Packets P M). entry ∷ es) (insert_at_end packets number packet below.1)
 
-  pub without-append : (packets more : Packets P M) (number : ℕ) (packet : Packet P M) → packet_at packets number ≡ Some packet → without (packets ++ more) number ≡ without packets number ++ more
+  pub without-append : (packets more : Packets P M) (number : ℕ) (packet : Packet P M)
+      → packet_at packets number ≡ Some packet → without (packets ++ more) number ≡ without packets number ++ more
   without-append [] more number packet found = no_packet packet found
   without-append (entry ∷ packets) more number packet found = go (is_at (nat_cmp number) entry.0) found (without-append packets more number packet)
     where
-      go : (b : Bool) → cond b (Some entry.1) (packet_at packets number) ≡ Some packet → (packet_at packets number ≡ Some packet → without (packets ++ more) number ≡ without packets number ++ more)
+      go : (b : Bool) → cond b (Some entry.1) (packet_at packets number) ≡ Some packet
+          → (packet_at packets number ≡ Some packet → without (packets ++ more) number ≡ without packets number ++ more)
           → cond b (packets ++ more) (entry ∷ without (packets ++ more) number) ≡ cond b packets (entry ∷ without packets number) ++ more
       go true e later = refl
       go false e later = ap (λ (es : Packets P M). entry ∷ es) (later e)
 
-  pub packet_at-append : (packets more : Packets P M) (number : ℕ) (packet : Packet P M) → packet_at packets number ≡ Some packet → packet_at (packets ++ more) number ≡ Some packet
+  pub packet_at-append : (packets more : Packets P M) (number : ℕ) (packet : Packet P M)
+      → packet_at packets number ≡ Some packet → packet_at (packets ++ more) number ≡ Some packet
   packet_at-append [] more number packet found = no_packet packet found
   packet_at-append (entry ∷ packets) more number packet found = go (is_at (nat_cmp number) entry.0) found (packet_at-append packets more number packet)
     where
-      go : (b : Bool) → cond b (Some entry.1) (packet_at packets number) ≡ Some packet → (packet_at packets number ≡ Some packet → packet_at (packets ++ more) number ≡ Some packet)
+      go : (b : Bool) → cond b (Some entry.1) (packet_at packets number) ≡ Some packet
+          → (packet_at packets number ≡ Some packet → packet_at (packets ++ more) number ≡ Some packet)
           → cond b (Some entry.1) (packet_at (packets ++ more) number) ≡ Some packet
       go true e later = e
       go false e later = later e
@@ -77,26 +84,31 @@ module _ {P M : Type 0} where
       go true later = below.1
       go false later = (below.0, later)
 
-  pub AllBelow-without_some : (packets : Packets P M) (forgotten : Option ℕ) (limit : ℕ) → AllBelow packets limit → AllBelow (without_some packets forgotten) limit
+  pub AllBelow-without_some : (packets : Packets P M) (forgotten : Option ℕ) (limit : ℕ) → AllBelow packets limit
+      → AllBelow (without_some packets forgotten) limit
   AllBelow-without_some packets None limit below = below
   AllBelow-without_some packets (Some number) limit below = AllBelow-without packets number limit below
 
-  pub AllBelow-replaced : (packets : Packets P M) (number : ℕ) (packet : Packet P M) (limit : ℕ) → AllBelow packets limit → AllBelow (replaced number (Some packet) packets) limit
+  pub AllBelow-replaced : (packets : Packets P M) (number : ℕ) (packet : Packet P M) (limit : ℕ)
+      → AllBelow packets limit → AllBelow (replaced number (Some packet) packets) limit
   AllBelow-replaced [] number packet limit below = tt
   AllBelow-replaced (entry ∷ packets) number packet limit below = go (is_at (nat_cmp number) entry.0) (AllBelow-replaced packets number packet limit below.1)
     where
-      go : (b : Bool) → AllBelow (replaced number (Some packet) packets) limit → AllBelow (cond b ((entry.0, packet) ∷ packets) (entry ∷ replaced number (Some packet) packets)) limit
+      go : (b : Bool) → AllBelow (replaced number (Some packet) packets) limit
+          → AllBelow (cond b ((entry.0, packet) ∷ packets) (entry ∷ replaced number (Some packet) packets)) limit
       go true later = (below.0, below.1)
       go false later = (below.0, later)
 
-  pub AllBelow-carrying : (packets : Packets P M) (number : ℕ) (contents : P) (limit : ℕ) → AllBelow packets limit → AllBelow (carrying number contents packets) limit
+  pub AllBelow-carrying : (packets : Packets P M) (number : ℕ) (contents : P) (limit : ℕ) → AllBelow packets limit
+      → AllBelow (carrying number contents packets) limit
   AllBelow-carrying packets number contents limit below = go (packet_at packets number)
     where
       go : (found : Option (Packet P M)) → AllBelow (replaced number (option_map (with_contents contents) found) packets) limit
       go None = below
       go (Some packet) = AllBelow-replaced packets number (with_contents contents packet) limit below
 
-  pub AllBelow-push : (packets : Packets P M) (number : ℕ) (packet : Packet P M) → AllBelow packets number → AllBelow (packets ++ (number, packet) ∷ []) (number + 1)
+  pub AllBelow-push : (packets : Packets P M) (number : ℕ) (packet : Packet P M) → AllBelow packets number
+      → AllBelow (packets ++ (number, packet) ∷ []) (number + 1)
   AllBelow-push [] number packet below = (omega arith, tt)
   AllBelow-push (entry ∷ packets) number packet below = (let h : entry.0 < number = below.0 in omega arith, AllBelow-push packets number packet below.1)
 
@@ -108,10 +120,14 @@ module _ {P M : Type 0} where
   sum-without f [] number packet found = no_packet packet found
   sum-without f (entry ∷ packets) number packet found = go (is_at (nat_cmp number) entry.0) refl found (sum-without f packets number packet)
     where
-      go : (b : Bool) → is_at (nat_cmp number) entry.0 ≡ b → cond b (Some entry.1) (packet_at packets number) ≡ Some packet → (packet_at packets number ≡ Some packet → sum_by f (without packets number) + f (number, packet) ≡ sum_by f packets)
+      go : (b : Bool) → is_at (nat_cmp number) entry.0 ≡ b
+          → cond b (Some entry.1) (packet_at packets number) ≡ Some packet
+          → (packet_at packets number ≡ Some packet → sum_by f (without packets number) + f (number, packet)
+          ≡ sum_by f packets)
           → sum_by f (cond b packets (entry ∷ without packets number)) + f (number, packet) ≡ sum_by f (entry ∷ packets)
       go true at e later =
-          let same : f entry ≡ f (number, packet) = ap (λ (n : ℕ). f (n, entry.1)) (number_at number entry.0 at) ∙ ap (λ (p : Packet P M). f (number, p)) (some_packet entry.1 packet e) in
+          let same : f entry ≡ f (number, packet) = ap (λ (n : ℕ). f (n, entry.1)) (number_at number entry.0 at)
+          ∙ ap (λ (p : Packet P M). f (number, p)) (some_packet entry.1 packet e) in
           let cons = sum_by-cons f entry packets in
           omega (arith, same, cons)
       go false at e later =
@@ -124,9 +140,12 @@ module _ {P M : Type 0} where
   pub sum-replaced : (f : ℕ × Packet P M → ℕ) (packets : Packets P M) (number : ℕ) (packet other : Packet P M) → packet_at packets number ≡ Some packet
       → ((n : ℕ) → f (n, other) ≡ f (n, packet)) → sum_by f (replaced number (Some other) packets) ≡ sum_by f packets
   sum-replaced f [] number packet other found alike = no_packet packet found
-  sum-replaced f (entry ∷ packets) number packet other found alike = go (is_at (nat_cmp number) entry.0) found (λ there. sum-replaced f packets number packet other there alike)
+  sum-replaced f (entry ∷ packets) number packet other found alike = go (is_at (nat_cmp number) entry.0) found
+      (λ there. sum-replaced f packets number packet other there alike)
     where
-      go : (b : Bool) → cond b (Some entry.1) (packet_at packets number) ≡ Some packet → (packet_at packets number ≡ Some packet → sum_by f (replaced number (Some other) packets) ≡ sum_by f packets)
+      go : (b : Bool) → cond b (Some entry.1) (packet_at packets number) ≡ Some packet
+          → (packet_at packets number ≡ Some packet → sum_by f (replaced number (Some other) packets)
+          ≡ sum_by f packets)
           → sum_by f (cond b ((entry.0, other) ∷ packets) (entry ∷ replaced number (Some other) packets)) ≡ sum_by f (entry ∷ packets)
       go true e later =
           let cons = sum_by-cons f entry packets in
@@ -139,10 +158,13 @@ module _ {P M : Type 0} where
           let sum = later e in
           omega (arith, cons, rest, sum)
 
-  pub found-le-sum : (f : ℕ × Packet P M → ℕ) (packets : Packets P M) (number : ℕ) (packet : Packet P M) → packet_at packets number ≡ Some packet → f (number, packet) ≤ sum_by f packets
+  pub found-le-sum : (f : ℕ × Packet P M → ℕ) (packets : Packets P M) (number : ℕ) (packet : Packet P M)
+      → packet_at packets number ≡ Some packet → f (number, packet) ≤ sum_by f packets
   found-le-sum f packets number packet found = let h = sum-without f packets number packet found in omega (arith, h)
 
-  pub none_counted : (f : ℕ × Packet P M → ℕ) (packets : Packets P M) (limit : ℕ) → ((number : ℕ) (packet : Packet P M) → number < limit → f (number, packet) ≡ 0) → AllBelow packets limit → sum_by f packets ≡ 0
+  pub none_counted : (f : ℕ × Packet P M → ℕ) (packets : Packets P M) (limit : ℕ)
+      → ((number : ℕ) (packet : Packet P M) → number < limit → f (number, packet) ≡ 0) → AllBelow packets limit
+      → sum_by f packets ≡ 0
   none_counted f [] limit none below = refl
   none_counted f (entry ∷ packets) limit none below =
       let cons = sum_by-cons f entry packets in
@@ -168,7 +190,9 @@ module _ {P M : Type 0} where
   silent_count-length last (entry ∷ packets) =
       let cons = sum_by-cons (silent_count last) entry packets in go (is_silent_above last entry) (silent_count-length last packets) ∙ sym cons
     where
-      go : (b : Bool) → length (silent_above last packets) ≡ sum_by (silent_count last) packets → length (cond b (entry ∷ silent_above last packets) (silent_above last packets)) ≡ cond b 1 0 + sum_by (silent_count last) packets
+      go : (b : Bool) → length (silent_above last packets) ≡ sum_by (silent_count last) packets
+          → length (cond b (entry ∷ silent_above last packets) (silent_above last packets))
+          ≡ cond b 1 0 + sum_by (silent_count last) packets
       go true later = omega (arith, later)
       go false later = omega (arith, later)
 
@@ -201,7 +225,8 @@ module _ {P M : Type 0} where
   -- ---- silent packets
 
   -- where no packet above the last eliciting number elicits an ACK, the silent ones above it are all above it
-  pub all_silent : (last : Option ℕ) (packets : Packets P M) → sum_by (eliciting_count last) packets ≡ 0 → filter (λ entry. is_above last entry.0) packets ≡ silent_above last packets
+  pub all_silent : (last : Option ℕ) (packets : Packets P M) → sum_by (eliciting_count last) packets ≡ 0
+      → filter (λ entry. is_above last entry.0) packets ≡ silent_above last packets
   all_silent last [] none = refl
   all_silent last (entry ∷ packets) none =
       let cons = sum_by-cons (eliciting_count last) entry packets in
@@ -210,8 +235,10 @@ module _ {P M : Type 0} where
       cons : sum_by (eliciting_count last) (entry ∷ packets) ≡ eliciting_count last entry + sum_by (eliciting_count last) packets
       cons = sum_by-cons (eliciting_count last) entry packets
 
-      go : (above eliciting : Bool) → is_above last entry.0 ≡ above → entry.1.ack_eliciting ≡ eliciting → filter (λ e. is_above last e.0) packets ≡ silent_above last packets
-          → cond above (entry ∷ filter (λ e. is_above last e.0) packets) (filter (λ e. is_above last e.0) packets) ≡ cond (above && not eliciting) (entry ∷ silent_above last packets) (silent_above last packets)
+      go : (above eliciting : Bool) → is_above last entry.0 ≡ above → entry.1.ack_eliciting ≡ eliciting
+          → filter (λ e. is_above last e.0) packets ≡ silent_above last packets
+          → cond above (entry ∷ filter (λ e. is_above last e.0) packets) (filter (λ e. is_above last e.0) packets)
+          ≡ cond (above && not eliciting) (entry ∷ silent_above last packets) (silent_above last packets)
       go false eliciting e f later = later
       go true false e f later = ap (λ (es : Packets P M). entry ∷ es) later
       go true true e f later =
@@ -235,8 +262,11 @@ module _ {P M : Type 0} where
       either true found = (entry.1, refl, found.2)
       either false found = found
 
-      go : (b : Bool) → is_above last entry.0 ≡ b → least_number (cond b (entry ∷ filter (λ p. is_above last p.0) packets) (filter (λ p. is_above last p.0) packets)) ≡ Some number
-          → (least_number (filter (λ p. is_above last p.0) packets) ≡ Some number → (packet : Packet P M) × (packet_at packets number ≡ Some packet) × (is_above last number ≡ true))
+      go : (b : Bool) → is_above last entry.0 ≡ b
+          → least_number (cond b (entry ∷ filter (λ p. is_above last p.0) packets)
+          (filter (λ p. is_above last p.0) packets)) ≡ Some number
+          → (least_number (filter (λ p. is_above last p.0) packets) ≡ Some number → (packet : Packet P M)
+          × (packet_at packets number ≡ Some packet) × (is_above last number ≡ true))
           → (packet : Packet P M) × (packet_at (entry ∷ packets) number ≡ Some packet) × (is_above last number ≡ true)
       go true above f later =
           let same : entry.0 ≡ number = some_number entry.0 number f in
@@ -245,7 +275,9 @@ module _ {P M : Type 0} where
       go false above f later = either (is_at (nat_cmp number) entry.0) (later f)
 
   -- a packet above the last eliciting number elicits none itself
-  pub silent_found : (last : Option ℕ) (packets : Packets P M) (number : ℕ) (packet : Packet P M) → sum_by (eliciting_count last) packets ≡ 0 → packet_at packets number ≡ Some packet → is_above last number ≡ true → packet.ack_eliciting ≡ false
+  pub silent_found : (last : Option ℕ) (packets : Packets P M) (number : ℕ) (packet : Packet P M)
+      → sum_by (eliciting_count last) packets ≡ 0 → packet_at packets number ≡ Some packet → is_above last number ≡ true
+      → packet.ack_eliciting ≡ false
   silent_found last packets number packet none found above = go packet.ack_eliciting refl
     where
       go : (b : Bool) → packet.ack_eliciting ≡ b → b ≡ false
@@ -263,24 +295,31 @@ module _ {P M : Type 0} where
   without-absent [] number absent = refl
   without-absent (entry ∷ packets) number absent = go (is_at (nat_cmp number) entry.0) absent (without-absent packets number)
     where
-      go : (b : Bool) → cond b (Some entry.1) (packet_at packets number) ≡ None → (packet_at packets number ≡ None → without packets number ≡ packets) → cond b packets (entry ∷ without packets number) ≡ entry ∷ packets
+      go : (b : Bool) → cond b (Some entry.1) (packet_at packets number) ≡ None
+          → (packet_at packets number ≡ None → without packets number ≡ packets)
+          → cond b packets (entry ∷ without packets number) ≡ entry ∷ packets
       go true e later = no_packet entry.1 (sym e)
       go false e later = ap (λ (es : Packets P M). entry ∷ es) (later e)
 
   -- ---- the number that is forgotten is that of a packet
 
-  pub first_found : (test : ℕ × Packet P M → Bool) (packets : Packets P M) (number : ℕ) → least_number (filter test packets) ≡ Some number → (packet : Packet P M) × (packet_at packets number ≡ Some packet)
+  pub first_found : (test : ℕ × Packet P M → Bool) (packets : Packets P M) (number : ℕ)
+      → least_number (filter test packets) ≡ Some number
+      → (packet : Packet P M) × (packet_at packets number ≡ Some packet)
   first_found test [] number e = no_number number e
   first_found test (entry ∷ packets) number e = go (test entry) e (first_found test packets number)
     where
       some_number : (m n : ℕ) → Some m ≡ Some n → m ≡ n
       some_number m n e = cc
 
-      either : (b : Bool) → (packet : Packet P M) × (packet_at packets number ≡ Some packet) → (packet : Packet P M) × (cond b (Some entry.1) (packet_at packets number) ≡ Some packet)
+      either : (b : Bool) → (packet : Packet P M) × (packet_at packets number ≡ Some packet)
+          → (packet : Packet P M) × (cond b (Some entry.1) (packet_at packets number) ≡ Some packet)
       either true found = (entry.1, refl)
       either false found = found
 
-      go : (b : Bool) → least_number (cond b (entry ∷ filter test packets) (filter test packets)) ≡ Some number → (least_number (filter test packets) ≡ Some number → (packet : Packet P M) × (packet_at packets number ≡ Some packet))
+      go : (b : Bool) → least_number (cond b (entry ∷ filter test packets) (filter test packets)) ≡ Some number
+          → (least_number (filter test packets) ≡ Some number → (packet : Packet P M)
+          × (packet_at packets number ≡ Some packet))
           → (packet : Packet P M) × (packet_at (entry ∷ packets) number ≡ Some packet)
       go true f later =
           let same : entry.0 ≡ number = some_number entry.0 number f in
@@ -288,7 +327,8 @@ module _ {P M : Type 0} where
           (entry.1, ap (λ b. cond b (Some entry.1) (packet_at packets number)) here)
       go false f later = either (is_at (nat_cmp number) entry.0) (later f)
 
-  forgotten_silent_found : (last : Option ℕ) (packets : Packets P M) (number : ℕ) → forgotten_silent last packets ≡ Some number → (packet : Packet P M) × (packet_at packets number ≡ Some packet)
+  forgotten_silent_found : (last : Option ℕ) (packets : Packets P M) (number : ℕ)
+      → forgotten_silent last packets ≡ Some number → (packet : Packet P M) × (packet_at packets number ≡ Some packet)
   forgotten_silent_found last packets number e = go (nat_lt 1000 (length (silent_above last packets))) e
     where
       go : (b : Bool) → cond b (least_number (silent_above last packets)) None ≡ Some number → (packet : Packet P M) × (packet_at packets number ≡ Some packet)
@@ -296,7 +336,8 @@ module _ {P M : Type 0} where
       go false f = no_number number f
 
   -- the number that is handed back is the one that is forgotten
-  pub entry_number_of : (last : Option ℕ) (packet : Packet P M) (packets : Packets P M) → entry_number (entry_at packets (forgotten_number last packet packets)) ≡ forgotten_number last packet packets
+  pub entry_number_of : (last : Option ℕ) (packet : Packet P M) (packets : Packets P M)
+      → entry_number (entry_at packets (forgotten_number last packet packets)) ≡ forgotten_number last packet packets
   entry_number_of last packet packets = eliciting packet.ack_eliciting
     where
       silent : (forgotten : Option ℕ) → forgotten_silent last packets ≡ forgotten → entry_number (entry_at packets forgotten) ≡ forgotten

@@ -50,37 +50,58 @@ module _ {P M : Type 0} where
     given_out = min (old.given_out + count) (2 ^ 64 - 1);
   }
 
-  kept_acknowledged : (packet : Packet P M) (number : ℕ) (old : Space P M) (acks : Acks) → kept_of (with_acks acks (after_acknowledging number packet.time_sent (space_takes number old))) ≡ record (kept_of old) { largest = acknowledged_with (Some packet) number (kept_of old).largest }
+  kept_acknowledged : (packet : Packet P M) (number : ℕ) (old : Space P M) (acks : Acks)
+      → kept_of (with_acks acks (after_acknowledging number packet.time_sent (space_takes number old)))
+      ≡ record (kept_of old) { largest = acknowledged_with (Some packet) number (kept_of old).largest }
   kept_acknowledged packet number old acks = go (is_above old.largest_acked_packet number) old.largest_acked_packet old.largest_acked_packet_sent
     where
-      go : (b : Bool) (n : Option ℕ) (sent : ℕ) → (let a : Acknowledged = record { number = cond b (Some number) n; sent = cond b packet.time_sent sent } in record (kept_of old) { largest = a }) ≡ record (kept_of old) { largest = cond b (record { number = Some number; sent = packet.time_sent }) (record { number = n; sent = sent }) }
+      go : (b : Bool) (n : Option ℕ) (sent : ℕ) → (let a : Acknowledged =
+          record { number = cond b (Some number) n; sent = cond b packet.time_sent sent } in record (kept_of old)
+          { largest = a }) ≡ record (kept_of old) {
+            largest = cond b
+                (record { number = Some number; sent = packet.time_sent }) (record { number = n; sent = sent });
+          }
       go true n sent = refl
       go false n sent = refl
 
 module _ {P M S : Type 0} (words : QueueWords P S) where
-  kept_sends : (start : ℕ) (log : List (SpaceEntry P M)) (number : ℕ) (packet : Packet P M) → (sent_by words log).next ≤ number → kept_sent (number + 1 - (sent_by words log).next) packet (kept_by words start log) ≡ kept_by words start (sends number packet ∷ log)
+  kept_sends : (start : ℕ) (log : List (SpaceEntry P M)) (number : ℕ) (packet : Packet P M)
+      → (sent_by words log).next ≤ number
+      → kept_sent (number + 1 - (sent_by words log).next) packet (kept_by words start log)
+      ≡ kept_by words start (sends number packet ∷ log)
   kept_sends start log number packet above =
-      ap (λ (n : ℕ). let k : Kept = record (kept_sent (number + 1 - (sent_by words log).next) packet (kept_by words start log)) { given_out = n } in k) (more (sent_by words log).next above)
+      ap (λ (n : ℕ). let k : Kept = record (kept_sent (number + 1 - (sent_by words log).next) packet
+      (kept_by words start log)) { given_out = n } in k) (more (sent_by words log).next above)
     where
       more : (next : ℕ) → next ≤ number → min (min next (2 ^ 64 - 1) + (number + 1 - next)) (2 ^ 64 - 1) ≡ min (number + 1) (2 ^ 64 - 1)
       more next le = omega (arith, le)
 
-  kept_acks : (start : ℕ) (log : List (SpaceEntry P M)) (number : ℕ) (packet : Packet P M) → packet_at (sent_by words log).tracked number ≡ Some packet → (let k = kept_by words start log in record k { largest = acknowledged_with (Some packet) number k.largest }) ≡ kept_by words start (acknowledged number ∷ log)
+  kept_acks : (start : ℕ) (log : List (SpaceEntry P M)) (number : ℕ) (packet : Packet P M)
+      → packet_at (sent_by words log).tracked number ≡ Some packet
+      → (let k = kept_by words start log in record k { largest = acknowledged_with (Some packet) number k.largest })
+      ≡ kept_by words start (acknowledged number ∷ log)
   kept_acks start log number packet found =
-      ap (λ (p : Option (Packet P M)). let k : Kept = record (kept_by words start log) { largest = acknowledged_with p number (largest_acknowledged words start log) } in k) (sym found)
+      ap (λ (p : Option (Packet P M)). let k : Kept = record (kept_by words start log)
+      { largest = acknowledged_with p number (largest_acknowledged words start log) } in k) (sym found)
 
   -- ---- what is to be sent again
 
   -- the pending contents and those of packets, by the space and by the log
-  same_joined : (start : ℕ) (log : List (SpaceEntry P M)) (old : Space P M) → SpaceLeft words start log old → (number : ℕ) → joined_with words old.pending (packet_at (sent_of old).tracked number) ≡ joined_with words (queued_by words log).pending (packet_at (sent_by words log).tracked number)
+  same_joined : (start : ℕ) (log : List (SpaceEntry P M)) (old : Space P M) → SpaceLeft words start log old
+      → (number : ℕ)
+      → joined_with words old.pending (packet_at (sent_of old).tracked number)
+      ≡ joined_with words (queued_by words log).pending (packet_at (sent_by words log).tracked number)
   same_joined start log old left number =
       ap (λ (q : Queued P). joined_with words q.pending (packet_at (sent_of old).tracked number)) left.queued
       ∙ ap (λ (s : Sent P M). joined_with words (queued_by words log).pending (packet_at s.tracked number)) left.sent
 
-  with_pending : (p : P) (old : Space P M) (queued : Queued P) → queued_of old ≡ queued → (q : P) → p ≡ q → (let k : Queued P = record (queued_of old) { pending = p } in k) ≡ record queued { pending = q }
-  with_pending p old queued same q is = ap (λ (r : Queued P). let k : Queued P = record r { pending = p } in k) same ∙ ap (λ (r : P). let k : Queued P = record queued { pending = r } in k) is
+  with_pending : (p : P) (old : Space P M) (queued : Queued P) → queued_of old ≡ queued → (q : P) → p ≡ q
+      → (let k : Queued P = record (queued_of old) { pending = p } in k) ≡ record queued { pending = q }
+  with_pending p old queued same q is = ap (λ (r : Queued P). let k : Queued P = record r { pending = p } in k) same
+      ∙ ap (λ (r : P). let k : Queued P = record queued { pending = r } in k) is
 
-  pub space_law : (start : ℕ) (entry : SpaceEntry P M) (log : List (SpaceEntry P M)) (old new : Space P M) → SpaceLeft words start log old → SpaceStep words entry old new → SpaceLeft words start (entry ∷ log) new
+  pub space_law : (start : ℕ) (entry : SpaceEntry P M) (log : List (SpaceEntry P M)) (old new : Space P M)
+      → SpaceLeft words start log old → SpaceStep words entry old new → SpaceLeft words start (entry ∷ log) new
   space_law start (heard now number ack_eliciting) log old new left step = record {
     numbers = numbers_law log old.dedup new.dedup number left.numbers step.numbers;
     acks = heard_law words log (acks_of old) left.acks (Has old.dedup) left.numbers now number ack_eliciting (acks_of new) step.hears;
@@ -113,8 +134,10 @@ module _ {P M S : Type 0} (words : QueueWords P S) where
         queued = left.queued;
       })
   space_law start (acknowledged number) log old new left step = record {
-    numbers = let Holds : Dedup → Type 0 = λ d. (n : ℕ) → Has d n ↔ Recent (CameIn log) n in subst Holds (sym (ap (λ (s : Space P M). s.dedup) step.others)) left.numbers;
-    acks = acknowledged_law words log (acks_of old) left.acks number (acks_of new) step.packet (sym (ap (λ (s : Sent P M). packet_at s.tracked number) left.sent) ∙ step.found) step.subtracts;
+    numbers = let Holds : Dedup → Type 0 = λ d. (n : ℕ) → Has d n ↔ Recent (CameIn log) n in subst Holds
+        (sym (ap (λ (s : Space P M). s.dedup) step.others)) left.numbers;
+    acks = acknowledged_law words log (acks_of old) left.acks number (acks_of new) step.packet
+        (sym (ap (λ (s : Sent P M). packet_at s.tracked number) left.sent) ∙ step.found) step.subtracts;
     greatest = ap (λ (s : Space P M). s.rx_packet) step.others ∙ left.greatest;
     sent = ap sent_of step.others ∙ ap (taken number) left.sent;
     kept =
@@ -138,8 +161,22 @@ module _ {P M S : Type 0} (words : QueueWords P S) where
       subst Holds (sym step) (probes_law found)
     where
       probes_law : (found : ProbeFound) → SpaceLeft words start (probes immediate found ∷ log) (space_probes words immediate found (one_probe_more old))
-      probes_law pending_stands = record { numbers = left.numbers; acks = left.acks; greatest = left.greatest; sent = left.sent; kept = ap probed left.kept; queued = ap (marked immediate pending_stands) left.queued }
-      probes_law nothing_found = record { numbers = left.numbers; acks = left.acks; greatest = left.greatest; sent = left.sent; kept = ap probed left.kept; queued = ap (marked immediate nothing_found) left.queued }
+      probes_law pending_stands = record {
+        numbers = left.numbers;
+        acks = left.acks;
+        greatest = left.greatest;
+        sent = left.sent;
+        kept = ap probed left.kept;
+        queued = ap (marked immediate pending_stands) left.queued;
+      }
+      probes_law nothing_found = record {
+        numbers = left.numbers;
+        acks = left.acks;
+        greatest = left.greatest;
+        sent = left.sent;
+        kept = ap probed left.kept;
+        queued = ap (marked immediate nothing_found) left.queued;
+      }
       probes_law (moves number) = record {
         numbers = left.numbers;
         acks = left.acks;
@@ -150,10 +187,26 @@ module _ {P M S : Type 0} (words : QueueWords P S) where
       }
   space_law start takes_pending log old new left step =
       let Holds : Space P M → Type 0 = SpaceLeft words start (takes_pending ∷ log) in
-      subst Holds (sym step) (record { numbers = left.numbers; acks = left.acks; greatest = left.greatest; sent = left.sent; kept = left.kept; queued = ap (λ (q : Queued P). let k : Queued P = record q { pending = words.empty } in k) left.queued })
+      subst Holds (sym step) (record {
+        numbers = left.numbers;
+        acks = left.acks;
+        greatest = left.greatest;
+        sent = left.sent;
+        kept = left.kept;
+        queued = ap (λ (q : Queued P). let k : Queued P = record q
+            { pending = words.empty } in k) left.queued;
+      })
   space_law start (feeds_back counts) log old new left step =
       let Holds : Space P M → Type 0 = SpaceLeft words start (feeds_back counts ∷ log) in
-      subst Holds (sym step) (record { numbers = left.numbers; acks = left.acks; greatest = left.greatest; sent = left.sent; kept = left.kept; queued = ap (λ (q : Queued P). let k : Queued P = record q { ecn = counts } in k) left.queued })
+      subst Holds (sym step) (record {
+        numbers = left.numbers;
+        acks = left.acks;
+        greatest = left.greatest;
+        sent = left.sent;
+        kept = left.kept;
+        queued = ap (λ (q : Queued P). let k : Queued P = record q
+            { ecn = counts } in k) left.queued;
+      })
   space_law start emptied log old new left step =
       let Holds : Space P M → Type 0 = SpaceLeft words start (emptied ∷ log) in
       subst Holds (sym step) (record {
@@ -166,21 +219,48 @@ module _ {P M S : Type 0} (words : QueueWords P S) where
       })
   space_law start ack_goes log old new left step =
       let Holds : Space P M → Type 0 = SpaceLeft words start (ack_goes ∷ log) in
-      subst Holds (sym step) (record { numbers = left.numbers; acks = ack_goes_law words log (acks_of old) left.acks; greatest = left.greatest; sent = left.sent; kept = left.kept; queued = left.queued })
+      subst Holds (sym step) (record {
+        numbers = left.numbers;
+        acks = ack_goes_law words log (acks_of old) left.acks;
+        greatest = left.greatest;
+        sent = left.sent;
+        kept = left.kept;
+        queued = left.queued;
+      })
   space_law start ack_is_late log old new left step =
       let Holds : Space P M → Type 0 = SpaceLeft words start (ack_is_late ∷ log) in
-      subst Holds (sym step) (record { numbers = left.numbers; acks = ack_is_late_law words log (acks_of old) left.acks; greatest = left.greatest; sent = left.sent; kept = left.kept; queued = left.queued })
+      subst Holds (sym step) (record {
+        numbers = left.numbers;
+        acks = ack_is_late_law words log (acks_of old) left.acks;
+        greatest = left.greatest;
+        sent = left.sent;
+        kept = left.kept;
+        queued = left.queued;
+      })
   space_law start (asked frame) log old new left step =
       let Holds : Space P M → Type 0 = SpaceLeft words start (asked frame ∷ log) in
-      subst Holds (sym step) (record { numbers = left.numbers; acks = asked_law words log (acks_of old) left.acks frame; greatest = left.greatest; sent = left.sent; kept = left.kept; queued = left.queued })
+      subst Holds (sym step) (record {
+        numbers = left.numbers;
+        acks = asked_law words log (acks_of old) left.acks frame;
+        greatest = left.greatest;
+        sent = left.sent;
+        kept = left.kept;
+        queued = left.queued;
+      })
 
   -- what a probe finds, by the space or by the log
-  pub found_law : (start : ℕ) (log : List (SpaceEntry P M)) (left : Space P M) → SpaceLeft words start log left → (streams : S) → probe_found words streams left.pending (tracking_of left).packets ≡ probe_found words streams (pending_by words log) (sent_by words log).tracked
+  pub found_law : (start : ℕ) (log : List (SpaceEntry P M)) (left : Space P M) → SpaceLeft words start log left
+      → (streams : S)
+      → probe_found words streams left.pending (tracking_of left).packets
+      ≡ probe_found words streams (pending_by words log) (sent_by words log).tracked
   found_law start log space left streams =
-      ap (λ (q : Queued P). probe_found words streams q.pending (tracking_of space).packets) left.queued ∙ ap (λ (s : Sent P M). probe_found words streams (pending_by words log) s.tracked) left.sent
+      ap (λ (q : Queued P). probe_found words streams q.pending (tracking_of space).packets) left.queued
+      ∙ ap (λ (s : Sent P M). probe_found words streams (pending_by words log) s.tracked) left.sent
 
   -- what there is to send, by the space or by the log
-  pub sendable_law : (start : ℕ) (log : List (SpaceEntry P M)) (left : Space P M) → SpaceLeft words start log left → (streams : S) (frames : SendableFrames) → IsSendable words streams (heard_of left) (queued_of left) frames → IsSendable words streams (heard_by words log) (queued_by words log) frames
+  pub sendable_law : (start : ℕ) (log : List (SpaceEntry P M)) (left : Space P M) → SpaceLeft words start log left
+      → (streams : S) (frames : SendableFrames) → IsSendable words streams (heard_of left) (queued_of left) frames
+      → IsSendable words streams (heard_by words log) (queued_by words log) frames
   sendable_law start log space left streams frames is =
       let waits = waits_alike (acks_by words log) (acks_of space) left.acks in (
         (λ h. let both = is.0.0 h in (left.acks.required.0 both.0, waits.0 both.1), λ h. is.0.1 (left.acks.required.1 h.0, waits.1 h.1)),
@@ -188,11 +268,21 @@ module _ {P M S : Type 0} (words : QueueWords P S) where
       )
 
   -- a space in which nothing happened yet
-  pub fresh_space : (start : ℕ) (fresh : Space P M) → ((n : ℕ) → ¬ Has fresh.dedup n) → acks_of fresh ≡ new_acks [] → tracking_of fresh ≡ no_packets → next_number_of fresh ≡ 0 → fresh.rx_packet ≡ 0 → kept_of fresh ≡ kept_by {M = M} words start [] → queued_of fresh ≡ queued_by {M = M} words [] → SpaceLeft words start [] fresh
+  pub fresh_space : (start : ℕ) (fresh : Space P M) → ((n : ℕ) → ¬ Has fresh.dedup n) → acks_of fresh ≡ new_acks []
+      → tracking_of fresh ≡ no_packets → next_number_of fresh ≡ 0 → fresh.rx_packet ≡ 0 → kept_of fresh
+      ≡ kept_by {M = M} words start [] → queued_of fresh ≡ queued_by {M = M} words [] → SpaceLeft words start [] fresh
   unfolding InRanges
   fresh_space start fresh none no_acks no_tracking zero none_received none_kept none_queued = record {
     numbers = λ n. (λ here. absurd (none n here), λ here. absurd here.0);
-    acks = let Holds : Acks → Type 0 = AcksLeft (acks_by {M = M} words []) in subst Holds (sym no_acks) (record { pending = λ n. (λ here. here, λ here. here); required = (λ h. absurd (fails false refl h), λ h. absurd h); started = λ m. (none_is_some m, λ h. absurd h); counts = refl; silent = refl; largest = refl });
+    acks = let Holds : Acks → Type 0 = AcksLeft (acks_by {M = M} words []) in subst Holds (sym no_acks)
+        (record {
+          pending = λ n. (λ here. here, λ here. here);
+          required = (λ h. absurd (fails false refl h), λ h. absurd h);
+          started = λ m. (none_is_some m, λ h. absurd h);
+          counts = refl;
+          silent = refl;
+          largest = refl;
+        });
     greatest = none_received;
     kept = none_kept;
     queued = none_queued;
@@ -202,7 +292,8 @@ module _ {P M S : Type 0} (words : QueueWords P S) where
   }
 
 -- what holds of three spaces holds of each
-pub of_each : {P M : Type 0} (Holds : Space P M → Type 0) (spaces : Spaces P M) → Holds spaces.initial → Holds spaces.handshake → Holds spaces.«data» → (space : SpaceId) → Holds (space_of space spaces)
+pub of_each : {P M : Type 0} (Holds : Space P M → Type 0) (spaces : Spaces P M) → Holds spaces.initial
+    → Holds spaces.handshake → Holds spaces.«data» → (space : SpaceId) → Holds (space_of space spaces)
 of_each {P} {M} Holds spaces initial handshake other Initial = initial
 of_each {P} {M} Holds spaces initial handshake other Handshake = handshake
 of_each {P} {M} Holds spaces initial handshake other Data = other

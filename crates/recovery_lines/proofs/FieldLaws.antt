@@ -25,7 +25,8 @@ pub some_is : {A : Type 0} (x y : A) → some_of x ≡ some_of y → x ≡ y
 some_is x y e = cc
 
 -- a word of a name's length and bytes is read as the name
-pub name_read : {A : Type 0} (read : List ℕ → Option A) (word name : List ℕ) (x : A) → read name ≡ Some x → length word ≡ length name → HasBytesAt word 0 name → Some x ≡ read word
+pub name_read : {A : Type 0} (read : List ℕ → Option A) (word name : List ℕ) (x : A) → read name ≡ Some x
+    → length word ≡ length name → HasBytesAt word 0 name → Some x ≡ read word
 name_read read word name x is len bytes = sym (ap read (text_from_reads word name len bytes) ∙ is)
 
 -- a word for each value that fits, and its reading
@@ -34,7 +35,8 @@ pub record IsField {A : Type 0} (word : A → List ℕ) (Fits : A → Type 0) (r
   pub again : (x : A) → Fits x → read (word x) ≡ Some x
 
 -- each name is the word of its value
-pub named_takes : {A : Type 0} (word : A → List ℕ) (names : List (List ℕ × A)) → AllByRecursion (λ p. p.0 ≡ word p.1) names → (text : List ℕ) (x : A) → named names text ≡ Some x → text ≡ word x
+pub named_takes : {A : Type 0} (word : A → List ℕ) (names : List (List ℕ × A))
+    → AllByRecursion (λ p. p.0 ≡ word p.1) names → (text : List ℕ) (x : A) → named names text ≡ Some x → text ≡ word x
 named_takes word [] h text x e = absurd cc
 named_takes word ((name, value) ∷ names) h text x e = go (bytes_eq text name) refl e (named_takes word names h.1 text x) where
   go : (b : Bool) → bytes_eq text name ≡ b → cond b (Some value) (named names text) ≡ Some x → (named names text ≡ Some x → text ≡ word x) → text ≡ word x
@@ -77,7 +79,14 @@ timer_again MaxAckDelay = refl
 
 pub timer_field : IsField timer_word (λ t. Unit {0}) timer_of
 unfolding timer_of
-timer_field = record { takes = λ text t e. (named_takes timer_word timer_names (refl, (refl, (refl, (refl, (refl, (refl, (refl, (refl, (refl, tt))))))))) text t e, tt); again = λ t h. timer_again t }
+timer_field = record {
+  takes = λ text t e. (
+    named_takes timer_word timer_names
+        (refl, (refl, (refl, (refl, (refl, (refl, (refl, (refl, (refl, tt))))))))) text t e,
+    tt,
+  );
+  again = λ t h. timer_again t;
+}
 
 pub path_again : (p : PathName) → path_of (path_word p) ≡ Some p
 unfolding path_of
@@ -93,7 +102,9 @@ largest_takes : (text : List ℕ) (l : Option ℕ) → largest_of text ≡ Some 
 unfolding largest_of
 largest_takes text l e = go (bytes_eq text (codes "-")) refl e
   where
-    go : (b : Bool) → bytes_eq text (codes "-") ≡ b → cond b (Some None) (number_of (2 ^ 64) text >>= λ n. Some (Some n)) ≡ Some l → (text ≡ largest_word l) × IfSome l (λ n. n < 2 ^ 64)
+    go : (b : Bool) → bytes_eq text (codes "-") ≡ b
+        → cond b (Some None) (number_of (2 ^ 64) text >>= λ n. Some (Some n)) ≡ Some l
+        → (text ≡ largest_word l) × IfSome l (λ n. n < 2 ^ 64)
     go true same f =
         let P : Option ℕ → Type 0 = λ m. (text ≡ largest_word m) × IfSome m (λ n. n < 2 ^ 64) in
         subst P (some_is None l f) ((bytes_eq-Decides text (codes "-")).0 same, tt)
@@ -114,7 +125,8 @@ pub largest_field : IsField largest_word (λ l. IfSome l (λ n. n < 2 ^ 64)) lar
 largest_field = record { takes = largest_takes; again = largest_again }
 
 -- a field at the front of the words
-pub field_takes : {A : Type 0} {word : A → List ℕ} {Fits : A → Type 0} {read : List ℕ → Option A} (f : IsField word Fits read) (words : List (List ℕ)) (x : A) (rest : List (List ℕ))
+pub field_takes : {A : Type 0} {word : A → List ℕ} {Fits : A → Type 0} {read : List ℕ → Option A}
+    (f : IsField word Fits read) (words : List (List ℕ)) (x : A) (rest : List (List ℕ))
     → field read words ≡ Some (x, rest) → (words ≡ word x ∷ rest) × Fits x
 unfolding field
 field_takes f [] x rest e = absurd cc
@@ -125,6 +137,7 @@ field_takes {A} {word} {Fits} {read} f (text ∷ words) x rest e =
     let t = f.takes text x (b.1 ∙ ap (λ (v : A). Some v) v-is) in
     (rw (t.0, rest-is) refl, t.1)
 
-pub field_again : {A : Type 0} {word : A → List ℕ} {Fits : A → Type 0} {read : List ℕ → Option A} (f : IsField word Fits read) (x : A) (rest : List (List ℕ)) → Fits x → field read (word x ∷ rest) ≡ Some (x, rest)
+pub field_again : {A : Type 0} {word : A → List ℕ} {Fits : A → Type 0} {read : List ℕ → Option A}
+    (f : IsField word Fits read) (x : A) (rest : List (List ℕ)) → Fits x → field read (word x ∷ rest) ≡ Some (x, rest)
 unfolding field
 field_again {A} {word} {Fits} {read} f x rest h = ap (λ (o : Option A). o >>= λ v. Some (v, rest)) (f.again x h)

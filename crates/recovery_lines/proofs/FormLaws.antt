@@ -111,13 +111,15 @@ tail_plain no_tail x h = tt
 tail_plain an_item_tail x h = items_plain x h
 
 -- values were read that their words spell
-record FieldsRead {A : Type 0} (tail : Tail) (fields : List Field) (make : Values tail fields → A) (words : List (List ℕ)) (made : A) (rest : List (List ℕ)) : Type 0 where
+record FieldsRead {A : Type 0} (tail : Tail) (fields : List Field) (make : Values tail fields → A)
+    (words : List (List ℕ)) (made : A) (rest : List (List ℕ)) : Type 0 where
   values : Values tail fields
   is : words ≡ words_for tail fields values ++ rest
   fit : AllFit tail fields values
   same : make values ≡ made
 
-tail_takes : {A : Type 0} (tail : Tail) (make : TailValue tail → A) (words : List (List ℕ)) (made : A) (rest : List (List ℕ)) → tail_read tail make words ≡ Some (made, rest)
+tail_takes : {A : Type 0} (tail : Tail) (make : TailValue tail → A) (words : List (List ℕ)) (made : A)
+    (rest : List (List ℕ)) → tail_read tail make words ≡ Some (made, rest)
     → FieldsRead tail [] make words made rest
 tail_takes {A} no_tail make words made rest e =
     let same = some_is (make tt, words) (made, rest) e in
@@ -136,7 +138,8 @@ tail_takes {A} an_item_tail make words made rest e =
     }
 
 -- at the end of the words
-tail_again : {A : Type 0} (tail : Tail) (make : TailValue tail → A) (x : TailValue tail) → TailFits tail x → tail_read tail make (tail_words tail x) ≡ Some (make x, [])
+tail_again : {A : Type 0} (tail : Tail) (make : TailValue tail → A) (x : TailValue tail) → TailFits tail x
+    → tail_read tail make (tail_words tail x) ≡ Some (make x, [])
 tail_again no_tail make x h = refl
 tail_again {A} an_item_tail make x h =
     ap (λ (o : Option (List ℕ)). let read : Option (A × List (List ℕ)) = (o >>= λ items. Some (make items, [])) in read) (items_again x h)
@@ -167,7 +170,8 @@ fields_plain : (tail : Tail) (fields : List Field) (x : Values tail fields) → 
 fields_plain tail [] x h = tail_plain tail x h
 fields_plain tail (f ∷ fields) x h = (field_plain f x.0 h.0, fields_plain tail fields x.1 h.1)
 
-all_is : {A : Type 0} (tail : Tail) (fields : List Field) (make : Values tail fields → A) (words : List (List ℕ)) → all_read tail fields make words ≡ fields_read tail fields make words
+all_is : {A : Type 0} (tail : Tail) (fields : List Field) (make : Values tail fields → A) (words : List (List ℕ))
+    → all_read tail fields make words ≡ fields_read tail fields make words
 unfolding fields_read
 all_is tail [] make words = refl
 all_is tail (f ∷ fields) make words = refl
@@ -188,7 +192,8 @@ abbrev saying_form : List ℕ → (tail : Tail) (fields : List Field) → (Value
 saying_form name tail fields event = record { name = name; fields = fields; tail = tail; line = λ x. Said (event x) }
 
 -- a form that says an event
-says : {name : List ℕ} {tail : Tail} {fields : List Field} {event : Values tail fields → ItemEvent} → ((x : Values tail fields) → saying 0 (event x) ≡ (saying_form name tail fields event, x)) → is_plain name ≡ true
+says : {name : List ℕ} {tail : Tail} {fields : List Field} {event : Values tail fields → ItemEvent}
+    → ((x : Values tail fields) → saying 0 (event x) ≡ (saying_form name tail fields event, x)) → is_plain name ≡ true
     → IsForm (saying_form name tail fields event)
 says {name} {tail} {fields} {event} same plain = record {
   own = λ x e means. (0, ap (saying 0) means ∙ same x);
@@ -284,10 +289,12 @@ is_listed unkept (NewPath now remote fresh) = refl
 is_listed unkept (ResetPath now) = refl
 is_listed unkept DropPrevious = refl
 
-named_form : (listed : List Form) → AllByRecursion IsForm listed → (name : List ℕ) (form : Form) → form_named listed name ≡ Some form → (name ≡ form.name) × IsForm form
+named_form : (listed : List Form) → AllByRecursion IsForm listed → (name : List ℕ) (form : Form)
+    → form_named listed name ≡ Some form → (name ≡ form.name) × IsForm form
 named_form [] h name form e = absurd cc
 named_form (first ∷ listed) h name form e = go (bytes_eq name first.name) refl e (named_form listed h.1 name form) where
-  go : (b : Bool) → bytes_eq name first.name ≡ b → cond b (Some first) (form_named listed name) ≡ Some form → (form_named listed name ≡ Some form → (name ≡ form.name) × IsForm form) → (name ≡ form.name) × IsForm form
+  go : (b : Bool) → bytes_eq name first.name ≡ b → cond b (Some first) (form_named listed name) ≡ Some form
+      → (form_named listed name ≡ Some form → (name ≡ form.name) × IsForm form) → (name ≡ form.name) × IsForm form
   go true same f later = subst (λ (g : Form). (name ≡ g.name) × IsForm g) (some_is first form f) ((bytes_eq-Decides name first.name).0 same, h.0)
   go false other f later = later f
 
@@ -318,7 +325,8 @@ pub record Takes (words : List (List ℕ)) (event : ItemEvent) (rest : List (Lis
   pub within : IsWithinTypes unkept event
   pub plain : AllByRecursion IsPlain (spelling unkept event)
 
-pub line_takes : (words : List (List ℕ)) (said : Line) (rest : List (List ℕ)) → line_at words ≡ Some (said, rest) → (event : ItemEvent) → Means said event → Takes words event rest
+pub line_takes : (words : List (List ℕ)) (said : Line) (rest : List (List ℕ)) → line_at words ≡ Some (said, rest)
+    → (event : ItemEvent) → Means said event → Takes words event rest
 line_takes words said rest e event means =
     let r = line_read words said rest e in
     let meant : Means (r.form.line r.values) event = subst (λ (l : Line). Means l event) (sym r.same) means in
@@ -327,7 +335,8 @@ line_takes words said rest e event means =
       unkept = own.0;
       is = r.is ∙ ap (λ (s : Saying). words_said s ++ rest) (sym own.1);
       within = subst (λ (s : Saying). AllFit s.0.tail s.0.fields s.1 × Means (s.0.line s.1) event) (sym own.1) (r.fit, meant);
-      plain = subst (λ (s : Saying). AllByRecursion IsPlain (words_said s)) (sym own.1) (tested_plain r.form.name r.is_form.plain, fields_plain r.form.tail r.form.fields r.values r.fit);
+      plain = subst (λ (s : Saying). AllByRecursion IsPlain (words_said s)) (sym own.1)
+          (tested_plain r.form.name r.is_form.plain, fields_plain r.form.tail r.form.fields r.values r.fit);
     }
 
 -- a line says ids by these words alone
@@ -352,6 +361,7 @@ line_again unkept event h =
     let words : List (List ℕ) = words_for form.tail form.fields values in
     record {
       said = form.line values;
-      is = ap (λ (o : Option Form). o >>= λ f. reading f words) (is_listed unkept event) ∙ all_is form.tail form.fields form.line words ∙ fields_again form.tail form.fields form.line values h.0;
+      is = ap (λ (o : Option Form). o >>= λ f. reading f words) (is_listed unkept event)
+          ∙ all_is form.tail form.fields form.line words ∙ fields_again form.tail form.fields form.line values h.0;
       means = h.1;
     }

@@ -84,7 +84,8 @@ item_behind items item (Some more) = ap (λ (xs : List ℕ). Some xs) (sym (appe
 item_behind items item None = refl
 
 -- where there is one item more, there is one
-pub some_items : (items : List ℕ) (item : ℕ) (all : Option (List ℕ)) (read : Option (List ℕ)) → all ≡ behind items (read >>= λ more. Some (item ∷ more)) → IsSome all
+pub some_items : (items : List ℕ) (item : ℕ) (all : Option (List ℕ)) (read : Option (List ℕ))
+    → all ≡ behind items (read >>= λ more. Some (item ∷ more)) → IsSome all
     → IsSomeAnd all (λ each. 0 < length each)
 some_items items item (Some each) (Some more) is some =
     let whole : each ≡ items ++ item ∷ more = some_is each (items ++ item ∷ more) is in

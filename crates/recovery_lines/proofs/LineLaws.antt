@@ -57,7 +57,8 @@ one_meant (Path now port fresh) first second m n =
 
 -- ---- what is read
 
-pub read_found : {E : Type 0} (line : List ℕ) (said : Line) (read : Result (Option ItemEvent) E) → line_of line ≡ Some said → length line ≤ 4096 → IfOk read (λ r. IfSome r (λ event. Means said event))
+pub read_found : {E : Type 0} (line : List ℕ) (said : Line) (read : Result (Option ItemEvent) E)
+    → line_of line ≡ Some said → length line ≤ 4096 → IfOk read (λ r. IfSome r (λ event. Means said event))
     → IfOk read (λ r. IfSome r (λ event. Spells line event))
 read_found line said (Ok (Some event)) e short means = line_found line said event e short means
 read_found line said (Ok None) e short means = tt
@@ -66,7 +67,8 @@ read_found line said (Err error) e short means = tt
 none_is_none : {A : Type 0} → IsSome {T = ItemEvent} None → A
 none_is_none e = absurd cc
 
-pub read_only : {E : Type 0} (line : List ℕ) (said : Line) (read : Result (Option ItemEvent) E) → line_of line ≡ Some said → IfOk read (λ r. IfSome r (λ event. Means said event))
+pub read_only : {E : Type 0} (line : List ℕ) (said : Line) (read : Result (Option ItemEvent) E)
+    → line_of line ≡ Some said → IfOk read (λ r. IfSome r (λ event. Means said event))
     → ((event : ItemEvent) → Means said event → IfOk read IsSome) → (event : ItemEvent) → Spells line event → IfOk read (λ r. IsSomeAnd r (IsSame event))
 read_only line said (Ok (Some first)) e found only event spells =
     let s = line_only line event spells in
@@ -76,16 +78,29 @@ read_only line said (Ok None) e found only event spells =
     none_is_none (only event (subst (λ (l : Line). Means l event) (some_is s.0 said (sym s.1 ∙ e)) s.2))
 read_only line said (Err error) e found only event spells = tt
 
-refused : {E : Type 0} (line : List ℕ) (said : Line) (read : Result (Option ItemEvent) E) → line_at (words_of line) ≡ Some (said, []) → length line ≤ 4096 → OnErr read (TakesMemory said) → OnErr read (HoldsList line)
+refused : {E : Type 0} (line : List ℕ) (said : Line) (read : Result (Option ItemEvent) E)
+    → line_at (words_of line) ≡ Some (said, []) → length line ≤ 4096 → OnErr read (TakesMemory said)
+    → OnErr read (HoldsList line)
 refused line said (Ok event) e short memory = tt
 refused line (Said event) (Err error) e short memory = absurd memory
 refused line (Path now port fresh) (Err error) e short memory = absurd memory
 refused line (Ids now first count) (Err error) e short memory =
     let t = line_words (words_of line) [] now first count e in
-    inl (record { now = now; first = first; count = count; words = t.0 ∙ append-nil _; time = t.1; some = memory.0; few = omega (arith, t.2); bound = memory.1; short = short })
+    inl (record {
+      now = now;
+      first = first;
+      count = count;
+      words = t.0 ∙ append-nil _;
+      time = t.1;
+      some = memory.0;
+      few = omega (arith, t.2);
+      bound = memory.1;
+      short = short;
+    })
 
 -- memory for ids is refused to lines that issue them alone
-pub read_refused : {E : Type 0} (line : List ℕ) (said : Line) (read : Result (Option ItemEvent) E) → line_of line ≡ Some said → length line ≤ 4096 → OnErr read (TakesMemory said) → OnErr read (HoldsList line)
+pub read_refused : {E : Type 0} (line : List ℕ) (said : Line) (read : Result (Option ItemEvent) E)
+    → line_of line ≡ Some said → length line ≤ 4096 → OnErr read (TakesMemory said) → OnErr read (HoldsList line)
 read_refused line said read e short memory = refused line said read (all_words line said e) short memory
 
 sends : (line : List ℕ) (said : Line) → line_at (words_of line) ≡ Some (said, []) → length line ≤ 4096 → TookMemory said → SendsItems line
@@ -109,7 +124,8 @@ items_refused line short took = go (line_of line) refl took where
   go None e some = absurd some
 
 -- a line of another name than that of packets with items
-pub other_line : (words rest : List (List ℕ)) (name : List ℕ) → first_word words ≡ Some (name, rest) → bytes_eq name (codes "send") ≡ false → line_at words ≡ line_behind forms_without_items name rest
+pub other_line : (words rest : List (List ℕ)) (name : List ℕ) → first_word words ≡ Some (name, rest)
+    → bytes_eq name (codes "send") ≡ false → line_at words ≡ line_behind forms_without_items name rest
 unfolding line_at line_behind
 other_line words rest name first other = rw (first, other) refl
 
@@ -158,7 +174,9 @@ unfolding line_at
 some_word [] said e = absurd cc
 some_word (word ∷ words) said e = omega arith
 
-pub one_line : (unkept : ℕ) (event : ItemEvent) → IsWithinTypes unkept event → length (join_with_byte 32 (spelling unkept event)) ≤ 4096 → Spells (join_with_byte 32 (spelling unkept event)) event
+pub one_line : (unkept : ℕ) (event : ItemEvent) → IsWithinTypes unkept event
+    → length (join_with_byte 32 (spelling unkept event)) ≤ 4096
+    → Spells (join_with_byte 32 (spelling unkept event)) event
 one_line unkept event within short =
     let again = line_again unkept event within in
     let some = some_word (spelling unkept event) again.said again.is in

@@ -91,7 +91,8 @@ digit_is : (c : ℕ) → 48 ≤ c → c < 58 → digit_value c ≡ c - 48
 digit_is c low high = let t : nat_lt c 48 ≡ false = le-ltb c 48 low in let u : nat_lt c 58 ≡ true = lt-ltb c 58 high in rw (t, u) refl
 
 -- one digit more
-pub one_digit : (word : List ℕ) (i value : ℕ) → i < length word → get_or word i 0 < 256 → (get_or word i 0 + 208) % 256 ≤ 9 → value ≡ digits_value 10 (take i word)
+pub one_digit : (word : List ℕ) (i value : ℕ) → i < length word → get_or word i 0 < 256
+    → (get_or word i 0 + 208) % 256 ≤ 9 → value ≡ digits_value 10 (take i word)
     → digits_value 10 (take (i + 1) word) ≡ value * 10 + (get_or word i 0 + 208) % 256
 one_digit word i value lt byte near is =
     let c = get_or word i 0 in
@@ -127,11 +128,14 @@ pub few_small : (bytes : List ℕ) (n : ℕ) → AreDigits bytes n → n ≤ len
 few_small bytes n digits le few = digits_value_short by_index (take n bytes) 18 (taken_digits bytes n digits le) (omega (arith, length-take n bytes))
 
 -- digits up to a space or to the end
-pub first_read : (bytes : List ℕ) (value end : ℕ) → AreDigits bytes end → end ≤ length bytes → 0 < end → (get_or bytes 0 0 ≡ 48 → end ≤ 1) → (end < length bytes → get_or bytes end 0 ≡ 32) → value ≡ digits_value 10 (take end bytes) → value < 2 ^ 64
+pub first_read : (bytes : List ℕ) (value end : ℕ) → AreDigits bytes end → end ≤ length bytes → 0 < end
+    → (get_or bytes 0 0 ≡ 48 → end ≤ 1) → (end < length bytes → get_or bytes end 0 ≡ 32)
+    → value ≡ digits_value 10 (take end bytes) → value < 2 ^ 64
     → (number_of (2 ^ 64) (before_first (λ b. b == 32) bytes) ≡ Some value) × (end ≡ position_or_len (λ b. b == 32) bytes)
 first_read bytes value end digits le some lead stops is small =
     let place : position_or_len (λ b. b == 32) bytes ≡ end =
-    position_or_len_is (λ b. b == 32) bytes end 0 le (λ k lt. ne_eqb (get_or bytes k 0) 32 (λ e. let d = digits k lt in omega (arith, d.0))) (λ lt. eq-eqb (get_or bytes end 0) 32 (stops lt)) in
+    position_or_len_is (λ b. b == 32) bytes end 0 le (λ k lt. ne_eqb (get_or bytes k 0) 32
+    (λ e. let d = digits k lt in omega (arith, d.0))) (λ lt. eq-eqb (get_or bytes end 0) 32 (stops lt)) in
     let len : length (take end bytes) ≡ end = length-take-le end bytes le in
     let number : Some value ≡ number_of (2 ^ 64) (take end bytes) =
     digits_read (2 ^ 64) (lit≤ tt) (take end bytes) value (taken_digits bytes end digits le) is small

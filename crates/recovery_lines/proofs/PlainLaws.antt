@@ -51,7 +51,8 @@ feedless_then (b ∷ word) rest h r = (feedless b h.0.0, feedless_then word rest
 joined_feedless : (words : List (List ℕ)) → AllByRecursion IsPlain words → AllByRecursion (λ b. b ≢ 10) (join_with_byte 32 words)
 joined_feedless [] h = tt
 joined_feedless (word ∷ []) h = subst (AllByRecursion (λ b. b ≢ 10)) (append-nil word) (feedless_then word [] h.0 tt)
-joined_feedless (word ∷ next ∷ words) h = feedless_then word (32 ∷ join_with_byte 32 (next ∷ words)) h.0 ((λ e. omega (arith, e)), joined_feedless (next ∷ words) h.1)
+joined_feedless (word ∷ next ∷ words) h = feedless_then word (32 ∷ join_with_byte 32 (next ∷ words)) h.0
+    ((λ e. omega (arith, e)), joined_feedless (next ∷ words) h.1)
 
 -- a line of plain words has no line feed
 pub plain_no_feed : (line : List ℕ) → AllByRecursion IsPlain (words_of line) → All (λ b. b ≢ 10) line

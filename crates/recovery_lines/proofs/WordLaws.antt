@@ -17,18 +17,21 @@ none_passes : (p : ℕ → Bool) (xs : List ℕ) → position_or_len p xs ≡ le
 none_passes p xs e k d lt = fails_before_first p xs k d (omega arith)
 
 -- bytes with no space are one word
-pub last_word : (bytes : List ℕ) (end : ℕ) → end ≡ position_or_len (λ b. b == 32) bytes → length bytes ≤ end → first_word (words_of bytes) ≡ Some (take end bytes, [])
+pub last_word : (bytes : List ℕ) (end : ℕ) → end ≡ position_or_len (λ b. b == 32) bytes → length bytes ≤ end
+    → first_word (words_of bytes) ≡ Some (take end bytes, [])
 last_word bytes end is all =
     let none : position_or_len (λ b. b == 32) bytes ≡ length bytes = omega (arith, prefix_len-le-length (λ b. not (b == 32)) bytes) in
     rw (take_all end bytes all) (ap first_word (slice_split_none (λ b. b == 32) bytes (none_passes (λ b. b == 32) bytes none)))
 
 -- the first word ends at the first space
-pub next_word : (bytes : List ℕ) (end : ℕ) → end ≡ position_or_len (λ b. b == 32) bytes → end < length bytes → first_word (words_of bytes) ≡ Some (take end bytes, words_of (drop (end + 1) bytes))
+pub next_word : (bytes : List ℕ) (end : ℕ) → end ≡ position_or_len (λ b. b == 32) bytes → end < length bytes
+    → first_word (words_of bytes) ≡ Some (take end bytes, words_of (drop (end + 1) bytes))
 next_word bytes end is lt = rw is (ap first_word (slice_split_first (λ b. b == 32) bytes 0 (subst (λ (n : ℕ). n < length bytes) is lt)))
 
 some_first : (bytes : List ℕ) → (after : List (List ℕ)) × (first_word (words_of bytes) ≡ Some (before_first (λ b. b == 32) bytes, after))
 some_first bytes = go (cases_lt (position_or_len (λ b. b == 32) bytes) (length bytes)) where
-  go : (position_or_len (λ b. b == 32) bytes < length bytes) ⊎ (length bytes ≤ position_or_len (λ b. b == 32) bytes) → (after : List (List ℕ)) × (first_word (words_of bytes) ≡ Some (before_first (λ b. b == 32) bytes, after))
+  go : (position_or_len (λ b. b == 32) bytes < length bytes) ⊎ (length bytes ≤ position_or_len (λ b. b == 32) bytes)
+      → (after : List (List ℕ)) × (first_word (words_of bytes) ≡ Some (before_first (λ b. b == 32) bytes, after))
   go (inl lt) = (_, next_word bytes (position_or_len (λ b. b == 32) bytes) refl lt)
   go (inr le) = (_, last_word bytes (position_or_len (λ b. b == 32) bytes) refl le)
 

@@ -13,7 +13,8 @@ length-in_place : (this that : ℕ) (sizes : List ℕ) → length (in_place this
 length-in_place this that [] = refl
 length-in_place this that (size ∷ sizes) = go (length-in_place this that sizes) (size == that)
   where
-    go : length (in_place this that sizes) ≡ length sizes → (is : Bool) → length (if is then this ∷ sizes else size ∷ in_place this that sizes) ≡ length (size ∷ sizes)
+    go : length (in_place this that sizes) ≡ length sizes → (is : Bool)
+        → length (if is then this ∷ sizes else size ∷ in_place this that sizes) ≡ length (size ∷ sizes)
     go same true = refl
     go same false = omega (arith, same)
 
@@ -21,7 +22,8 @@ length-filter : (keeps : ℕ → Bool) (sizes : List ℕ) → length (filter kee
 length-filter keeps [] = omega arith
 length-filter keeps (size ∷ sizes) = go (length-filter keeps sizes) (keeps size)
   where
-    go : length (filter keeps sizes) ≤ length sizes → (is : Bool) → length (if is then size ∷ filter keeps sizes else filter keeps sizes) ≤ length (size ∷ sizes)
+    go : length (filter keeps sizes) ≤ length sizes → (is : Bool)
+        → length (if is then size ∷ filter keeps sizes else filter keeps sizes) ≤ length (size ∷ sizes)
     go fewer true = omega (arith, fewer)
     go fewer false = omega (arith, fewer)
 
@@ -32,7 +34,9 @@ with_burst_few size sizes few = go (nat_lt (length sizes) 4) refl
     full true = let same = length-in_place size (least_of sizes) sizes in omega (arith, same, few)
     full false = few
 
-    go : (room : Bool) → nat_lt (length sizes) 4 ≡ room → length (if room then sizes ++ size ∷ [] else (if nat_lt (least_of sizes) size then in_place size (least_of sizes) sizes else sizes)) ≤ 4
+    go : (room : Bool) → nat_lt (length sizes) 4 ≡ room
+        → length (if room then sizes ++ size ∷ [] else (if nat_lt (least_of sizes) size then in_place size
+        (least_of sizes) sizes else sizes)) ≤ 4
     go true room = let longer = length-snoc sizes size in grind (arith, nat_tests, longer, room)
     go false room = full (nat_lt (least_of sizes) size)
 
@@ -45,10 +49,16 @@ bursts_acked_sound number size old sound = go (nat_lt size old.acked) (size == o
     larger : ℕ → Bool
     larger least = nat_lt size least
 
-    go : (below same : Bool) → AreBurstsSound (if below then old else (if same then record old { newest = max old.newest number } else record old { kept = filter (λ least. nat_lt size least) old.kept; acked = size; newest = number }))
+    go : (below same : Bool) → AreBurstsSound (if below then old
+        else (if same then record old { newest = max old.newest number }
+        else record old { kept = filter (λ least. nat_lt size least) old.kept; acked = size; newest = number }))
     go true same = sound
     go false true = record { few = sound.few; min_mtu = sound.min_mtu }
-    go false false = record { few = (let fewer = length-filter (λ least. nat_lt size least) old.kept in omega (arith, fewer, sound.few)); min_mtu = sound.min_mtu }
+    go false false = record {
+      few = (let fewer = length-filter (λ least. nat_lt size least) old.kept in omega
+          (arith, fewer, sound.few));
+      min_mtu = sound.min_mtu;
+    }
 
 closing_sound : (burst : Option Burst) (old : LossBursts) → AreBurstsSound old → AreBurstsSound (closing burst old)
 closing_sound None old sound = sound
@@ -67,7 +77,9 @@ bursts_lost_sound number size old sound = go (joins number old.open_burst)
     closed : AreBurstsSound (bursts_closed old)
     closed = bursts_closed_sound old sound
 
-    go : (joined : Bool) → AreBurstsSound (if joined then record old { open_burst = Some (burst_with number size old.open_burst) } else record (bursts_closed old) { open_burst = Some (burst_with number size None) })
+    go : (joined : Bool) → AreBurstsSound (if joined then record old
+        { open_burst = Some (burst_with number size old.open_burst) }
+        else record (bursts_closed old) { open_burst = Some (burst_with number size None) })
     go true = record { few = sound.few; min_mtu = sound.min_mtu }
     go false = record { few = closed.few; min_mtu = closed.min_mtu }
 

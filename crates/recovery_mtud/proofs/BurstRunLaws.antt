@@ -34,7 +34,8 @@ apart_before losses_over entries apart = apart
 apart_before (reported now) entries apart = apart
 apart_before (reset mtu min_mtu) entries apart = apart
 
-never_both : (entries : List MtuEntry) → AreFatesApart entries → (number : ℕ) → has number (acked_numbers entries) ≡ true → has number (lost_numbers entries) ≡ true → ⊥
+never_both : (entries : List MtuEntry) → AreFatesApart entries → (number : ℕ)
+    → has number (acked_numbers entries) ≡ true → has number (lost_numbers entries) ≡ true → ⊥
 never_both entries apart number good bad = let no : true ≡ false = sym bad ∙ apart number good in absurd (cc)
 
 -- ---- one call
@@ -58,17 +59,24 @@ module _ (made : Discovery) (entries : List MtuEntry) where
   size_is : (number : ℕ) (old : Discovery) → Holds made entries old → size_of_probe number old ≡ size_at number (probe_in_flight entries)
   size_is number old holds = size_in_held number old.search ∙ ap (size_at number) holds.probe
 
-  acked_needs : (number bytes : ℕ) (old : Discovery) → Holds made entries old → NeedyAt made entries old → NeedyAt made (acked number bytes ∷ entries) (discovery_after (acks number bytes) old)
+  acked_needs : (number bytes : ℕ) (old : Discovery) → Holds made entries old → NeedyAt made entries old
+      → NeedyAt made (acked number bytes ∷ entries) (discovery_after (acks number bytes) old)
   acked_needs number bytes old holds tie = go (size_of_probe number old) (sym (size_is number old holds))
     where
       go : (size : Option ℕ) → size_at number (probe_in_flight entries) ≡ size → NeedyAt made (acked number bytes ∷ entries) (taking size number bytes old)
-      go size is = subst (λ own. Needy (min_mtu_in_use made entries) (open_run entries) (if is_some own then [] else filter (is_above bytes) (standing entries)) (number ∷ acked_numbers entries) (lost_numbers entries) (taking size number bytes old).bursts) (sym is) (left size)
+      go size is = subst (λ own. Needy (min_mtu_in_use made entries) (open_run entries)
+          (if is_some own then [] else filter (is_above bytes) (standing entries)) (number ∷ acked_numbers entries)
+          (lost_numbers entries) (taking size number bytes old).bursts) (sym is) (left size)
         where
-          left : (size : Option ℕ) → Needy (min_mtu_in_use made entries) (open_run entries) (if is_some size then [] else filter (is_above bytes) (standing entries)) (number ∷ acked_numbers entries) (lost_numbers entries) (taking size number bytes old).bursts
+          left : (size : Option ℕ)
+              → Needy (min_mtu_in_use made entries) (open_run entries)
+              (if is_some size then [] else filter (is_above bytes) (standing entries)) (number ∷ acked_numbers entries)
+              (lost_numbers entries) (taking size number bytes old).bursts
           left None = needy_acked _ _ _ _ _ old.bursts number bytes tie
           left (Some size) = needy_probed _ _ _ _ _ old.bursts number bytes tie
 
-  acked_comes : (number bytes : ℕ) (old : Discovery) → ComingAt made entries old → ComingAt made (acked number bytes ∷ entries) (discovery_after (acks number bytes) old)
+  acked_comes : (number bytes : ℕ) (old : Discovery) → ComingAt made entries old
+      → ComingAt made (acked number bytes ∷ entries) (discovery_after (acks number bytes) old)
   acked_comes number bytes old tie = go (size_of_probe number old)
     where
       go : (size : Option ℕ) → ComingAt made (acked number bytes ∷ entries) (taking size number bytes old)
@@ -82,7 +90,8 @@ module _ (made : Discovery) (entries : List MtuEntry) where
         let rest : Discovery = record old { bursts = (if cleared then record closed { kept = [] } else closed) } in
         if hole then record rest { mtu = old.bursts.min_mtu; search = option_map (search_reported now) old.search } else rest
 
-    ended_needs : AreFatesApart entries → NeedyAt made entries old → NeedyAt made (entry_of (losses_end now) old ∷ entries) (discovery_after (losses_end now) old)
+    ended_needs : AreFatesApart entries → NeedyAt made entries old
+        → NeedyAt made (entry_of (losses_end now) old ∷ entries) (discovery_after (losses_end now) old)
     ended_needs apart tie = go (is_black_hole (bursts_closed old.bursts))
       where
         go : (hole : Bool) → NeedyAt made ((if hole then reported now else losses_over) ∷ entries) (over hole hole)
@@ -103,7 +112,8 @@ module _ (made : Discovery) (entries : List MtuEntry) where
       go None = refl
       go (Some search) = refl
 
-  needy_after : (call : MtuCall) (old : Discovery) → Holds made entries old → AreFatesApart entries → NeedyAt made entries old → NeedyAt made (entry_of call old ∷ entries) (discovery_after call old)
+  needy_after : (call : MtuCall) (old : Discovery) → Holds made entries old → AreFatesApart entries
+      → NeedyAt made entries old → NeedyAt made (entry_of call old ∷ entries) (discovery_after call old)
   needy_after (polls now next) old holds apart tie = polled_needs now next _ old tie
   needy_after (is_limited limit) old holds apart tie = tie
   needy_after (acks number bytes) old holds apart tie = acked_needs number bytes old holds tie
@@ -111,7 +121,8 @@ module _ (made : Discovery) (entries : List MtuEntry) where
   needy_after (loses number bytes) old holds apart tie = needy_lost _ _ _ _ _ old.bursts number bytes tie (never_both entries apart)
   needy_after (losses_end now) old holds apart tie = ended_needs now old apart tie
   needy_after (resets mtu min_mtu) old holds apart tie =
-      subst (Needy min_mtu [] [] (acked_numbers entries) (lost_numbers entries)) (sym (reset_bursts mtu min_mtu old)) (needy_made min_mtu (acked_numbers entries) (lost_numbers entries))
+      subst (Needy min_mtu [] [] (acked_numbers entries) (lost_numbers entries)) (sym (reset_bursts mtu min_mtu old))
+      (needy_made min_mtu (acked_numbers entries) (lost_numbers entries))
 
   coming_after : (call : MtuCall) (old : Discovery) → ComingAt made entries old → ComingAt made (entry_of call old ∷ entries) (discovery_after call old)
   coming_after (polls now next) old tie = polled_comes now next _ old tie
@@ -120,11 +131,13 @@ module _ (made : Discovery) (entries : List MtuEntry) where
   coming_after loses_probe old tie = tie
   coming_after (loses number bytes) old tie = coming_lost _ _ _ _ old.bursts number bytes tie
   coming_after (losses_end now) old tie = ended_comes now old tie
-  coming_after (resets mtu min_mtu) old tie = subst (Coming min_mtu [] [] (acked_numbers entries)) (sym (reset_bursts mtu min_mtu old)) (coming_made min_mtu (acked_numbers entries))
+  coming_after (resets mtu min_mtu) old tie = subst (Coming min_mtu [] [] (acked_numbers entries))
+      (sym (reset_bursts mtu min_mtu old)) (coming_made min_mtu (acked_numbers entries))
 
 -- ---- all calls
 
-needy_by : (made : Discovery) → IsUntold made → (calls : List MtuCall) → AreFatesApart (entries_by made calls) → NeedyAt made (entries_by made calls) (discovery_by made calls)
+needy_by : (made : Discovery) → IsUntold made → (calls : List MtuCall) → AreFatesApart (entries_by made calls)
+    → NeedyAt made (entries_by made calls) (discovery_by made calls)
 needy_by made new [] apart = subst (Needy made.bursts.min_mtu [] [] [] []) (sym new.bursts) (needy_made made.bursts.min_mtu [] [])
 needy_by made new (call ∷ earlier) apart =
     let before = apart_before (entry_of call (discovery_by made earlier)) (entries_by made earlier) apart in
@@ -135,15 +148,19 @@ coming_by made new [] = subst (Coming made.bursts.min_mtu [] [] []) (sym new.bur
 coming_by made new (call ∷ earlier) = coming_after made (entries_by made earlier) call (discovery_by made earlier) (coming_by made new earlier)
 
 -- where a black hole is reported, four bursts stand
-pub four_stand : (made : Discovery) → IsUntold made → (calls : List MtuCall) → AreFatesApart (entries_by made calls) → reports (discovery_by made calls) ≡ true → AreFourStanding made (entries_by made calls)
-four_stand made new calls apart is = needy_report _ _ _ _ _ (discovery_by made calls).bursts (needy_by made new calls apart) (never_both (entries_by made calls) apart) is
+pub four_stand : (made : Discovery) → IsUntold made → (calls : List MtuCall) → AreFatesApart (entries_by made calls)
+    → reports (discovery_by made calls) ≡ true → AreFourStanding made (entries_by made calls)
+four_stand made new calls apart is = needy_report _ _ _ _ _ (discovery_by made calls).bursts
+    (needy_by made new calls apart) (never_both (entries_by made calls) apart) is
 
 -- where four have closed unanswered, the end of losses reports a black hole
-pub four_report : (made : Discovery) → IsUntold made → (calls : List MtuCall) → AreFourUnanswered made (entries_by made calls) → reports (discovery_by made calls) ≡ true
+pub four_report : (made : Discovery) → IsUntold made → (calls : List MtuCall)
+    → AreFourUnanswered made (entries_by made calls) → reports (discovery_by made calls) ≡ true
 four_report made new calls many = coming_report _ _ _ _ (discovery_by made calls).bursts (coming_by made new calls) many
 
 -- a report needs four bursts that closed since the last one or a reset, all their packets above the least MTU, and were not refuted
-pub report_needs_four : (made : Discovery) → IsUntold made → (calls : List MtuCall) → AreFatesApart (entries_by made calls) → ReportNeedsFour made (entries_by made calls)
+pub report_needs_four : (made : Discovery) → IsUntold made → (calls : List MtuCall)
+    → AreFatesApart (entries_by made calls) → ReportNeedsFour made (entries_by made calls)
 report_needs_four made new [] apart = tt
 report_needs_four made new (call ∷ earlier) apart = go call (apart_before (entry_of call (discovery_by made earlier)) (entries_by made earlier) apart)
   where
@@ -159,7 +176,8 @@ report_needs_four made new (call ∷ earlier) apart = go call (apart_before (ent
     go (loses number bytes) apart = tt
     go (losses_end now) apart = ended (reports (discovery_by made earlier)) refl
       where
-        ended : (hole : Bool) → reports (discovery_by made earlier) ≡ hole → ReportNeedsFour made ((if hole then reported now else losses_over) ∷ entries_by made earlier)
+        ended : (hole : Bool) → reports (discovery_by made earlier) ≡ hole
+            → ReportNeedsFour made ((if hole then reported now else losses_over) ∷ entries_by made earlier)
         ended true is = four_stand made new earlier apart is
         ended false is = tt
     go (resets mtu min_mtu) apart = tt
@@ -181,7 +199,8 @@ report_comes_at_four made new (call ∷ earlier) = go call
     go (loses number bytes) = tt
     go (losses_end now) = ended (reports (discovery_by made earlier)) refl
       where
-        ended : (hole : Bool) → reports (discovery_by made earlier) ≡ hole → ReportComesAtFour made ((if hole then reported now else losses_over) ∷ entries_by made earlier)
+        ended : (hole : Bool) → reports (discovery_by made earlier) ≡ hole
+            → ReportComesAtFour made ((if hole then reported now else losses_over) ∷ entries_by made earlier)
         ended true is = tt
         ended false is = λ many. (let no : true ≡ false = sym (four_report made new earlier many) ∙ is in absurd (cc))
     go (resets mtu min_mtu) = tt
@@ -206,15 +225,18 @@ pub numbers_by : (made : Discovery) (calls : List MtuCall) → HaveNumbers (entr
 numbers_by made [] = (refl, refl)
 numbers_by made (call ∷ earlier) = go call (numbers_by made earlier)
   where
-    polled : (now next : ℕ) (answer : Option ℕ) → HaveNumbers (entries_by made earlier) earlier → HaveNumbers (poll_entry now next answer ∷ entries_by made earlier) earlier
+    polled : (now next : ℕ) (answer : Option ℕ) → HaveNumbers (entries_by made earlier) earlier
+        → HaveNumbers (poll_entry now next answer ∷ entries_by made earlier) earlier
     polled now next None same = same
     polled now next (Some size) same = same
 
-    ended : (now : ℕ) (hole : Bool) → HaveNumbers (entries_by made earlier) earlier → HaveNumbers ((if hole then reported now else losses_over) ∷ entries_by made earlier) earlier
+    ended : (now : ℕ) (hole : Bool) → HaveNumbers (entries_by made earlier) earlier
+        → HaveNumbers ((if hole then reported now else losses_over) ∷ entries_by made earlier) earlier
     ended now true same = same
     ended now false same = same
 
-    go : (call : MtuCall) → HaveNumbers (entries_by made earlier) earlier → HaveNumbers (entry_of call (discovery_by made earlier) ∷ entries_by made earlier) (call ∷ earlier)
+    go : (call : MtuCall) → HaveNumbers (entries_by made earlier) earlier
+        → HaveNumbers (entry_of call (discovery_by made earlier) ∷ entries_by made earlier) (call ∷ earlier)
     go (polls now next) same = polled now next (poll_of now (discovery_by made earlier)) same
     go (is_limited limit) same = same
     go (acks number bytes) same = (ap (λ numbers. number ∷ numbers) same.0, same.1)
@@ -224,7 +246,9 @@ numbers_by made (call ∷ earlier) = go call (numbers_by made earlier)
     go (resets mtu min_mtu) same = same
 
 -- fates that are apart in the calls are apart in the entries
-pub fates_apart_by : (made : Discovery) (calls : List MtuCall) → ((number : ℕ) → has number (acked_in_calls calls) ≡ true → has number (lost_in_calls calls) ≡ false) → AreFatesApart (entries_by made calls)
+pub fates_apart_by : (made : Discovery) (calls : List MtuCall)
+    → ((number : ℕ) → has number (acked_in_calls calls) ≡ true → has number (lost_in_calls calls) ≡ false)
+    → AreFatesApart (entries_by made calls)
 fates_apart_by made calls apart number good =
     let same = numbers_by made calls in
     ap (has number) same.1 ∙ apart number (sym (ap (has number) same.0) ∙ good)
@@ -236,7 +260,8 @@ above_is_all size loss [] = go (nat_lt size loss.bytes)
     go : (above : Bool) → above ≡ (above && true)
     go true = refl
     go false = refl
-above_is_all size loss (other ∷ losses) = least loss.bytes (least_size (other ∷ losses)) ∙ ap (λ rest. nat_lt size loss.bytes && rest) (above_is_all size other losses)
+above_is_all size loss (other ∷ losses) = least loss.bytes (least_size (other ∷ losses))
+    ∙ ap (λ rest. nat_lt size loss.bytes && rest) (above_is_all size other losses)
   where
     least : (a b : ℕ) → nat_lt size (min a b) ≡ (nat_lt size a && nat_lt size b)
     least a b = grind (arith, nat_tests)

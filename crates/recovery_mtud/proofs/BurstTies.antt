@@ -20,7 +20,8 @@ joins_summary number [] = refl
 joins_summary number (loss ∷ losses) = refl
 
 -- a loss that follows
-more_summary : (number bytes : ℕ) (run : List Loss) → follows number run ≡ true → burst_with number bytes (summary run) ≡ record { least = least_size (record { number = number; bytes = bytes } ∷ run); last = number }
+more_summary : (number bytes : ℕ) (run : List Loss) → follows number run ≡ true → burst_with number bytes (summary run)
+    ≡ record { least = least_size (record { number = number; bytes = bytes } ∷ run); last = number }
 more_summary number bytes [] follow = refl
 more_summary number bytes (loss ∷ losses) follow =
     ap (λ least. record { least = least; last = number }) (turned (least_size (loss ∷ losses)))
@@ -62,10 +63,14 @@ pub record Coming (min_mtu : ℕ) (run : List Loss) (unanswered : List (List Los
 
 -- ---- a burst closes
 
-suspicious_true : (least min_mtu last newest acked : ℕ) → (nat_lt min_mtu least && not (nat_lt last newest && nat_le least acked)) ≡ true → (min_mtu < least) × ((newest ≤ last) ⊎ (acked < least))
+suspicious_true : (least min_mtu last newest acked : ℕ)
+    → (nat_lt min_mtu least && not (nat_lt last newest && nat_le least acked)) ≡ true
+    → (min_mtu < least) × ((newest ≤ last) ⊎ (acked < least))
 suspicious_true least min_mtu last newest acked is = grind (arith, nat_tests)
 
-suspicious_false : (least min_mtu last newest acked : ℕ) → (nat_lt min_mtu least && not (nat_lt last newest && nat_le least acked)) ≡ false → min_mtu < least → newest ≤ last → ⊥
+suspicious_false : (least min_mtu last newest acked : ℕ)
+    → (nat_lt min_mtu least && not (nat_lt last newest && nat_le least acked)) ≡ false → min_mtu < least → newest ≤ last
+    → ⊥
 suspicious_false least min_mtu last newest acked is large late = grind (arith, nat_tests)
 
 one_both : (min_mtu low least : ℕ) → min_mtu < least → one (nat_lt low least) ≡ one (nat_lt min_mtu least && nat_lt low least)
@@ -79,7 +84,8 @@ module _ (min_mtu : ℕ) (loss : Loss) (losses : List Loss) (bursts : List (List
   closed = record { least = least_size run; last = loss.number }
 
   -- a suspicious one is kept
-  keep : (a : ℕ) → Needy min_mtu run bursts acked lost s → min_mtu < least_size run → a < least_size run → AllAbove a s.kept → ((has s.newest acked ≡ true) ⊎ ((s.newest ≡ 0) × (a ≡ min_mtu)))
+  keep : (a : ℕ) → Needy min_mtu run bursts acked lost s → min_mtu < least_size run → a < least_size run
+      → AllAbove a s.kept → ((has s.newest acked ≡ true) ⊎ ((s.newest ≡ 0) × (a ≡ min_mtu)))
       → Needy min_mtu [] (run ∷ bursts) acked lost (record s { kept = with_burst (least_size run) s.kept; open_burst = None; acked = a })
   keep a tie large over all newest = record {
     open_is = refl;
@@ -93,10 +99,15 @@ module _ (min_mtu : ℕ) (loss : Loss) (losses : List Loss) (bursts : List (List
 
   apart_newest : Needy min_mtu run bursts acked lost s → AreApart acked lost → s.newest ≡ loss.number → s.acked ≡ min_mtu
   apart_newest tie apart same =
-      ⊎_elim (λ (known : has s.newest acked ≡ true). absurd (apart loss.number (subst (λ n. has n acked ≡ true) same known) tie.fate)) (λ (start : (s.newest ≡ 0) × (s.acked ≡ min_mtu)). start.1) tie.newest
+      ⊎_elim (λ (known : has s.newest acked ≡ true). absurd (apart loss.number
+      (subst (λ n. has n acked ≡ true) same known) tie.fate))
+      (λ (start : (s.newest ≡ 0) × (s.acked ≡ min_mtu)). start.1) tie.newest
 
-  close_some : Needy min_mtu run bursts acked lost s → AreApart acked lost → (is : Bool) → is_suspicious closed s ≡ is → (newer : Bool) → nat_lt s.newest loss.number ≡ newer
-      → Needy min_mtu [] (run ∷ bursts) acked lost (if is then record s { kept = with_burst (least_size run) s.kept; open_burst = None; acked = (if newer then s.min_mtu else s.acked) } else record s { open_burst = None })
+  close_some : Needy min_mtu run bursts acked lost s → AreApart acked lost → (is : Bool) → is_suspicious closed s ≡ is
+      → (newer : Bool) → nat_lt s.newest loss.number ≡ newer
+      → Needy min_mtu [] (run ∷ bursts) acked lost (if is then record s
+      { kept = with_burst (least_size run) s.kept; open_burst = None; acked = (if newer then s.min_mtu else s.acked) }
+      else record s { open_burst = None })
   close_some tie apart true is true newer =
       let parts = suspicious_true (least_size run) s.min_mtu loss.number s.newest s.acked is in
       keep s.min_mtu tie (omega (arith, parts.0, tie.min_is)) parts.0 (subst (λ m. AllAbove m s.kept) (sym tie.min_is) tie.large)
@@ -110,16 +121,31 @@ module _ (min_mtu : ℕ) (loss : Loss) (losses : List Loss) (bursts : List (List
       parts.1 in
       keep s.acked tie (omega (arith, parts.0, tie.min_is)) over tie.above tie.newest
   close_some tie apart false is newer other =
-      record { open_is = refl; min_is = tie.min_is; above = tie.above; large = tie.large; counts = λ low. omega (arith, tie.counts low); newest = tie.newest; fate = tt }
+      record {
+        open_is = refl;
+        min_is = tie.min_is;
+        above = tie.above;
+        large = tie.large;
+        counts = λ low. omega (arith, tie.counts low);
+        newest = tie.newest;
+        fate = tt;
+      }
 
-close_with : (min_mtu : ℕ) (run : List Loss) (bursts : List (List Loss)) (acked lost : List ℕ) (s : LossBursts) → Needy min_mtu run bursts acked lost s → AreApart acked lost → Needy min_mtu [] (if_any run ++ bursts) acked lost (closing (summary run) s)
+close_with : (min_mtu : ℕ) (run : List Loss) (bursts : List (List Loss)) (acked lost : List ℕ) (s : LossBursts)
+    → Needy min_mtu run bursts acked lost s → AreApart acked lost
+    → Needy min_mtu [] (if_any run ++ bursts) acked lost (closing (summary run) s)
 close_with min_mtu [] bursts acked lost s tie apart = tie
 close_with min_mtu (loss ∷ losses) bursts acked lost s tie apart =
-    close_some min_mtu loss losses bursts acked lost s tie apart (is_suspicious (record { least = least_size (loss ∷ losses); last = loss.number }) s) refl (nat_lt s.newest loss.number) refl
+    close_some min_mtu loss losses bursts acked lost s tie apart
+    (is_suspicious (record { least = least_size (loss ∷ losses); last = loss.number }) s) refl
+    (nat_lt s.newest loss.number) refl
 
-pub close_needs : (min_mtu : ℕ) (run : List Loss) (bursts : List (List Loss)) (acked lost : List ℕ) (s : LossBursts) → Needy min_mtu run bursts acked lost s → AreApart acked lost → Needy min_mtu [] (if_any run ++ bursts) acked lost (bursts_closed s)
+pub close_needs : (min_mtu : ℕ) (run : List Loss) (bursts : List (List Loss)) (acked lost : List ℕ) (s : LossBursts)
+    → Needy min_mtu run bursts acked lost s → AreApart acked lost
+    → Needy min_mtu [] (if_any run ++ bursts) acked lost (bursts_closed s)
 close_needs min_mtu run bursts acked lost s tie apart =
-    subst (λ burst. Needy min_mtu [] (if_any run ++ bursts) acked lost (closing burst s)) (sym tie.open_is) (close_with min_mtu run bursts acked lost s tie apart)
+    subst (λ burst. Needy min_mtu [] (if_any run ++ bursts) acked lost (closing burst s)) (sym tie.open_is)
+    (close_with min_mtu run bursts acked lost s tie apart)
 
 -- ---- what one entry leaves of them
 
@@ -142,12 +168,15 @@ ended_with hole s = if hole then record (bursts_closed s) { kept = [] } else bur
 abbrev acked_with : Bool → Bool → ℕ → ℕ → LossBursts → LossBursts
 acked_with below same number bytes s =
     if below then s
-    else (if same then record s { newest = max s.newest number } else record s { kept = filter (λ least. nat_lt bytes least) s.kept; acked = bytes; newest = number })
+    else (if same then record s { newest = max s.newest number }
+    else record s { kept = filter (λ least. nat_lt bytes least) s.kept; acked = bytes; newest = number })
 
 max_cases : (a b : ℕ) → (max a b ≡ a) ⊎ (max a b ≡ b)
 max_cases a b = grind arith
 
-filtered : (low bytes : ℕ) (sizes : List ℕ) → tally (λ size. nat_lt low size) (filter (λ size. nat_lt bytes size) sizes) ≡ tally (λ size. nat_lt (max low bytes) size) sizes
+filtered : (low bytes : ℕ) (sizes : List ℕ)
+    → tally (λ size. nat_lt low size) (filter (λ size. nat_lt bytes size) sizes)
+    ≡ tally (λ size. nat_lt (max low bytes) size) sizes
 filtered low bytes sizes =
     tally-filter (λ size. nat_lt low size) (λ size. nat_lt bytes size) sizes
     ∙ tally-same (λ size. nat_lt bytes size && nat_lt low size) (λ size. nat_lt (max low bytes) size) sizes (λ size. max_test low bytes size)
@@ -160,8 +189,10 @@ turn false true y w e = refl
 turn false false y w e = refl
 
 -- what is kept passes the test, or all of it does
-after_ack : (min_mtu : ℕ) (run : List Loss) (bursts : List (List Loss)) (acked lost numbers : List ℕ) (s t : LossBursts) (bytes : ℕ) → Needy min_mtu run bursts acked lost s
-    → t.open_burst ≡ s.open_burst → t.min_mtu ≡ s.min_mtu → AllAbove t.acked t.kept → AllAbove min_mtu t.kept → ((low : ℕ) → tally (λ size. nat_lt low size) t.kept ≡ tally (λ size. nat_lt (max low bytes) size) s.kept)
+after_ack : (min_mtu : ℕ) (run : List Loss) (bursts : List (List Loss)) (acked lost numbers : List ℕ) (s t : LossBursts)
+    (bytes : ℕ) → Needy min_mtu run bursts acked lost s
+    → t.open_burst ≡ s.open_burst → t.min_mtu ≡ s.min_mtu → AllAbove t.acked t.kept → AllAbove min_mtu t.kept
+    → ((low : ℕ) → tally (λ size. nat_lt low size) t.kept ≡ tally (λ size. nat_lt (max low bytes) size) s.kept)
     → ((has t.newest numbers ≡ true) ⊎ ((t.newest ≡ 0) × (t.acked ≡ min_mtu))) → Needy min_mtu run (filter (is_above bytes) bursts) numbers lost t
 after_ack min_mtu run bursts acked lost numbers s t bytes tie same_open same_min above large counts known = record {
   open_is = same_open ∙ tie.open_is;
@@ -171,7 +202,8 @@ after_ack min_mtu run bursts acked lost numbers s t bytes tie same_open same_min
   counts = λ low. (
       let filter_counts = tally-filter (both min_mtu low) (is_above bytes) bursts in
       let turned = tally-same (both min_mtu (max low bytes)) (λ burst. is_above bytes burst && both min_mtu low burst) bursts
-      (λ burst. turn (is_above min_mtu burst) (is_above bytes burst) (is_above low burst) (is_above (max low bytes) burst) (max_test low bytes (least_size burst))) in
+      (λ burst. turn (is_above min_mtu burst) (is_above bytes burst) (is_above low burst)
+      (is_above (max low bytes) burst) (max_test low bytes (least_size burst))) in
       omega (arith, counts low, tie.counts (max low bytes), filter_counts, turned)
       );
   newest = known;
@@ -179,11 +211,13 @@ after_ack min_mtu run bursts acked lost numbers s t bytes tie same_open same_min
 }
 
 module _ (min_mtu : ℕ) (run : List Loss) (bursts : List (List Loss)) (acked lost : List ℕ) (s : LossBursts) where
-  pub needy_acked : (number bytes : ℕ) → Needy min_mtu run bursts acked lost s → Needy min_mtu run (filter (is_above bytes) bursts) (number ∷ acked) lost (bursts_acked number bytes s)
+  pub needy_acked : (number bytes : ℕ) → Needy min_mtu run bursts acked lost s
+      → Needy min_mtu run (filter (is_above bytes) bursts) (number ∷ acked) lost (bursts_acked number bytes s)
   needy_acked number bytes tie = go (nat_lt bytes s.acked) refl (bytes == s.acked) refl
     where
       older : (has s.newest (number ∷ acked) ≡ true) ⊎ ((s.newest ≡ 0) × (s.acked ≡ min_mtu))
-      older = ⊎_elim (λ (known : has s.newest acked ≡ true). inl (has_more s.newest number acked known)) (λ (start : (s.newest ≡ 0) × (s.acked ≡ min_mtu)). inr start) tie.newest
+      older = ⊎_elim (λ (known : has s.newest acked ≡ true). inl (has_more s.newest number acked known))
+          (λ (start : (s.newest ≡ 0) × (s.acked ≡ min_mtu)). inr start) tie.newest
 
       newer : (has (max s.newest number) (number ∷ acked) ≡ true) ⊎ ((max s.newest number ≡ 0) × (s.acked ≡ min_mtu))
       newer = ⊎_elim
@@ -191,23 +225,37 @@ module _ (min_mtu : ℕ) (run : List Loss) (bursts : List (List Loss)) (acked lo
           (λ (is : max s.newest number ≡ number). inl (subst (λ n. has n (number ∷ acked) ≡ true) (sym is) (has_head number acked)))
           (max_cases s.newest number)
 
-      raised : nat_lt bytes s.acked ≡ true ⊎ ((bytes == s.acked) ≡ true) → (low : ℕ) → tally (λ size. nat_lt low size) s.kept ≡ tally (λ size. nat_lt (max low bytes) size) s.kept
+      raised : nat_lt bytes s.acked ≡ true ⊎ ((bytes == s.acked) ≡ true) → (low : ℕ)
+          → tally (λ size. nat_lt low size) s.kept ≡ tally (λ size. nat_lt (max low bytes) size) s.kept
       raised (inl below) low = tally-raise low bytes s.acked s.kept (grind (arith, nat_tests)) tie.above
       raised (inr same) low = tally-raise low bytes s.acked s.kept (grind (arith, nat_tests)) tie.above
 
-      go : (below : Bool) → nat_lt bytes s.acked ≡ below → (same : Bool) → (bytes == s.acked) ≡ same → Needy min_mtu run (filter (is_above bytes) bursts) (number ∷ acked) lost (acked_with below same number bytes s)
+      go : (below : Bool) → nat_lt bytes s.acked ≡ below → (same : Bool) → (bytes == s.acked) ≡ same
+          → Needy min_mtu run (filter (is_above bytes) bursts) (number ∷ acked) lost
+          (acked_with below same number bytes s)
       go true below same is = after_ack min_mtu run bursts acked lost (number ∷ acked) s s bytes tie refl refl tie.above tie.large (raised (inl below)) older
-      go false below true same = after_ack min_mtu run bursts acked lost (number ∷ acked) s (acked_with false true number bytes s) bytes tie refl refl tie.above tie.large (raised (inr same)) newer
+      go false below true same = after_ack min_mtu run bursts acked lost (number ∷ acked) s
+          (acked_with false true number bytes s) bytes tie refl refl tie.above tie.large (raised (inr same)) newer
       go false below false same =
           after_ack min_mtu run bursts acked lost (number ∷ acked) s (acked_with false false number bytes s) bytes tie refl refl
-          (all-kept bytes s.kept) (all-filter min_mtu (λ size. nat_lt bytes size) s.kept tie.large) (λ low. filtered low bytes s.kept) (inl (has_head number acked))
+          (all-kept bytes s.kept) (all-filter min_mtu (λ size. nat_lt bytes size) s.kept tie.large)
+          (λ low. filtered low bytes s.kept) (inl (has_head number acked))
 
   pub needy_probed : (number bytes : ℕ) → Needy min_mtu run bursts acked lost s → Needy min_mtu run [] (number ∷ acked) lost (bursts_probed number bytes s)
-  needy_probed number bytes tie = record { open_is = tie.open_is; min_is = tie.min_is; above = tt; large = tt; counts = λ low. omega arith; newest = inl (has_head number acked); fate = tie.fate }
+  needy_probed number bytes tie = record {
+    open_is = tie.open_is;
+    min_is = tie.min_is;
+    above = tt;
+    large = tt;
+    counts = λ low. omega arith;
+    newest = inl (has_head number acked);
+    fate = tie.fate;
+  }
 
   -- ---- a loss joins, or closes and opens
 
-  pub needy_lost : (number bytes : ℕ) → Needy min_mtu run bursts acked lost s → AreApart acked lost → (let this : Loss = record { number = number; bytes = bytes } in
+  pub needy_lost : (number bytes : ℕ) → Needy min_mtu run bursts acked lost s → AreApart acked lost
+      → (let this : Loss = record { number = number; bytes = bytes } in
       let joined = follows number run in
       Needy min_mtu (run_with joined this run) (closed_with joined run bursts) acked (number ∷ lost) (bursts_lost number bytes s))
   needy_lost number bytes tie apart = go (follows number run) refl (ap (joins number) tie.open_is ∙ joins_summary number run)
@@ -215,7 +263,9 @@ module _ (min_mtu : ℕ) (run : List Loss) (bursts : List (List Loss)) (acked lo
       this : Loss
       this = record { number = number; bytes = bytes }
 
-      left : (joined : Bool) → follows number run ≡ joined → Needy min_mtu (run_with joined this run) (closed_with joined run bursts) acked (number ∷ lost) (lost_with joined number bytes s)
+      left : (joined : Bool) → follows number run ≡ joined
+          → Needy min_mtu (run_with joined this run) (closed_with joined run bursts) acked (number ∷ lost)
+          (lost_with joined number bytes s)
       left true is = record {
         open_is = ap (λ burst. Some (burst_with number bytes burst)) tie.open_is ∙ ap Some (more_summary number bytes run is);
         min_is = tie.min_is;
@@ -227,15 +277,26 @@ module _ (min_mtu : ℕ) (run : List Loss) (bursts : List (List Loss)) (acked lo
       }
       left false is =
           let after = close_needs min_mtu run bursts acked lost s tie apart in
-          record { open_is = refl; min_is = after.min_is; above = after.above; large = after.large; counts = after.counts; newest = after.newest; fate = has_head number lost }
+          record {
+            open_is = refl;
+            min_is = after.min_is;
+            above = after.above;
+            large = after.large;
+            counts = after.counts;
+            newest = after.newest;
+            fate = has_head number lost;
+          }
 
       go : (joined : Bool) → follows number run ≡ joined → joins number s.open_burst ≡ follows number run
-          → Needy min_mtu (run_with (follows number run) this run) (closed_with (follows number run) run bursts) acked (number ∷ lost) (lost_with (joins number s.open_burst) number bytes s)
-      go joined is same = subst (λ (b : Bool × Bool). Needy min_mtu (run_with b.0 this run) (closed_with b.0 run bursts) acked (number ∷ lost) (lost_with b.1 number bytes s)) (λ i. (sym is i, sym (same ∙ is) i)) (left joined is)
+          → Needy min_mtu (run_with (follows number run) this run) (closed_with (follows number run) run bursts) acked
+          (number ∷ lost) (lost_with (joins number s.open_burst) number bytes s)
+      go joined is same = subst (λ (b : Bool × Bool). Needy min_mtu (run_with b.0 this run) (closed_with b.0 run bursts)
+          acked (number ∷ lost) (lost_with b.1 number bytes s)) (λ i. (sym is i, sym (same ∙ is) i)) (left joined is)
 
   -- ---- the losses of a moment end
 
-  pub needy_ended : Needy min_mtu run bursts acked lost s → AreApart acked lost → (hole : Bool) → Needy min_mtu [] (if hole then [] else if_any run ++ bursts) acked lost (ended_with hole s)
+  pub needy_ended : Needy min_mtu run bursts acked lost s → AreApart acked lost → (hole : Bool)
+      → Needy min_mtu [] (if hole then [] else if_any run ++ bursts) acked lost (ended_with hole s)
   needy_ended tie apart true =
       let after = close_needs min_mtu run bursts acked lost s tie apart in
       record { open_is = after.open_is; min_is = after.min_is; above = tt; large = tt; counts = λ low. omega arith; newest = after.newest; fate = tt }
@@ -246,7 +307,8 @@ module _ (min_mtu : ℕ) (run : List Loss) (bursts : List (List Loss)) (acked lo
   and_self false = refl
 
   -- a report needs four
-  pub needy_report : Needy min_mtu run bursts acked lost s → AreApart acked lost → is_black_hole (bursts_closed s) ≡ true → 4 ≤ length (filter (is_above min_mtu) (if_any run ++ bursts))
+  pub needy_report : Needy min_mtu run bursts acked lost s → AreApart acked lost
+      → is_black_hole (bursts_closed s) ≡ true → 4 ≤ length (filter (is_above min_mtu) (if_any run ++ bursts))
   needy_report tie apart is =
       let after = close_needs min_mtu run bursts acked lost s tie apart in
       let closed = if_any run ++ bursts in
@@ -255,32 +317,45 @@ module _ (min_mtu : ℕ) (run : List Loss) (bursts : List (List Loss)) (acked lo
       omega (arith, leb-true 4 (length (bursts_closed s).kept) is, kept, after.counts min_mtu, once, length-filter (is_above min_mtu) closed)
 
 pub needy_made : (min_mtu : ℕ) (acked lost : List ℕ) → Needy min_mtu [] [] acked lost (bursts_made min_mtu)
-needy_made min_mtu acked lost = record { open_is = refl; min_is = refl; above = tt; large = tt; counts = λ low. omega arith; newest = inr (refl, refl); fate = tt }
+needy_made min_mtu acked lost = record {
+  open_is = refl;
+  min_is = refl;
+  above = tt;
+  large = tt;
+  counts = λ low. omega arith;
+  newest = inr (refl, refl);
+  fate = tt;
+}
 
 -- ---- the same for what must come
 
 -- a burst that is not suspicious is none of the four
-strong_one : (min_mtu : ℕ) (loss : Loss) (losses : List Loss) (acked : List ℕ) (s : LossBursts) → s.min_mtu ≡ min_mtu → ((has s.newest acked ≡ true) ⊎ (s.newest ≡ 0))
-    → is_suspicious (record { least = least_size (loss ∷ losses); last = loss.number }) s ≡ false → (strong : Bool) → is_strong min_mtu acked (loss ∷ losses) ≡ strong → one strong ≡ 0
+strong_one : (min_mtu : ℕ) (loss : Loss) (losses : List Loss) (acked : List ℕ) (s : LossBursts) → s.min_mtu ≡ min_mtu
+    → ((has s.newest acked ≡ true) ⊎ (s.newest ≡ 0))
+    → is_suspicious (record { least = least_size (loss ∷ losses); last = loss.number }) s ≡ false → (strong : Bool)
+    → is_strong min_mtu acked (loss ∷ losses) ≡ strong → one strong ≡ 0
 strong_one min_mtu loss losses acked s min_is newest not_suspicious false is = refl
 strong_one min_mtu loss losses acked s min_is newest not_suspicious true is =
     let parts = and_parts (is_above min_mtu (loss ∷ losses)) (is_past acked (loss ∷ losses)) is in
     let large = ltb-true min_mtu (least_size (loss ∷ losses)) parts.0 in
-    let late : s.newest ≤ loss.number = ⊎_elim (λ (known : has s.newest acked ≡ true). omega (arith, past_has loss.number acked s.newest parts.1 known)) (λ (zero : s.newest ≡ 0). omega arith) newest in
+    let late : s.newest ≤ loss.number = ⊎_elim (λ (known : has s.newest acked ≡ true). omega
+    (arith, past_has loss.number acked s.newest parts.1 known)) (λ (zero : s.newest ≡ 0). omega arith) newest in
     absurd (suspicious_false (least_size (loss ∷ losses)) s.min_mtu loss.number s.newest s.acked not_suspicious (omega (arith, large, min_is)) late)
 
 one_at_most : (b : Bool) → one b ≤ 1
 one_at_most true = omega arith
 one_at_most false = omega arith
 
-come_with : (min_mtu : ℕ) (run : List Loss) (bursts : List (List Loss)) (acked : List ℕ) (s : LossBursts) → Coming min_mtu run bursts acked s → Coming min_mtu [] (if_any run ++ bursts) acked (closing (summary run) s)
+come_with : (min_mtu : ℕ) (run : List Loss) (bursts : List (List Loss)) (acked : List ℕ) (s : LossBursts)
+    → Coming min_mtu run bursts acked s → Coming min_mtu [] (if_any run ++ bursts) acked (closing (summary run) s)
 come_with min_mtu [] bursts acked s tie = tie
 come_with min_mtu (loss ∷ losses) bursts acked s tie = go (is_suspicious burst s) refl
   where
     burst : Burst
     burst = record { least = least_size (loss ∷ losses); last = loss.number }
 
-    go : (is : Bool) → is_suspicious burst s ≡ is → (let rest = record s { open_burst = None } in Coming min_mtu [] ((loss ∷ losses) ∷ bursts) acked (if is then with_suspicious burst rest else rest))
+    go : (is : Bool) → is_suspicious burst s ≡ is → (let rest = record s { open_burst = None } in Coming min_mtu []
+        ((loss ∷ losses) ∷ bursts) acked (if is then with_suspicious burst rest else rest))
     go true is = record {
       open_is = refl;
       min_is = tie.min_is;
@@ -299,7 +374,8 @@ four count many = grind (arith, nat_tests)
 
 module _ (min_mtu : ℕ) (run : List Loss) (bursts : List (List Loss)) (acked : List ℕ) (s : LossBursts) where
   close_comes : Coming min_mtu run bursts acked s → Coming min_mtu [] (if_any run ++ bursts) acked (bursts_closed s)
-  close_comes tie = subst (λ burst. Coming min_mtu [] (if_any run ++ bursts) acked (closing burst s)) (sym tie.open_is) (come_with min_mtu run bursts acked s tie)
+  close_comes tie = subst (λ burst. Coming min_mtu [] (if_any run ++ bursts) acked (closing burst s)) (sym tie.open_is)
+      (come_with min_mtu run bursts acked s tie)
 
   pub coming_acked : (number bytes : ℕ) → Coming min_mtu run bursts acked s → Coming min_mtu run [] (number ∷ acked) (bursts_acked number bytes s)
   coming_acked number bytes tie = go (nat_lt bytes s.acked) (bytes == s.acked)
@@ -329,7 +405,9 @@ module _ (min_mtu : ℕ) (run : List Loss) (bursts : List (List Loss)) (acked : 
       this : Loss
       this = record { number = number; bytes = bytes }
 
-      left : (joined : Bool) → follows number run ≡ joined → Coming min_mtu (run_with joined this run) (closed_with joined run bursts) acked (lost_with joined number bytes s)
+      left : (joined : Bool) → follows number run ≡ joined
+          → Coming min_mtu (run_with joined this run) (closed_with joined run bursts) acked
+          (lost_with joined number bytes s)
       left true is = record {
         open_is = ap (λ burst. Some (burst_with number bytes burst)) tie.open_is ∙ ap Some (more_summary number bytes run is);
         min_is = tie.min_is;
@@ -339,16 +417,21 @@ module _ (min_mtu : ℕ) (run : List Loss) (bursts : List (List Loss)) (acked : 
       left false is = let after = close_comes tie in record { open_is = refl; min_is = after.min_is; newest = after.newest; many = after.many }
 
       go : (joined : Bool) → follows number run ≡ joined → joins number s.open_burst ≡ follows number run
-          → Coming min_mtu (run_with (follows number run) this run) (closed_with (follows number run) run bursts) acked (lost_with (joins number s.open_burst) number bytes s)
-      go joined is same = subst (λ (b : Bool × Bool). Coming min_mtu (run_with b.0 this run) (closed_with b.0 run bursts) acked (lost_with b.1 number bytes s)) (λ i. (sym is i, sym (same ∙ is) i)) (left joined is)
+          → Coming min_mtu (run_with (follows number run) this run) (closed_with (follows number run) run bursts) acked
+          (lost_with (joins number s.open_burst) number bytes s)
+      go joined is same = subst (λ (b : Bool × Bool). Coming min_mtu (run_with b.0 this run)
+          (closed_with b.0 run bursts) acked (lost_with b.1 number bytes s)) (λ i. (sym is i, sym (same ∙ is) i))
+          (left joined is)
 
   pub coming_ended : Coming min_mtu run bursts acked s → (hole : Bool) → Coming min_mtu [] (if hole then [] else if_any run ++ bursts) acked (ended_with hole s)
   coming_ended tie true = let after = close_comes tie in record { open_is = after.open_is; min_is = after.min_is; newest = after.newest; many = omega arith }
   coming_ended tie false = close_comes tie
 
   -- a report comes at four
-  pub coming_report : Coming min_mtu run bursts acked s → 4 ≤ length (filter (is_strong min_mtu acked) (if_any run ++ bursts)) → is_black_hole (bursts_closed s) ≡ true
-  coming_report tie many = four (length (bursts_closed s).kept) (omega (arith, (close_comes tie).many, length-filter (is_strong min_mtu acked) (if_any run ++ bursts), many))
+  pub coming_report : Coming min_mtu run bursts acked s
+      → 4 ≤ length (filter (is_strong min_mtu acked) (if_any run ++ bursts)) → is_black_hole (bursts_closed s) ≡ true
+  coming_report tie many = four (length (bursts_closed s).kept)
+      (omega (arith, (close_comes tie).many, length-filter (is_strong min_mtu acked) (if_any run ++ bursts), many))
 
 pub coming_made : (min_mtu : ℕ) (acked : List ℕ) → Coming min_mtu [] [] acked (bursts_made min_mtu)
 coming_made min_mtu acked = record { open_is = refl; min_is = refl; newest = inr refl; many = omega arith }

@@ -22,14 +22,26 @@ carried : (change : MtuSearch → MtuSearch) → ((search : MtuSearch) → IsSea
 carried change keeps None sound = tt
 carried change keeps (Some search) sound = keeps search sound
 
-pub discovery_made_sound : (mtu min_mtu : ℕ) (limit : Option ℕ) (settings : MtuDiscoveryConfig) → 0 < mtu → 0 < min_mtu → IsPositive limit → IsDiscoverySound (discovery_made mtu min_mtu limit settings)
-discovery_made_sound mtu min_mtu None settings some_mtu some_min positive = record { mtu = some_mtu; search = search_made_sound 65527 settings (omega arith); bursts = bursts_made_sound min_mtu some_min }
-discovery_made_sound mtu min_mtu (Some limit) settings some_mtu some_min positive = record { mtu = omega (arith, some_mtu, positive); search = search_made_sound limit settings positive; bursts = bursts_made_sound min_mtu some_min }
+pub discovery_made_sound : (mtu min_mtu : ℕ) (limit : Option ℕ) (settings : MtuDiscoveryConfig) → 0 < mtu → 0 < min_mtu
+    → IsPositive limit → IsDiscoverySound (discovery_made mtu min_mtu limit settings)
+discovery_made_sound mtu min_mtu None settings some_mtu some_min positive =
+    record {
+      mtu = some_mtu;
+      search = search_made_sound 65527 settings (omega arith);
+      bursts = bursts_made_sound min_mtu some_min;
+    }
+discovery_made_sound mtu min_mtu (Some limit) settings some_mtu some_min positive =
+    record {
+      mtu = omega (arith, some_mtu, positive);
+      search = search_made_sound limit settings positive;
+      bursts = bursts_made_sound min_mtu some_min;
+    }
 
 pub discovery_disabled_sound : (mtu min_mtu : ℕ) → 0 < mtu → 0 < min_mtu → IsDiscoverySound (discovery_disabled mtu min_mtu)
 discovery_disabled_sound mtu min_mtu some_mtu some_min = record { mtu = some_mtu; search = tt; bursts = bursts_made_sound min_mtu some_min }
 
-pub discovery_reset_sound : (mtu min_mtu : ℕ) (old : Discovery) → 0 < mtu → 0 < min_mtu → IsDiscoverySound old → IsDiscoverySound (discovery_reset mtu min_mtu old)
+pub discovery_reset_sound : (mtu min_mtu : ℕ) (old : Discovery) → 0 < mtu → 0 < min_mtu → IsDiscoverySound old
+    → IsDiscoverySound (discovery_reset mtu min_mtu old)
 discovery_reset_sound mtu min_mtu old some_mtu some_min sound = go old.search sound.search
   where
     go : (search : Option MtuSearch) → IfSome search IsSearchSound → IsDiscoverySound (reset_in mtu min_mtu search)
@@ -40,8 +52,13 @@ size_in_positive : (number : ℕ) (search : Option MtuSearch) → IfSome search 
 size_in_positive number None sound = tt
 size_in_positive number (Some search) sound = probed_size_positive number search sound
 
-acked_sound : (number bytes : ℕ) (old : Discovery) → IsDiscoverySound old → (size : Option ℕ) → IsPositive size → IsDiscoverySound (taking size number bytes old)
-acked_sound number bytes old sound None positive = record { mtu = sound.mtu; search = sound.search; bursts = bursts_acked_sound number bytes old.bursts sound.bursts }
+acked_sound : (number bytes : ℕ) (old : Discovery) → IsDiscoverySound old → (size : Option ℕ) → IsPositive size
+    → IsDiscoverySound (taking size number bytes old)
+acked_sound number bytes old sound None positive = record {
+  mtu = sound.mtu;
+  search = sound.search;
+  bursts = bursts_acked_sound number bytes old.bursts sound.bursts;
+}
 acked_sound number bytes old sound (Some size) positive = record {
   mtu = positive;
   search = carried (search_acked number) (search_acked_sound number) old.search sound.search;
@@ -54,7 +71,8 @@ ended_sound now old sound = go (reports old)
     rest : Discovery
     rest = record old { bursts = bursts_ended old.bursts }
 
-    go : (hole : Bool) → IsDiscoverySound (if hole then record rest { mtu = old.bursts.min_mtu; search = option_map (search_reported now) old.search } else rest)
+    go : (hole : Bool) → IsDiscoverySound (if hole then record rest
+        { mtu = old.bursts.min_mtu; search = option_map (search_reported now) old.search } else rest)
     go true = record {
       mtu = sound.bursts.min_mtu;
       search = carried (search_reported now) (λ search sound_search. record { limit = sound_search.limit; phase = tt }) old.search sound.search;
@@ -81,12 +99,14 @@ discovery_after_sound loses_probe positive old sound = record {
   search = carried search_lost search_lost_sound old.search sound.search;
   bursts = sound.bursts;
 }
-discovery_after_sound (loses number bytes) positive old sound = record { mtu = sound.mtu; search = sound.search; bursts = bursts_lost_sound number bytes old.bursts sound.bursts }
+discovery_after_sound (loses number bytes) positive old sound =
+    record { mtu = sound.mtu; search = sound.search; bursts = bursts_lost_sound number bytes old.bursts sound.bursts }
 discovery_after_sound (losses_end now) positive old sound = ended_sound now old sound
 discovery_after_sound (resets mtu min_mtu) positive old sound = discovery_reset_sound mtu min_mtu old positive.0 positive.1 sound
 
 -- all calls, from a sound discovery
-pub discovery_by_sound : (calls : List MtuCall) → ArePositiveMtuCalls calls → (made : Discovery) → IsDiscoverySound made → IsDiscoverySound (discovery_by made calls)
+pub discovery_by_sound : (calls : List MtuCall) → ArePositiveMtuCalls calls → (made : Discovery) → IsDiscoverySound made
+    → IsDiscoverySound (discovery_by made calls)
 discovery_by_sound [] positive made sound = sound
 discovery_by_sound (call ∷ earlier) positive made sound =
     discovery_after_sound call positive.0 (discovery_by made earlier) (discovery_by_sound earlier positive.1 made sound)
@@ -107,7 +127,11 @@ discovery_after_mtu (losses_end now) old = go (reports old)
     rest : Discovery
     rest = record old { bursts = bursts_ended old.bursts }
 
-    go : (hole : Bool) → (if hole then record rest { mtu = old.bursts.min_mtu; search = option_map (search_reported now) old.search } else rest).mtu ≡ (if hole then old.bursts.min_mtu else old.mtu)
+    go : (hole : Bool) → (if hole then record rest {
+      mtu = old.bursts.min_mtu;
+      search = option_map (search_reported now) old.search;
+    } else rest).mtu
+        ≡ (if hole then old.bursts.min_mtu else old.mtu)
     go true = refl
     go false = refl
 discovery_after_mtu (resets mtu min_mtu) old = go old.search

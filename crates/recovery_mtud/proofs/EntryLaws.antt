@@ -37,7 +37,9 @@ pub size_in_held : (number : ℕ) (search : Option MtuSearch) → size_in number
 size_in_held number None = refl
 size_in_held number (Some search) = go search.phase
   where
-    flying : (last : ℕ) (flight : Option ℕ) → (if is_number number flight then Some last else None) ≡ size_at number (option_map (λ own. record { number = own; size = last }) flight)
+    flying : (last : ℕ) (flight : Option ℕ)
+        → (if is_number number flight then Some last else None)
+        ≡ size_at number (option_map (λ own. record { number = own; size = last }) flight)
     flying last None = refl
     flying last (Some own) = refl
 
@@ -56,7 +58,9 @@ is_number_held : (number : ℕ) (search : Option MtuSearch) → is_number number
 is_number_held number None = refl
 is_number_held number (Some search) = go search.phase
   where
-    flying : (last : ℕ) (flight : Option ℕ) → is_number number flight ≡ is_some (size_at number (option_map (λ own. record { number = own; size = last }) flight))
+    flying : (last : ℕ) (flight : Option ℕ)
+        → is_number number flight ≡ is_some (size_at number (option_map (λ own. record { number = own; size = last })
+        flight))
     flying last None = refl
     flying last (Some own) = sym (some_if (number == own) last)
 
@@ -72,7 +76,8 @@ PollHolds entries now next answer phase =
     (held_in phase ≡ probe_in_flight (poll_entry now next answer ∷ entries)) × (is_running phase ≡ search_runs (poll_entry now next answer ∷ entries))
 
 module _ (entries : List MtuEntry) (mtu now next limit : ℕ) (settings : MtuDiscoveryConfig) where
-  goes_on : (activation : ℕ) (p : Probing) → probe_in_flight entries ≡ None → (answer : Option ℕ) → PollHolds entries now next answer (phase_with activation next p answer)
+  goes_on : (activation : ℕ) (p : Probing) → probe_in_flight entries ≡ None → (answer : Option ℕ)
+      → PollHolds entries now next answer (phase_with activation next p answer)
   goes_on activation p quiet None = (sym quiet, ap (λ flight. not (is_none flight) && search_runs entries) (sym quiet))
   goes_on activation p quiet (Some size) = (refl, refl)
 
@@ -82,7 +87,9 @@ module _ (entries : List MtuEntry) (mtu now next limit : ℕ) (settings : MtuDis
       PollHolds entries now next (answer_in settings.minimum_change found) (phase_after now next search found))
   poll_in_phase Initial probe runs = go (begun mtu (record { limit = limit; phase = Initial; settings = settings }))
     where
-      go : (p : Probing) → PollHolds entries now next (size_to_probe settings.minimum_change p) (phase_with (later now settings.interval) next p (size_to_probe settings.minimum_change p))
+      go : (p : Probing)
+          → PollHolds entries now next (size_to_probe settings.minimum_change p)
+          (phase_with (later now settings.interval) next p (size_to_probe settings.minimum_change p))
       go p = goes_on (later now settings.interval) p (sym probe) (size_to_probe settings.minimum_change p)
   poll_in_phase (Searching p) probe runs = go p.in_flight probe
     where
@@ -114,7 +121,9 @@ closing_min_mtu (Some burst) old = go (is_suspicious burst old)
 bursts_acked_min_mtu : (number size : ℕ) (old : LossBursts) → (bursts_acked number size old).min_mtu ≡ old.min_mtu
 bursts_acked_min_mtu number size old = go (nat_lt size old.acked) (size == old.acked)
   where
-    go : (below same : Bool) → (if below then old else (if same then record old { newest = max old.newest number } else record old { kept = filter (λ least. nat_lt size least) old.kept; acked = size; newest = number })).min_mtu ≡ old.min_mtu
+    go : (below same : Bool) → (if below then old else (if same then record old { newest = max old.newest number }
+        else record old { kept = filter (λ least. nat_lt size least) old.kept; acked = size; newest = number })).min_mtu
+        ≡ old.min_mtu
     go true same = refl
     go false true = refl
     go false false = refl
@@ -122,7 +131,8 @@ bursts_acked_min_mtu number size old = go (nat_lt size old.acked) (size == old.a
 bursts_lost_min_mtu : (number size : ℕ) (old : LossBursts) → (bursts_lost number size old).min_mtu ≡ old.min_mtu
 bursts_lost_min_mtu number size old = go (joins number old.open_burst)
   where
-    go : (joined : Bool) → (if joined then record old { open_burst = Some (burst_with number size old.open_burst) } else record (bursts_closed old) { open_burst = Some (burst_with number size None) }).min_mtu ≡ old.min_mtu
+    go : (joined : Bool) → (if joined then record old { open_burst = Some (burst_with number size old.open_burst) }
+        else record (bursts_closed old) { open_burst = Some (burst_with number size None) }).min_mtu ≡ old.min_mtu
     go true = refl
     go false = closing_min_mtu old.open_burst old
 
@@ -185,7 +195,8 @@ module _ (made : Discovery) (entries : List MtuEntry) where
     runs : is_searching_of new ≡ is_searching_of old
 
   acked_in : (number bytes mtu : ℕ) (search : Option MtuSearch) (bursts : LossBursts)
-      → (let old : Discovery = record { mtu = mtu; search = search; bursts = bursts } in Acked number (held search) old (discovery_after (acks number bytes) old))
+      → (let old : Discovery = record { mtu = mtu; search = search; bursts = bursts } in Acked number (held search) old
+      (discovery_after (acks number bytes) old))
   acked_in number bytes mtu None bursts = record { mtu = refl; limit = refl; min_mtu = bursts_acked_min_mtu number bytes bursts; probe = refl; runs = refl }
   acked_in number bytes mtu (Some search) bursts = go search.phase
     where
@@ -201,21 +212,27 @@ module _ (made : Discovery) (entries : List MtuEntry) where
           old : Discovery
           old = record { mtu = mtu; search = Some (record search { phase = Searching p' }); bursts = bursts }
 
-          is_own : (is : Bool) → (number == own) ≡ is → Acked number (Some (record { number = own; size = p.last })) old (taking (if number == own then Some p.last else None) number bytes old)
-          is_own true is = subst (λ b. Acked number (Some (record { number = own; size = p.last })) old (taking (if b then Some p.last else None) number bytes old)) (sym is) (record {
-            mtu = ap (λ b. unwrap_or (if b then Some p.last else None) mtu) (sym is);
-            limit = refl;
-            min_mtu = refl;
-            probe = ap (λ b. held_in (if b then Searching (record p' { in_flight = None; losses = 0 }) else Searching p')) is ∙ ap (λ b. if b then None else Some (record { number = own; size = p.last })) (sym is);
-            runs = ap (λ b. is_running (if b then Searching (record p' { in_flight = None; losses = 0 }) else Searching p')) is;
-          })
-          is_own false is = subst (λ b. Acked number (Some (record { number = own; size = p.last })) old (taking (if b then Some p.last else None) number bytes old)) (sym is) (record {
-            mtu = ap (λ b. unwrap_or (if b then Some p.last else None) mtu) (sym is);
-            limit = refl;
-            min_mtu = bursts_acked_min_mtu number bytes bursts;
-            probe = ap (λ b. if b then None else Some (record { number = own; size = p.last })) (sym is);
-            runs = refl;
-          })
+          is_own : (is : Bool) → (number == own) ≡ is
+              → Acked number (Some (record { number = own; size = p.last })) old
+              (taking (if number == own then Some p.last else None) number bytes old)
+          is_own true is = subst (λ b. Acked number (Some (record { number = own; size = p.last })) old
+              (taking (if b then Some p.last else None) number bytes old)) (sym is) (record {
+                mtu = ap (λ b. unwrap_or (if b then Some p.last else None) mtu) (sym is);
+                limit = refl;
+                min_mtu = refl;
+                probe = ap (λ b. held_in (if b then Searching (record p' { in_flight = None; losses = 0 })
+                    else Searching p')) is ∙ ap (λ b. if b then None else Some (record { number = own; size = p.last }))
+                    (sym is);
+                runs = ap (λ b. is_running (if b then Searching (record p' { in_flight = None; losses = 0 }) else Searching p')) is;
+              })
+          is_own false is = subst (λ b. Acked number (Some (record { number = own; size = p.last })) old
+              (taking (if b then Some p.last else None) number bytes old)) (sym is) (record {
+                mtu = ap (λ b. unwrap_or (if b then Some p.last else None) mtu) (sym is);
+                limit = refl;
+                min_mtu = bursts_acked_min_mtu number bytes bursts;
+                probe = ap (λ b. if b then None else Some (record { number = own; size = p.last })) (sym is);
+                runs = refl;
+              })
 
       go : (phase : Phase) → (let old : Discovery = record { mtu = mtu; search = Some (record search { phase = phase }); bursts = bursts } in
           Acked number (held_in phase) old (discovery_after (acks number bytes) old))
@@ -223,11 +240,13 @@ module _ (made : Discovery) (entries : List MtuEntry) where
       go (Searching p) = flying p p.in_flight
       go (Complete activation) = record { mtu = refl; limit = refl; min_mtu = bursts_acked_min_mtu number bytes bursts; probe = refl; runs = refl }
 
-  acked_holds : (number bytes : ℕ) (old : Discovery) → Holds made entries old → Holds made (entry_of (acks number bytes) old ∷ entries) (discovery_after (acks number bytes) old)
+  acked_holds : (number bytes : ℕ) (old : Discovery) → Holds made entries old
+      → Holds made (entry_of (acks number bytes) old ∷ entries) (discovery_after (acks number bytes) old)
   acked_holds number bytes old holds =
       let after = acked_in number bytes old.mtu old.search old.bursts in
       record {
-        mtu = after.mtu ∙ ap (λ flight. unwrap_or (size_at number flight) old.mtu) holds.probe ∙ ap (unwrap_or (size_at number (probe_in_flight entries))) holds.mtu;
+        mtu = after.mtu ∙ ap (λ flight. unwrap_or (size_at number flight) old.mtu) holds.probe
+            ∙ ap (unwrap_or (size_at number (probe_in_flight entries))) holds.mtu;
         limit = after.limit ∙ holds.limit;
         min_mtu = after.min_mtu ∙ holds.min_mtu;
         probe = after.probe ∙ ap (unless_number number) holds.probe;
@@ -238,7 +257,9 @@ module _ (made : Discovery) (entries : List MtuEntry) where
   probe_lost_in Initial = (refl, refl)
   probe_lost_in (Searching p) = go p.in_flight
     where
-      go : (flight : Option ℕ) → (let p' : Probing = record p { in_flight = flight } in (held_in (phase_lost (Searching p')) ≡ None) × (is_running (phase_lost (Searching p')) ≡ true))
+      go : (flight : Option ℕ) → (let p' : Probing = record p
+          { in_flight = flight } in (held_in (phase_lost (Searching p')) ≡ None)
+          × (is_running (phase_lost (Searching p')) ≡ true))
       go None = (refl, refl)
       go (Some number) = (refl, refl)
   probe_lost_in (Complete activation) = (refl, refl)
@@ -262,24 +283,40 @@ module _ (made : Discovery) (entries : List MtuEntry) where
       rest : Discovery
       rest = record old { bursts = bursts_ended bursts }
 
-      over : (left : Option MtuSearch) → kept_limit (record old { search = left }) ≡ kept_limit old → held left ≡ None → is_searching_of (record old { search = left }) ≡ false
+      over : (left : Option MtuSearch) → kept_limit (record old { search = left }) ≡ kept_limit old → held left ≡ None
+          → is_searching_of (record old { search = left }) ≡ false
           → Holds made (reported now ∷ entries) (record rest { mtu = bursts.min_mtu; search = left })
-      over left limit none ended = record { mtu = holds.min_mtu; limit = limit ∙ holds.limit; min_mtu = bursts_ended_min_mtu bursts ∙ holds.min_mtu; probe = none; runs = ended }
+      over left limit none ended = record {
+        mtu = holds.min_mtu;
+        limit = limit ∙ holds.limit;
+        min_mtu = bursts_ended_min_mtu bursts ∙ holds.min_mtu;
+        probe = none;
+        runs = ended;
+      }
 
       ended : (old_search : Option MtuSearch) → kept_limit (record old { search = old_search }) ≡ kept_limit old
           → Holds made (reported now ∷ entries) (record rest { mtu = bursts.min_mtu; search = option_map (search_reported now) old_search })
       ended None same = over None same refl refl
       ended (Some own) same = over (Some (search_reported now own)) same refl refl
 
-      go : (hole : Bool) → Holds made ((if hole then reported now else losses_over) ∷ entries) (if hole then record rest { mtu = bursts.min_mtu; search = option_map (search_reported now) search } else rest)
+      go : (hole : Bool) → Holds made ((if hole then reported now else losses_over) ∷ entries)
+          (if hole then record rest { mtu = bursts.min_mtu; search = option_map (search_reported now) search }
+          else rest)
       go true = ended search refl
       go false = record { mtu = holds.mtu; limit = holds.limit; min_mtu = bursts_ended_min_mtu bursts ∙ holds.min_mtu; probe = holds.probe; runs = holds.runs }
 
   reset_holds : (mtu min_mtu old_mtu : ℕ) (search : Option MtuSearch) (bursts : LossBursts)
       → (let old : Discovery = record { mtu = old_mtu; search = search; bursts = bursts } in
       Holds made entries old → Holds made (entry_of (resets mtu min_mtu) old ∷ entries) (discovery_after (resets mtu min_mtu) old))
-  reset_holds mtu min_mtu old_mtu None bursts holds = record { mtu = ap (within mtu) holds.limit; limit = holds.limit; min_mtu = refl; probe = refl; runs = refl }
-  reset_holds mtu min_mtu old_mtu (Some search) bursts holds = record { mtu = ap (within mtu) holds.limit; limit = holds.limit; min_mtu = refl; probe = refl; runs = refl }
+  reset_holds mtu min_mtu old_mtu None bursts holds = record {
+    mtu = ap (within mtu) holds.limit;
+    limit = holds.limit;
+    min_mtu = refl;
+    probe = refl;
+    runs = refl;
+  }
+  reset_holds mtu min_mtu old_mtu (Some search) bursts holds =
+      record { mtu = ap (within mtu) holds.limit; limit = holds.limit; min_mtu = refl; probe = refl; runs = refl }
 
   -- what a call leaves is what its entry says
   pub holds_after : (call : MtuCall) (old : Discovery) → Holds made entries old → Holds made (entry_of call old ∷ entries) (discovery_after call old)
@@ -321,7 +358,8 @@ is_probe_by made new calls number =
     is_number_held number (discovery_by made calls).search ∙ ap (λ probe. is_some (size_at number probe)) (holds_by made new calls).probe
 
 -- what holds whatever is told holds at each moment
-pub at_each : (made : Discovery) (P : List MtuEntry → Type 0) → ((calls : List MtuCall) → P (entries_by made calls)) → (calls : List MtuCall) → AtEach P (entries_by made calls)
+pub at_each : (made : Discovery) (P : List MtuEntry → Type 0) → ((calls : List MtuCall) → P (entries_by made calls))
+    → (calls : List MtuCall) → AtEach P (entries_by made calls)
 at_each made P always [] = always []
 at_each made P always (call ∷ earlier) = (always (call ∷ earlier), at_each made P always earlier)
 

@@ -17,7 +17,8 @@ IsPositive size = IfSome size (λ bytes. 0 < bytes)
 pub next_size_positive : (change : ℕ) (p : Probing) → IsPositive (next_size change p)
 next_size_positive change p = near (nat_lt (distance (middle p) p.last) change) refl
   where
-    upper : (is_far : Bool) → nat_lt (distance (middle p) p.last) change ≡ true → nat_le change (p.upper - p.last) ≡ is_far → IsPositive (if is_far then Some p.upper else None)
+    upper : (is_far : Bool) → nat_lt (distance (middle p) p.last) change ≡ true
+        → nat_le change (p.upper - p.last) ≡ is_far → IsPositive (if is_far then Some p.upper else None)
     upper true close far = grind (arith, nat_tests)
     upper false close far = tt
 
@@ -62,7 +63,9 @@ search_polled_sound mtu now number search some_mtu sound = record { limit = soun
     runs : (p : Probing) → IsProbingSound p → IsPhaseSound (phase_after now number search (Some p))
     runs p sound_p = go (is_some p.in_flight)
       where
-        go : (waits : Bool) → IsPhaseSound (if waits then search.phase else phase_with (later now search.settings.interval) number p (size_to_probe search.settings.minimum_change p))
+        go : (waits : Bool)
+            → IsPhaseSound (if waits then search.phase else phase_with (later now search.settings.interval) number p
+            (size_to_probe search.settings.minimum_change p))
         go true = sound.phase
         go false = advanced_sound (later now search.settings.interval) number search.settings.minimum_change p sound_p
 
@@ -94,7 +97,8 @@ phase_lost_sound : (phase : Phase) → IsPhaseSound phase → IsPhaseSound (phas
 phase_lost_sound Initial sound = tt
 phase_lost_sound (Searching p) sound = go (is_some p.in_flight) sound.1
   where
-    go : (waits : Bool) → p.losses ≤ (if waits then 2 else 3) → IsPhaseSound (if waits then Searching (record p { in_flight = None; losses = p.losses + 1 }) else Searching p)
+    go : (waits : Bool) → p.losses ≤ (if waits then 2 else 3)
+        → IsPhaseSound (if waits then Searching (record p { in_flight = None; losses = p.losses + 1 }) else Searching p)
     go true few = (sound.0, omega (arith, few))
     go false few = sound
 phase_lost_sound (Complete activation) sound = tt

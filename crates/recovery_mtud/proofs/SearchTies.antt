@@ -53,12 +53,20 @@ pub record Tie (upper change start mtu : ℕ) (probed acked lost : List ℕ) (p 
   pub stage : Resting mtu p ⊎ Trying further sizes change probed p
   pub fair : (link : ℕ) → start ≤ link → AreHonest link acked lost → Fair upper mtu link p
 
-pub few : (upper change start mtu : ℕ) (probed acked lost : List ℕ) (p : Probing) → Tie upper change start mtu probed acked lost p → (distinct_count nat_eq probed ≤ 16) × (length probed ≤ 48)
+pub few : (upper change start mtu : ℕ) (probed acked lost : List ℕ) (p : Probing)
+    → Tie upper change start mtu probed acked lost p → (distinct_count nat_eq probed ≤ 16) × (length probed ≤ 48)
 few upper change start mtu probed acked lost p tie = (omega (arith, tie.all, tie.distinct), omega (arith, tie.all, tie.count))
 
 -- a search begins with all 16 to come
 pub tie_begun : (mtu limit bound change : ℕ) → bound < 2 ^ 16
-    → Tie (upper_from mtu limit bound) change mtu mtu [] [] [] (record { lower = min mtu limit; upper = upper_from mtu limit bound; last = min mtu limit; in_flight = None; losses = 0 })
+    → Tie (upper_from mtu limit bound) change mtu mtu [] [] []
+    (record {
+      lower = min mtu limit;
+      upper = upper_from mtu limit bound;
+      last = min mtu limit;
+      in_flight = None;
+      losses = 0;
+    })
 tie_begun mtu limit bound change small = record {
   sizes = 0;
   further = 16;
@@ -112,7 +120,8 @@ module _ (upper change start mtu number : ℕ) (probed acked lost : List ℕ) (p
   abbrev Tied : Type 0
   Tied = Tie upper change start mtu probed acked lost p
 
-  trying_of : (further sizes : ℕ) → 0 < p.losses + flying p.in_flight → Resting mtu p ⊎ Trying further sizes change probed p → Trying further sizes change probed p
+  trying_of : (further sizes : ℕ) → 0 < p.losses + flying p.in_flight
+      → Resting mtu p ⊎ Trying further sizes change probed p → Trying further sizes change probed p
   trying_of further sizes some (inl rest) = absurd (omega (arith, some, rest.clear, ap flying rest.empty))
   trying_of further sizes some (inr try) = try
 
@@ -133,11 +142,20 @@ module _ (upper change start mtu number : ℕ) (probed acked lost : List ℕ) (p
         lower_in = tie.lower_in;
         lower_last = tie.lower_last;
         up = tie.up;
-        stage = inr (record { some = omega arith; few = omega (arith, few.1); above = try.above; down = try.down; among = has_head p.last probed; count = omega (arith, try.count, none) });
+        stage = inr (record {
+          some = omega arith;
+          few = omega (arith, few.1);
+          above = try.above;
+          down = try.down;
+          among = has_head p.last probed;
+          count = omega (arith, try.count, none);
+        });
         fair = λ link carried honest. let fair = tie.fair link carried honest in record { carried = fair.carried; best = fair.best; lost = fair.lost };
       }
 
-  next_up : (tie : Tied) → Resting mtu p → (size : ℕ) → Halves tie.further change p.last p.upper size → Tie upper change start mtu (size ∷ probed) acked lost (record p { lower = p.last; in_flight = Some number; last = size })
+  next_up : (tie : Tied) → Resting mtu p → (size : ℕ) → Halves tie.further change p.last p.upper size
+      → Tie upper change start mtu (size ∷ probed) acked lost
+      (record p { lower = p.last; in_flight = Some number; last = size })
   next_up tie rest size halves =
       record {
         sizes = suc tie.sizes;
@@ -149,8 +167,20 @@ module _ (upper change start mtu number : ℕ) (probed acked lost : List ℕ) (p
         lower_in = rest.good;
         lower_last = omega (arith, halves.above_lower);
         up = halves.up;
-        stage = inr (record { some = omega arith; few = omega (arith, rest.clear); above = halves.above_lower; down = halves.down; among = has_head size probed; count = omega (arith, tie.count, rest.clear) });
-        fair = λ link carried honest. let fair = tie.fair link carried honest in record { carried = fair.carried; best = fair.best; lost = λ some. absurd (omega (arith, some, rest.clear)) };
+        stage = inr (record {
+          some = omega arith;
+          few = omega (arith, rest.clear);
+          above = halves.above_lower;
+          down = halves.down;
+          among = has_head size probed;
+          count = omega (arith, tie.count, rest.clear);
+        });
+        fair = λ link carried honest. let fair = tie.fair link carried
+            honest in record {
+              carried = fair.carried;
+              best = fair.best;
+              lost = λ some. absurd (omega (arith, some, rest.clear));
+            };
       }
 
   next_down : (tie : Tied) → Trying tie.further tie.sizes change probed p → 3 ≤ p.losses → (size : ℕ) → Halves tie.further change p.lower (p.last - 1) size
@@ -166,33 +196,60 @@ module _ (upper change start mtu number : ℕ) (probed acked lost : List ℕ) (p
         lower_in = tie.lower_in;
         lower_last = omega (arith, halves.above_lower);
         up = halves.up;
-        stage = inr (record { some = omega arith; few = omega arith; above = halves.above_lower; down = halves.down; among = has_head size probed; count = omega (arith, tie.count) });
-        fair = λ link carried honest. let fair = tie.fair link carried honest in record { carried = fair.carried; best = omega (arith, fair.lost (omega (arith, gone)), fair.best); lost = λ some. absurd (omega (arith, some)) };
+        stage = inr (record {
+          some = omega arith;
+          few = omega arith;
+          above = halves.above_lower;
+          down = halves.down;
+          among = has_head size probed;
+          count = omega (arith, tie.count);
+        });
+        fair = λ link carried honest. let fair = tie.fair link carried
+            honest in record {
+              carried = fair.carried;
+              best = omega (arith, fair.lost (omega (arith, gone)), fair.best);
+              lost = λ some. absurd (omega (arith, some));
+            };
       }
 
-  halves_up : (tie : Tied) → 3 ≤ change → (size : ℕ) → IsNext change ((p.last + p.upper) / 2) p.last p.upper size → Halves tie.further change p.last p.upper size
-  halves_up tie wide size (inl near) = subst (λ x. Halves tie.further change p.last p.upper x) (sym near.2) (upper_up tie.further change p.last p.upper _ wide tie.order refl near.0 near.1 tie.up)
-  halves_up tie wide size (inr far) = subst (λ x. Halves tie.further change p.last p.upper x) (sym far.1) (middle_up tie.further change p.last p.upper _ wide tie.order refl far.0 tie.up)
+  halves_up : (tie : Tied) → 3 ≤ change → (size : ℕ) → IsNext change ((p.last + p.upper) / 2) p.last p.upper size
+      → Halves tie.further change p.last p.upper size
+  halves_up tie wide size (inl near) = subst (λ x. Halves tie.further change p.last p.upper x) (sym near.2)
+      (upper_up tie.further change p.last p.upper _ wide tie.order refl near.0 near.1 tie.up)
+  halves_up tie wide size (inr far) = subst (λ x. Halves tie.further change p.last p.upper x) (sym far.1)
+      (middle_up tie.further change p.last p.upper _ wide tie.order refl far.0 tie.up)
 
-  halves_down : (tie : Tied) → Trying tie.further tie.sizes change probed p → 3 ≤ change → (size : ℕ) → IsNext change ((p.lower + (p.last - 1)) / 2) p.last (p.last - 1) size → Halves tie.further change p.lower (p.last - 1) size
+  halves_down : (tie : Tied) → Trying tie.further tie.sizes change probed p → 3 ≤ change → (size : ℕ)
+      → IsNext change ((p.lower + (p.last - 1)) / 2) p.last (p.last - 1) size
+      → Halves tie.further change p.lower (p.last - 1) size
   halves_down tie try wide size (inl near) = absurd (omega (arith, near.1))
   halves_down tie try wide size (inr far) =
       let one : p.last ≡ p.last - 1 + 1 = omega (arith, try.above) in
       let apart = subst (λ x. change ≤ distance ((p.lower + (p.last - 1)) / 2) x) one far.0 in
-      subst (λ x. Halves tie.further change p.lower (p.last - 1) x) (sym far.1) (middle_down tie.further change p.lower (p.last - 1) _ wide (omega (arith, try.above)) refl apart try.down)
+      subst (λ x. Halves tie.further change p.lower (p.last - 1) x) (sym far.1)
+      (middle_down tie.further change p.lower (p.last - 1) _ wide (omega (arith, try.above)) refl apart try.down)
 
   -- after three losses, where the last size is not probed again
   gone : (further sizes : ℕ) → Trying further sizes change probed p → p.in_flight ≡ None → repeats p ≡ false → 3 ≤ p.losses
-  gone further sizes try empty once = ⊎_elim (λ (zero : p.losses ≡ 0). absurd (omega (arith, try.some, ap flying empty, zero))) (λ (three : 3 ≤ p.losses). three) (repeats_false p.losses once)
+  gone further sizes try empty once = ⊎_elim (λ (zero : p.losses ≡ 0). absurd
+      (omega (arith, try.some, ap flying empty, zero))) (λ (three : 3 ≤ p.losses). three) (repeats_false p.losses once)
 
   -- the next size
-  pub tie_next : Tied → 3 ≤ change → p.in_flight ≡ None → repeats p ≡ false → (size : ℕ) → next_size change (narrowed p) ≡ Some size → Tie upper change start mtu (size ∷ probed) acked lost (record (narrowed p) { in_flight = Some number; last = size })
+  pub tie_next : Tied → 3 ≤ change → p.in_flight ≡ None → repeats p ≡ false → (size : ℕ) → next_size change (narrowed p)
+      ≡ Some size → Tie upper change start mtu (size ∷ probed) acked lost
+      (record (narrowed p) { in_flight = Some number; last = size })
   tie_next tie wide empty once size next = go tie.stage
     where
-      after : (q : Probing) → narrowed p ≡ q → Tie upper change start mtu (size ∷ probed) acked lost (record q { in_flight = Some number; last = size }) → Tie upper change start mtu (size ∷ probed) acked lost (record (narrowed p) { in_flight = Some number; last = size })
-      after q is done = subst (λ (x : Probing). Tie upper change start mtu (size ∷ probed) acked lost (record x { in_flight = Some number; last = size })) (sym is) done
+      after : (q : Probing) → narrowed p ≡ q → Tie upper change start mtu (size ∷ probed) acked lost
+          (record q { in_flight = Some number; last = size })
+          → Tie upper change start mtu (size ∷ probed) acked lost
+          (record (narrowed p) { in_flight = Some number; last = size })
+      after q is done = subst (λ (x : Probing). Tie upper change start mtu (size ∷ probed) acked lost
+          (record x { in_flight = Some number; last = size })) (sym is) done
 
-      go : Resting mtu p ⊎ Trying tie.further tie.sizes change probed p → Tie upper change start mtu (size ∷ probed) acked lost (record (narrowed p) { in_flight = Some number; last = size })
+      go : Resting mtu p ⊎ Trying tie.further tie.sizes change probed p
+          → Tie upper change start mtu (size ∷ probed) acked lost
+          (record (narrowed p) { in_flight = Some number; last = size })
       go (inl rest) =
           let is = narrowed_up p once rest.clear in
           let found = subst (λ (x : Probing). next_size change x ≡ Some size) is next in
@@ -201,10 +258,13 @@ module _ (upper change start mtu number : ℕ) (probed acked lost : List ℕ) (p
           let three = gone tie.further tie.sizes try empty once in
           let is = narrowed_down p once (λ zero. absurd (omega (arith, three, zero))) in
           let found = subst (λ (x : Probing). next_size change x ≡ Some size) is next in
-          after (record p { upper = p.last - 1; losses = 0 }) is (next_down tie try three size (halves_down tie try wide size (next_some change _ p.last (p.last - 1) size found)))
+          after (record p { upper = p.last - 1; losses = 0 }) is
+          (next_down tie try three size (halves_down tie try wide size
+          (next_some change _ p.last (p.last - 1) size found)))
 
   -- no size is left
-  pub tie_end : Tied → 3 ≤ change → p.in_flight ≡ None → repeats p ≡ false → next_size change (narrowed p) ≡ None → (link : ℕ) → start ≤ link → AreHonest link acked lost → (mtu ≤ link) × (min link upper < mtu + 2 * change)
+  pub tie_end : Tied → 3 ≤ change → p.in_flight ≡ None → repeats p ≡ false → next_size change (narrowed p) ≡ None
+      → (link : ℕ) → start ≤ link → AreHonest link acked lost → (mtu ≤ link) × (min link upper < mtu + 2 * change)
   tie_end tie wide empty once next link carried honest = go tie.stage
     where
       fair : Fair upper mtu link p
@@ -246,7 +306,8 @@ module _ (upper change start mtu number : ℕ) (probed acked lost : List ℕ) (p
       }
 
   -- it is lost
-  pub tie_lost : Tied → p.in_flight ≡ Some number → Tie upper change start mtu probed acked (p.last ∷ lost) (record p { in_flight = None; losses = p.losses + 1 })
+  pub tie_lost : Tied → p.in_flight ≡ Some number
+      → Tie upper change start mtu probed acked (p.last ∷ lost) (record p { in_flight = None; losses = p.losses + 1 })
   tie_lost tie flies =
       let one = ap flying flies in
       let try = trying_of tie.further tie.sizes (omega (arith, one)) tie.stage in
@@ -260,7 +321,14 @@ module _ (upper change start mtu number : ℕ) (probed acked lost : List ℕ) (p
         lower_in = tie.lower_in;
         lower_last = tie.lower_last;
         up = tie.up;
-        stage = inr (record { some = omega arith; few = omega (arith, try.few, one); above = try.above; down = try.down; among = try.among; count = omega (arith, try.count, try.few, one) });
+        stage = inr (record {
+          some = omega arith;
+          few = omega (arith, try.few, one);
+          above = try.above;
+          down = try.down;
+          among = try.among;
+          count = omega (arith, try.count, try.few, one);
+        });
         fair = λ link carried honest. (
             let fair = tie.fair link carried (record { acked = honest.acked; lost = All-tail (λ size. link < size) p.last lost honest.lost }) in
             record { carried = fair.carried; best = fair.best; lost = λ _. All-head (λ size. link < size) p.last lost honest.lost }

@@ -25,7 +25,8 @@ pub record Halves (k change l u size : ℕ) : Type 0 where
 middle_up_zero : (change l u m : ℕ) → 3 ≤ change → l ≤ u → m ≡ (l + u) / 2 → change ≤ distance m l → (u - l ≤ 1) ⊎ (u - l < change) → ⊥
 middle_up_zero change l u m c o e far h = ⊎_elim (λ (a : u - l ≤ 1). omega arith) (λ (b : u - l < change). omega arith) h
 
-middle_up_suc : (p change l u m : ℕ) → 3 ≤ change → l ≤ u → m ≡ (l + u) / 2 → change ≤ distance m l → (u - l ≤ 2 * p) ⊎ (u - l < change) → (l < m) × (m ≤ u) × (u - m ≤ p) × (m - 1 - l ≤ p)
+middle_up_suc : (p change l u m : ℕ) → 3 ≤ change → l ≤ u → m ≡ (l + u) / 2 → change ≤ distance m l
+    → (u - l ≤ 2 * p) ⊎ (u - l < change) → (l < m) × (m ≤ u) × (u - m ≤ p) × (m - 1 - l ≤ p)
 middle_up_suc p change l u m c o e far h =
     ⊎_elim (λ (a : u - l ≤ 2 * p). (omega arith, omega arith, omega arith, omega arith)) (λ (b : u - l < change). absurd (omega arith)) h
 
@@ -38,13 +39,16 @@ middle_up (suc k) change l u m c o e far h =
     let parts = middle_up_suc (2 ^ k) change l u m c o e far (⊎_elim (λ (a : u - l ≤ 2 ^ suc k). inl (double k (u - l) a)) (λ (b : u - l < change). inr b) h) in
     record { left = k; one_less = refl; above_lower = parts.0; within = parts.1; up = inl parts.2; down = inl parts.3 }
 
-middle_down_zero : (change l u m : ℕ) → 3 ≤ change → l ≤ u → m ≡ (l + u) / 2 → change ≤ distance m (u + 1) → (u - l ≤ 1) ⊎ ((u - l) + 1 < change + (u - l) / 2) → ⊥
+middle_down_zero : (change l u m : ℕ) → 3 ≤ change → l ≤ u → m ≡ (l + u) / 2 → change ≤ distance m (u + 1)
+    → (u - l ≤ 1) ⊎ ((u - l) + 1 < change + (u - l) / 2) → ⊥
 middle_down_zero change l u m c o e far h = ⊎_elim (λ (a : u - l ≤ 1). omega arith) (λ (b : (u - l) + 1 < change + (u - l) / 2). omega arith) h
 
-middle_down_wide : (p change l u m : ℕ) → 3 ≤ change → l ≤ u → m ≡ (l + u) / 2 → change ≤ distance m (u + 1) → u - l ≤ 2 * p → (l < m) × (m ≤ u) × (u - m ≤ p) × (m - 1 - l ≤ p)
+middle_down_wide : (p change l u m : ℕ) → 3 ≤ change → l ≤ u → m ≡ (l + u) / 2 → change ≤ distance m (u + 1)
+    → u - l ≤ 2 * p → (l < m) × (m ≤ u) × (u - m ≤ p) × (m - 1 - l ≤ p)
 middle_down_wide p change l u m c o e far h = (omega arith, omega arith, omega arith, omega arith)
 
-middle_down_close : (change l u m : ℕ) → 3 ≤ change → l ≤ u → m ≡ (l + u) / 2 → change ≤ distance m (u + 1) → (u - l) + 2 ≤ 2 * change → (l < m) × (m ≤ u) × (u - m < change) × ((m - 1 - l) + 1 < change + (m - 1 - l) / 2)
+middle_down_close : (change l u m : ℕ) → 3 ≤ change → l ≤ u → m ≡ (l + u) / 2 → change ≤ distance m (u + 1)
+    → (u - l) + 2 ≤ 2 * change → (l < m) × (m ≤ u) × (u - m < change) × ((m - 1 - l) + 1 < change + (m - 1 - l) / 2)
 middle_down_close change l u m c o e far h = (omega arith, omega arith, omega arith, omega arith)
 
 pub middle_down : (k change l u m : ℕ) → 3 ≤ change → l ≤ u → m ≡ (l + u) / 2 → change ≤ distance m (u + 1) → Below k change (u - l) → Halves k change l u m
@@ -60,11 +64,19 @@ middle_down (suc k) change l u m c o e far (inr (inl h)) =
 middle_down (suc k) change l u m c o e far (inr (inr h)) = absurd (middle_down_zero change l u m c o e far (inr h))
 
 -- the upper bound itself is probed only where the middle is near
-pub upper_up : (k change l u m : ℕ) → 3 ≤ change → l ≤ u → m ≡ (l + u) / 2 → distance m l < change → change ≤ u - l → Above k change (u - l) → Halves k change l u u
+pub upper_up : (k change l u m : ℕ) → 3 ≤ change → l ≤ u → m ≡ (l + u) / 2 → distance m l < change → change ≤ u - l
+    → Above k change (u - l) → Halves k change l u u
 upper_up zero change l u m c o e near far (inl h) = absurd (omega (arith, h))
 upper_up (suc zero) change l u m c o e near far (inl h) = absurd (omega (arith, h))
 upper_up (suc (suc k)) change l u m c o e near far (inl h) =
-    record { left = suc k; one_less = refl; above_lower = omega arith; within = omega arith; up = inr (omega arith); down = inr (inl (omega arith, omega arith)) }
+    record {
+      left = suc k;
+      one_less = refl;
+      above_lower = omega arith;
+      within = omega arith;
+      up = inr (omega arith);
+      down = inr (inl (omega arith, omega arith));
+    }
 upper_up k change l u m c o e near far (inr h) = absurd (omega arith)
 
 -- the next size: the upper bound, where the middle is near to the last size and the bound is not, or the middle

@@ -30,7 +30,8 @@ disabled_by : (made : Discovery) → made.search ≡ None → (calls : List MtuC
 disabled_by made none [] = none
 disabled_by made none (call ∷ earlier) =
     let old = discovery_by made earlier in
-    subst (λ search. (discovery_after call (record { mtu = old.mtu; search = search; bursts = old.bursts })).search ≡ None) (sym (disabled_by made none earlier)) (disabled_after call old.mtu old.bursts)
+    subst (λ search. (discovery_after call (record { mtu = old.mtu; search = search; bursts = old.bursts })).search
+    ≡ None) (sym (disabled_by made none earlier)) (disabled_after call old.mtu old.bursts)
 
 no_search : (made : Discovery) → search_settings made ≡ None → made.search ≡ None
 no_search made none = go made.search none

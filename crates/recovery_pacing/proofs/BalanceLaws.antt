@@ -24,7 +24,8 @@ swap_last : (a b c : ℕ) → a + b + c ≡ a + c + b
 swap_last a b c = omega arith
 
 -- one credit more
-step_bound : (r r' w w' x c n g g0 : ℕ) → r ≤ r' → w' ≤ w → g0 ≤ g → 4 * r' * x ≤ 5 * w' * (n - g) → 4 * r * c ≤ 5 * w * (g - g0) → 4 * r * (x + c) ≤ 5 * w * (max n g - g0)
+step_bound : (r r' w w' x c n g g0 : ℕ) → r ≤ r' → w' ≤ w → g0 ≤ g → 4 * r' * x ≤ 5 * w' * (n - g)
+    → 4 * r * c ≤ 5 * w * (g - g0) → 4 * r * (x + c) ≤ 5 * w * (max n g - g0)
 step_bound r r' w w' x c n g g0 rtts windows rises one rest =
     let low : 4 * r * x ≤ 4 * r' * x = mul-le-mul (mul-le-mul_left 4 rtts) (omega arith) in
     let high : 5 * w' * (n - g) ≤ 5 * w * (n - g) = mul-le-mul (mul-le-mul_left 5 windows) (omega arith) in
@@ -32,7 +33,9 @@ step_bound r r' w w' x c n g g0 rtts windows rises one rest =
     rw (whole, mul-add (4 * r) x c, mul-add (5 * w) (n - g) (g - g0)) (omega arith)
 
 -- what was transmitted is covered by the capacity and the credits, and these by the time
-bound_at : (r w bytes capacity credits high latest low : ℕ) → bytes ≤ capacity + credits → 4 * r * credits ≤ 5 * w * (high - low) → high ≤ max latest low → 4 * r * (bytes - capacity) ≤ 5 * w * (latest - low)
+bound_at : (r w bytes capacity credits high latest low : ℕ) → bytes ≤ capacity + credits
+    → 4 * r * credits ≤ 5 * w * (high - low) → high ≤ max latest low
+    → 4 * r * (bytes - capacity) ≤ 5 * w * (latest - low)
 bound_at r w bytes capacity credits high latest low within earned below =
     let less : 4 * r * (bytes - capacity) ≤ 4 * r * credits = mul-le-mul_left (4 * r) (omega arith) in
     let more : 5 * w * (high - low) ≤ 5 * w * (latest - low) = mul-le-mul_left (5 * w) (omega arith) in
@@ -64,7 +67,8 @@ module _ (made : Bucket) where
   no_debt_more credits bytes more (answered call ∷ past) h = no_debt_more credits bytes more past h
   no_debt_more credits bytes more (transmitted sent ∷ past) h = no_debt_more credits (bytes + sent) more past h
 
-  pub balance_more : (credits bytes more : ℕ) (past : List PacerMark) → NoDebt credits bytes past → balance_from made (credits + more) bytes past ≡ balance_from made credits bytes past + more
+  pub balance_more : (credits bytes more : ℕ) (past : List PacerMark) → NoDebt credits bytes past
+      → balance_from made (credits + more) bytes past ≡ balance_from made credits bytes past + more
   balance_more credits bytes more [] h = omega arith
   balance_more credits bytes more (changed call ∷ past) h = omega (arith, balance_more credits bytes more past h.1)
   balance_more credits bytes more (credited call credit ∷ past) h =
@@ -72,7 +76,8 @@ module _ (made : Bucket) where
   balance_more credits bytes more (answered call ∷ past) h = balance_more credits bytes more past h
   balance_more credits bytes more (transmitted sent ∷ past) h = balance_more credits (bytes + sent) more past h
 
-  pub balance_less : (credits bytes taken : ℕ) (past : List PacerMark) → balance_from made credits (bytes + taken) past ≡ balance_from made credits bytes past - taken
+  pub balance_less : (credits bytes taken : ℕ) (past : List PacerMark)
+      → balance_from made credits (bytes + taken) past ≡ balance_from made credits bytes past - taken
   balance_less credits bytes taken [] = omega arith
   balance_less credits bytes taken (changed call ∷ past) = omega (arith, balance_less credits bytes taken past)
   balance_less credits bytes taken (credited call credit ∷ past) = omega (arith, balance_less (credits + credit) bytes taken past)
@@ -80,7 +85,8 @@ module _ (made : Bucket) where
   balance_less credits bytes taken (transmitted sent ∷ past) =
       ap (λ n. balance_from made credits n past) (swap_last bytes taken sent) ∙ balance_less credits (bytes + sent) taken past
 
-  pub no_debt_less : (credits bytes taken : ℕ) (past : List PacerMark) → NoDebt credits bytes past → taken ≤ balance_from made credits bytes past → NoDebt credits (bytes + taken) past
+  pub no_debt_less : (credits bytes taken : ℕ) (past : List PacerMark) → NoDebt credits bytes past
+      → taken ≤ balance_from made credits bytes past → NoDebt credits (bytes + taken) past
   no_debt_less credits bytes taken [] h low = omega arith
   no_debt_less credits bytes taken (changed call ∷ past) h low = (omega arith, no_debt_less credits bytes taken past h.1 (omega arith))
   no_debt_less credits bytes taken (credited call credit ∷ past) h low = (omega arith, no_debt_less (credits + credit) bytes taken past h.1 (omega arith))
@@ -89,7 +95,8 @@ module _ (made : Bucket) where
       subst (λ n. NoDebt credits n past) (swap_last bytes sent taken) (no_debt_less credits (bytes + sent) taken past h low)
 
   -- what was transmitted after a cap point is within its capacity and the credits after it
-  covered : (credits bytes : ℕ) (later past : List PacerMark) → IsCapPoint past → NoDebt credits bytes (later ++ past) → bytes + bytes_in later ≤ capacity_in made past + credits + credits_in later
+  covered : (credits bytes : ℕ) (later past : List PacerMark) → IsCapPoint past → NoDebt credits bytes (later ++ past)
+      → bytes + bytes_in later ≤ capacity_in made past + credits + credits_in later
   covered credits bytes [] [] p h = omega arith
   covered credits bytes [] (changed call ∷ past) p h = omega arith
   covered credits bytes [] (credited call credit ∷ past) p h = omega arith
@@ -108,7 +115,8 @@ module _ (made : Bucket) where
   greatest_rises (answered call ∷ later) past = greatest_rises later past
   greatest_rises (transmitted sent ∷ later) past = greatest_rises later past
 
-  greatest_below : (w r latest : ℕ) (later past : List PacerMark) → AreWithin w r latest (calls_in later) → greatest_moment made (later ++ past) ≤ max latest (greatest_moment made past)
+  greatest_below : (w r latest : ℕ) (later past : List PacerMark) → AreWithin w r latest (calls_in later)
+      → greatest_moment made (later ++ past) ≤ max latest (greatest_moment made past)
   greatest_below w r latest [] past h = omega arith
   greatest_below w r latest (changed call ∷ later) past h = greatest_below w r latest later past h.1
   greatest_below w r latest (credited call credit ∷ later) past h = omega (arith, greatest_below w r latest later past h.1)
@@ -116,27 +124,39 @@ module _ (made : Bucket) where
   greatest_below w r latest (transmitted sent ∷ later) past h = greatest_below w r latest later past h
 
   -- all credits together are at most five fourths of the greatest window for each least RTT
-  credits_below : (w r latest : ℕ) (later past : List PacerMark) → AreWithin w r latest (calls_in later) → AreEarned (later ++ past) → 4 * r * credits_in later ≤ 5 * w * (greatest_moment made (later ++ past) - greatest_moment made past)
+  credits_below : (w r latest : ℕ) (later past : List PacerMark) → AreWithin w r latest (calls_in later)
+      → AreEarned (later ++ past)
+      → 4 * r * credits_in later ≤ 5 * w * (greatest_moment made (later ++ past) - greatest_moment made past)
   credits_below w r latest [] past h e = omega arith
   credits_below w r latest (changed call ∷ later) past h e = credits_below w r latest later past h.1 e
   credits_below w r latest (credited call credit ∷ later) past h e =
-      step_bound r call.rtt w call.window credit (credits_in later) call.now (greatest_moment made (later ++ past)) (greatest_moment made past) h.0.1 h.0.0 (greatest_rises later past) e.0 (credits_below w r latest later past h.1 e.1)
+      step_bound r call.rtt w call.window credit (credits_in later) call.now (greatest_moment made (later ++ past))
+      (greatest_moment made past) h.0.1 h.0.0 (greatest_rises later past) e.0
+      (credits_below w r latest later past h.1 e.1)
   credits_below w r latest (answered call ∷ later) past h e = credits_below w r latest later past h.1 e
   credits_below w r latest (transmitted sent ∷ later) past h e = credits_below w r latest later past h e
 
   -- the pacing bound
-  pub rate_bound : (history later past : List PacerMark) → NoDebt 0 0 history → AreEarned history → later ++ past ≡ history → IsCapPoint past → 4 * least_rtt (calls_in later) * (bytes_in later - capacity_in made past) ≤ 5 * greatest_window (calls_in later) * (latest_moment (calls_in later) - greatest_moment made past)
+  pub rate_bound : (history later past : List PacerMark) → NoDebt 0 0 history → AreEarned history
+      → later ++ past ≡ history → IsCapPoint past
+      → 4 * least_rtt (calls_in later) * (bytes_in later - capacity_in made past) ≤ 5 * greatest_window (calls_in later)
+      * (latest_moment (calls_in later) - greatest_moment made past)
   rate_bound history later past debt earned is point =
       let debt' = subst (λ h. NoDebt 0 0 h) (sym is) debt in
       let earned' = subst (λ h. AreEarned h) (sym is) earned in
       let within = within_own (calls_in later) in
       let all : bytes_in later ≤ capacity_in made past + credits_in later = omega (arith, covered 0 0 later past point debt') in
-      bound_at (least_rtt (calls_in later)) (greatest_window (calls_in later)) (bytes_in later) (capacity_in made past) (credits_in later) (greatest_moment made (later ++ past)) (latest_moment (calls_in later)) (greatest_moment made past) all
+      bound_at (least_rtt (calls_in later)) (greatest_window (calls_in later)) (bytes_in later) (capacity_in made past)
+      (credits_in later) (greatest_moment made (later ++ past)) (latest_moment (calls_in later))
+      (greatest_moment made past) all
       (credits_below _ _ _ later past within earned') (greatest_below _ _ _ later past within)
 
   -- ---- the balance is the least over the cap points
 
-  below_each : (credits bytes : ℕ) (later past : List PacerMark) → IsCapPoint past → NoDebt credits bytes (later ++ past) → balance_from made credits bytes (later ++ past) + bytes + bytes_in later ≤ capacity_in made past + credits + credits_in later
+  below_each : (credits bytes : ℕ) (later past : List PacerMark) → IsCapPoint past
+      → NoDebt credits bytes (later ++ past)
+      → balance_from made credits bytes (later ++ past) + bytes + bytes_in later ≤ capacity_in made past + credits +
+      credits_in later
   below_each credits bytes [] [] p h = omega arith
   below_each credits bytes [] (changed call ∷ past) p h = omega arith
   below_each credits bytes [] (credited call credit ∷ past) p h = omega arith
@@ -149,7 +169,9 @@ module _ (made : Bucket) where
 
   abbrev Met : ℕ → ℕ → List PacerMark → Type 0
   Met credits bytes history =
-      (later : List PacerMark) × (past : List PacerMark) × (later ++ past ≡ history) × IsCapPoint past × (balance_from made credits bytes history + bytes + bytes_in later ≡ capacity_in made past + credits + credits_in later)
+      (later : List PacerMark) × (past : List PacerMark) × (later ++ past ≡ history) × IsCapPoint past
+      × (balance_from made credits bytes history + bytes + bytes_in later
+      ≡ capacity_in made past + credits + credits_in later)
 
   met_at : (credits bytes : ℕ) (history : List PacerMark) → NoDebt credits bytes history → Met credits bytes history
   met_at credits bytes [] h = ([], [], refl, tt, omega arith)
@@ -168,11 +190,18 @@ module _ (made : Bucket) where
   met_at credits bytes (answered call ∷ past) h =
       let rest = met_at credits bytes past h in (answered call ∷ rest.0, rest.1, ap (λ l. answered call ∷ l) rest.2, rest.3, omega (arith, rest.4))
   met_at credits bytes (transmitted sent ∷ past) h =
-      let rest = met_at credits (bytes + sent) past h in (transmitted sent ∷ rest.0, rest.1, ap (λ l. transmitted sent ∷ l) rest.2, rest.3, omega (arith, rest.4))
+      let rest = met_at credits (bytes + sent) past h in (
+        transmitted sent ∷ rest.0,
+        rest.1,
+        ap (λ l. transmitted sent ∷ l) rest.2,
+        rest.3,
+        omega (arith, rest.4),
+      )
 
   pub balance_is : (history : List PacerMark) → NoDebt 0 0 history → IsBalance made history (balance_in made history)
   unfolding balance_in
   balance_is history h = record {
-    at_most = λ later past is point. let e = ap (balance_from made 0 0) is in omega (arith, e, below_each 0 0 later past point (subst (λ v. NoDebt 0 0 v) (sym is) h));
+    at_most = λ later past is point. let e = ap (balance_from made 0 0) is in omega
+        (arith, e, below_each 0 0 later past point (subst (λ v. NoDebt 0 0 v) (sym is) h));
     met = let found = met_at 0 0 history h in (found.0, found.1, found.2, found.3, omega (arith, found.4));
   }

@@ -46,7 +46,13 @@ module _ (made : Bucket) where
 
   -- a call changes the capacity
   change_tied : (call : PacerCall) (past : List PacerMark) (bucket : Bucket) (same : Bool) → Tied past bucket →
-      Tied (if same then past else changed call ∷ past) (if same then bucket else record bucket { capacity = capacity_of call.rtt call.window call.mtu; window = call.window; mtu = call.mtu; tokens = min (capacity_of call.rtt call.window call.mtu) bucket.tokens })
+      Tied (if same then past else changed call ∷ past) (if same then bucket
+      else record bucket {
+        capacity = capacity_of call.rtt call.window call.mtu;
+        window = call.window;
+        mtu = call.mtu;
+        tokens = min (capacity_of call.rtt call.window call.mtu) bucket.tokens;
+      })
   unfolding balance_in
   change_tied call past bucket true t = t
   change_tied call past bucket false t = record {
@@ -59,13 +65,19 @@ module _ (made : Bucket) where
     earned = t.earned;
   }
 
-  tied_change : (call : PacerCall) (past : List PacerMark) (bucket : Bucket) → Tied past bucket → Tied (with_change made call past) (resized call.rtt call.window call.mtu bucket)
+  tied_change : (call : PacerCall) (past : List PacerMark) (bucket : Bucket) → Tied past bucket
+      → Tied (with_change made call past) (resized call.rtt call.window call.mtu bucket)
   tied_change call past bucket t =
-      let test : ((call.window == bucket.window) && (call.mtu == bucket.mtu)) ≡ ((call.window == window_in made past) && (call.mtu == mtu_in made past)) = λ i. (call.window == t.window i) && (call.mtu == t.mtu i) in
-      subst (λ same. Tied (if same then past else changed call ∷ past) (resized call.rtt call.window call.mtu bucket)) test (change_tied call past bucket ((call.window == bucket.window) && (call.mtu == bucket.mtu)) t)
+      let test : ((call.window == bucket.window) && (call.mtu == bucket.mtu))
+      ≡ ((call.window == window_in made past) && (call.mtu == mtu_in made past)) = λ i. (call.window == t.window i)
+      && (call.mtu == t.mtu i) in
+      subst (λ same. Tied (if same then past else changed call ∷ past) (resized call.rtt call.window call.mtu bucket))
+      test (change_tied call past bucket ((call.window == bucket.window) && (call.mtu == bucket.mtu)) t)
 
   -- it refills
-  tied_credit : (call : PacerCall) (past : List PacerMark) (bucket : Bucket) → bucket.window ≡ call.window → bucket.mtu ≡ call.mtu → Tied past bucket → Tied (credited call (credit_in made call past) ∷ past) (refilled call.rtt call.window call.now bucket)
+  tied_credit : (call : PacerCall) (past : List PacerMark) (bucket : Bucket) → bucket.window ≡ call.window
+      → bucket.mtu ≡ call.mtu → Tied past bucket
+      → Tied (credited call (credit_in made call past) ∷ past) (refilled call.rtt call.window call.now bucket)
   unfolding balance_in
   tied_credit call past bucket window mtu t =
       let credit = credit_in made call past in
@@ -79,7 +91,8 @@ module _ (made : Bucket) where
         earned = (mul-div-le (5 * call.window * (call.now - greatest_moment made past)) (4 * call.rtt), t.earned);
       }
 
-  refill_tied : (call : PacerCall) (past : List PacerMark) (bucket : Bucket) (pass : Bool) → bucket.window ≡ call.window → bucket.mtu ≡ call.mtu → Tied past bucket →
+  refill_tied : (call : PacerCall) (past : List PacerMark) (bucket : Bucket) (pass : Bool) → bucket.window ≡ call.window
+      → bucket.mtu ≡ call.mtu → Tied past bucket →
       Tied (if pass then past else credited call (credit_in made call past) ∷ past) (if pass then bucket else refilled call.rtt call.window call.now bucket)
   refill_tied call past bucket true window mtu t = t
   refill_tied call past bucket false window mtu t = tied_credit call past bucket window mtu t
@@ -87,17 +100,22 @@ module _ (made : Bucket) where
   tied_refill : (call : PacerCall) (past : List PacerMark) (bucket : Bucket) → bucket.window ≡ call.window → bucket.mtu ≡ call.mtu → Tied past bucket →
       Tied (with_refill made call past) (if may_send call bucket then bucket else refilled call.rtt call.window call.now bucket)
   tied_refill call past bucket window mtu t =
-      let test : may_send call bucket ≡ (nat_le call.bytes (balance_in made past) || is_unpaced call) = ap (λ n. nat_le call.bytes n || is_unpaced call) t.tokens in
-      subst (λ pass. Tied (if pass then past else credited call (credit_in made call past) ∷ past) (if may_send call bucket then bucket else refilled call.rtt call.window call.now bucket)) test (refill_tied call past bucket (may_send call bucket) window mtu t)
+      let test : may_send call bucket ≡ (nat_le call.bytes (balance_in made past) || is_unpaced call) = ap
+      (λ n. nat_le call.bytes n || is_unpaced call) t.tokens in
+      subst (λ pass. Tied (if pass then past else credited call (credit_in made call past) ∷ past)
+      (if may_send call bucket then bucket else refilled call.rtt call.window call.now bucket)) test
+      (refill_tied call past bucket (may_send call bucket) window mtu t)
 
   -- it is answered
-  tied_answered : (call : PacerCall) (past : List PacerMark) (bucket : Bucket) → bucket.window ≡ call.window → bucket.mtu ≡ call.mtu → Tied past bucket → Tied (answered call ∷ past) bucket
+  tied_answered : (call : PacerCall) (past : List PacerMark) (bucket : Bucket) → bucket.window ≡ call.window
+      → bucket.mtu ≡ call.mtu → Tied past bucket → Tied (answered call ∷ past) bucket
   unfolding balance_in
   tied_answered call past bucket window mtu t =
       record { capacity = t.capacity; window = window; mtu = mtu; tokens = t.tokens; last = t.last; no_debt = t.no_debt; earned = t.earned }
 
   -- bytes are transmitted that the tokens cover
-  tied_took : (bytes : ℕ) (past : List PacerMark) (bucket : Bucket) → bytes ≤ bucket.tokens → Tied past bucket → Tied (transmitted bytes ∷ past) (less_tokens bytes bucket)
+  tied_took : (bytes : ℕ) (past : List PacerMark) (bucket : Bucket) → bytes ≤ bucket.tokens → Tied past bucket
+      → Tied (transmitted bytes ∷ past) (less_tokens bytes bucket)
   unfolding balance_in
   tied_took bytes past bucket low t = record {
     capacity = t.capacity;
@@ -110,11 +128,18 @@ module _ (made : Bucket) where
   }
 
 -- after a call the bucket knows the call's window and MTU
-resized-knows : (call : PacerCall) (old : Bucket) → ((resized call.rtt call.window call.mtu old).window ≡ call.window) × ((resized call.rtt call.window call.mtu old).mtu ≡ call.mtu)
+resized-knows : (call : PacerCall) (old : Bucket)
+    → ((resized call.rtt call.window call.mtu old).window ≡ call.window)
+    × ((resized call.rtt call.window call.mtu old).mtu ≡ call.mtu)
 resized-knows call old = go ((call.window == old.window) && (call.mtu == old.mtu)) refl
   where
     go : (same : Bool) → ((call.window == old.window) && (call.mtu == old.mtu)) ≡ same →
-        let bucket : Bucket = if same then old else record old { capacity = capacity_of call.rtt call.window call.mtu; window = call.window; mtu = call.mtu; tokens = min (capacity_of call.rtt call.window call.mtu) old.tokens } in
+        let bucket : Bucket = if same then old else record old {
+          capacity = capacity_of call.rtt call.window call.mtu;
+          window = call.window;
+          mtu = call.mtu;
+          tokens = min (capacity_of call.rtt call.window call.mtu) old.tokens;
+        } in
         (bucket.window ≡ call.window) × (bucket.mtu ≡ call.mtu)
     go true is = let both = and_parts _ _ is in (sym (eqb-true call.window old.window both.0), sym (eqb-true call.mtu old.mtu both.1))
     go false is = (refl, refl)
@@ -125,7 +150,8 @@ paced-knows call old = go (may_send call bucket)
     bucket : Bucket
     bucket = resized call.rtt call.window call.mtu old
 
-    go : (pass : Bool) → let left : Bucket = if pass then bucket else refilled call.rtt call.window call.now bucket in (left.window ≡ call.window) × (left.mtu ≡ call.mtu)
+    go : (pass : Bool) → let left : Bucket = if pass then bucket
+        else refilled call.rtt call.window call.now bucket in (left.window ≡ call.window) × (left.mtu ≡ call.mtu)
     go true = resized-knows call old
     go false = resized-knows call old
 
@@ -147,18 +173,21 @@ passed_is_covered call bucket bounds passes = leb-true call.bytes bucket.tokens 
 
 module _ (made : Bucket) where
   -- the law of a call, before its answer and after it
-  tied_asking : (call : PacerCall) (past : List PacerMark) (bucket : Bucket) → Tied made past bucket → Tied made (with_refill made call (with_change made call past)) (paced call bucket)
+  tied_asking : (call : PacerCall) (past : List PacerMark) (bucket : Bucket) → Tied made past bucket
+      → Tied made (with_refill made call (with_change made call past)) (paced call bucket)
   tied_asking call past bucket t =
       let known = resized-knows call bucket in
       tied_refill made call (with_change made call past) (resized call.rtt call.window call.mtu bucket) known.0 known.1 (tied_change made call past bucket t)
 
-  tied_paced : (call : PacerCall) (past : List PacerMark) (bucket : Bucket) → Tied made past bucket → Tied made (answered call ∷ with_refill made call (with_change made call past)) (paced call bucket)
+  tied_paced : (call : PacerCall) (past : List PacerMark) (bucket : Bucket) → Tied made past bucket
+      → Tied made (answered call ∷ with_refill made call (with_change made call past)) (paced call bucket)
   tied_paced call past bucket t =
       let known = paced-knows call bucket in
       tied_answered made call (with_refill made call (with_change made call past)) (paced call bucket) known.0 known.1 (tied_asking call past bucket t)
 
   -- what the pacer holds is what the history says
-  pub tied_by : (entries : List PacerEntry) → made.tokens ≡ made.capacity → AreChecked entries → HavePassed made entries → Tied made (marks_by made entries) (bucket_by made entries)
+  pub tied_by : (entries : List PacerEntry) → made.tokens ≡ made.capacity → AreChecked entries → HavePassed made entries
+      → Tied made (marks_by made entries) (bucket_by made entries)
   tied_by [] full checked passed = tied_made made full
   tied_by (asked call ∷ earlier) full checked passed = tied_paced call (marks_by made earlier) (bucket_by made earlier) (tied_by earlier full checked.1 passed)
   tied_by (took bytes flag ∷ []) full checked passed = absurd (passed.0 checked.0)
@@ -170,7 +199,9 @@ module _ (made : Bucket) where
       tied_took made bytes (marks_by made (asked call ∷ earlier)) bucket low (tied_by (asked call ∷ earlier) full checked.1 passed.1)
 
   -- a call is delayed exactly by the balance
-  pub delays_by : (earlier : List PacerEntry) (call : PacerCall) → made.tokens ≡ made.capacity → AreChecked (asked call ∷ earlier) → HavePassed made earlier → DelaysBy made earlier call (delay_of call (paced call (bucket_by made earlier)))
+  pub delays_by : (earlier : List PacerEntry) (call : PacerCall) → made.tokens ≡ made.capacity
+      → AreChecked (asked call ∷ earlier) → HavePassed made earlier
+      → DelaysBy made earlier call (delay_of call (paced call (bucket_by made earlier)))
   delays_by earlier call full checked passed = record {
     balance = balance_is made (marks_asking made call earlier) tied.no_debt;
     delayed = go (nat_le call.bytes bucket.tokens) (is_unpaced call) refl (is_bounded call checked.0);
@@ -183,7 +214,9 @@ module _ (made : Bucket) where
       tied = tied_asking call (marks_by made earlier) (bucket_by made earlier) (tied_by earlier full checked.1 passed)
 
       go : (covered free : Bool) → nat_le call.bytes bucket.tokens ≡ covered → free ≡ false →
-          SomeIff (if covered || free then None else Some (next_moment call bucket)) (balance_in made (marks_asking made call earlier) < call.bytes) (moment_by made call (marks_asking made call earlier))
+          SomeIff (if covered || free then None else Some (next_moment call bucket))
+          (balance_in made (marks_asking made call earlier) < call.bytes)
+          (moment_by made call (marks_asking made call earlier))
       go true free is bounds = λ short. let low = leb-true call.bytes bucket.tokens is in omega (arith, low, short, tied.tokens)
       go false true is bounds = absurd (true≢false bounds)
       go false false is bounds = (

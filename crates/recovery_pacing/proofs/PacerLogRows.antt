@@ -50,7 +50,8 @@ second_delay : delay_of (asks 266_400_000) (paced (asks 266_400_000) (bucket_by 
 second_delay = refl
 
 -- from the making the bound is met with equality
-rate_met : 4 * least_rtt (calls_in history) * (bytes_in history - made.capacity) ≡ 5 * greatest_window (calls_in history) * (latest_moment (calls_in history) - made.last)
+rate_met : 4 * least_rtt (calls_in history) * (bytes_in history - made.capacity)
+    ≡ 5 * greatest_window (calls_in history) * (latest_moment (calls_in history) - made.last)
 unfolding balance_in
 rate_met = refl
 

@@ -15,7 +15,12 @@ bucket_made-sound rtt window mtu now some_window some_mtu = record {
 pub resized-sound : (rtt window mtu : ℕ) (old : Bucket) → 0 < window → 0 < mtu → IsBucketSound old → IsBucketSound (resized rtt window mtu old)
 resized-sound rtt window mtu old some_window some_mtu sound = go ((window == old.window) && (mtu == old.mtu))
   where
-    go : (same : Bool) → IsBucketSound (if same then old else record old { capacity = capacity_of rtt window mtu; window = window; mtu = mtu; tokens = min (capacity_of rtt window mtu) old.tokens })
+    go : (same : Bool) → IsBucketSound (if same then old else record old {
+      capacity = capacity_of rtt window mtu;
+      window = window;
+      mtu = mtu;
+      tokens = min (capacity_of rtt window mtu) old.tokens;
+    })
     go true = sound
     go false = record {
       tokens = omega arith;

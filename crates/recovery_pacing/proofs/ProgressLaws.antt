@@ -9,7 +9,8 @@ use Rattle.recovery_pacing.proofs.PacerLogLaws.{paced-knows}
 use Rattle.recovery_pacing.specs.Progress.{AsksAgain, PassesInTime, PassesBehind}
 
 -- in the time of the wait and the slack the bytes that were short have come
-waited : (rtt window short elapsed : ℕ) → 0 < rtt → 0 < window → rtt * short ≤ longest_span → wait_of rtt window short + 4 ≤ elapsed → short ≤ credit_of rtt window elapsed
+waited : (rtt window short elapsed : ℕ) → 0 < rtt → 0 < window → rtt * short ≤ longest_span
+    → wait_of rtt window short + 4 ≤ elapsed → short ≤ credit_of rtt window elapsed
 waited rtt window short elapsed some_rtt some_window uncut waits = le-div short (5 * window * elapsed) (4 * rtt) (omega (arith, some_rtt)) enough
   where
     q : ℕ
@@ -34,17 +35,26 @@ waited rtt window short elapsed some_rtt some_window uncut waits = le-div short 
         omega (arith, whole, fifths, spans)
 
 -- the same call computes no capacity anew
-resized_again : (call later : PacerCall) (bucket : Bucket) → AsksAgain call later → (bucket.window ≡ call.window) × (bucket.mtu ≡ call.mtu) → resized later.rtt later.window later.mtu bucket ≡ bucket
-resized_again call later bucket again knows = ap (λ (same : Bool). cond same bucket anew) (ap₂ (λ (a b : Bool). a && b) (equal later.window bucket.window (again.window ∙ sym knows.0)) (equal later.mtu bucket.mtu (again.mtu ∙ sym knows.1)))
+resized_again : (call later : PacerCall) (bucket : Bucket) → AsksAgain call later
+    → (bucket.window ≡ call.window) × (bucket.mtu ≡ call.mtu) → resized later.rtt later.window later.mtu bucket ≡ bucket
+resized_again call later bucket again knows = ap (λ (same : Bool). cond same bucket anew)
+    (ap₂ (λ (a b : Bool). a && b) (equal later.window bucket.window (again.window ∙ sym knows.0))
+    (equal later.mtu bucket.mtu (again.mtu ∙ sym knows.1)))
   where
     anew : Bucket
-    anew = record bucket { capacity = capacity_of later.rtt later.window later.mtu; window = later.window; mtu = later.mtu; tokens = min (capacity_of later.rtt later.window later.mtu) bucket.tokens }
+    anew = record bucket {
+      capacity = capacity_of later.rtt later.window later.mtu;
+      window = later.window;
+      mtu = later.mtu;
+      tokens = min (capacity_of later.rtt later.window later.mtu) bucket.tokens;
+    }
 
     equal : (a b : ℕ) → a ≡ b → (a == b) ≡ true
     equal a b same = eq-eqb a b same
 
 -- a call that is delayed is paced, and the tokens do not cover it
-short_of : (call : PacerCall) (bucket : Bucket) (until : ℕ) → delay_of call bucket ≡ Some until → (may_send call bucket ≡ false) × (until ≡ next_moment call bucket)
+short_of : (call : PacerCall) (bucket : Bucket) (until : ℕ) → delay_of call bucket ≡ Some until
+    → (may_send call bucket ≡ false) × (until ≡ next_moment call bucket)
 short_of call bucket until delays = go (may_send call bucket) refl delays
   where
     none_is_some : {A : Type 0} → None ≡ Some until → A
@@ -53,7 +63,8 @@ short_of call bucket until delays = go (may_send call bucket) refl delays
     some_same : (a : ℕ) → Some a ≡ Some until → until ≡ a
     some_same a e = cc
 
-    go : (pass : Bool) → may_send call bucket ≡ pass → cond pass None (Some (next_moment call bucket)) ≡ Some until → (may_send call bucket ≡ false) × (until ≡ next_moment call bucket)
+    go : (pass : Bool) → may_send call bucket ≡ pass → cond pass None (Some (next_moment call bucket)) ≡ Some until
+        → (may_send call bucket ≡ false) × (until ≡ next_moment call bucket)
     go true is delays = none_is_some delays
     go false is delays = (is, some_same (next_moment call bucket) delays)
 
@@ -101,17 +112,26 @@ passes_in_time call later old until delays again reach late before_end = goes (m
     covers = let fits = reach.fits in omega (arith, credited, fits, lacks)
 
     goes : (pass : Bool) → may_send later bucket ≡ pass → delay_of later (paced later bucket) ≡ None
-    goes pass is = ap (λ (b : Bucket). delay_of later (cond (may_send later b) b (refilled later.rtt later.window later.now b))) (resized_again call later bucket again (paced-knows call old)) ∙ by_test pass is
+    goes pass is = ap (λ (b : Bucket). delay_of later (cond (may_send later b) b
+        (refilled later.rtt later.window later.now b))) (resized_again call later bucket again (paced-knows call old))
+        ∙ by_test pass is
       where
         passing : (b : Bucket) → later.bytes ≤ b.tokens → delay_of later b ≡ None
         passing b enough = ap (λ (c : Bool). cond (c || is_unpaced later) None (Some (next_moment later b))) (le-leb later.bytes b.tokens enough)
 
-        by_test : (pass : Bool) → may_send later bucket ≡ pass → delay_of later (cond (may_send later bucket) bucket (refilled later.rtt later.window later.now bucket)) ≡ None
-        by_test true is = ap (λ (c : Bool). delay_of later (cond c bucket (refilled later.rtt later.window later.now bucket))) is ∙ ap (λ (c : Bool). cond c None (Some (next_moment later bucket))) is
+        by_test : (pass : Bool) → may_send later bucket ≡ pass
+            → delay_of later (cond (may_send later bucket) bucket (refilled later.rtt later.window later.now bucket))
+            ≡ None
+        by_test true is = ap (λ (c : Bool). delay_of later (cond c bucket
+            (refilled later.rtt later.window later.now bucket))) is
+            ∙ ap (λ (c : Bool). cond c None (Some (next_moment later bucket))) is
         by_test false is = ap (λ (c : Bool). delay_of later (cond c bucket (refilled later.rtt later.window later.now bucket))) is
-            ∙ passing (refilled later.rtt later.window later.now bucket) (let same = again.bytes in let credit = ap₂ (λ (r w : ℕ). credit_of r w (later.now - bucket.last)) again.rtt again.window in omega (arith, covers, same, credit))
+            ∙ passing (refilled later.rtt later.window later.now bucket)
+            (let same = again.bytes in let credit = ap₂ (λ (r w : ℕ). credit_of r w (later.now - bucket.last))
+            again.rtt again.window in omega (arith, covers, same, credit))
 
-pub passes_behind : (made : Bucket) (entries : List PacerEntry) (later : PacerCall) → PassesBehind made entries later (delay_of later (paced later (bucket_by made entries)))
+pub passes_behind : (made : Bucket) (entries : List PacerEntry) (later : PacerCall)
+    → PassesBehind made entries later (delay_of later (paced later (bucket_by made entries)))
 passes_behind made [] later = tt
 passes_behind made (asked call ∷ earlier) later = passes_in_time call later (bucket_by made earlier)
 passes_behind made (took bytes checked ∷ earlier) later = tt

@@ -30,7 +30,8 @@ some_same e = cc
 module _ {K : Type 0} (settings : PathSettings K) where
   -- it goes on to hold of a path as long as what happens is allowed, and of a path that follows on it
   pub record IsKept (Holds : PathPast K → Type 0) : Type 0 where
-    pub by_entry : (entry : PathEntry) (past : PathPast K) → IsAllowed settings.words (state_of settings past) entry → Holds past → Holds (past_with settings entry past)
+    pub by_entry : (entry : PathEntry) (past : PathPast K) → IsAllowed settings.words (state_of settings past) entry
+        → Holds past → Holds (past_with settings entry past)
     pub following : (following : Following) (past : PathPast K) → Holds past → Holds (past_following settings following past)
 
   -- ---- the entries of one event, the newest first
@@ -61,13 +62,16 @@ module _ {K : Type 0} (settings : PathSettings K) where
 
   module _ (Holds : PathPast K → Type 0) (kept : IsKept Holds) where
     -- on the previous path nothing passes
-    previous_kept : (entry : PathEntry) (path : Option (PathPast K)) → PassesNothing entry → ForSome path Holds → ForSome (option_map (past_with settings entry) path) Holds
+    previous_kept : (entry : PathEntry) (path : Option (PathPast K)) → PassesNothing entry → ForSome path Holds
+        → ForSome (option_map (past_with settings entry) path) Holds
     previous_kept entry None nothing holds = λ past is. none_is_some is
     previous_kept entry (Some path) nothing holds = λ past is.
         subst Holds (some_same is) (kept.by_entry entry path (allowed_anywhere entry (state_of settings path) nothing) (holds path refl))
 
     -- an entry keeps it
-    entry_kept : (entry : PathsEntry) (pasts : OfPaths (PathPast K)) → IsAllowedOn (each_path (known_of settings) pasts) entry → OnEachPath Holds pasts → OnEachPath Holds (paths_with (past_with settings) (past_following settings) entry pasts)
+    entry_kept : (entry : PathsEntry) (pasts : OfPaths (PathPast K))
+        → IsAllowedOn (each_path (known_of settings) pasts) entry → OnEachPath Holds pasts
+        → OnEachPath Holds (paths_with (past_with settings) (past_following settings) entry pasts)
     entry_kept (on Current entry) pasts allowed holds = (kept.by_entry entry pasts.current allowed holds.0, holds.1)
     entry_kept (on Previous entry) pasts allowed holds = (holds.0, previous_kept entry pasts.previous allowed holds.1)
     entry_kept (moves following) pasts allowed holds = (kept.following following pasts.current holds.0, λ past is. subst Holds (some_same is) holds.0)
@@ -79,4 +83,5 @@ module _ {K : Type 0} (settings : PathSettings K) where
     kept_after first [] log allowed holds = holds
     kept_after first (entry ∷ earlier) log allowed holds =
         let Q : OfPaths (PathKnown K) → Type 0 = λ paths. IsAllowedOn paths entry in
-        entry_kept entry (pasts_by settings first (earlier ++ log)) (subst Q (each-after settings first earlier log) allowed.0) (kept_after first earlier log allowed.1 holds)
+        entry_kept entry (pasts_by settings first (earlier ++ log))
+        (subst Q (each-after settings first earlier log) allowed.0) (kept_after first earlier log allowed.1 holds)

@@ -55,14 +55,22 @@ one_here number other is = grind (arith, nat_tests)
 stands : (number : ℕ) (numbers : List ℕ) → has number numbers ≡ true → 1 ≤ times number numbers
 stands number [] is = absurd (cc)
 stands number (other ∷ numbers) is =
-    ⊎_elim (λ (here : nat_eq number other ≡ true). omega (arith, one_here number other here)) (λ (there : has number numbers ≡ true). omega (arith, stands number numbers there)) (or_cases _ _ is)
+    ⊎_elim (λ (here : nat_eq number other ≡ true). omega (arith, one_here number other here))
+    (λ (there : has number numbers ≡ true). omega (arith, stands number numbers there)) (or_cases _ _ is)
 
 -- where each number has one fate at most, none is both acknowledged and lost
 pub apart_once : (made : Discovery) (calls : List MtuCall) → ((number : ℕ) → fates number calls ≤ 1) → AreFatesApart (entries_by made calls)
 apart_once made calls once = fates_apart_by made calls (λ number good. go number good (has number (lost_in_calls calls)) refl)
   where
-    go : (number : ℕ) → has number (acked_in_calls calls) ≡ true → (bad : Bool) → has number (lost_in_calls calls) ≡ bad → has number (lost_in_calls calls) ≡ false
-    go number good true bad = absurd (omega (arith, once number, fates_are number calls, stands number (acked_in_calls calls) good, stands number (lost_in_calls calls) bad))
+    go : (number : ℕ) → has number (acked_in_calls calls) ≡ true → (bad : Bool) → has number (lost_in_calls calls) ≡ bad
+        → has number (lost_in_calls calls) ≡ false
+    go number good true bad = absurd (omega (
+      arith,
+      once number,
+      fates_are number calls,
+      stands number (acked_in_calls calls) good,
+      stands number (lost_in_calls calls) bad,
+    ))
     go number good false none = none
 
 -- ---- what happens on the paths

@@ -16,13 +16,17 @@ some_same : {A : Type 0} {a b : A} → Some a ≡ Some b → a ≡ b
 some_same e = cc
 
 module _ {K P M : Type 0} (entry : ℕ × Packet P M) (rest : Packets P M) where
-  twice : (path : Option (Path K)) → option_map (on_ledger (ledger_without rest)) (option_map (left_by entry.1) path) ≡ option_map (on_ledger (ledger_without (entry ∷ rest))) path
+  twice : (path : Option (Path K))
+      → option_map (on_ledger (ledger_without rest)) (option_map (left_by entry.1) path)
+      ≡ option_map (on_ledger (ledger_without (entry ∷ rest))) path
   twice None = refl
   twice (Some path) = refl
 
   -- the first leaves, and then the others
   pub without_first : (paths : OfPaths (Path K)) → paths_without rest (each_path (left_by entry.1) paths) ≡ paths_without (entry ∷ rest) paths
-  without_first paths = ap (λ (previous : Option (Path K)). let all : OfPaths (Path K) = record { current = on_ledger (ledger_without (entry ∷ rest)) paths.current; previous = previous } in all) (twice paths.previous)
+  without_first paths = ap (λ (previous : Option (Path K)). let all : OfPaths (Path K) =
+      record { current = on_ledger (ledger_without (entry ∷ rest)) paths.current; previous = previous } in all)
+      (twice paths.previous)
 
   abbrev AreCountedBy : Packets P M → Path K → Type 0
   AreCountedBy packets path = IsCountedIn (counters_of path.ledger) (generation_of path.ledger) packets
@@ -34,7 +38,8 @@ module _ {K P M : Type 0} (entry : ℕ × Packet P M) (rest : Packets P M) where
       subst Q (some_same is) (first_leaves path.ledger entry rest (counted path refl)).1
 
   -- the first is among those counted, and so are the others then
-  pub counted_first : (paths : OfPaths (Path K)) → AreCountedOnEach paths (entry ∷ rest) → IsCountedOnEach paths entry.1 × AreCountedOnEach (each_path (left_by entry.1) paths) rest
+  pub counted_first : (paths : OfPaths (Path K)) → AreCountedOnEach paths (entry ∷ rest)
+      → IsCountedOnEach paths entry.1 × AreCountedOnEach (each_path (left_by entry.1) paths) rest
   counted_first paths counted =
       let first = first_leaves paths.current.ledger entry rest counted.0 in
       ((first.0, λ path is. (first_leaves path.ledger entry rest (counted.1 path is)).0), (first.1, previous_counted paths.previous counted.1))

@@ -15,7 +15,8 @@ none_is_some e = cc
 
 module _ {K : Type 0} (settings : PathSettings K) where
   -- an entry keeps that
-  passed_law : (entry : PathEntry) (past : PathPast K) → IsAllowed settings.words (state_of settings past) entry → HavePassedOn past → HavePassedOn (past_with settings entry past)
+  passed_law : (entry : PathEntry) (past : PathPast K) → IsAllowed settings.words (state_of settings past) entry
+      → HavePassedOn past → HavePassedOn (past_with settings entry past)
   passed_law (receives bytes) past allowed passed = passed
   passed_law is_validated past allowed passed = passed
   passed_law (samples delay rtt) past allowed passed = passed
@@ -33,7 +34,8 @@ module _ {K : Type 0} (settings : PathSettings K) where
 
   -- an event's entries keep it
   pub passed_after : (first : PathMaking K) (entries log : List PathsEntry) → let pasts = pasts_by settings first log in
-      AreAllowed settings (each_path (known_of settings) pasts) entries → OnEachPath HavePassedOn pasts → OnEachPath HavePassedOn (pasts_by settings first (entries ++ log))
+      AreAllowed settings (each_path (known_of settings) pasts) entries → OnEachPath HavePassedOn pasts
+      → OnEachPath HavePassedOn (pasts_by settings first (entries ++ log))
   passed_after =
       let kept : IsKept settings HavePassedOn = record { by_entry = passed_law; following = follows_passed } in
       kept_after settings HavePassedOn kept

@@ -5,13 +5,15 @@ use Rattle.recovery_paths.specs.PathMaking.{PathMaking, PathSettings}
 use Rattle.recovery_paths.specs.PathLog.{OfPaths, PathsEntry, PathEntry, PathPast, PathKnown, Following, paths_with, paths_after, pasts_by, each_path, state_of, state_with, past_with, past_following, known_of, known_with, known_following, PathsStep, PathsLeft, on, moves, drops_previous, fresh, goes_on, receives, is_validated, samples, tells, searches, asks, transmits, passes, is_reset}
 
 -- what is mapped after a change is the change of what is mapped
-option-each : {P Q : Type 0} (f : P → Q) (change : P → P) (changed : Q → Q) → ((p : P) → changed (f p) ≡ f (change p)) → (path : Option P) → option_map changed (option_map f path) ≡ option_map f (option_map change path)
+option-each : {P Q : Type 0} (f : P → Q) (change : P → P) (changed : Q → Q) → ((p : P) → changed (f p) ≡ f (change p))
+    → (path : Option P) → option_map changed (option_map f path) ≡ option_map f (option_map change path)
 option-each f change changed same None = refl
 option-each f change changed same (Some path) = ap (λ q. Some q) (same path)
 
 module _ {K : Type 0} (settings : PathSettings K) where
   -- what is known after an entry is what the past with the entry gives
-  pub known_of-with : (entry : PathEntry) (past : PathPast K) → known_with settings entry (known_of settings past) ≡ known_of settings (past_with settings entry past)
+  pub known_of-with : (entry : PathEntry) (past : PathPast K)
+      → known_with settings entry (known_of settings past) ≡ known_of settings (past_with settings entry past)
   known_of-with (receives bytes) past = refl
   known_of-with is_validated past = refl
   known_of-with (samples delay rtt) past = refl
@@ -22,24 +24,43 @@ module _ {K : Type 0} (settings : PathSettings K) where
   known_of-with (passes now bytes) past = refl
   known_of-with (is_reset now) past = refl
 
-  known_of-following : (following : Following) (past : PathPast K) → known_following settings following (known_of settings past) ≡ known_of settings (past_following settings following past)
+  known_of-following : (following : Following) (past : PathPast K)
+      → known_following settings following (known_of settings past)
+      ≡ known_of settings (past_following settings following past)
   known_of-following (fresh remote limit now) past = refl
   known_of-following (goes_on remote now) past = refl
 
-  each-with : (entry : PathsEntry) (pasts : OfPaths (PathPast K)) → paths_with (known_with settings) (known_following settings) entry (each_path (known_of settings) pasts) ≡ each_path (known_of settings) (paths_with (past_with settings) (past_following settings) entry pasts)
-  each-with (on Current entry) pasts = ap (λ (k : PathKnown K). let all : OfPaths (PathKnown K) = record { current = k; previous = option_map (known_of settings) pasts.previous } in all) (known_of-with entry pasts.current)
-  each-with (on Previous entry) pasts = ap (λ (k : Option (PathKnown K)). let all : OfPaths (PathKnown K) = record { current = known_of settings pasts.current; previous = k } in all) (option-each (known_of settings) (past_with settings entry) (known_with settings entry) (known_of-with entry) pasts.previous)
-  each-with (moves following) pasts = ap (λ (k : PathKnown K). let all : OfPaths (PathKnown K) = record { current = k; previous = Some (known_of settings pasts.current) } in all) (known_of-following following pasts.current)
+  each-with : (entry : PathsEntry) (pasts : OfPaths (PathPast K))
+      → paths_with (known_with settings) (known_following settings) entry (each_path (known_of settings) pasts)
+      ≡ each_path (known_of settings) (paths_with (past_with settings) (past_following settings) entry pasts)
+  each-with (on Current entry) pasts = ap (λ (k : PathKnown K). let all : OfPaths (PathKnown K) =
+      record { current = k; previous = option_map (known_of settings) pasts.previous } in all)
+      (known_of-with entry pasts.current)
+  each-with (on Previous entry) pasts = ap (λ (k : Option (PathKnown K)). let all : OfPaths (PathKnown K) =
+      record { current = known_of settings pasts.current; previous = k } in all)
+      (option-each (known_of settings) (past_with settings entry) (known_with settings entry) (known_of-with entry)
+      pasts.previous)
+  each-with (moves following) pasts = ap (λ (k : PathKnown K). let all : OfPaths (PathKnown K) =
+      record { current = k; previous = Some (known_of settings pasts.current) } in all)
+      (known_of-following following pasts.current)
   each-with drops_previous pasts = refl
 
   -- entries before a log, as they change what the log leaves
-  pub each-after : (first : PathMaking K) (entries log : List PathsEntry) → paths_after (known_with settings) (known_following settings) entries (each_path (known_of settings) (pasts_by settings first log)) ≡ each_path (known_of settings) (pasts_by settings first (entries ++ log))
+  pub each-after : (first : PathMaking K) (entries log : List PathsEntry)
+      → paths_after (known_with settings) (known_following settings) entries
+      (each_path (known_of settings) (pasts_by settings first log))
+      ≡ each_path (known_of settings) (pasts_by settings first (entries ++ log))
   each-after first [] log = refl
-  each-after first (entry ∷ entries) log = ap (paths_with (known_with settings) (known_following settings) entry) (each-after first entries log) ∙ each-with entry (pasts_by settings first (entries ++ log))
+  each-after first (entry ∷ entries) log = ap (paths_with (known_with settings) (known_following settings) entry)
+      (each-after first entries log) ∙ each-with entry (pasts_by settings first (entries ++ log))
 
-  pub paths_law : (first : PathMaking K) (entries log : List PathsEntry) (old new : OfPaths (PathKnown K)) → PathsLeft settings first log old → PathsStep settings entries old new → PathsLeft settings first (entries ++ log) new
-  paths_law first entries log old new left step = step ∙ ap (paths_after (known_with settings) (known_following settings) entries) left ∙ each-after first entries log
+  pub paths_law : (first : PathMaking K) (entries log : List PathsEntry) (old new : OfPaths (PathKnown K))
+      → PathsLeft settings first log old → PathsStep settings entries old new
+      → PathsLeft settings first (entries ++ log) new
+  paths_law first entries log old new left step = step ∙ ap (paths_after (known_with settings)
+      (known_following settings) entries) left ∙ each-after first entries log
 
   -- what is kept after an entry
-  pub state_of-with : (entry : PathEntry) (past : PathPast K) → state_with settings entry (state_of settings past) ≡ state_of settings (past_with settings entry past)
+  pub state_of-with : (entry : PathEntry) (past : PathPast K)
+      → state_with settings entry (state_of settings past) ≡ state_of settings (past_with settings entry past)
   state_of-with entry past = ap (λ (k : PathKnown K). k.state) (known_of-with entry past)

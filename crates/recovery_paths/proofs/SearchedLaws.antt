@@ -26,7 +26,8 @@ none_is_some : {A B : Type 0} {a : A} → None ≡ Some a → B
 none_is_some e = cc
 
 -- one more call that is in turn
-searched_after : (by : Option MtuDiscoveryConfig) (made : Discovery) (call : MtuCall) (earlier : List MtuCall) → IsInTurn call (discovery_by made earlier) → IsSearchedBy by made earlier → IsSearchedBy by made (call ∷ earlier)
+searched_after : (by : Option MtuDiscoveryConfig) (made : Discovery) (call : MtuCall) (earlier : List MtuCall)
+    → IsInTurn call (discovery_by made earlier) → IsSearchedBy by made earlier → IsSearchedBy by made (call ∷ earlier)
 searched_after by made call earlier turn searched = record {
   untold = searched.untold;
   settings_are = searched.settings_are;
@@ -34,16 +35,19 @@ searched_after by made call earlier turn searched = record {
 }
 
 -- the discovery of a path that is made is searched where that is allowed, as the settings of paths say
-pub first_searched : {F : Type 0} (allowed : Bool) (limit : Option ℕ) (config : TransportConfig F) → IsSearchedBy (if allowed then config.mtu_discovery_config else None) (first_discovery allowed limit config) []
+pub first_searched : {F : Type 0} (allowed : Bool) (limit : Option ℕ) (config : TransportConfig F)
+    → IsSearchedBy (if allowed then config.mtu_discovery_config else None) (first_discovery allowed limit config) []
 first_searched allowed limit config = go (if allowed then config.mtu_discovery_config else None)
   where
     go : (by : Option MtuDiscoveryConfig) → IsSearchedBy by (discovery_with limit config by) []
     go None = record { untold = discovery_disabled_untold (initial_mtu_of config) config.min_mtu; settings_are = refl; outside = tt }
     go (Some own) = record { untold = discovery_made_untold (initial_mtu_of config) config.min_mtu limit own; settings_are = refl; outside = tt }
 
-module _ {K : Type 0} (settings : PathSettings K) (by : Option MtuDiscoveryConfig) (fresh_is : (limit : Option ℕ) → IsSearchedBy by (settings.discovery limit) []) where
+module _ {K : Type 0} (settings : PathSettings K) (by : Option MtuDiscoveryConfig)
+    (fresh_is : (limit : Option ℕ) → IsSearchedBy by (settings.discovery limit) []) where
   -- an entry that is allowed keeps that
-  searched_law : (entry : PathEntry) (past : PathPast K) → IsAllowed settings.words (state_of settings past) entry → IsPathSearchedBy by past → IsPathSearchedBy by (past_with settings entry past)
+  searched_law : (entry : PathEntry) (past : PathPast K) → IsAllowed settings.words (state_of settings past) entry
+      → IsPathSearchedBy by past → IsPathSearchedBy by (past_with settings entry past)
   searched_law (receives bytes) past allowed searched = searched
   searched_law is_validated past allowed searched = searched
   searched_law (samples delay rtt) past allowed searched = searched
@@ -61,7 +65,8 @@ module _ {K : Type 0} (settings : PathSettings K) (by : Option MtuDiscoveryConfi
 
   -- an event's entries keep that
   pub searched_over : (first : PathMaking K) (entries log : List PathsEntry) → let pasts = pasts_by settings first log in
-      AreAllowed settings (each_path (known_of settings) pasts) entries → OnEachPath (IsPathSearchedBy by) pasts → OnEachPath (IsPathSearchedBy by) (pasts_by settings first (entries ++ log))
+      AreAllowed settings (each_path (known_of settings) pasts) entries → OnEachPath (IsPathSearchedBy by) pasts
+      → OnEachPath (IsPathSearchedBy by) (pasts_by settings first (entries ++ log))
   searched_over =
       let kept : IsKept settings (IsPathSearchedBy by) = record { by_entry = searched_law; following = follows_searched } in
       kept_after settings (IsPathSearchedBy by) kept

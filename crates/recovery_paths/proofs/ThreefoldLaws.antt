@@ -19,14 +19,16 @@ unblocked false received sent free open_yet = ltb-false (3 * received) sent free
 
 module _ {K : Type 0} (settings : PathSettings K) where
   -- an entry keeps the bound
-  threefold_law : (entry : PathEntry) (past : PathPast K) → IsAllowed settings.words (state_of settings past) entry → IsWithinThreefold past → IsWithinThreefold (past_with settings entry past)
+  threefold_law : (entry : PathEntry) (past : PathPast K) → IsAllowed settings.words (state_of settings past) entry
+      → IsWithinThreefold past → IsWithinThreefold (past_with settings entry past)
   threefold_law (receives bytes) past allowed within = λ unproved checked. let all = within unproved checked in omega (arith, all)
   threefold_law is_validated past allowed within = λ unproved checked. true_is_not_false unproved
   threefold_law (samples delay rtt) past allowed within = within
   threefold_law (tells call) past allowed within = within
   threefold_law (searches call) past allowed within = within
   threefold_law (asks now bytes) past allowed within = within
-  threefold_law (transmits bytes) past allowed within = λ unproved checked. true_is_not_false (sym (checked 0 (record { bytes = 0; checked = true }) (omega arith)))
+  threefold_law (transmits bytes) past allowed within = λ unproved checked. true_is_not_false
+      (sym (checked 0 (record { bytes = 0; checked = true }) (omega arith)))
   threefold_law (passes now bytes) past allowed within = λ unproved checked. unblocked past.validated _ _ allowed.0 unproved
   threefold_law (is_reset now) past allowed within = within
 
@@ -37,7 +39,8 @@ module _ {K : Type 0} (settings : PathSettings K) where
 
   -- an event's entries keep the bound
   pub threefold_after : (first : PathMaking K) (entries log : List PathsEntry) → let pasts = pasts_by settings first log in
-      AreAllowed settings (each_path (known_of settings) pasts) entries → OnEachPath IsWithinThreefold pasts → OnEachPath IsWithinThreefold (pasts_by settings first (entries ++ log))
+      AreAllowed settings (each_path (known_of settings) pasts) entries → OnEachPath IsWithinThreefold pasts
+      → OnEachPath IsWithinThreefold (pasts_by settings first (entries ++ log))
   threefold_after =
       let kept : IsKept settings IsWithinThreefold = record { by_entry = threefold_law; following = follows_within } in
       kept_after settings IsWithinThreefold kept

@@ -8,7 +8,8 @@ use Rattle.recovery_replay.specs.declared.script.Ending.TheVariants.{Whole, BadL
 use Rattle.recovery_replay.specs.Replay.{error_text, Tells}
 use Rattle.recovery_replay.specs.Writing.{AppendsFront}
 
-pub appends_more : (before mid after : Option (List ℕ)) (front bytes : List ℕ) → Appends before mid front → Appends mid after bytes → Appends before after (front ++ bytes)
+pub appends_more : (before mid after : Option (List ℕ)) (front bytes : List ℕ) → Appends before mid front
+    → Appends mid after bytes → Appends before after (front ++ bytes)
 appends_more None mid after front bytes a b = tt
 appends_more (Some old) None after front bytes a b = absurd a
 appends_more (Some old) (Some now) None front bytes a b = absurd b
@@ -21,8 +22,10 @@ appends_kept (Some old) (Some now) None bytes a k = absurd k
 appends_kept (Some old) (Some now) (Some new) bytes a k = k ∙ a
 
 -- n bytes more of those that are left
-pub written_more : (before mid after : Option (List ℕ)) (bytes : List ℕ) (w n : ℕ) → Appends before mid (take w bytes) → Appends mid after (take n (drop w bytes)) → Appends before after (take (w + n) bytes)
-written_more before mid after bytes w n a b = subst (Appends before after) (sym (take-add w n bytes)) (appends_more before mid after (take w bytes) (take n (drop w bytes)) a b)
+pub written_more : (before mid after : Option (List ℕ)) (bytes : List ℕ) (w n : ℕ) → Appends before mid (take w bytes)
+    → Appends mid after (take n (drop w bytes)) → Appends before after (take (w + n) bytes)
+written_more before mid after bytes w n a b = subst (Appends before after) (sym (take-add w n bytes))
+    (appends_more before mid after (take w bytes) (take n (drop w bytes)) a b)
 
 pub none_front : (before after : Option (List ℕ)) → AppendsFront before after [] → Keeps before after
 none_front None after f = tt
@@ -42,7 +45,9 @@ pub record Written (before after : Option (List ℕ)) (bytes : List ℕ) (w : �
   pub within : w ≤ length bytes
   pub appended : Appends before after (take w bytes)
 
-pub went_on : (before mid after : Option (List ℕ)) (bytes rest : List ℕ) (w n m : ℕ) → rest ≡ drop w bytes → Written before mid bytes w → m ≡ w + n → n ≤ length rest → Appends mid after (take n rest) → Written before after bytes m
+pub went_on : (before mid after : Option (List ℕ)) (bytes rest : List ℕ) (w n m : ℕ) → rest ≡ drop w bytes
+    → Written before mid bytes w → m ≡ w + n → n ≤ length rest → Appends mid after (take n rest)
+    → Written before after bytes m
 went_on before mid after bytes rest w n m is written e within appended = record {
   within = let count : length rest ≡ length bytes - w = ap length is ∙ length-drop w bytes in omega (arith, e, within, written.within, count);
   appended =
@@ -54,7 +59,8 @@ went_on before mid after bytes rest w n m is written e within appended = record 
 pub from : (bytes : List ℕ) (w : ℕ) → take (length bytes - w) (drop w bytes) ≡ drop w bytes
 from bytes w = ap (λ (n : ℕ). take n (drop w bytes)) (sym (length-drop w bytes)) ∙ take-length (drop w bytes)
 
-pub stayed : (before mid after : Option (List ℕ)) (bytes : List ℕ) (w m : ℕ) → Written before mid bytes w → m ≡ w → Keeps mid after → Written before after bytes m
+pub stayed : (before mid after : Option (List ℕ)) (bytes : List ℕ) (w m : ℕ) → Written before mid bytes w → m ≡ w
+    → Keeps mid after → Written before after bytes m
 stayed before mid after bytes w m written e kept = record {
   within = omega (arith, e, written.within);
   appended = subst (λ (k : ℕ). Appends before after (take k bytes)) (sym e) (appends_kept before mid after (take w bytes) written.appended kept);

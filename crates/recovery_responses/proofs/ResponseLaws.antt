@@ -30,7 +30,8 @@ none_sound = record { few = omega arith; apart = search rules }
 pub take_sound : (n : ℕ) (responses : List PathResponse) → AreSound responses → AreSound (take n responses)
 take_sound n responses sound = record {
   few = let shorter = length-take n responses in omega (arith, shorter, sound.few);
-  apart = subst (IsDistinct same_address) (take-map (λ (response : PathResponse). response.remote) n responses) (distinct_take same_address n (remotes responses) sound.apart);
+  apart = subst (IsDistinct same_address) (take-map (λ (response : PathResponse). response.remote) n responses)
+      (distinct_take same_address n (remotes responses) sound.apart);
 }
 
 all_push : {X : Type 0} (P : X → Type 0) (xs : List X) (x : X) → AllByRecursion P xs → P x → AllByRecursion P (xs ++ x ∷ [])
@@ -45,12 +46,14 @@ distinct_push e (x ∷ ks) k apart none =
     let neither = or_parts (e x k) (list_any (λ y. e y k) ks) none in
     (all_push (λ y. e x y ≡ false) ks k apart.0 neither.0, distinct_push e ks k apart.1 neither.1)
 
-any_remote : (remote : SocketAddr) (responses : List PathResponse) → list_any (λ x. same_address x remote) (remotes responses) ≡ list_any (goes_to remote) responses
+any_remote : (remote : SocketAddr) (responses : List PathResponse)
+    → list_any (λ x. same_address x remote) (remotes responses) ≡ list_any (goes_to remote) responses
 any_remote remote [] = refl
 any_remote remote (response ∷ others) = ap (λ b. goes_to remote response || b) (any_remote remote others)
 
 -- one more response, to an address that none goes to
-push_sound : (new : PathResponse) (responses : List PathResponse) → AreSound responses → list_any (goes_to new.remote) responses ≡ false → length responses < 16 → AreSound (responses ++ new ∷ [])
+push_sound : (new : PathResponse) (responses : List PathResponse) → AreSound responses
+    → list_any (goes_to new.remote) responses ≡ false → length responses < 16 → AreSound (responses ++ new ∷ [])
 push_sound new responses sound unknown room = record {
   few = let longer = length-append responses (new ∷ []) in omega (arith, longer, room);
   apart = subst (IsDistinct same_address) (sym (map-append (λ (response : PathResponse). response.remote) responses (new ∷ [])))
@@ -78,7 +81,8 @@ renewed_sound new responses sound = record {
 pub with_response_sound : (new : PathResponse) (responses : List PathResponse) → AreSound responses → AreSound (with_response new responses)
 with_response_sound new responses sound = go (list_any (goes_to new.remote) responses) (nat_lt (length responses) 16) refl refl
   where
-    go : (known room : Bool) → list_any (goes_to new.remote) responses ≡ known → nat_lt (length responses) 16 ≡ room → AreSound (if known then map (renewed new) responses else if room then responses ++ new ∷ [] else responses)
+    go : (known room : Bool) → list_any (goes_to new.remote) responses ≡ known → nat_lt (length responses) 16 ≡ room
+        → AreSound (if known then map (renewed new) responses else if room then responses ++ new ∷ [] else responses)
     go true room known_is room_is = renewed_sound new responses sound
     go false true known_is room_is = push_sound new responses sound known_is (search rules)
     go false false known_is room_is = sound

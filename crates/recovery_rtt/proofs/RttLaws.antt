@@ -9,7 +9,8 @@ smoothed-sampled delay sample None old = (_, refl)
 smoothed-sampled delay sample (Some smoothed) old = (_, refl)
 
 -- a later sample takes the lesser one
-least-sampled : (delay sample s : ℕ) (smoothed : Option ℕ) (old : Rtt) → smoothed ≡ Some s → (rtt_sampled delay sample smoothed old).least ≡ min old.least sample
+least-sampled : (delay sample s : ℕ) (smoothed : Option ℕ) (old : Rtt) → smoothed ≡ Some s
+    → (rtt_sampled delay sample smoothed old).least ≡ min old.least sample
 least-sampled delay sample s smoothed old is =
     subst (λ (x : Option ℕ). (rtt_sampled delay sample x old).least ≡ min old.least sample) (sym is) refl
 

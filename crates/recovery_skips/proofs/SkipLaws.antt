@@ -58,7 +58,8 @@ module _ (skips : Skips) (words : Stream) where
           let above = skips_ascend count n t (is_at-some n _ here) next in
           is_at-other (suc n) t (omega (arith, above))
 
-  below_more : (n : ℕ) (is : Bool) → is_skipped skips words n ≡ is → skips_below skips words (suc n) ≡ (if is then suc (skips_below skips words n) else skips_below skips words n)
+  below_more : (n : ℕ) (is : Bool) → is_skipped skips words n ≡ is
+      → skips_below skips words (suc n) ≡ (if is then suc (skips_below skips words n) else skips_below skips words n)
   below_more n is here = ap (λ (b : Bool). if b then suc (skips_below skips words n) else skips_below skips words n) here
 
   before_more : (n : ℕ) (is : Bool) → is_skipped skips words n ≡ is → skip_before skips words (suc n) ≡ (if is then Some n else skip_before skips words n)
@@ -136,7 +137,8 @@ module _ (skips : Skips) (words : Stream) where
   pub last_at : (n : ℕ) (old : Skipping) → old ≡ skipping_at skips words n → old.filter.last ≡ skip_before skips words n
   last_at n old is = ap (λ (s : Skipping). s.filter.last) is
 
-  pub step_at : (n : ℕ) (old new : Skipping) → old ≡ skipping_at skips words n → new ≡ passed n old → new ≡ skipping_at skips words (number_from skips words n + 1)
+  pub step_at : (n : ℕ) (old new : Skipping) → old ≡ skipping_at skips words n → new ≡ passed n old
+      → new ≡ skipping_at skips words (number_from skips words n + 1)
   step_at n old new is after = after ∙ ap (λ (s : Skipping). passed n s) is ∙ passed_step n
 
   -- a number was given out

@@ -11,9 +11,11 @@ pub record IsBelow {P M : Type 0} (space : Space P M) (number : ℕ) : Type 0 wh
 one_number : (m n : ℕ) → Some m ≡ Some n → m ≡ n
 one_number m n e = cc
 
-pub sent_below : {P M : Type 0} (old new : Space P M) (number : ℕ) (packet : Packet P M) → IsBelow old number → new ≡ with_tracking (after_sending number packet (tracking_of old)) old → IsBelow new (number + 1)
+pub sent_below : {P M : Type 0} (old new : Space P M) (number : ℕ) (packet : Packet P M) → IsBelow old number
+    → new ≡ with_tracking (after_sending number packet (tracking_of old)) old → IsBelow new (number + 1)
 sent_below {P} {M} old new number packet below is = subst (λ (s : Space P M). IsBelow s (number + 1)) (sym is) (record {
-  packets = are_below _ _ (AllBelow-push (without_some (packets_of old) forgotten) number packet (AllBelow-without_some (packets_of old) forgotten number (all_below (packets_of old) number below.packets)));
+  packets = are_below _ _ (AllBelow-push (without_some (packets_of old) forgotten) number packet
+      (AllBelow-without_some (packets_of old) forgotten number (all_below (packets_of old) number below.packets)));
   last = go packet.ack_eliciting;
 })
   where

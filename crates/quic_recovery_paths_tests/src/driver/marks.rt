@@ -2,6 +2,7 @@
 use super::moves::{
     DROP, congestion, kept_used, leaves_kept, move_to, reset, sample, transmit, used,
 };
+use super::paths::end_acks;
 use super::*;
 use quic_recovery::congestion::NewReno;
 use quic_recovery::paths::{PathData, PathMarks, PathResponses};
@@ -88,14 +89,6 @@ fn marked(rt: &impl Abort, recovery: &Reno, row: u64, current: Marks, previous: 
 fn replaced(rt: &impl Abort, recovery: &mut Reno, path: PathName, want: Option<Marks>) {
     let is_wanted = recovery.set_marks(path, to_set()).map(of_marks) == want;
     assert!(rt; is_wanted, "the marks that were there");
-}
-
-fn end_acks() -> Event {
-    Event::EndAcks {
-        now: at(9),
-        app_limited: false,
-        largest: Some(0),
-    }
 }
 
 #[test]

@@ -40,7 +40,7 @@ fn congestion(now: u64, sent: u64) -> Event {
     }
 }
 
-fn end_acks() -> Event {
+pub(super) fn end_acks() -> Event {
     Event::EndAcks {
         now: at(9),
         app_limited: false,

@@ -6,13 +6,16 @@ pub returns-then-len-gt-MAX_ACK_BLOCKS-clause-pending : goal.returns-then-len-gt
 returns-then-len-gt-MAX_ACK_BLOCKS-clause-pending c =
     let mid = c.insert_one.new.self in
     let many : 64 < length mid = omega arith in
-    (inserted_cut c.args.ranges.now mid c.args.packet c.in_ok-insert_one.field-0 c.in_ok-insert_one.ensures.inserts c.requires.count many c.pop_min.result c.pop_min.new.self c.pop_min.ensures.lowest c.pop_min.ensures.none).0
+    (inserted_cut c.args.ranges.now mid c.args.packet c.in_ok-insert_one.field-0 c.in_ok-insert_one.ensures.inserts
+    c.requires.count many c.pop_min.result c.pop_min.new.self c.pop_min.ensures.lowest c.pop_min.ensures.none).0
 
 pub returns-then-len-gt-MAX_ACK_BLOCKS-clause-kept : goal.returns-then-len-gt-MAX_ACK_BLOCKS-clause-kept
 returns-then-len-gt-MAX_ACK_BLOCKS-clause-kept c =
     let mid = c.insert_one.new.self in
     let many : 64 < length mid = omega arith in
-    let done = (inserted_cut c.args.ranges.now mid c.args.packet c.in_ok-insert_one.field-0 c.in_ok-insert_one.ensures.inserts c.requires.count many c.pop_min.result c.pop_min.new.self c.pop_min.ensures.lowest c.pop_min.ensures.none) in
+    let done = (inserted_cut c.args.ranges.now mid c.args.packet c.in_ok-insert_one.field-0
+    c.in_ok-insert_one.ensures.inserts c.requires.count many c.pop_min.result c.pop_min.new.self
+    c.pop_min.ensures.lowest c.pop_min.ensures.none) in
     (done.1, done.2)
 
 pub returns-else-len-gt-MAX_ACK_BLOCKS-clause-pending : goal.returns-else-len-gt-MAX_ACK_BLOCKS-clause-pending
@@ -25,7 +28,9 @@ pub returns-then-len-gt-MAX_ACK_BLOCKS-clause-some : goal.returns-then-len-gt-MA
 returns-then-len-gt-MAX_ACK_BLOCKS-clause-some c =
     let mid = c.insert_one.new.self in
     let many : 64 < length mid = omega arith in
-    let done = (inserted_cut c.args.ranges.now mid c.args.packet c.in_ok-insert_one.field-0 c.in_ok-insert_one.ensures.inserts c.requires.count many c.pop_min.result c.pop_min.new.self c.pop_min.ensures.lowest c.pop_min.ensures.none) in
+    let done = (inserted_cut c.args.ranges.now mid c.args.packet c.in_ok-insert_one.field-0
+    c.in_ok-insert_one.ensures.inserts c.requires.count many c.pop_min.result c.pop_min.new.self
+    c.pop_min.ensures.lowest c.pop_min.ensures.none) in
     some_after_cut mid c.pop_min.new.self c.pop_min.result many c.pop_min.ensures.lowest done.2
 
 pub returns-else-len-gt-MAX_ACK_BLOCKS-clause-some : goal.returns-else-len-gt-MAX_ACK_BLOCKS-clause-some

@@ -8,4 +8,5 @@ loop-preserved c =
     let left = length old - c.loop.counter in
     let one_less : length old - (c.loop.counter + 1) ≡ left - 1 = omega arith in
     let popped = c.pop_last-dropped in
-    rw one_less (drops_one old c.loop.numbers.keys popped.new.self.keys left popped.result c.loop.invariant (omega arith) popped.ensures.variant popped.ensures.removal popped.ensures.unchanged)
+    rw one_less (drops_one old c.loop.numbers.keys popped.new.self.keys left popped.result c.loop.invariant
+    (omega arith) popped.ensures.variant popped.ensures.removal popped.ensures.unchanged)

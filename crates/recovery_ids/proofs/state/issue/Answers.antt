@@ -15,5 +15,6 @@ loop-number-preserved c =
     let done = number - c.args.first in
     let one_more : number + 1 - c.args.first ≡ suc done = omega arith in
     let longer = range_more c.args.first done number (omega arith) in
-    let rise : Rise 0 number c.loop-number.numbers.keys = rw c.loop-number.invariant (Rise-append 0 c.args.first done number c.args.numbers.now.keys c.requires.above (omega arith)) in
+    let rise : Rise 0 number c.loop-number.numbers.keys = rw c.loop-number.invariant
+    (Rise-append 0 c.args.first done number c.args.numbers.now.keys c.requires.above (omega arith)) in
     rw (one_more, longer, ← append_assoc, ← c.loop-number.invariant) (c.in-Ok.ensures.keys ∙ inserts_last 0 number c.loop-number.numbers.keys rise)

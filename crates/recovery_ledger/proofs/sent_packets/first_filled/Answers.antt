@@ -12,7 +12,8 @@ pub loop-place-init : goal.loop-place-init
 loop-place-init g c =
     let words = g.Q.RetransmitQueue.words in
     record {
-      left = ap (first_filled words c.args.streams.now) c.place_from-place.ensures.entries ∙ filled_from_here words c.args.streams.now (entries_of c.args.packets.now) c.args.from c.requires;
+      left = ap (first_filled words c.args.streams.now) c.place_from-place.ensures.entries
+          ∙ filled_from_here words c.args.streams.now (entries_of c.args.packets.now) c.args.from c.requires;
       below = c.requires;
       before = λ e. void_before words c.args.packets.now c.args.from c.place_from-place.result c.place_from-place.ensures.divides c.requires;
     }
@@ -38,7 +39,8 @@ pub returns-then-not-is_empty-clause-void : goal.returns-then-not-is_empty-claus
 returns-then-not-is_empty-clause-void g c =
     let words = g.Q.RetransmitQueue.words in
     elim c.if-are_void.branch [
-      | then-are_void w ↦ rw w.from-is (void_below words c.args.packets.now c.in-Some.number c.loop-place.place c.in-Some.ensures.divides (c.loop-place.invariant.before w.if-are_void.true))
+      | then-are_void w ↦ rw w.from-is (void_below words c.args.packets.now c.in-Some.number c.loop-place.place
+          c.in-Some.ensures.divides (c.loop-place.invariant.before w.if-are_void.true))
       | else-are_void w ↦ rw w.from-is c.loop-place.invariant.below
     ]
 
@@ -50,7 +52,8 @@ loop-place-preserved g c =
           (ap (λ (p : Packet _ _). words.is_empty p.retransmits c.args.streams.now) (sym c.packet.view_is) ∙ sym c.is_empty.ensures ∙ c.if-not-is_empty.false)
           c.loop-place.invariant.left;
       below = elim c.if-are_void.branch [
-        | then-are_void w ↦ rw w.from-is (void_below words c.args.packets.now c.in-Some.number c.loop-place.place c.in-Some.ensures.divides (c.loop-place.invariant.before w.if-are_void.true))
+        | then-are_void w ↦ rw w.from-is (void_below words c.args.packets.now c.in-Some.number c.loop-place.place
+            c.in-Some.ensures.divides (c.loop-place.invariant.before w.if-are_void.true))
         | else-are_void w ↦ rw w.from-is c.loop-place.invariant.below
       ];
       before = λ yes. elim c.if-are_void.branch [

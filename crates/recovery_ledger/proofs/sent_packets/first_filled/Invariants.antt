@@ -7,7 +7,8 @@ use Rattle.recovery_ledger.proofs.sent_packets.first_filled.Given as goal
 
 abbrev pub invariant-loop-place : goal.invariant-loop-place
 invariant-loop-place g l = record {
-  left : first_filled g.Q.RetransmitQueue.words l.fn.streams (entries_of (drop l.place l.fn.packets)) ≡ first_filled g.Q.RetransmitQueue.words l.fn.streams (entries_of l.fn.packets);
+  left : first_filled g.Q.RetransmitQueue.words l.fn.streams (entries_of (drop l.place l.fn.packets))
+      ≡ first_filled g.Q.RetransmitQueue.words l.fn.streams (entries_of l.fn.packets);
   below : AreVoidBelow g.Q.RetransmitQueue.words l.from (entries_of l.fn.packets);
   before : l.are_void ≡ true → AreVoidBefore g.Q.RetransmitQueue.words l.fn.packets l.place;
 }

@@ -19,7 +19,9 @@ returns-in_ok-checked_add-in-Some-clause-least g c =
     (rw (c.max.ensures, c.in_ok-checked_add-in-Some.ensures.1) at c.first_from.ensures.lowest))
 
 pub returns-in-None-clause-first : goal.returns-in-None-clause-first
-returns-in-None-clause-first g c = rw c.in-None.is (c.first_from-in-None.ensures.first ∙ first_above_none (entries_of c.args.packets.now) c.args.from (rw c.in-None.is at c.requires.found))
+returns-in-None-clause-first g c = rw c.in-None.is (c.first_from-in-None.ensures.first
+    ∙ first_above_none (entries_of c.args.packets.now) c.args.from (rw c.in-None.is at c.requires.found))
 
 pub returns-in-None-clause-least : goal.returns-in-None-clause-least
-returns-in-None-clause-least g c = rw c.in-None.is (least_above_all (entries_of c.args.packets.now) c.args.from c.first_from-in-None.result (rw c.in-None.is at c.requires.found) c.first_from-in-None.ensures.lowest)
+returns-in-None-clause-least g c = rw c.in-None.is (least_above_all (entries_of c.args.packets.now) c.args.from
+    c.first_from-in-None.result (rw c.in-None.is at c.requires.found) c.first_from-in-None.ensures.lowest)

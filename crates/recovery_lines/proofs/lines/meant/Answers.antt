@@ -5,4 +5,6 @@ use Rattle.recovery_lines.specs.Lines.{Means}
 use Rattle.recovery_lines.proofs.lines.meant.Goals as goal
 
 pub returns-in_ok-ids-in-Ids-clause-found : goal.returns-in_ok-ids-in-Ids-clause-found
-returns-in_ok-ids-in-Ids-clause-found c = subst (λ (line : Line). Means line (IssueIds c.in-Ids.now c.in_ok-ids-in-Ids.ids)) (sym c.in-Ids.is) (c.in_ok-ids-in-Ids.ids, refl, c.in_ok-ids-in-Ids.ensures.made, search rules)
+returns-in_ok-ids-in-Ids-clause-found c = subst (λ (line : Line). Means line
+    (IssueIds c.in-Ids.now c.in_ok-ids-in-Ids.ids)) (sym c.in-Ids.is)
+    (c.in_ok-ids-in-Ids.ids, refl, c.in_ok-ids-in-Ids.ensures.made, search rules)

@@ -16,7 +16,8 @@ returns-in-None-clause-only c = λ event spells. absurd (none_spelled c.args.lin
 
 pub returns-in-Some-clause-memory : goal.returns-in-Some-clause-memory
 returns-in-Some-clause-memory c =
-    read_refused c.args.line.now c.in-Some.line c.meant.result (sym c.in_ok-line.ensures.found ∙ c.in-Some.is) c.if-line-gt-LINE_LIMIT.false c.meant.ensures.memory
+    read_refused c.args.line.now c.in-Some.line c.meant.result (sym c.in_ok-line.ensures.found ∙ c.in-Some.is)
+    c.if-line-gt-LINE_LIMIT.false c.meant.ensures.memory
 
 pub returns-in_err-line-clause-memory : goal.returns-in_err-line-clause-memory
 returns-in_err-line-clause-memory c =

@@ -6,13 +6,15 @@ use Rattle.recovery_lines.proofs.words.leading_digits.Goals as goal
 pub overflow_mul-value : goal.overflow_mul-value
 overflow_mul-value c =
     let inv = c.loop-count.invariant in
-    let small : digits_value 10 (take c.loop-count.count c.args.bytes.now) < 10 ^ 18 = few_small c.args.bytes.now c.loop-count.count inv.0 inv.2 c.if-count-lt19.true in
+    let small : digits_value 10 (take c.loop-count.count c.args.bytes.now) < 10 ^ 18 = few_small c.args.bytes.now
+    c.loop-count.count inv.0 inv.2 c.if-count-lt19.true in
     omega arith
 
 pub overflow_add-value : goal.overflow_add-value
 overflow_add-value c =
     let inv = c.loop-count.invariant in
-    let small : digits_value 10 (take c.loop-count.count c.args.bytes.now) < 10 ^ 18 = few_small c.args.bytes.now c.loop-count.count inv.0 inv.2 c.if-count-lt19.true in
+    let small : digits_value 10 (take c.loop-count.count c.args.bytes.now) < 10 ^ 18 = few_small c.args.bytes.now
+    c.loop-count.count inv.0 inv.2 c.if-count-lt19.true in
     omega arith
 
 pub loop-count-preserved : goal.loop-count-preserved

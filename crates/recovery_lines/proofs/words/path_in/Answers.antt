@@ -6,7 +6,21 @@ use Rattle.quic_recovery.specs.declared.event.PathName.TheVariants.{Current, Pre
 use Rattle.recovery_lines.proofs.words.path_in.Goals as goal
 
 pub returns-in-current : goal.returns-in-current
-returns-in-current c = name_read path_of c.args.word.now (codes "current") Current (path_again Current) (omega arith) (omega arith, (omega arith, (omega arith, (omega arith, (omega arith, (omega arith, (omega arith, tt)))))))
+returns-in-current c = name_read path_of c.args.word.now (codes "current") Current (path_again Current) (omega arith)
+    (omega arith, (omega arith, (omega arith, (omega arith, (omega arith, (omega arith, (omega arith, tt)))))))
 
 pub returns-in-previous : goal.returns-in-previous
-returns-in-previous c = name_read path_of c.args.word.now (codes "previous") Previous (path_again Previous) (omega arith) (omega arith, (omega arith, (omega arith, (omega arith, (omega arith, (omega arith, (omega arith, (omega arith, tt))))))))
+returns-in-previous c = name_read path_of c.args.word.now (codes "previous") Previous (path_again Previous)
+    (omega arith) (
+      omega arith,
+      (
+        omega arith,
+        (
+          omega arith,
+          (
+            omega arith,
+            (omega arith, (omega arith, (omega arith, (omega arith, tt)))),
+          ),
+        ),
+      ),
+    )

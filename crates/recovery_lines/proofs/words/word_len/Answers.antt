@@ -4,7 +4,9 @@ use Rattle.std.proofs.lemmas.Bool.{eq-eqb}
 use Rattle.recovery_lines.proofs.words.word_len.Goals as goal
 
 pub returns-else-bytes-end-ne32-clause-place : goal.returns-else-bytes-end-ne32-clause-place
-returns-else-bytes-end-ne32-clause-place c = sym (position_or_len_is (λ b. b == 32) c.args.bytes.now c.loop-end.end 0 c.loop-end.invariant.0 c.loop-end.invariant.1 (λ lt. eq-eqb _ _ c.if-bytes-end-ne32.false))
+returns-else-bytes-end-ne32-clause-place c = sym (position_or_len_is (λ b. b == 32) c.args.bytes.now c.loop-end.end 0
+    c.loop-end.invariant.0 c.loop-end.invariant.1 (λ lt. eq-eqb _ _ c.if-bytes-end-ne32.false))
 
 pub returns-after-loop-end-clause-place : goal.returns-after-loop-end-clause-place
-returns-after-loop-end-clause-place c = sym (position_or_len_is (λ b. b == 32) c.args.bytes.now c.loop-end.end 0 c.loop-end.invariant.0 c.loop-end.invariant.1 (λ lt. absurd (omega arith)))
+returns-after-loop-end-clause-place c = sym (position_or_len_is (λ b. b == 32) c.args.bytes.now c.loop-end.end 0
+    c.loop-end.invariant.0 c.loop-end.invariant.1 (λ lt. absurd (omega arith)))

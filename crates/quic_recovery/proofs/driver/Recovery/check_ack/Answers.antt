@@ -11,7 +11,11 @@ returns-in-Ok g c = (
     (λ large. absurd (omega (arith, large, c.if-high-ge-NUMBER_LIMIT.false))),
     (
       (λ less. absurd (omega (arith, less, c.if-low-high.false))),
-      ((λ acked. c.in-Ok.ensures (acks_skip (known_to (parts_of c.args.self.now)) c.new.result c.args.low c.args.high c.new.ensures.start c.new.ensures.end c.new.ensures.exhausted c.args.space acked)), refl),
+      (
+        (λ acked. c.in-Ok.ensures (acks_skip (known_to (parts_of c.args.self.now)) c.new.result c.args.low c.args.high
+            c.new.ensures.start c.new.ensures.end c.new.ensures.exhausted c.args.space acked)),
+        refl,
+      ),
     ),
   ),
 )
@@ -23,7 +27,8 @@ returns-in-Err g c = (
     (λ large. absurd (omega (arith, large, c.if-high-ge-NUMBER_LIMIT.false))),
     (
       (λ less. absurd (omega (arith, less, c.if-low-high.false))),
-      skip_acked (known_to (parts_of c.args.self.now)) c.new.result c.args.low c.args.high c.new.ensures.start c.new.ensures.end c.new.ensures.exhausted c.args.space c.in-Err.ensures.0,
+      skip_acked (known_to (parts_of c.args.self.now)) c.new.result c.args.low c.args.high c.new.ensures.start
+          c.new.ensures.end c.new.ensures.exhausted c.args.space c.in-Err.ensures.0,
     ),
   ),
 )

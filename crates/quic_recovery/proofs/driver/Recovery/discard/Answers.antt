@@ -19,7 +19,8 @@ invariant_of-self-2 g c =
     let old = space_of c.args.space now.spaces in
     let here = c.take_pending.new.self in
     let there = c.index_mut-here.ensures.value in
-    let empty : here ≡ space_discards words old = c.take_pending.ensures.step ∙ ap (space_hands_out words) (c.forget_all.ensures.space ∙ ap (λ (s : Space _ _). space_empties s) there) in
+    let empty : here ≡ space_discards words old = c.take_pending.ensures.step
+    ∙ ap (space_hands_out words) (c.forget_all.ensures.space ∙ ap (λ (s : Space _ _). space_empties s) there) in
     let Holds : Space _ _ → Type 0 = HasGreatestCome in
     let come = subst Holds (sym empty) (balanced.coherent c.args.space).received in
     let coherent = coherent_emptied old here (balanced.coherent c.args.space) come (ap tracking_of empty) (ap next_number_of empty) in
@@ -37,5 +38,6 @@ returns g c =
     let there = c.index_mut-here.ensures.value in
     let empty = c.take_pending.ensures.step ∙ ap (space_hands_out words) (c.forget_all.ensures.space ∙ ap (λ (s : Space _ _). space_empties s) there) in
     let left = c.forget_all.ensures.paths ∙ ap (λ (s : Space _ _). paths_without (packets_of s) now.paths) there in
-    discard_changes (queue_meaning g.Q.RetransmitQueue.contents words g.Q.RetransmitQueue.blank) now c.args.space c.take_pending.new.self c.insert.new.self c.forget_all.new.self
+    discard_changes (queue_meaning g.Q.RetransmitQueue.contents words g.Q.RetransmitQueue.blank) now c.args.space
+    c.take_pending.new.self c.insert.new.self c.forget_all.new.self
     (sym c.if-contains.ensures) empty c.insert.ensures left

@@ -13,7 +13,8 @@ use Rattle.quic_recovery.proofs.driver.Recovery.new.Goals as goal
 
 pub invariant_of-result : goal.invariant_of-result
 invariant_of-result g c = record {
-  balanced = balanced_first c.new-2.result c.first_path.result c.new-4.result c.new-4.ensures c.new-2.ensures.packets c.new-2.ensures.acks c.first_path.ensures.ledger;
+  balanced = balanced_first c.new-2.result c.first_path.result c.new-4.result c.new-4.ensures c.new-2.ensures.packets
+      c.new-2.ensures.acks c.first_path.ensures.ledger;
   limited = λ limit is. absurd (none-some limit is);
 }
 
@@ -26,7 +27,8 @@ returns-clause-left g c =
     let made = c.new-2.ensures in
     let balanced = balanced_first c.new-2.result c.first_path.result c.new-4.result c.new-4.ensures made.packets made.acks c.first_path.ensures.ledger in
     let spaces : (space : SpaceId) → SpaceLeft words c.args.now [] (space_of space c.new-2.result) = λ space.
-    fresh_space words c.args.now _ (made.numbers space) (made.acks space) (made.packets space) (made.next space) (made.received space) (made.kept space) (made.queued space) in
+    fresh_space words c.args.now _ (made.numbers space) (made.acks space) (made.packets space) (made.next space)
+    (made.received space) (made.kept space) (made.queued space) in
     record {
       settings = refl;
       spaces = spaces;
@@ -48,7 +50,8 @@ returns-clause-came g c = record {
   told = tt;
   left = returns-clause-left g c;
   small = let o = c.args.config.transport.mtu_discovery_config in
-      where_allowed (λ settings. settings.upper_bound < 2 ^ 16) c.args.config.allow_mtud o (bound_in o _ c.well_formed.1.0.1.1.1.0.1.1.1.1.1.1.1.1.1.1.1.1.1.1.0);
+      where_allowed (λ settings. settings.upper_bound < 2 ^ 16) c.args.config.allow_mtud o
+      (bound_in o _ c.well_formed.1.0.1.1.1.0.1.1.1.1.1.1.1.1.1.1.1.1.1.1.0);
 }
 
 pub returns-clause-marks : goal.returns-clause-marks

@@ -18,7 +18,11 @@ returns g c =
     let polled : discovery ≡ discovery_after (polls now number) old.paths.current.state.discovery = search rules in
     let blank = g.met.Q.RetransmitQueue.is_blank _ c.default-frames.ensures in
     elim c.match-send.branch [
-      | in-Ok w ↦ rw (w.result-is, w.self-is) (probe_changes q old _ now c.in-Some.size c.empty-queue.result c.default-frames.result c.empty-queue.ensures blank due
-          number discovery w.search_on-in-Ok.new.self _ c.number_in-number.ensures polled w.search_on-in-Ok.ensures (rw (← c.self-2.view_is) at w.in-Ok.ensures))
-      | in-Err w ↦ rw (w.result-is, w.self-is) (probe_refused q old (parts_of c.send.new.self) now c.in-Some.size c.empty-queue.result c.default-frames.result c.empty-queue.ensures blank due w.in-Err.refusal w.in-Err.ensures)
+      | in-Ok w ↦ rw (w.result-is, w.self-is) (probe_changes q old _ now c.in-Some.size c.empty-queue.result
+          c.default-frames.result c.empty-queue.ensures blank due
+          number discovery w.search_on-in-Ok.new.self _ c.number_in-number.ensures polled w.search_on-in-Ok.ensures
+          (rw (← c.self-2.view_is) at w.in-Ok.ensures))
+      | in-Err w ↦ rw (w.result-is, w.self-is) (probe_refused q old (parts_of c.send.new.self) now c.in-Some.size
+          c.empty-queue.result c.default-frames.result c.empty-queue.ensures blank due w.in-Err.refusal
+          w.in-Err.ensures)
     ]

@@ -6,11 +6,14 @@ use Rattle.recovery_base.specs.declared.below.ids.IssuedCid.{IssuedCid}
 use Rattle.quic_recovery.proofs.driver.ids.go_on.Goals as goal
 
 -- the number at a place of ids that go on
-number_at : (first i : ℕ) (ids : List IssuedCid) (other : IssuedCid) → i < length ids → map (λ id. id.sequence) ids ≡ range_with_len first (length ids) → (get_or ids i other).sequence ≡ first + i
+number_at : (first i : ℕ) (ids : List IssuedCid) (other : IssuedCid) → i < length ids
+    → map (λ id. id.sequence) ids ≡ range_with_len first (length ids) → (get_or ids i other).sequence ≡ first + i
 number_at first i ids other inside run =
     sym (get_or-map (λ id. id.sequence) ids i other 0 inside) ∙ ap (λ (ns : List ℕ). get_or ns i 0) run ∙ get_or-range_with_len first (length ids) i 0 inside
 
-numbers_go_on : (first : ℕ) (ids : List IssuedCid) → ((i : ℕ) → i < length ids → get_or (map (λ id. id.sequence) ids) i 0 ≡ first + i) → map (λ id. id.sequence) ids ≡ range_with_len first (length ids)
+numbers_go_on : (first : ℕ) (ids : List IssuedCid)
+    → ((i : ℕ) → i < length ids → get_or (map (λ id. id.sequence) ids) i 0 ≡ first + i)
+    → map (λ id. id.sequence) ids ≡ range_with_len first (length ids)
 numbers_go_on first ids each =
     let long = length-map ids (λ (id : IssuedCid). id.sequence) in
     ext_get_or 0 (map (λ id. id.sequence) ids) (range_with_len first (length ids)) (long ∙ sym (length-range_with_len first (length ids)))
@@ -23,7 +26,8 @@ pub returns-then-id-next : goal.returns-then-id-next
 returns-then-id-next c = (
   λ holds. absurd (false_fails holds),
   λ run.
-      let here = ap (λ (id : IssuedCid). id.sequence) c.id-item.is ∙ number_at c.args.first c.loop-id.id-index c.args.ids.now c.id-item.result c.loop-id-test.true run in
+      let here = ap (λ (id : IssuedCid). id.sequence) c.id-item.is
+      ∙ number_at c.args.first c.loop-id.id-index c.args.ids.now c.id-item.result c.loop-id-test.true run in
       absurd (c.if-id-next.true (here ∙ sym c.loop-id.invariant.next)),
 )
 
@@ -33,7 +37,8 @@ loop-id-preserved c = record {
   run = λ i below.
       let before : i < c.loop-id.id-index → get_or (map (λ id. id.sequence) c.args.ids.now) i 0 ≡ c.args.first + i = c.loop-id.invariant.run i in
       let here : get_or (map (λ id. id.sequence) c.args.ids.now) c.loop-id.id-index 0 ≡ c.args.first + c.loop-id.id-index =
-      get_or-map (λ id. id.sequence) c.args.ids.now c.loop-id.id-index c.id-item.result 0 c.loop-id-test.true ∙ ap (λ (id : IssuedCid). id.sequence) (sym c.id-item.is) ∙ c.if-id-next.false ∙ c.loop-id.invariant.next in
+      get_or-map (λ id. id.sequence) c.args.ids.now c.loop-id.id-index c.id-item.result 0 c.loop-id-test.true
+      ∙ ap (λ (id : IssuedCid). id.sequence) (sym c.id-item.is) ∙ c.if-id-next.false ∙ c.loop-id.invariant.next in
       grind (arith, before, here, below);
 }
 

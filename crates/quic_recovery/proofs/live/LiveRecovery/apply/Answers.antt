@@ -8,11 +8,13 @@ invariant_of-self g c =
     let queues = queue_meaning g.Q.RetransmitQueue.contents g.Q.RetransmitQueue.words g.Q.RetransmitQueue.blank in
     let old = parts_of c.args.self.now.recovery in
     record {
-      came = still_came g.F.ControllerFactory.built g.F.Controller.Controller.words queues old c.args.event c.apply.result (parts_of c.apply.new.self) c.apply.ensures.goes_on c.args.self.now.came;
+      came = still_came g.F.ControllerFactory.built g.F.Controller.Controller.words queues old c.args.event
+          c.apply.result (parts_of c.apply.new.self) c.apply.ensures.goes_on c.args.self.now.came;
     }
 
 pub returns-clause-went_on : goal.returns-clause-went_on
 returns-clause-went_on g c =
     let queues = queue_meaning g.Q.RetransmitQueue.contents g.Q.RetransmitQueue.words g.Q.RetransmitQueue.blank in
     let old = parts_of c.args.self.now.recovery in
-    went_on g.F.ControllerFactory.built g.F.Controller.Controller.words queues old c.args.event c.apply.result (parts_of c.apply.new.self) c.apply.ensures.goes_on c.args.self.now.came
+    went_on g.F.ControllerFactory.built g.F.Controller.Controller.words queues old c.args.event c.apply.result
+    (parts_of c.apply.new.self) c.apply.ensures.goes_on c.args.self.now.came

@@ -8,5 +8,6 @@ invariant_of-self g c =
     let queues = queue_meaning g.Q.RetransmitQueue.contents g.Q.RetransmitQueue.words g.Q.RetransmitQueue.blank in
     let old = parts_of c.args.self.now.recovery in
     record {
-      came = stays_come g.F.ControllerFactory.built g.F.Controller.Controller.words queues old (parts_of c.set_marks.new.self) c.set_marks.ensures.came c.args.self.now.came;
+      came = stays_come g.F.ControllerFactory.built g.F.Controller.Controller.words queues old
+          (parts_of c.set_marks.new.self) c.set_marks.ensures.came c.args.self.now.came;
     }

@@ -19,7 +19,8 @@ loop-range-preserved c =
     let same : length now ≡ length seen = c.loop-range.auto.range-items in
     let inside : at < length seen = c.loop-range-test.true in
     let here : Range ℕ = get_or now at (span 0 0) in
-    rw c.clip.ensures (map_over_more (clipped c.args.start c.args.end) seen now at here inside c.loop-range.invariant (get_or_default now at (span 0 0) here (omega arith)))
+    rw c.clip.ensures (map_over_more (clipped c.args.start c.args.end) seen now at here inside c.loop-range.invariant
+    (get_or_default now at (span 0 0) here (omega arith)))
 
 pub returns : goal.returns
 returns c =
@@ -32,6 +33,12 @@ returns c =
     let length_is : length seen ≡ vec_len c.args.ranges.now = c.deref_mut-range-items.ensures.len in
     let size : length seen ≡ length items = ap length c.deref_mut-range-items.ensures.value in
     let kept = filter_same _ (λ (r : Range ℕ). nat_lt r.start r.end) _ (λ x b f h. search rules) _ _ c.retain.ensures.filtered in
-    let whole : take (vec_len c.args.ranges.now) (now ++ drop (length now) items) ≡ now = ap (λ (rs : Ranges). take (vec_len c.args.ranges.now) (now ++ rs)) (drop_all (length now) items (omega arith)) ∙ ap (λ (rs : Ranges). take (vec_len c.args.ranges.now) rs) (append-nil now) ∙ take_all (vec_len c.args.ranges.now) now (omega arith) in
-    let all : now ≡ map cut seen = c.loop-range.invariant ∙ ap (λ (rs : Ranges). map cut (take c.loop-range.range-index seen) ++ rs) (drop_all c.loop-range.range-index seen past) ∙ append-nil (map cut (take c.loop-range.range-index seen)) ∙ ap (λ (rs : Ranges). map cut rs) (take_all c.loop-range.range-index seen past) in
+    let whole : take (vec_len c.args.ranges.now) (now ++ drop (length now) items)
+    ≡ now = ap (λ (rs : Ranges). take (vec_len c.args.ranges.now) (now ++ rs))
+    (drop_all (length now) items (omega arith)) ∙ ap (λ (rs : Ranges). take (vec_len c.args.ranges.now) rs)
+    (append-nil now) ∙ take_all (vec_len c.args.ranges.now) now (omega arith) in
+    let all : now ≡ map cut seen = c.loop-range.invariant ∙ ap
+    (λ (rs : Ranges). map cut (take c.loop-range.range-index seen) ++ rs)
+    (drop_all c.loop-range.range-index seen past) ∙ append-nil (map cut (take c.loop-range.range-index seen))
+    ∙ ap (λ (rs : Ranges). map cut rs) (take_all c.loop-range.range-index seen past) in
     kept ∙ ap (λ (rs : Ranges). filter is_some_range rs) (whole ∙ all ∙ ap (λ (rs : Ranges). map cut rs) c.deref_mut-range-items.ensures.value)

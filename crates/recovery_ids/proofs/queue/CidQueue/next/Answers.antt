@@ -10,6 +10,7 @@ returns-in_err-token-clause-step c =
 pub returns-clause-step : goal.returns-clause-step
 returns-clause-step c =
     record {
-      same = uses (remote_ids c.args.self.now) (remote_ids c.advance.new.window) c.in_ok-token.token record { start = c.start-retired.result; end = c.start.result } (search rules) (search rules);
+      same = uses (remote_ids c.args.self.now) (remote_ids c.advance.new.window) c.in_ok-token.token
+          record { start = c.start-retired.result; end = c.start.result } (search rules) (search rules);
       window = search rules;
     }

@@ -7,7 +7,8 @@ use Rattle.recovery_ids.proofs.StateLaws.{issued_more, issued_sound}
 use Rattle.recovery_ids.proofs.state.CidState.new_cids.Goals as goal
 
 -- the numbers and the deadlines that the steps leave
-numbers_after : (before after : List ℕ) (issued count : ℕ) → after ≡ before ++ range_with_len issued (issued + count - issued) → after ≡ before ++ range_with_len issued count
+numbers_after : (before after : List ℕ) (issued count : ℕ)
+    → after ≡ before ++ range_with_len issued (issued + count - issued) → after ≡ before ++ range_with_len issued count
 numbers_after before after issued count added =
     let run : issued + count - issued ≡ count = omega arith in
     rw run at added

@@ -7,18 +7,29 @@ use Rattle.recovery_ledger.proofs.spaces.PacketSpace.receive.Goals as goal
 
 pub packet_received-arm-requires-clause-earlier : goal.packet_received-arm-requires-clause-earlier
 packet_received-arm-requires-clause-earlier g c =
-    still_reached (Has c.self.inside.dedup) (Has c.insert.new.self) c.args.number (has_greatest c.self.inside.dedup) c.insert.ensures.inserts.numbers _ _ c.in-Ok.ensures.inserts.others.6
+    still_reached (Has c.self.inside.dedup) (Has c.insert.new.self) c.args.number (has_greatest c.self.inside.dedup)
+    c.insert.ensures.inserts.numbers _ _ c.in-Ok.ensures.inserts.others.6
     (subst (λ (s : Space _ _). HasGreatestCome s) (sym c.self.view_is) c.requires.received)
 
 pub returns-clause-step : goal.returns-clause-step
 returns-clause-step g c = rw (← c.self.view_is) (record {
   numbers = c.insert.ensures.inserts.numbers;
-  hears = hears (Has c.self.inside.dedup) (Has c.insert.new.self) c.args.number (has_greatest c.self.inside.dedup) c.insert.ensures.inserts.numbers _ _ _ c.args.now c.packet_received-arm.result c.in-Ok.ensures.inserts c.args.ack_eliciting c.packet_received-arm.ensures.receives;
+  hears = hears (Has c.self.inside.dedup) (Has c.insert.new.self) c.args.number (has_greatest c.self.inside.dedup)
+      c.insert.ensures.inserts.numbers _ _ _ c.args.now c.packet_received-arm.result c.in-Ok.ensures.inserts
+      c.args.ack_eliciting c.packet_received-arm.ensures.receives;
   others = rw c.max-self-inside.ensures refl;
 })
 
 pub returns-clause-reply : goal.returns-clause-reply
-returns-clause-reply g c = rw (← c.self.view_is) (omega arith, (c.if-insert.ensures.inserts.answer, arms (Has c.self.inside.dedup) (Has c.insert.new.self) c.args.number (has_greatest c.self.inside.dedup) c.insert.ensures.inserts.numbers _ _ _ c.args.now c.packet_received-arm.result c.in-Ok.ensures.inserts c.args.ack_eliciting c.packet_received-arm.ensures.receives))
+returns-clause-reply g c = rw (← c.self.view_is) (
+  omega arith,
+  (
+    c.if-insert.ensures.inserts.answer,
+    arms (Has c.self.inside.dedup) (Has c.insert.new.self) c.args.number
+        (has_greatest c.self.inside.dedup) c.insert.ensures.inserts.numbers _ _ _ c.args.now c.packet_received-arm.result
+        c.in-Ok.ensures.inserts c.args.ack_eliciting c.packet_received-arm.ensures.receives,
+  ),
+)
 
 pub returns-then-insert-clause-reply : goal.returns-then-insert-clause-reply
 returns-then-insert-clause-reply g c = rw (← c.self.view_is) (c.if-number-ge-NUMBER_LIMIT.false, c.if-insert.ensures.inserts.answer)

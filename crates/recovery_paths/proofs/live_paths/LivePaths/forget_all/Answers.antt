@@ -10,7 +10,8 @@ use Rattle.recovery_paths.proofs.live_paths.LivePaths.forget_all.Goals as goal
 pub remove_in_flight-requires : goal.remove_in_flight-requires
 remove_in_flight-requires g c =
     let P : Packets _ _ → Type 0 = λ packets. AreCountedOnEach c.loop-packet.self packets in
-    (counted_first (c.in-Some.field-0-0, c.in-Some.packet) (packets_of c.take_first.new.self) c.loop-packet.self (subst P c.in-Some.ensures.first c.loop-packet.invariant.counted)).0
+    (counted_first (c.in-Some.field-0-0, c.in-Some.packet) (packets_of c.take_first.new.self) c.loop-packet.self
+    (subst P c.in-Some.ensures.first c.loop-packet.invariant.counted)).0
 
 pub loop-packet-preserved : goal.loop-packet-preserved
 loop-packet-preserved g c =

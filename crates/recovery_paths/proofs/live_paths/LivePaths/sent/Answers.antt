@@ -9,6 +9,8 @@ use Rattle.recovery_paths.proofs.live_paths.LivePaths.sent.Goals as goal
 
 pub remove_from_previous-requires : goal.remove_from_previous-requires
 remove_from_previous-requires g c = λ path is.
-    let P : OfPaths (Path _) → Type 0 = λ paths. ForSome paths.previous (λ p. ForSome (forgotten_entry c.args.packet (tracking_of c.args.space.now)) (λ entry. IsCountedOn p.ledger entry.1)) in
+    let P : OfPaths (Path _) → Type 0 = λ paths. ForSome paths.previous
+    (λ p. ForSome (forgotten_entry c.args.packet (tracking_of c.args.space.now))
+    (λ entry. IsCountedOn p.ledger entry.1)) in
     let counted = subst P (sym c.self.view_is) c.requires.previous in
     counted path is (c.in-Some.field-0-0, c.in-Some.packet) (sym c.in_ok-forgotten.ensures.forgotten ∙ c.in-Some.is)

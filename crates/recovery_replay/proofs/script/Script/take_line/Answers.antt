@@ -5,7 +5,12 @@ use Rattle.recovery_replay.proofs.ScriptLaws.{empty, bad_whatever_follows, kept_
 use Rattle.recovery_replay.proofs.script.Script.take_line.Goals as goal
 
 pub returns-then-is_empty : goal.returns-then-is_empty
-returns-then-is_empty c = whole_ok c.args.end.now c.args.self.now c.end_whole.new.self c.end_whole.result c.requires (empty c.args.self.now.line.items (omega (arith, c.args.self.now.line.ok.0, eqb-true _ _ (sym c.is_empty.ensures ∙ c.if-is_empty.true)))) c.end_whole.ensures
+returns-then-is_empty c = whole_ok c.args.end.now c.args.self.now c.end_whole.new.self c.end_whole.result c.requires
+    (empty c.args.self.now.line.items (omega (
+      arith,
+      c.args.self.now.line.ok.0,
+      eqb-true _ _ (sym c.is_empty.ensures ∙ c.if-is_empty.true),
+    ))) c.end_whole.ensures
 
 pub returns-then-not-branch : goal.returns-then-not-branch
 returns-then-not-branch c =
