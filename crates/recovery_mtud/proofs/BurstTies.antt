@@ -42,10 +42,6 @@ AreApart acked lost = (number : ℕ) → has number acked ≡ true → has numbe
 abbrev pub both : ℕ → ℕ → List Loss → Bool
 both min_mtu low burst = is_above min_mtu burst && is_above low burst
 
--- past these numbers too
-abbrev pub is_strong : ℕ → List ℕ → List Loss → Bool
-is_strong min_mtu numbers burst = is_above min_mtu burst && is_past numbers burst
-
 pub record Needy (min_mtu : ℕ) (run : List Loss) (standing : List (List Loss)) (acked_numbers lost_numbers : List ℕ) (s : LossBursts) : Type 0 where
   pub open_is : s.open_burst ≡ summary run
   pub min_is : s.min_mtu ≡ min_mtu
@@ -55,11 +51,18 @@ pub record Needy (min_mtu : ℕ) (run : List Loss) (standing : List (List Loss))
   pub newest : (has s.newest acked_numbers ≡ true) ⊎ ((s.newest ≡ 0) × (s.acked ≡ min_mtu))
   pub fate : IsLast lost_numbers run
 
-pub record Coming (min_mtu : ℕ) (run : List Loss) (unanswered : List (List Loss)) (acked_numbers : List ℕ) (s : LossBursts) : Type 0 where
+-- how many there are above the least MTU, from the first one past these numbers on
+abbrev pub counted : ℕ → List ℕ → List (List Loss) → ℕ
+counted min_mtu numbers bursts = length (from_first (is_past numbers) (filter (is_above min_mtu) bursts))
+
+-- the numbers are those of larger packets; once a burst counts, the least MTU alone is known to get through
+pub record Coming (min_mtu : ℕ) (run : List Loss) (unanswered : List (List Loss)) (numbers : List ℕ) (s : LossBursts) : Type 0 where
   pub open_is : s.open_burst ≡ summary run
   pub min_is : s.min_mtu ≡ min_mtu
-  pub newest : (has s.newest acked_numbers ≡ true) ⊎ (s.newest ≡ 0)
-  pub many : min 4 (tally (is_strong min_mtu acked_numbers) unanswered) ≤ length s.kept
+  pub large : AllAbove min_mtu s.kept
+  pub newest : (s.acked ≤ min_mtu) ⊎ (has s.newest numbers ≡ true)
+  pub small : 0 < counted min_mtu numbers unanswered → s.acked ≤ min_mtu
+  pub many : min 4 (counted min_mtu numbers unanswered) ≤ length s.kept
 
 -- ---- a burst closes
 
@@ -69,8 +72,8 @@ suspicious_true : (least min_mtu last newest acked : ℕ)
 suspicious_true least min_mtu last newest acked is = grind (arith, nat_tests)
 
 suspicious_false : (least min_mtu last newest acked : ℕ)
-    → (nat_lt min_mtu least && not (nat_lt last newest && nat_le least acked)) ≡ false → min_mtu < least → newest ≤ last
-    → ⊥
+    → (nat_lt min_mtu least && not (nat_lt last newest && nat_le least acked)) ≡ false → min_mtu < least
+    → (acked ≤ min_mtu) ⊎ (newest < last) → ⊥
 suspicious_false least min_mtu last newest acked is large late = grind (arith, nat_tests)
 
 one_both : (min_mtu low least : ℕ) → min_mtu < least → one (nat_lt low least) ≡ one (nat_lt min_mtu least && nat_lt low least)

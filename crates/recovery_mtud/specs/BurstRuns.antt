@@ -1,7 +1,7 @@
 -- Whole runs of the detection of black holes (RFC 8899, 4.3), over what a discovery was told and answered. Every list here has the
 -- newest entry first.
-use Rattle.std.specs.Prelude.{◌≡◌, ℕ, ◌+◌, ◌≤◌, ◌==◌, nat_lt, nat_eq, min, ⊤, Bool, true, false, ◌&&◌, if◌then◌else◌, Option, is_some, List, [], ◌∷◌, ◌++◌, length, filter}
-use Rattle.std.specs.List.{list_all}
+use Rattle.std.specs.Prelude.{◌≡◌, ℕ, ◌+◌, ◌≤◌, ◌==◌, nat_lt, nat_eq, min, ⊤, Bool, true, false, ◌||◌, if◌then◌else◌, Option, is_some, List, [], ◌∷◌, ◌++◌, length, filter}
+use Rattle.std.specs.List.{list_all, list_any}
 use Rattle.std.specs.Set.{is_member}
 use Rattle.recovery_mtud.specs.Discovery.{Discovery}
 use Rattle.recovery_mtud.specs.MtuEntries.{MtuEntry, acked, lost, losses_over, reported, reset, MtuProbe, probe_in_flight, size_at, min_mtu_in_use}
@@ -64,14 +64,6 @@ standing (reported now ∷ earlier) = []
 standing (reset mtu min_mtu ∷ earlier) = []
 standing (entry ∷ earlier) = closed_by entry earlier ++ standing earlier
 
--- those that closed since the last report, reset or acknowledgement
-abbrev pub unanswered : List MtuEntry → List (List Loss)
-unanswered [] = []
-unanswered (acked number bytes ∷ earlier) = []
-unanswered (reported now ∷ earlier) = []
-unanswered (reset mtu min_mtu ∷ earlier) = []
-unanswered (entry ∷ earlier) = closed_by entry earlier ++ unanswered earlier
-
 -- ---- numbers
 
 abbrev pub acked_numbers : List MtuEntry → List ℕ
@@ -94,20 +86,46 @@ AreFatesApart entries =
 abbrev pub is_past : List ℕ → List Loss → Bool
 is_past numbers burst = list_all (λ number. nat_lt number (last_number burst)) numbers
 
--- ---- reports: they come as all losses of a moment were told, which closes the open burst
+-- ---- larger packets that were acknowledged
 
-abbrev pub AreFour : (List Loss → Bool) → List (List Loss) → Type 0
-AreFour test bursts = 4 ≤ length (filter test bursts)
+-- the probe in flight is one, and so is a packet larger than this
+abbrev pub is_larger : ℕ → ℕ → ℕ → Option MtuProbe → Bool
+is_larger size number bytes probe = is_some (size_at number probe) || nat_lt size bytes
+
+module _ (size : ℕ) where
+  abbrev pub larger_acked : List MtuEntry → List ℕ
+  larger_acked [] = []
+  larger_acked (acked number bytes ∷ earlier) =
+      if is_larger size number bytes (probe_in_flight earlier) then number ∷ larger_acked earlier else larger_acked earlier
+  larger_acked (entry ∷ earlier) = larger_acked earlier
+
+  -- the bursts that closed since the last report, reset or acknowledgement of a larger packet
+  abbrev pub unanswered : List MtuEntry → List (List Loss)
+  unanswered [] = []
+  unanswered (acked number bytes ∷ earlier) =
+      if is_larger size number bytes (probe_in_flight earlier) then [] else unanswered earlier
+  unanswered (reported now ∷ earlier) = []
+  unanswered (reset mtu min_mtu ∷ earlier) = []
+  unanswered (entry ∷ earlier) = closed_by entry earlier ++ unanswered earlier
+
+-- from the first one on that passes the test
+abbrev pub from_first : (List Loss → Bool) → List (List Loss) → List (List Loss)
+from_first test [] = []
+from_first test (burst ∷ earlier) = if list_any test (burst ∷ earlier) then burst ∷ from_first test earlier else []
+
+-- ---- reports: they come as all losses of a moment were told, which closes the open burst
 
 module _ (made : Discovery) where
   -- four bursts stand whose packets are all larger than the least MTU
   abbrev pub AreFourStanding : List MtuEntry → Type 0
-  AreFourStanding entries = AreFour (is_above (min_mtu_in_use made entries)) (if_any (open_run entries) ++ standing entries)
+  AreFourStanding entries = 4 ≤ length (filter (is_above (min_mtu_in_use made entries)) (if_any (open_run entries) ++ standing entries))
 
-  -- four such bursts have closed with no acknowledgement since, each past every number that was acknowledged
+  -- four such bursts have closed, the first of them past every larger packet that was acknowledged, and none was since it closed
   abbrev pub AreFourUnanswered : List MtuEntry → Type 0
   AreFourUnanswered entries =
-      AreFour (λ burst. is_above (min_mtu_in_use made entries) burst && is_past (acked_numbers entries) burst) (if_any (open_run entries) ++ unanswered entries)
+      let least = min_mtu_in_use made entries in
+      let bursts = filter (is_above least) (if_any (open_run entries) ++ unanswered least entries) in
+      4 ≤ length (from_first (is_past (larger_acked least entries)) bursts)
 
   -- where a black hole is reported, four stand
   abbrev pub ReportNeedsFour : List MtuEntry → Type 0
