@@ -1,18 +1,18 @@
 -- Whole runs of the detection of black holes: a report needs four bursts, and comes at four.
 use Rattle.std.proofs.Common.{◌≡◌, ℕ, Option, Some, None, is_some, Bool, true, false, List, [], ◌∷◌, refl, sym, ap, min, arith, ◌∙◌, subst}
-use Rattle.std.specs.Prelude.{nat_lt, ◌&&◌, if◌then◌else◌, filter}
+use Rattle.std.specs.Prelude.{nat_lt, ◌&&◌, ◌||◌, if◌then◌else◌, filter}
 use Rattle.std.specs.List.{list_all}
 use Rattle.std.specs.Option.{option_map}
 use Rattle.std.proofs.lemmas.Bool.Decides.{nat_tests}
 use Rattle.recovery_mtud.specs.Search.{search_reported}
-use Rattle.recovery_mtud.specs.Bursts.{bursts_made, bursts_closed, is_black_hole}
+use Rattle.recovery_mtud.specs.Bursts.{LossBursts, bursts_made, bursts_closed, is_black_hole}
 use Rattle.recovery_mtud.specs.Discovery.{Discovery, poll_of, reports, size_of_probe, taking, reset_in}
 use Rattle.recovery_mtud.specs.DiscoveryLog.{MtuCall, polls, is_limited, acks, loses_probe, loses, losses_end, resets, discovery_after, discovery_by}
 use Rattle.recovery_mtud.specs.MtuEntries.{IsUntold, MtuEntry, probed, unprobed, limited, acked, probe_lost, lost, losses_over, reported, reset, poll_entry, entry_of, entries_by, probe_in_flight, size_at, min_mtu_in_use}
-use Rattle.recovery_mtud.specs.BurstRuns.{Loss, open_run, least_size, is_above, standing, unanswered, acked_numbers, lost_numbers, AreFatesApart, AreFourStanding, AreFourUnanswered, ReportNeedsFour, ReportComesAtFour}
+use Rattle.recovery_mtud.specs.BurstRuns.{Loss, open_run, least_size, is_above, standing, unanswered, larger_acked, acked_numbers, lost_numbers, AreFatesApart, AreFourStanding, AreFourUnanswered, ReportNeedsFour, ReportComesAtFour}
 use Rattle.recovery_mtud.proofs.EntryLaws.{Holds, holds_by, size_in_held}
 use Rattle.recovery_mtud.proofs.BurstCounts.{has, has_more}
-use Rattle.recovery_mtud.proofs.BurstTies.{Needy, Coming, needy_acked, needy_probed, needy_lost, needy_ended, needy_report, needy_made, coming_acked, coming_probed, coming_lost, coming_ended, coming_report, coming_made}
+use Rattle.recovery_mtud.proofs.BurstTies.{Needy, Coming, needy_acked, needy_probed, needy_lost, needy_ended, needy_report, needy_made, coming_acked, coming_acked_small, coming_probed, coming_lost, coming_ended, coming_report, coming_made}
 
 -- ---- fates that are apart were apart before
 
@@ -44,7 +44,9 @@ abbrev NeedyAt : Discovery → List MtuEntry → Discovery → Type 0
 NeedyAt made entries new = Needy (min_mtu_in_use made entries) (open_run entries) (standing entries) (acked_numbers entries) (lost_numbers entries) new.bursts
 
 abbrev ComingAt : Discovery → List MtuEntry → Discovery → Type 0
-ComingAt made entries new = Coming (min_mtu_in_use made entries) (open_run entries) (unanswered entries) (acked_numbers entries) new.bursts
+ComingAt made entries new =
+    let least = min_mtu_in_use made entries in
+    Coming least (open_run entries) (unanswered least entries) (larger_acked least entries) new.bursts
 
 module _ (made : Discovery) (entries : List MtuEntry) where
   polled_needs : (now next : ℕ) (answer : Option ℕ) (old : Discovery) → NeedyAt made entries old → NeedyAt made (poll_entry now next answer ∷ entries) old
@@ -75,13 +77,27 @@ module _ (made : Discovery) (entries : List MtuEntry) where
           left None = needy_acked _ _ _ _ _ old.bursts number bytes tie
           left (Some size) = needy_probed _ _ _ _ _ old.bursts number bytes tie
 
-  acked_comes : (number bytes : ℕ) (old : Discovery) → ComingAt made entries old
+  acked_comes : (number bytes : ℕ) (old : Discovery) → Holds made entries old → ComingAt made entries old
       → ComingAt made (acked number bytes ∷ entries) (discovery_after (acks number bytes) old)
-  acked_comes number bytes old tie = go (size_of_probe number old)
+  acked_comes number bytes old holds tie = go (size_of_probe number old) (sym (size_is number old holds))
     where
-      go : (size : Option ℕ) → ComingAt made (acked number bytes ∷ entries) (taking size number bytes old)
-      go None = coming_acked _ _ _ _ old.bursts number bytes tie
-      go (Some size) = coming_probed _ _ _ _ old.bursts number bytes tie
+      least : ℕ
+      least = min_mtu_in_use made entries
+
+      Left : Bool → LossBursts → Type 0
+      Left larger bursts = Coming least (open_run entries) (if larger then [] else unanswered least entries)
+          (if larger then number ∷ larger_acked least entries else larger_acked least entries) bursts
+
+      packet : (larger : Bool) → nat_lt least bytes ≡ larger → Left larger (taking None number bytes old).bursts
+      packet true is = coming_acked _ _ _ _ old.bursts number bytes tie
+      packet false is = coming_acked_small _ _ _ _ old.bursts number bytes (grind (arith, nat_tests)) tie
+
+      left : (size : Option ℕ) → Left (is_some size || nat_lt least bytes) (taking size number bytes old).bursts
+      left None = packet (nat_lt least bytes) refl
+      left (Some size) = coming_probed _ _ _ _ old.bursts number bytes tie
+
+      go : (size : Option ℕ) → size_at number (probe_in_flight entries) ≡ size → ComingAt made (acked number bytes ∷ entries) (taking size number bytes old)
+      go size is = subst (λ own. Left (is_some own || nat_lt least bytes) (taking size number bytes old).bursts) (sym is) (left size)
 
   module _ (now : ℕ) (old : Discovery) where
     abbrev over : Bool → Bool → Discovery
@@ -124,15 +140,16 @@ module _ (made : Discovery) (entries : List MtuEntry) where
       subst (Needy min_mtu [] [] (acked_numbers entries) (lost_numbers entries)) (sym (reset_bursts mtu min_mtu old))
       (needy_made min_mtu (acked_numbers entries) (lost_numbers entries))
 
-  coming_after : (call : MtuCall) (old : Discovery) → ComingAt made entries old → ComingAt made (entry_of call old ∷ entries) (discovery_after call old)
-  coming_after (polls now next) old tie = polled_comes now next _ old tie
-  coming_after (is_limited limit) old tie = tie
-  coming_after (acks number bytes) old tie = acked_comes number bytes old tie
-  coming_after loses_probe old tie = tie
-  coming_after (loses number bytes) old tie = coming_lost _ _ _ _ old.bursts number bytes tie
-  coming_after (losses_end now) old tie = ended_comes now old tie
-  coming_after (resets mtu min_mtu) old tie = subst (Coming min_mtu [] [] (acked_numbers entries))
-      (sym (reset_bursts mtu min_mtu old)) (coming_made min_mtu (acked_numbers entries))
+  coming_after : (call : MtuCall) (old : Discovery) → Holds made entries old → ComingAt made entries old
+      → ComingAt made (entry_of call old ∷ entries) (discovery_after call old)
+  coming_after (polls now next) old holds tie = polled_comes now next _ old tie
+  coming_after (is_limited limit) old holds tie = tie
+  coming_after (acks number bytes) old holds tie = acked_comes number bytes old holds tie
+  coming_after loses_probe old holds tie = tie
+  coming_after (loses number bytes) old holds tie = coming_lost _ _ _ _ old.bursts number bytes tie
+  coming_after (losses_end now) old holds tie = ended_comes now old tie
+  coming_after (resets mtu min_mtu) old holds tie = subst (Coming min_mtu [] [] (larger_acked min_mtu entries))
+      (sym (reset_bursts mtu min_mtu old)) (coming_made min_mtu (larger_acked min_mtu entries))
 
 -- ---- all calls
 
@@ -145,7 +162,8 @@ needy_by made new (call ∷ earlier) apart =
 
 coming_by : (made : Discovery) → IsUntold made → (calls : List MtuCall) → ComingAt made (entries_by made calls) (discovery_by made calls)
 coming_by made new [] = subst (Coming made.bursts.min_mtu [] [] []) (sym new.bursts) (coming_made made.bursts.min_mtu [])
-coming_by made new (call ∷ earlier) = coming_after made (entries_by made earlier) call (discovery_by made earlier) (coming_by made new earlier)
+coming_by made new (call ∷ earlier) =
+    coming_after made (entries_by made earlier) call (discovery_by made earlier) (holds_by made new earlier) (coming_by made new earlier)
 
 -- where a black hole is reported, four bursts stand
 pub four_stand : (made : Discovery) → IsUntold made → (calls : List MtuCall) → AreFatesApart (entries_by made calls)

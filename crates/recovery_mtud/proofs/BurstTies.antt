@@ -1,11 +1,12 @@
 -- What is kept of bursts, against the bursts of the entries.
-use Rattle.std.proofs.Common.{◌≡◌, ◌⊎◌, inl, inr, ⊎_elim, ℕ, ◌<◌, ◌≤◌, min, max, Option, Some, None, Bool, true, false, List, [], ◌∷◌, ◌++◌, length, arith, refl, sym, ap, ◌∙◌, subst}
-use Rattle.std.specs.Prelude.{nat_lt, nat_le, ◌==◌, ◌&&◌, not, if◌then◌else◌, filter}
+use Rattle.std.proofs.Common.{◌≡◌, ◌⊎◌, inl, inr, ⊎_elim, ℕ, suc, ◌<◌, ◌≤◌, min, max, Option, Some, None, Bool, true, false, List, [], ◌∷◌, ◌++◌, length, arith, refl, sym, ap, ◌∙◌, subst}
+use Rattle.std.specs.Prelude.{nat_lt, nat_le, ◌==◌, ◌&&◌, ◌||◌, not, if◌then◌else◌, filter}
+use Rattle.std.specs.List.{list_any}
 use Rattle.std.proofs.lemmas.Bool.Decides.{nat_tests}
-use Rattle.std.proofs.lemmas.Bool.{and_parts, leb-true, ltb-true}
+use Rattle.std.proofs.lemmas.Bool.{and_parts, eqb-true, leb-true, lt-ltb, ltb-true}
 use Rattle.recovery_mtud.specs.declared.detector.Burst.{Burst}
 use Rattle.recovery_mtud.specs.Bursts.{LossBursts, bursts_made, bursts_probed, bursts_acked, with_burst, is_suspicious, with_suspicious, closing, bursts_closed, joins, burst_with, bursts_lost, is_black_hole}
-use Rattle.recovery_mtud.specs.BurstRuns.{Loss, follows, if_any, least_size, is_above, is_past}
+use Rattle.recovery_mtud.specs.BurstRuns.{Loss, follows, if_any, from_first, least_size, is_above, is_past}
 use Rattle.recovery_mtud.proofs.BurstCounts.{one, tally, AllAbove, length-filter, tally-filter, tally-same, all-filter, all-kept, tally-all, tally-raise, max_test, length-with_burst, tally-with_burst, all-with_burst, has, past_has, has_more, has_head}
 
 -- ---- the open burst
@@ -332,109 +333,281 @@ needy_made min_mtu acked lost = record {
 
 -- ---- the same for what must come
 
--- a burst that is not suspicious is none of the four
-strong_one : (min_mtu : ℕ) (loss : Loss) (losses : List Loss) (acked : List ℕ) (s : LossBursts) → s.min_mtu ≡ min_mtu
-    → ((has s.newest acked ≡ true) ⊎ (s.newest ≡ 0))
-    → is_suspicious (record { least = least_size (loss ∷ losses); last = loss.number }) s ≡ false → (strong : Bool)
-    → is_strong min_mtu acked (loss ∷ losses) ≡ strong → one strong ≡ 0
-strong_one min_mtu loss losses acked s min_is newest not_suspicious false is = refl
-strong_one min_mtu loss losses acked s min_is newest not_suspicious true is =
-    let parts = and_parts (is_above min_mtu (loss ∷ losses)) (is_past acked (loss ∷ losses)) is in
-    let large = ltb-true min_mtu (least_size (loss ∷ losses)) parts.0 in
-    let late : s.newest ≤ loss.number = ⊎_elim (λ (known : has s.newest acked ≡ true). omega
-    (arith, past_has loss.number acked s.newest parts.1 known)) (λ (zero : s.newest ≡ 0). omega arith) newest in
-    absurd (suspicious_false (least_size (loss ∷ losses)) s.min_mtu loss.number s.newest s.acked not_suspicious (omega (arith, large, min_is)) late)
+-- how many count with one burst more, by whether it is above the least MTU, whether it is past the numbers, and whether one before is
+abbrev count_with : Bool → Bool → Bool → ℕ → ℕ
+count_with above past any n = if above then (if past || any then suc n else 0) else n
 
-one_at_most : (b : Bool) → one b ≤ 1
-one_at_most true = omega arith
-one_at_most false = omega arith
+abbrev any_past : ℕ → List ℕ → List (List Loss) → Bool
+any_past min_mtu numbers bursts = list_any (is_past numbers) (filter (is_above min_mtu) bursts)
 
-come_with : (min_mtu : ℕ) (run : List Loss) (bursts : List (List Loss)) (acked : List ℕ) (s : LossBursts)
-    → Coming min_mtu run bursts acked s → Coming min_mtu [] (if_any run ++ bursts) acked (closing (summary run) s)
-come_with min_mtu [] bursts acked s tie = tie
-come_with min_mtu (loss ∷ losses) bursts acked s tie = go (is_suspicious burst s) refl
+count_more : (min_mtu : ℕ) (numbers : List ℕ) (burst : List Loss) (bursts : List (List Loss)) → counted min_mtu numbers (burst ∷ bursts)
+    ≡ count_with (is_above min_mtu burst) (is_past numbers burst) (any_past min_mtu numbers bursts) (counted min_mtu numbers bursts)
+count_more min_mtu numbers burst bursts = go (is_above min_mtu burst)
   where
-    burst : Burst
-    burst = record { least = least_size (loss ∷ losses); last = loss.number }
+    rest : List (List Loss)
+    rest = filter (is_above min_mtu) bursts
 
-    go : (is : Bool) → is_suspicious burst s ≡ is → (let rest = record s { open_burst = None } in Coming min_mtu []
-        ((loss ∷ losses) ∷ bursts) acked (if is then with_suspicious burst rest else rest))
-    go true is = record {
-      open_is = refl;
-      min_is = tie.min_is;
-      newest = tie.newest;
-      many = omega (arith, tie.many, length-with_burst (least_size (loss ∷ losses)) s.kept, one_at_most (is_strong min_mtu acked (loss ∷ losses)));
-    }
-    go false is = record {
-      open_is = refl;
-      min_is = tie.min_is;
-      newest = tie.newest;
-      many = omega (arith, tie.many, strong_one min_mtu loss losses acked s tie.min_is tie.newest is (is_strong min_mtu acked (loss ∷ losses)) refl);
-    }
+    first : (any : Bool) → length (if any then burst ∷ from_first (is_past numbers) rest else [])
+        ≡ (if any then suc (counted min_mtu numbers bursts) else 0)
+    first true = refl
+    first false = refl
+
+    go : (above : Bool) → length (from_first (is_past numbers) (if above then burst ∷ rest else rest))
+        ≡ count_with above (is_past numbers burst) (any_past min_mtu numbers bursts) (counted min_mtu numbers bursts)
+    go true = first (is_past numbers burst || any_past min_mtu numbers bursts)
+    go false = refl
+
+-- some count exactly where one is past the numbers
+some_counted : (test : List Loss → Bool) (bursts : List (List Loss)) → list_any test bursts ≡ true → 0 < length (from_first test bursts)
+some_counted test [] any = absurd (cc)
+some_counted test (burst ∷ bursts) any = subst (λ (b : Bool). 0 < length (if b then burst ∷ from_first test bursts else [])) (sym any) (omega arith)
+
+none_counted : (test : List Loss → Bool) (bursts : List (List Loss)) → list_any test bursts ≡ false → length (from_first test bursts) ≡ 0
+none_counted test [] any = refl
+none_counted test (burst ∷ bursts) any = ap (λ (b : Bool). length (if b then burst ∷ from_first test bursts else [])) any
+
+count_at_most : (above past any : Bool) (n : ℕ) → count_with above past any n ≤ suc n
+count_at_most true true any n = omega arith
+count_at_most true false true n = omega arith
+count_at_most true false false n = omega arith
+count_at_most false past any n = omega arith
+
+module _ (min_mtu : ℕ) (loss : Loss) (losses : List Loss) (bursts : List (List Loss)) (numbers : List ℕ) (s : LossBursts)
+    (tie : Coming min_mtu (loss ∷ losses) bursts numbers s) where
+  abbrev closing_run : List Loss
+  closing_run = loss ∷ losses
+
+  abbrev any : Bool
+  any = any_past min_mtu numbers bursts
+
+  abbrev past_test : List Loss → Bool
+  past_test burst = is_past numbers burst
+
+  -- where it counts, what was acknowledged of larger packets comes before it
+  comes_late : (past any : Bool) → is_past numbers closing_run ≡ past → any_past min_mtu numbers bursts ≡ any → (past || any) ≡ true
+      → (s.acked ≤ min_mtu) ⊎ (s.newest < loss.number)
+  comes_late past true is_past is_any holds = inl (tie.small (some_counted past_test (filter (is_above min_mtu) bursts) is_any))
+  comes_late true false is_past is_any holds =
+      ⊎_elim (λ (little : s.acked ≤ min_mtu). inl little)
+      (λ (known : has s.newest numbers ≡ true). inr (past_has loss.number numbers s.newest is_past known)) tie.newest
+  comes_late false false is_past is_any holds = absurd (cc)
+
+  not_kept : is_suspicious (record { least = least_size closing_run; last = loss.number }) s ≡ false
+      → is_above min_mtu closing_run ≡ true → (s.acked ≤ min_mtu) ⊎ (s.newest < loss.number) → ⊥
+  not_kept is is_above late =
+      let large = ltb-true min_mtu (least_size closing_run) is_above in
+      suspicious_false (least_size closing_run) s.min_mtu loss.number s.newest s.acked is (omega (arith, large, tie.min_is))
+      (⊎_elim (λ (little : s.acked ≤ min_mtu). inl (omega (arith, little, tie.min_is))) (λ (before : s.newest < loss.number). inr before) late)
+
+  -- a burst that is not suspicious does not count
+  kept_counts : is_suspicious (record { least = least_size closing_run; last = loss.number }) s ≡ false
+      → (above past any : Bool) → is_above min_mtu closing_run ≡ above → is_past numbers closing_run ≡ past → any_past min_mtu numbers bursts ≡ any
+      → count_with above past any (counted min_mtu numbers bursts) ≤ counted min_mtu numbers bursts
+  kept_counts is false past any is_above is_past is_any = omega arith
+  kept_counts is true false false is_above is_past is_any = omega arith
+  kept_counts is true true any is_above is_past is_any = absurd (not_kept is is_above (comes_late true any is_past is_any refl))
+  kept_counts is true false true is_above is_past is_any = absurd (not_kept is is_above (comes_late false true is_past is_any refl))
+
+  -- one that counts leaves the least MTU alone as known to get through
+  left_small : (newer : Bool) → nat_lt s.newest loss.number ≡ newer
+      → (above past any : Bool) → is_past numbers closing_run ≡ past → any_past min_mtu numbers bursts ≡ any
+      → is_above min_mtu closing_run ≡ true → is_above min_mtu closing_run ≡ above
+      → 0 < count_with above past any (counted min_mtu numbers bursts) → (if newer then s.min_mtu else s.acked) ≤ min_mtu
+  left_small true is above past any last any_is large over some = omega (arith, tie.min_is)
+  left_small false is false past any last any_is large over some = absurd (let no : true ≡ false = sym large ∙ over in cc)
+  left_small false is true false false last any_is large over some = absurd (omega (arith, some))
+  left_small false is true true any last any_is large over some =
+      ⊎_elim (λ (little : s.acked ≤ min_mtu). little)
+      (λ (before : s.newest < loss.number). absurd (let late : loss.number ≤ s.newest = grind (arith, nat_tests) in omega (arith, before, late)))
+      (comes_late true any last any_is refl)
+  left_small false is true false true last any_is large over some = tie.small (some_counted past_test (filter (is_above min_mtu) bursts) any_is)
+
+  come_some : (is : Bool) → is_suspicious (record { least = least_size closing_run; last = loss.number }) s ≡ is
+      → (newer : Bool) → nat_lt s.newest loss.number ≡ newer
+      → Coming min_mtu [] (closing_run ∷ bursts) numbers (if is then record s
+      { kept = with_burst (least_size closing_run) s.kept; open_burst = None; acked = (if newer then s.min_mtu else s.acked) }
+      else record s { open_burst = None })
+  come_some true is newer is_newer =
+      let large = (suspicious_true (least_size closing_run) s.min_mtu loss.number s.newest s.acked is).0 in
+      let above : min_mtu < least_size closing_run = omega (arith, large, tie.min_is) in
+      let count = count_more min_mtu numbers closing_run bursts in
+      record {
+        open_is = refl;
+        min_is = tie.min_is;
+        large = all-with_burst min_mtu (least_size closing_run) s.kept above tie.large;
+        newest = newest newer;
+        small = λ some. left_small newer is_newer (is_above min_mtu closing_run) (is_past numbers closing_run) any refl refl
+            (lt-ltb min_mtu (least_size closing_run) above) refl (omega (arith, some, count));
+        many = omega (
+          arith,
+          tie.many,
+          length-with_burst (least_size closing_run) s.kept,
+          count,
+          count_at_most (is_above min_mtu closing_run) (is_past numbers closing_run) any (counted min_mtu numbers bursts),
+        );
+      }
+    where
+      newest : (newer : Bool) → ((if newer then s.min_mtu else s.acked) ≤ min_mtu) ⊎ (has s.newest numbers ≡ true)
+      newest true = inl (omega (arith, tie.min_is))
+      newest false = tie.newest
+  come_some false is newer is_newer =
+      let count = count_more min_mtu numbers closing_run bursts in
+      let most = kept_counts is (is_above min_mtu closing_run) (is_past numbers closing_run) any refl refl refl in
+      record {
+        open_is = refl;
+        min_is = tie.min_is;
+        large = tie.large;
+        newest = tie.newest;
+        small = λ some. tie.small (omega (arith, some, count, most));
+        many = omega (arith, tie.many, count, most);
+      }
+
+come_with : (min_mtu : ℕ) (run : List Loss) (bursts : List (List Loss)) (numbers : List ℕ) (s : LossBursts)
+    → Coming min_mtu run bursts numbers s → Coming min_mtu [] (if_any run ++ bursts) numbers (closing (summary run) s)
+come_with min_mtu [] bursts numbers s tie = tie
+come_with min_mtu (loss ∷ losses) bursts numbers s tie =
+    come_some min_mtu loss losses bursts numbers s tie
+    (is_suspicious (record { least = least_size (loss ∷ losses); last = loss.number }) s) refl (nat_lt s.newest loss.number) refl
 
 four : (count : ℕ) → 4 ≤ count → nat_le 4 count ≡ true
 four count many = grind (arith, nat_tests)
 
-module _ (min_mtu : ℕ) (run : List Loss) (bursts : List (List Loss)) (acked : List ℕ) (s : LossBursts) where
-  close_comes : Coming min_mtu run bursts acked s → Coming min_mtu [] (if_any run ++ bursts) acked (bursts_closed s)
-  close_comes tie = subst (λ burst. Coming min_mtu [] (if_any run ++ bursts) acked (closing burst s)) (sym tie.open_is)
-      (come_with min_mtu run bursts acked s tie)
+module _ (min_mtu : ℕ) (run : List Loss) (bursts : List (List Loss)) (numbers : List ℕ) (s : LossBursts) where
+  close_comes : Coming min_mtu run bursts numbers s → Coming min_mtu [] (if_any run ++ bursts) numbers (bursts_closed s)
+  close_comes tie = subst (λ burst. Coming min_mtu [] (if_any run ++ bursts) numbers (closing burst s)) (sym tie.open_is)
+      (come_with min_mtu run bursts numbers s tie)
 
-  pub coming_acked : (number bytes : ℕ) → Coming min_mtu run bursts acked s → Coming min_mtu run [] (number ∷ acked) (bursts_acked number bytes s)
+  -- a larger packet is acknowledged: none counts
+  pub coming_acked : (number bytes : ℕ) → Coming min_mtu run bursts numbers s → Coming min_mtu run [] (number ∷ numbers) (bursts_acked number bytes s)
   coming_acked number bytes tie = go (nat_lt bytes s.acked) (bytes == s.acked)
     where
-      older : (has s.newest (number ∷ acked) ≡ true) ⊎ (s.newest ≡ 0)
-      older = ⊎_elim (λ (known : has s.newest acked ≡ true). inl (has_more s.newest number acked known)) (λ (start : s.newest ≡ 0). inr start) tie.newest
+      older : (s.acked ≤ min_mtu) ⊎ (has s.newest (number ∷ numbers) ≡ true)
+      older = ⊎_elim (λ (little : s.acked ≤ min_mtu). inl little) (λ (known : has s.newest numbers ≡ true). inr (has_more s.newest number numbers known)) tie.newest
 
-      newer : (has (max s.newest number) (number ∷ acked) ≡ true) ⊎ (max s.newest number ≡ 0)
+      newer : (s.acked ≤ min_mtu) ⊎ (has (max s.newest number) (number ∷ numbers) ≡ true)
       newer = ⊎_elim
-          (λ (is : max s.newest number ≡ s.newest). subst (λ n. (has n (number ∷ acked) ≡ true) ⊎ (n ≡ 0)) (sym is) older)
-          (λ (is : max s.newest number ≡ number). inl (subst (λ n. has n (number ∷ acked) ≡ true) (sym is) (has_head number acked)))
+          (λ (is : max s.newest number ≡ s.newest). subst (λ n. (s.acked ≤ min_mtu) ⊎ (has n (number ∷ numbers) ≡ true)) (sym is) older)
+          (λ (is : max s.newest number ≡ number). inr (subst (λ n. has n (number ∷ numbers) ≡ true) (sym is) (has_head number numbers)))
           (max_cases s.newest number)
 
-      go : (below same : Bool) → Coming min_mtu run [] (number ∷ acked) (acked_with below same number bytes s)
-      go true same = record { open_is = tie.open_is; min_is = tie.min_is; newest = older; many = omega arith }
-      go false true = record { open_is = tie.open_is; min_is = tie.min_is; newest = newer; many = omega arith }
-      go false false = record { open_is = tie.open_is; min_is = tie.min_is; newest = inl (has_head number acked); many = omega arith }
+      go : (below same : Bool) → Coming min_mtu run [] (number ∷ numbers) (acked_with below same number bytes s)
+      go true same = record {
+        open_is = tie.open_is;
+        min_is = tie.min_is;
+        large = tie.large;
+        newest = older;
+        small = λ some. absurd (omega (arith, some));
+        many = omega arith;
+      }
+      go false true = record {
+        open_is = tie.open_is;
+        min_is = tie.min_is;
+        large = tie.large;
+        newest = newer;
+        small = λ some. absurd (omega (arith, some));
+        many = omega arith;
+      }
+      go false false = record {
+        open_is = tie.open_is;
+        min_is = tie.min_is;
+        large = all-filter min_mtu (λ size. nat_lt bytes size) s.kept tie.large;
+        newest = inr (has_head number numbers);
+        small = λ some. absurd (omega (arith, some));
+        many = omega arith;
+      }
 
-  pub coming_probed : (number bytes : ℕ) → Coming min_mtu run bursts acked s → Coming min_mtu run [] (number ∷ acked) (bursts_probed number bytes s)
-  coming_probed number bytes tie = record { open_is = tie.open_is; min_is = tie.min_is; newest = inl (has_head number acked); many = omega arith }
+  -- a packet that is not larger leaves all as it was
+  pub coming_acked_small : (number bytes : ℕ) → bytes ≤ min_mtu → Coming min_mtu run bursts numbers s
+      → Coming min_mtu run bursts numbers (bursts_acked number bytes s)
+  coming_acked_small number bytes little tie = go (nat_lt bytes s.acked) refl (bytes == s.acked) refl
+    where
+      all_kept : length (filter (λ size. nat_lt bytes size) s.kept) ≡ length s.kept
+      all_kept = length-filter (λ size. nat_lt bytes size) s.kept ∙ tally-all bytes min_mtu s.kept little tie.large
 
-  pub coming_lost : (number bytes : ℕ) → Coming min_mtu run bursts acked s → (let this : Loss = record { number = number; bytes = bytes } in
+      go : (below : Bool) → nat_lt bytes s.acked ≡ below → (same : Bool) → (bytes == s.acked) ≡ same
+          → Coming min_mtu run bursts numbers (acked_with below same number bytes s)
+      go true below same is = tie
+      go false below true same = record {
+        open_is = tie.open_is;
+        min_is = tie.min_is;
+        large = tie.large;
+        newest = inl (let is : bytes ≡ s.acked = eqb-true bytes s.acked same in omega (arith, is, little));
+        small = tie.small;
+        many = tie.many;
+      }
+      go false below false same = record {
+        open_is = tie.open_is;
+        min_is = tie.min_is;
+        large = all-filter min_mtu (λ size. nat_lt bytes size) s.kept tie.large;
+        newest = inl little;
+        small = λ some. little;
+        many = omega (arith, tie.many, all_kept);
+      }
+
+  pub coming_probed : (number bytes : ℕ) → Coming min_mtu run bursts numbers s → Coming min_mtu run [] (number ∷ numbers) (bursts_probed number bytes s)
+  coming_probed number bytes tie = record {
+    open_is = tie.open_is;
+    min_is = tie.min_is;
+    large = tt;
+    newest = inr (has_head number numbers);
+    small = λ some. absurd (omega (arith, some));
+    many = omega arith;
+  }
+
+  pub coming_lost : (number bytes : ℕ) → Coming min_mtu run bursts numbers s → (let this : Loss = record { number = number; bytes = bytes } in
       let joined = follows number run in
-      Coming min_mtu (run_with joined this run) (closed_with joined run bursts) acked (bursts_lost number bytes s))
+      Coming min_mtu (run_with joined this run) (closed_with joined run bursts) numbers (bursts_lost number bytes s))
   coming_lost number bytes tie = go (follows number run) refl (ap (joins number) tie.open_is ∙ joins_summary number run)
     where
       this : Loss
       this = record { number = number; bytes = bytes }
 
       left : (joined : Bool) → follows number run ≡ joined
-          → Coming min_mtu (run_with joined this run) (closed_with joined run bursts) acked
+          → Coming min_mtu (run_with joined this run) (closed_with joined run bursts) numbers
           (lost_with joined number bytes s)
       left true is = record {
         open_is = ap (λ burst. Some (burst_with number bytes burst)) tie.open_is ∙ ap Some (more_summary number bytes run is);
         min_is = tie.min_is;
+        large = tie.large;
         newest = tie.newest;
+        small = tie.small;
         many = tie.many;
       }
-      left false is = let after = close_comes tie in record { open_is = refl; min_is = after.min_is; newest = after.newest; many = after.many }
+      left false is =
+          let after = close_comes tie in
+          record { open_is = refl; min_is = after.min_is; large = after.large; newest = after.newest; small = after.small; many = after.many }
 
       go : (joined : Bool) → follows number run ≡ joined → joins number s.open_burst ≡ follows number run
-          → Coming min_mtu (run_with (follows number run) this run) (closed_with (follows number run) run bursts) acked
+          → Coming min_mtu (run_with (follows number run) this run) (closed_with (follows number run) run bursts) numbers
           (lost_with (joins number s.open_burst) number bytes s)
       go joined is same = subst (λ (b : Bool × Bool). Coming min_mtu (run_with b.0 this run)
-          (closed_with b.0 run bursts) acked (lost_with b.1 number bytes s)) (λ i. (sym is i, sym (same ∙ is) i))
+          (closed_with b.0 run bursts) numbers (lost_with b.1 number bytes s)) (λ i. (sym is i, sym (same ∙ is) i))
           (left joined is)
 
-  pub coming_ended : Coming min_mtu run bursts acked s → (hole : Bool) → Coming min_mtu [] (if hole then [] else if_any run ++ bursts) acked (ended_with hole s)
-  coming_ended tie true = let after = close_comes tie in record { open_is = after.open_is; min_is = after.min_is; newest = after.newest; many = omega arith }
+  pub coming_ended : Coming min_mtu run bursts numbers s → (hole : Bool) → Coming min_mtu [] (if hole then [] else if_any run ++ bursts) numbers (ended_with hole s)
+  coming_ended tie true =
+      let after = close_comes tie in
+      record {
+        open_is = after.open_is;
+        min_is = after.min_is;
+        large = tt;
+        newest = after.newest;
+        small = λ some. absurd (omega (arith, some));
+        many = omega arith;
+      }
   coming_ended tie false = close_comes tie
 
   -- a report comes at four
-  pub coming_report : Coming min_mtu run bursts acked s
-      → 4 ≤ length (filter (is_strong min_mtu acked) (if_any run ++ bursts)) → is_black_hole (bursts_closed s) ≡ true
-  coming_report tie many = four (length (bursts_closed s).kept)
-      (omega (arith, (close_comes tie).many, length-filter (is_strong min_mtu acked) (if_any run ++ bursts), many))
+  pub coming_report : Coming min_mtu run bursts numbers s
+      → 4 ≤ length (from_first (is_past numbers) (filter (is_above min_mtu) (if_any run ++ bursts))) → is_black_hole (bursts_closed s) ≡ true
+  coming_report tie many = four (length (bursts_closed s).kept) (omega (arith, (close_comes tie).many, many))
 
-pub coming_made : (min_mtu : ℕ) (acked : List ℕ) → Coming min_mtu [] [] acked (bursts_made min_mtu)
-coming_made min_mtu acked = record { open_is = refl; min_is = refl; newest = inr refl; many = omega arith }
+pub coming_made : (min_mtu : ℕ) (numbers : List ℕ) → Coming min_mtu [] [] numbers (bursts_made min_mtu)
+coming_made min_mtu numbers = record {
+  open_is = refl;
+  min_is = refl;
+  large = tt;
+  newest = inl (omega arith);
+  small = λ some. absurd (omega (arith, some));
+  many = omega arith;
+}

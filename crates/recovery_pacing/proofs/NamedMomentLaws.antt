@@ -87,7 +87,7 @@ module _ (call : PacerCall) (first : Bucket) where
           let before = fills.filled (omega (arith, below, capacity)) in
           let comes = credit_comes call.rtt call.window (now - bucket.last) some in
           subst (λ (n : ℕ). 4 * call.rtt * first.tokens + 5 * call.window * (fills.elapsed + (now - bucket.last)) ≤ 4 * call.rtt * (n + suc questions))
-              (sym least) (omega (arith, before, comes))
+          (sym least) (omega (arith, before, comes))
 
   -- one question more, whatever it asks
   fills_asked : (other : PacerCall) (questions : ℕ) (bucket : Bucket) → 0 < call.rtt → IsAlike call other → Fills questions bucket
@@ -130,7 +130,7 @@ module _ (call : PacerCall) (first : Bucket) where
       })
   fills_by made earlier (other ∷ between) some is sound alike =
       fills_asked other (length between) (bucket_by made (map asked between ++ asked call ∷ earlier)) some alike.0
-          (fills_by made earlier between some is sound alike.1)
+      (fills_by made earlier between some is sound alike.1)
 
   -- the bucket fills enough by the moment that was named
   covers : (questions : ℕ) (bucket : Bucket) → 0 < call.rtt → Fills questions bucket → (now : ℕ) → HasRoom call questions first
@@ -171,7 +171,7 @@ module _ (call : PacerCall) (first : Bucket) where
           let all : first.tokens + lacking ≡ first.capacity = omega (arith, sound) in
           let split : call.rtt * (first.tokens + lacking) ≡ call.rtt * first.capacity = ap (λ (n : ℕ). call.rtt * n) all in
           absurd (no_room call.rtt call.window call.bytes questions first.capacity first.tokens lacking after.elapsed tokens
-              (wait_of call.rtt call.window lacking) filled wait time (omega (arith, one_less)) split fits)
+          (wait_of call.rtt call.window lacking) filled wait time (omega (arith, one_less)) split fits)
 
 -- a moment that is not the last one was not cut
 late_by : (moment until now : ℕ) → until ≡ min moment (2 ^ 64 - 1) → until < 2 ^ 64 - 1 → until ≤ now → moment ≤ now
