@@ -2,8 +2,10 @@
 use Rattle.std.proofs.Common.{ℕ, Bool, true, false, cond, List, [], ◌∷◌, Option, None, Some, Ok, Err, refl, sym, subst}
 use Rattle.recovery_pacing.specs.PacerLog.{AreChecked, KeepsRate}
 use Rattle.recovery_pacing.specs.Pacing.{PacerCall}
+use Rattle.recovery_pacing.specs.NamedMoment.{PassesAtMoment}
 use Rattle.recovery_pacing.specs.Progress.{PassesBehind}
 use Rattle.recovery_pacing.proofs.PacerLogLaws.{delays_by, keeps_rate}
+use Rattle.recovery_pacing.proofs.NamedMomentLaws.{passes_at_moment}
 use Rattle.recovery_pacing.proofs.ProgressLaws.{passes_behind}
 use Rattle.recovery_paths.specs.PathLog.{OnEachPath, PathPast, state_of}
 use Rattle.recovery_paths.specs.PathMaking.{bucket_of}
@@ -17,7 +19,7 @@ use Rattle.quic_recovery.specs.Amplification.{pasts_of}
 use Rattle.quic_recovery.specs.Entries.{entries_of, logs_of}
 use Rattle.quic_recovery.specs.History.{Beginning, History, Reply, Throughout}
 use Rattle.quic_recovery.specs.Known.{known_by, first_path, settings_of}
-use Rattle.quic_recovery.specs.Pacing.{IsByBalance, OnCall, AtCalls, DelaysByBalance, PassesSoon, KeepsPace}
+use Rattle.quic_recovery.specs.Pacing.{IsByBalance, OnCall, AtCalls, DelaysByBalance, PassesSoon, PassesWhenNamed, KeepsPace}
 use Rattle.quic_recovery.specs.Told.{Told, delayed_or}
 use Rattle.quic_recovery.proofs.AmplificationLaws.{is_allowed, throughout_kept}
 
@@ -88,6 +90,14 @@ module _ {F K Q S M P : Type 0} (beginning : Beginning F K Q S M P) where
       at_calls (λ past. PassesBehind (bucket_of past.making.pacer) past.pacing) before event reply told
       (λ now bytes. passes_behind (bucket_of past.making.pacer) past.pacing (pacer_call beginning.words (state_of (settings_of beginning) past) now bytes))
 
+  -- and when it was named, where there is room
+  named_one : (before : History Q S M P) (event : Event Q S M P) (reply : Reply Q) → Told beginning before event reply
+      → HavePassedThere before → PassesWhenNamed beginning before event reply
+  named_one before event reply told passed =
+      let past = (pasts_of beginning before).current in
+      at_calls (λ past. PassesAtMoment (bucket_of past.making.pacer) past.pacing) before event reply told
+      (λ now bytes. passes_at_moment (bucket_of past.making.pacer) past.pacing (pacer_call beginning.words (state_of (settings_of beginning) past) now bytes))
+
   -- after an event each pacer keeps its rate
   pace_one : (before : History Q S M P) (event : Event Q S M P) (reply : Reply Q) → Told beginning before event reply
       → HavePassedThere before → KeepsPace beginning before event reply
@@ -115,4 +125,10 @@ module _ {F K Q S M P : Type 0} (beginning : Beginning F K Q S M P) where
       → Throughout (PassesSoon beginning) events replies
   soon events replies told =
       throughout_kept beginning HavePassedThere (PassesSoon beginning) passed_one passes_one [] events replies told
+      (passed_at_first (settings_of beginning) (first_path beginning))
+
+  pub named : (events : List (Event Q S M P)) (replies : List (Reply Q)) → Throughout (Told beginning) events replies
+      → Throughout (PassesWhenNamed beginning) events replies
+  named events replies told =
+      throughout_kept beginning HavePassedThere (PassesWhenNamed beginning) passed_one named_one [] events replies told
       (passed_at_first (settings_of beginning) (first_path beginning))

@@ -12,7 +12,7 @@ use Rattle.quic_recovery.specs.Past.{Past, more, history_of, Came, CameSomehow, 
 use Rattle.quic_recovery.specs.State.{Changes, Left}
 use Rattle.quic_recovery.specs.Amplification.{KeepsThreefold}
 use Rattle.quic_recovery.specs.Bursts.{ComesAtFourBursts, NeedsFourBursts}
-use Rattle.quic_recovery.specs.Pacing.{DelaysByBalance, KeepsPace, PassesSoon}
+use Rattle.quic_recovery.specs.Pacing.{DelaysByBalance, KeepsPace, PassesSoon, PassesWhenNamed}
 use Rattle.quic_recovery.specs.Search.{EndsNear, EntersAsTold, LimitsOutside, ProbesInTurn, SearchesFew, TellsProbes, UsesMtu}
 use Rattle.quic_recovery.specs.Promises.Once.{LeaveOnceEach}
 use Rattle.quic_recovery.specs.Told.{Told}
@@ -23,7 +23,7 @@ use Rattle.quic_recovery.proofs.EnteredLaws.{entries_told}
 use Rattle.quic_recovery.proofs.LeftLaws.{changes_by_logs, left_after}
 use Rattle.quic_recovery.proofs.NewNumbersLaws.{numbers_told}
 use Rattle.quic_recovery.proofs.OnceLaws.{leave_once_each}
-use Rattle.quic_recovery.proofs.PacingLaws.{delayed, rate, soon}
+use Rattle.quic_recovery.proofs.PacingLaws.{delayed, rate, soon, named}
 use Rattle.quic_recovery.proofs.Runs.{history_from-push, throughout_push}
 use Rattle.quic_recovery.proofs.SearchLaws.{searches, ends, probes, limits, tells, mtu}
 use Rattle.quic_recovery.proofs.TimeoutsLaws.{timers_told}
@@ -68,6 +68,7 @@ module _ {F K Q S M P : Type 0} (beginning : Beginning F K Q S M P) where
           delayed = last (DelaysByBalance beginning) (delayed beginning events replies all);
           rate = last (KeepsPace beginning) (rate beginning events replies all);
           soon = last (PassesSoon beginning) (soon beginning events replies all);
+          named = last (PassesWhenNamed beginning) (named beginning events replies all);
           entries = last (EntersAsTold beginning) (entries_told beginning events replies all);
           searches = last (SearchesFew beginning) (searches beginning came.small events replies all);
           ends = last (EndsNear beginning) (ends beginning came.small events replies all);

@@ -3,6 +3,7 @@
 use Rattle.std.specs.Prelude.{ℕ, true, ◌∷◌, Option, None, Some, Ok}
 use Rattle.recovery_pacing.specs.PacerLog.{asked, AreChecked, DelaysBy, KeepsRate}
 use Rattle.recovery_pacing.specs.Pacing.{PacerCall}
+use Rattle.recovery_pacing.specs.NamedMoment.{PassesAtMoment}
 use Rattle.recovery_pacing.specs.Progress.{PassesBehind}
 use Rattle.recovery_paths.specs.PathLog.{OnEachPath, PathPast, state_of}
 use Rattle.recovery_paths.specs.PathMaking.{bucket_of}
@@ -44,6 +45,10 @@ module _ {F K Q S M P : Type 0} (beginning : Beginning F K Q S M P) where
   -- what was delayed as the pacer was asked last passes soon behind the moment that was named
   abbrev pub PassesSoon : History Q S M P → Event Q S M P → Reply Q → Type 0
   PassesSoon = AtCalls (λ past. PassesBehind (bucket_of past.making.pacer) past.pacing)
+
+  -- what was delayed passes at the moment that was named, where the bucket has room for what rounding and questions in between cost
+  abbrev pub PassesWhenNamed : History Q S M P → Event Q S M P → Reply Q → Type 0
+  PassesWhenNamed = AtCalls (λ past. PassesAtMoment (bucket_of past.making.pacer) past.pacing)
 
   -- after an event, the pacer of each path that lives keeps the rate
   abbrev pub KeepsPace : History Q S M P → Event Q S M P → Reply Q → Type 0

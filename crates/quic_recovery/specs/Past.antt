@@ -8,7 +8,7 @@ use Rattle.quic_recovery.specs.declared.event.Event.{Event}
 use Rattle.quic_recovery.specs.Amplification.{KeepsThreefold}
 use Rattle.quic_recovery.specs.Bursts.{ComesAtFourBursts, NeedsFourBursts}
 use Rattle.quic_recovery.specs.History.{Beginning, History, Reply, QueueMeaning, Throughout, begins, history}
-use Rattle.quic_recovery.specs.Pacing.{DelaysByBalance, KeepsPace, PassesSoon}
+use Rattle.quic_recovery.specs.Pacing.{DelaysByBalance, KeepsPace, PassesSoon, PassesWhenNamed}
 use Rattle.quic_recovery.specs.Parts.{Parts}
 use Rattle.quic_recovery.specs.Promises.NewNumbers.{CallsNew}
 use Rattle.quic_recovery.specs.Promises.Once.{LeaveOnceEach}
@@ -52,6 +52,7 @@ module _ {F K Q S M P : Type 0} (beginning : Beginning F K Q S M P) where
     pub delayed : DelaysByBalance beginning before event reply
     pub rate : KeepsPace beginning before event reply
     pub soon : PassesSoon beginning before event reply
+    pub named : PassesWhenNamed beginning before event reply
     pub entries : EntersAsTold beginning before event reply
     pub searches : SearchesFew beginning before event reply
     pub ends : EndsNear beginning before event reply

@@ -34,26 +34,22 @@ waited rtt window short elapsed some_rtt some_window uncut waits = le-div short 
         let spans = mul-le-mul_left (5 * window) longer in
         omega (arith, whole, fifths, spans)
 
--- the same call computes no capacity anew
-resized_again : (call later : PacerCall) (bucket : Bucket) → AsksAgain call later
-    → (bucket.window ≡ call.window) × (bucket.mtu ≡ call.mtu) → resized later.rtt later.window later.mtu bucket ≡ bucket
-resized_again call later bucket again knows = ap (λ (same : Bool). cond same bucket anew)
-    (ap₂ (λ (a b : Bool). a && b) (equal later.window bucket.window (again.window ∙ sym knows.0))
-    (equal later.mtu bucket.mtu (again.mtu ∙ sym knows.1)))
+-- the window and MTU of the call before compute no capacity anew
+pub resized_alike : (rtt window mtu : ℕ) (bucket : Bucket) → window ≡ bucket.window → mtu ≡ bucket.mtu
+    → resized rtt window mtu bucket ≡ bucket
+resized_alike rtt window mtu bucket same_window same_mtu = ap (λ (same : Bool). cond same bucket anew)
+    (ap₂ (λ (a b : Bool). a && b) (eq-eqb window bucket.window same_window) (eq-eqb mtu bucket.mtu same_mtu))
   where
     anew : Bucket
     anew = record bucket {
-      capacity = capacity_of later.rtt later.window later.mtu;
-      window = later.window;
-      mtu = later.mtu;
-      tokens = min (capacity_of later.rtt later.window later.mtu) bucket.tokens;
+      capacity = capacity_of rtt window mtu;
+      window = window;
+      mtu = mtu;
+      tokens = min (capacity_of rtt window mtu) bucket.tokens;
     }
 
-    equal : (a b : ℕ) → a ≡ b → (a == b) ≡ true
-    equal a b same = eq-eqb a b same
-
 -- a call that is delayed is paced, and the tokens do not cover it
-short_of : (call : PacerCall) (bucket : Bucket) (until : ℕ) → delay_of call bucket ≡ Some until
+pub short_of : (call : PacerCall) (bucket : Bucket) (until : ℕ) → delay_of call bucket ≡ Some until
     → (may_send call bucket ≡ false) × (until ≡ next_moment call bucket)
 short_of call bucket until delays = go (may_send call bucket) refl delays
   where
@@ -113,7 +109,8 @@ passes_in_time call later old until delays again reach late before_end = goes (m
 
     goes : (pass : Bool) → may_send later bucket ≡ pass → delay_of later (paced later bucket) ≡ None
     goes pass is = ap (λ (b : Bucket). delay_of later (cond (may_send later b) b
-        (refilled later.rtt later.window later.now b))) (resized_again call later bucket again (paced-knows call old))
+        (refilled later.rtt later.window later.now b))) (let knows = paced-knows call old in
+        resized_alike later.rtt later.window later.mtu bucket (again.window ∙ sym knows.0) (again.mtu ∙ sym knows.1))
         ∙ by_test pass is
       where
         passing : (b : Bucket) → later.bytes ≤ b.tokens → delay_of later b ≡ None

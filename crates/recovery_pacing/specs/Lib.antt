@@ -1,4 +1,5 @@
 pub mod Pacing
 pub mod Pacers
 pub mod PacerLog
+pub mod NamedMoment
 pub mod Progress
