@@ -144,7 +144,7 @@ module _ {F K Q S M P : Type 0} (beginning : Beginning F K Q S M P) (Kept : Hist
 
 module _ {F K Q S M P : Type 0} (beginning : Beginning F K Q S M P) where
   -- an event keeps the bound
-  after_one : (before : History Q S M P) (event : Event Q S M P) (reply : Reply Q) → Told beginning before event reply
+  pub after_one : (before : History Q S M P) (event : Event Q S M P) (reply : Reply Q) → Told beginning before event reply
       → OnEachPath IsWithinThreefold (pasts_of beginning before) → KeepsThreefold beginning before event reply
   after_one before event reply told within =
       let logs = logs_of beginning before in
