@@ -22,7 +22,7 @@ use Rattle.quic_recovery.specs.declared.event.Answer.{Answer}
 use Rattle.quic_recovery.specs.declared.event.Answer.TheVariants.{New, Flag, Transmitted, Delayed, Blocked, Probe}
 use Rattle.quic_recovery.specs.declared.event.Refusal.{Refusal}
 use Rattle.quic_recovery.specs.declared.event.Refusal.TheVariants.{DelayTooSmall}
-use Rattle.quic_recovery.specs.Amplification.{pasts_of, KeepsThreefold}
+use Rattle.quic_recovery.specs.Amplification.{pasts_of}
 use Rattle.quic_recovery.specs.Entries.{answered, entries_of, refused, acked_entry, acked_search, lost_search, searched, is_own, logs_of}
 use Rattle.quic_recovery.specs.History.{Beginning, History, QueueMeaning, Reply, ThroughoutFrom, Throughout}
 use Rattle.quic_recovery.specs.Known.{Known, known_by, first_path, settings_of, tracked_known}
@@ -145,18 +145,11 @@ module _ {F K Q S M P : Type 0} (beginning : Beginning F K Q S M P) (Kept : Hist
 module _ {F K Q S M P : Type 0} (beginning : Beginning F K Q S M P) where
   -- an event keeps the bound
   pub after_one : (before : History Q S M P) (event : Event Q S M P) (reply : Reply Q) → Told beginning before event reply
-      → OnEachPath IsWithinThreefold (pasts_of beginning before) → KeepsThreefold beginning before event reply
+      → OnEachPath IsWithinThreefold (pasts_of beginning before)
+      → OnEachPath IsWithinThreefold (pasts_of beginning ((event, reply) ∷ before))
   after_one before event reply told within =
       let logs = logs_of beginning before in
       let known = known_by beginning logs in
       threefold_after (settings_of beginning) (first_path beginning)
       (entries_of beginning.queue known event reply).paths logs.paths
       (is_allowed beginning.queue (settings_of beginning) _ known event reply told) within
-
-  -- throughout a run
-  pub threefold : (events : List (Event Q S M P)) (replies : List (Reply Q))
-      → Throughout (Told beginning) events replies → Throughout (KeepsThreefold beginning) events replies
-  threefold events replies told =
-      let within : History Q S M P → Type 0 = λ before. OnEachPath IsWithinThreefold (pasts_of beginning before) in
-      throughout_kept beginning within (KeepsThreefold beginning) after_one after_one [] events replies told
-      (within_at_first (settings_of beginning) (first_path beginning))

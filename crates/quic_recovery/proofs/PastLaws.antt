@@ -10,13 +10,14 @@ use Rattle.quic_recovery.specs.Known.{known_by}
 use Rattle.quic_recovery.specs.Parts.{Parts}
 use Rattle.quic_recovery.specs.Past.{Past, more, history_of, Came, CameSomehow, GoesOn, GoesOnFrom, StaysOn, WentOn}
 use Rattle.quic_recovery.specs.State.{Changes, Left}
-use Rattle.quic_recovery.specs.Amplification.{KeepsThreefold}
 use Rattle.quic_recovery.specs.Bursts.{ComesAtFourBursts, NeedsFourBursts}
 use Rattle.quic_recovery.specs.Pacing.{DelaysByBalance, KeepsPace, PassesSoon, PassesWhenNamed}
 use Rattle.quic_recovery.specs.Search.{EndsNear, EntersAsTold, LimitsOutside, ProbesInTurn, SearchesFew, TellsProbes, UsesMtu}
+use Rattle.quic_recovery.specs.Promises.Blocked.{BlocksExactly}
 use Rattle.quic_recovery.specs.Promises.Once.{LeaveOnceEach}
+use Rattle.quic_recovery.specs.Promises.Threefold.{KeepsThreefold}
 use Rattle.quic_recovery.specs.Told.{Told}
-use Rattle.quic_recovery.proofs.AmplificationLaws.{threefold}
+use Rattle.quic_recovery.proofs.BlockedLaws.{blocks_exactly}
 use Rattle.quic_recovery.proofs.BurstLaws.{comes_at_four, needs_four}
 use Rattle.quic_recovery.proofs.DepartureLaws.{leave_once_in}
 use Rattle.quic_recovery.proofs.EnteredLaws.{entries_told}
@@ -26,6 +27,7 @@ use Rattle.quic_recovery.proofs.OnceLaws.{leave_once_each}
 use Rattle.quic_recovery.proofs.PacingLaws.{delayed, rate, soon, named}
 use Rattle.quic_recovery.proofs.Runs.{history_from-push, throughout_push}
 use Rattle.quic_recovery.proofs.SearchLaws.{searches, ends, probes, limits, tells, mtu}
+use Rattle.quic_recovery.proofs.ThreefoldLaws.{sends_threefold}
 use Rattle.quic_recovery.proofs.TimeoutsLaws.{timers_told}
 use Rattle.quic_recovery.proofs.ToldLaws.{told_by_logs}
 
@@ -64,7 +66,8 @@ module _ {F K Q S M P : Type 0} (beginning : Beginning F K Q S M P) where
           told = here;
           new = numbers_told beginning before event reply here;
           timers = timers_told beginning before event reply here;
-          threefold = last (KeepsThreefold beginning) (threefold beginning events replies all);
+          threefold = last (KeepsThreefold beginning.config.validated) (sends_threefold beginning events replies all);
+          blocked = last (BlocksExactly beginning.config.validated) (blocks_exactly beginning events replies all);
           delayed = last (DelaysByBalance beginning) (delayed beginning events replies all);
           rate = last (KeepsPace beginning) (rate beginning events replies all);
           soon = last (PassesSoon beginning) (soon beginning events replies all);

@@ -1,4 +1,4 @@
--- The bound on what goes to an address that is not validated, by events and answers, and that it says what the bound on pasts says.
+-- The bound on what goes to an address that is not validated, by events and answers.
 use Rattle.std.proofs.Common.{ℕ, ◌≡◌, ◌≤◌, ◌*◌, ◌↔◌, Bool, true, false, [], ◌∷◌, List, None, Some, Option, option_map, refl, sym, ap, subst, arith}
 use Rattle.std.specs.Prelude.{sum_by}
 use Rattle.std.specs.List.{All, list_all}
@@ -10,12 +10,12 @@ use Rattle.recovery_paths.specs.PathLog.{OfPaths, OnEachPath, PathPast, Transmis
 use Rattle.recovery_paths.specs.Threefold.{IsWithinThreefold}
 use Rattle.recovery_paths.proofs.ThreefoldLaws.{within_at_first}
 use Rattle.quic_recovery.specs.declared.event.Event.{Event}
-use Rattle.quic_recovery.specs.Amplification.{pasts_of, KeepsThreefold}
+use Rattle.quic_recovery.specs.Amplification.{pasts_of}
 use Rattle.quic_recovery.specs.History.{Beginning, History, Reply, Throughout}
 use Rattle.quic_recovery.specs.Known.{first_path, settings_of}
 use Rattle.quic_recovery.specs.Told.{Told}
 use Rattle.quic_recovery.specs.Promises.Datagrams.{datagrams_on, bytes_in, bytes_out, is_validated}
-use Rattle.quic_recovery.specs.Promises.Threefold.{is_checked, SendsThreefold}
+use Rattle.quic_recovery.specs.Promises.Threefold.{is_checked, KeepsThreefold, SendsThreefold}
 use Rattle.quic_recovery.proofs.AmplificationLaws.{after_one, throughout_kept}
 use Rattle.quic_recovery.proofs.DatagramLaws.{Flow, flow_of, flow_by, AreFlows, IsFlowWhereLives, FlowsAgree, flows_at_first, flows_after}
 
@@ -63,9 +63,6 @@ module _ {K Q S M P : Type 0} where
     )
 
 module _ {F K Q S M P : Type 0} (beginning : Beginning F K Q S M P) where
-  abbrev pub SendsThreefoldWith : History Q S M P → Event Q S M P → Reply Q → Type 0
-  SendsThreefoldWith before event reply = SendsThreefold beginning.config.validated ((event, reply) ∷ before)
-
   abbrev Kept : History Q S M P → Type 0
   Kept history = FlowsAgree beginning history × OnEachPath IsWithinThreefold (pasts_of beginning history)
 
@@ -74,31 +71,14 @@ module _ {F K Q S M P : Type 0} (beginning : Beginning F K Q S M P) where
   keeps before event reply told kept = (flows_after beginning before event reply told kept.0, after_one beginning before event reply told kept.1)
 
   holds : (before : History Q S M P) (event : Event Q S M P) (reply : Reply Q) → Told beginning before event reply
-      → Kept before → SendsThreefoldWith before event reply
+      → Kept before → KeepsThreefold beginning.config.validated before event reply
   holds before event reply told kept =
       let after = keeps before event reply told kept in
       by_events beginning.config.validated ((event, reply) ∷ before) (pasts_of beginning ((event, reply) ∷ before)) after.0 after.1
 
   -- throughout a run
   pub sends_threefold : (events : List (Event Q S M P)) (replies : List (Reply Q))
-      → Throughout (Told beginning) events replies → Throughout SendsThreefoldWith events replies
+      → Throughout (Told beginning) events replies → Throughout (KeepsThreefold beginning.config.validated) events replies
   sends_threefold events replies told =
-      throughout_kept beginning Kept SendsThreefoldWith keeps holds [] events replies told
+      throughout_kept beginning Kept (KeepsThreefold beginning.config.validated) keeps holds [] events replies told
       (flows_at_first beginning, within_at_first (settings_of beginning) (first_path beginning))
-
-  -- it says of each event what the bound on pasts says
-  abbrev pub SaysThreefold : History Q S M P → Event Q S M P → Reply Q → Type 0
-  SaysThreefold before event reply = SendsThreefoldWith before event reply ↔ KeepsThreefold beginning before event reply
-
-  says : (before : History Q S M P) (event : Event Q S M P) (reply : Reply Q) → Told beginning before event reply
-      → FlowsAgree beginning before → SaysThreefold before event reply
-  says before event reply told agree =
-      let history = (event, reply) ∷ before in
-      let after = flows_after beginning before event reply told agree in
-      (by_pasts beginning.config.validated history (pasts_of beginning history) after,
-      by_events beginning.config.validated history (pasts_of beginning history) after)
-
-  pub says_threefold : (events : List (Event Q S M P)) (replies : List (Reply Q))
-      → Throughout (Told beginning) events replies → Throughout SaysThreefold events replies
-  says_threefold events replies told =
-      throughout_kept beginning (FlowsAgree beginning) SaysThreefold (flows_after beginning) says [] events replies told (flows_at_first beginning)

@@ -17,8 +17,8 @@ module _ {F K Q S M P : Type 0} (beginning : Beginning F K Q S M P) where
       let past = (pasts_of beginning history).current in AreFourStanding past.making.discovery (entries_on past)
   NeedsFourBursts history event reply = Unit {0}
 
-  -- where four such bursts have closed since then, with no acknowledgement since the first of them closed, and the last number of
-  -- each exceeds every number that was acknowledged, the end of losses reports a black hole
+  -- where four such bursts have closed since then, the first of them past every acknowledged packet that is larger than the least MTU,
+  -- and neither a probe nor such a packet was acknowledged since it closed, the end of losses reports a black hole
   abbrev pub ComesAtFourBursts : History Q S M P → Event Q S M P → Reply Q → Type 0
   ComesAtFourBursts history (LossesDone now) reply =
       let past = (pasts_of beginning history).current in

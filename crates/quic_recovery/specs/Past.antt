@@ -5,13 +5,14 @@ use Rattle.rand_core.specs.Stream.{Stream}
 use Rattle.recovery_congestion.specs.Controllers.{ControllerWords}
 use Rattle.quic_recovery.specs.declared.driver.RecoveryConfig.{RecoveryConfig}
 use Rattle.quic_recovery.specs.declared.event.Event.{Event}
-use Rattle.quic_recovery.specs.Amplification.{KeepsThreefold}
 use Rattle.quic_recovery.specs.Bursts.{ComesAtFourBursts, NeedsFourBursts}
 use Rattle.quic_recovery.specs.History.{Beginning, History, Reply, QueueMeaning, Throughout, begins, history}
 use Rattle.quic_recovery.specs.Pacing.{DelaysByBalance, KeepsPace, PassesSoon, PassesWhenNamed}
 use Rattle.quic_recovery.specs.Parts.{Parts}
+use Rattle.quic_recovery.specs.Promises.Blocked.{BlocksExactly}
 use Rattle.quic_recovery.specs.Promises.NewNumbers.{CallsNew}
 use Rattle.quic_recovery.specs.Promises.Once.{LeaveOnceEach}
+use Rattle.quic_recovery.specs.Promises.Threefold.{KeepsThreefold}
 use Rattle.quic_recovery.specs.Promises.Timeouts.{TellsTimers}
 use Rattle.quic_recovery.specs.Search.{EndsNear, EntersAsTold, LimitsOutside, ProbesInTurn, SearchesFew, TellsProbes, UsesMtu}
 use Rattle.quic_recovery.specs.State.{Left}
@@ -48,7 +49,8 @@ module _ {F K Q S M P : Type 0} (beginning : Beginning F K Q S M P) where
     pub told : Told beginning before event reply
     pub new : CallsNew before event reply
     pub timers : TellsTimers before event reply
-    pub threefold : KeepsThreefold beginning before event reply
+    pub threefold : KeepsThreefold beginning.config.validated before event reply
+    pub blocked : BlocksExactly beginning.config.validated before event reply
     pub delayed : DelaysByBalance beginning before event reply
     pub rate : KeepsPace beginning before event reply
     pub soon : PassesSoon beginning before event reply

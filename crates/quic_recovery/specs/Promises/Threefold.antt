@@ -1,6 +1,6 @@
 -- Amplification (RFC 9000, 8.1): until the address of a path is validated, and where all that went out on it was
 -- checked, at most three times the bytes that came in on it went out.
-use Rattle.std.specs.Prelude.{◌≡◌, ◌*◌, ◌≤◌, Bool, true, false, sum_by}
+use Rattle.std.specs.Prelude.{◌≡◌, ◌∷◌, ◌*◌, ◌≤◌, Bool, true, false, sum_by}
 use Rattle.std.specs.List.{list_all}
 use Rattle.recovery_paths.specs.declared.live_paths.PathName.{PathName}
 use Rattle.quic_recovery.specs.declared.event.Event.{Event}
@@ -19,3 +19,7 @@ module _ {Q S M P : Type 0} where
       let here = datagrams_on name history in
       is_validated first name history ≡ false → list_all is_checked here ≡ true
       → sum_by bytes_out here ≤ 3 * sum_by bytes_in here
+
+  -- after an event
+  abbrev pub KeepsThreefold : Bool → History Q S M P → Event Q S M P → Reply Q → Type 0
+  KeepsThreefold first history event reply = SendsThreefold first ((event, reply) ∷ history)
