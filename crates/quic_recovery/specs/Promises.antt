@@ -1,4 +1,7 @@
 -- Promises of events and answers alone: each is read without any other.
+pub mod Bursts
+pub mod Few
+pub mod Holes
 pub mod NewNumbers
 pub mod Once
 pub mod Timeouts
