@@ -177,12 +177,12 @@ module _ {F K Q S M P : Type 0} (beginning : Beginning F K Q S M P) where
   made_least history (NewPath now remote false) reply is = is
   made_least history event reply is = is
 
-  record Kept (history : History Q S M P) : Type 0 where
-    tied : Tied history
-    sized : Sized beginning history
-    made : IsMadeLeast history
+  pub record Kept (history : History Q S M P) : Type 0 where
+    pub tied : Tied history
+    pub sized : Sized beginning history
+    pub made : IsMadeLeast history
 
-  kept_after : (history : History Q S M P) (event : Event Q S M P) (reply : Reply Q) → Facts beginning history event reply → Kept history
+  pub kept_after : (history : History Q S M P) (event : Event Q S M P) (reply : Reply Q) → Facts beginning history event reply → Kept history
       → Kept ((event, reply) ∷ history)
   kept_after history event reply facts kept = record {
     tied = go reply facts;
@@ -194,7 +194,7 @@ module _ {F K Q S M P : Type 0} (beginning : Beginning F K Q S M P) where
       go (Ok given) facts = answer_tied history kept.sized kept.tied event given facts
       go (Err refusal) facts = refused_tied history kept.sized kept.tied event refusal facts
 
-  kept_first : Kept []
+  pub kept_first : Kept []
   kept_first =
       let config = beginning.config in
       record {
@@ -203,15 +203,17 @@ module _ {F K Q S M P : Type 0} (beginning : Beginning F K Q S M P) where
         made = least_with None config.transport (if config.allow_mtud then config.transport.mtu_discovery_config else None);
       }
 
+  pub least_known : (history : History Q S M P) → Kept history → min_mtu_in_use (made_in beginning history) (entered_so_far beginning history) ≡ least
+  least_known history kept = least_in_use (made_in beginning history) least (entered_so_far beginning history) kept.made kept.tied.4
+
   -- ---- what is promised
 
   holes_one : (history : History Q S M P) (event : Event Q S M P) (reply : Reply Q)
       → Facts beginning history event reply × (NeedsFourBursts beginning history event reply × ComesAtFourBursts beginning history event reply)
       → Kept history → Kept ((event, reply) ∷ history) → ReportsAtFour least history event reply
   holes_one history (LossesDone now) reply known kept after =
-      let made = made_in beginning history in
       let entries = entered_so_far beginning history in
-      let is = least_in_use made least entries kept.made kept.tied.4 in
+      let is = least_known history kept in
       let Needed : Reply Q → Type 0 = λ r. NeedsFourBursts beginning history (LossesDone now) r in
       let all : List (List Loss) → List Loss → List (List Loss) = λ bursts run. if_any run ++ bursts in
       let Stand : ℕ → List (List Loss) → Type 0 = λ size bursts. AreFour (is_above size) bursts in
