@@ -1,7 +1,8 @@
 -- Worked rows of the promises of searches for the MTU and of black holes, computed: with the right answer each holds, and with a wrong one
 -- it does not.
-use Rattle.std.proofs.Common.{◌≡◌, ℕ, ◌≤◌, zero, suc, true, false, [], ◌∷◌, None, Some, Ok, Err, refl, arith}
-use Rattle.recovery_base.specs.declared.below.SpaceId.TheVariants.{Initial, Data}
+use Rattle.std.proofs.Common.{◌≡◌, ℕ, ◌<◌, ◌≤◌, zero, suc, true, false, [], ◌∷◌, None, Some, Ok, Err, refl, arith}
+use Rattle.std.specs.Prelude.{All}
+use Rattle.recovery_base.specs.declared.below.SpaceId.TheVariants.{Data}
 use Rattle.recovery_mtud.specs.declared.config.MtuDiscoveryConfig.{MtuDiscoveryConfig}
 use Rattle.quic_recovery.specs.declared.event.Event.{Event}
 use Rattle.quic_recovery.specs.declared.event.Event.TheVariants as event
@@ -11,6 +12,9 @@ use Rattle.quic_recovery.specs.History.{Beginning, History, Reply}
 use Rattle.quic_recovery.specs.Promises.Bursts.{open_run, size_of}
 use Rattle.quic_recovery.specs.Promises.Few.{ProbesFew, is_in_flight, probed}
 use Rattle.quic_recovery.specs.Promises.Holes.{ReportsAtFour}
+use Rattle.quic_recovery.specs.Promises.Mtu.{mtu}
+use Rattle.quic_recovery.specs.Promises.Near.{IsNear, next, start}
+use Rattle.quic_recovery.specs.Promises.Probes.{acked_probes, lost_probes}
 use Rattle.quic_recovery.specs.Search.{discovery_settings}
 
 -- ---- too many probes, and too many sizes
@@ -34,6 +38,59 @@ module _ {F K Q S M P : Type 0} (beginning : Beginning F K Q S M P) (settings : 
   -- a search that ended counts no more
   after_its_end : ProbesFew beginning ((event.PollMtu 50, Ok answer.NoProbe) ∷ polls 48 (λ n. 1300)) (event.PollMtu 60) (Ok (answer.Probe 60 1301))
   after_its_end = λ own same wide. (omega arith, omega arith)
+
+one_all : (Holds : ℕ → Type 0) (n : ℕ) → Holds n → All Holds (n ∷ [])
+one_all Holds n holds zero d below = holds
+one_all Holds n holds (suc k) d below = absurd (omega (arith, below))
+
+-- ---- how near searches end: 1326 got through, and 1389 did not, by steps of 20 up to 1452
+
+module _ (Q S M P : Type 0) where
+  abbrev by : MtuDiscoveryConfig
+  by = record { interval = 600; upper_bound = 1452; minimum_change = 20; black_hole_cooldown = 60 }
+
+  abbrev ended : History Q S M P
+  ended =
+      (event.Lost Data 1, Ok (answer.Lost true))
+      ∷ (event.PollMtu 2, Ok (answer.Probe 1 1389))
+      ∷ (event.Acked Data 1 0 false, Ok (answer.Acked true))
+      ∷ (event.PollMtu 0, Ok (answer.Probe 0 1326))
+      ∷ []
+
+  in_use : mtu 1200 1200 ended ≡ 1326
+  in_use = refl
+
+  at_start : start 1200 1200 ended ≡ 1200
+  at_start = refl
+
+  got_through : acked_probes ended ≡ 1326 ∷ []
+  got_through = refl
+
+  did_not : lost_probes ended ≡ 1389 ∷ []
+  did_not = refl
+
+  -- 1350 is near enough
+  near_enough : IsNear 1200 1200 by 1350 ended
+  near_enough = λ starts acks losses. (omega arith, omega arith)
+
+  -- to end here is too far from 1380, which may get through
+  too_early : ¬ IsNear 1200 1200 by 1380 ended
+  too_early = λ near. let far = (near (omega arith) (one_all (λ size. size ≤ 1380) 1326 (omega arith)) (one_all (λ size. 1380 < size) 1389 (omega arith))).1 in omega (arith, far)
+
+  -- no probe at the first poll ends a search at once: too far from 1452
+  never_probed : ¬ IsNear {Q = Q} {S = S} {M = M} {P = P} 1200 1200 by 1452 []
+  never_probed = λ near. let far = (near (omega arith) (λ k d below. absurd (omega (arith, below))) (λ k d below. absurd (omega (arith, below)))).1 in omega (arith, far)
+
+  -- what the peer takes is a bound too
+  at_its_limit : IsNear {Q = Q} {S = S} {M = M} {P = P} 1200 1200 by 1452 ((event.PeerLimit 1210, Ok answer.Done) ∷ [])
+  at_its_limit = λ starts acks losses. (omega arith, omega arith)
+
+  -- a report lowers what is in use, and the next search waits for the cooldown
+  lowered : mtu 1300 1200 ((event.LossesDone 7, Ok (answer.BlackHole true)) ∷ ended) ≡ 1200
+  lowered = refl
+
+  cooled : next by ((event.LossesDone 7, Ok (answer.BlackHole true)) ∷ ended) ≡ Some 67
+  cooled = refl
 
 module _ (Q S M P : Type 0) (queue : Q) (frames : M) where
   -- ---- searches: 1326 got through, and 1389 is in flight
