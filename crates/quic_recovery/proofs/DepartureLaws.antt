@@ -22,7 +22,7 @@ use Rattle.quic_recovery.specs.Logs.{onto}
 use Rattle.quic_recovery.specs.Told.{Told}
 
 -- a packet that was found is tracked
-tracked : {P M : Type 0} (found : Option (Packet P M)) → ¬ (found ≡ None)
+pub tracked : {P M : Type 0} (found : Option (Packet P M)) → ¬ (found ≡ None)
     → (packet : Packet P M) × (found ≡ Some packet)
 tracked None there = absurd (there refl)
 tracked (Some packet) there = (packet, refl)
@@ -45,7 +45,7 @@ in_one sent Data entry leaves Handshake = tt
 in_one sent Data entry leaves Data = leaves
 
 module _ {F K Q S M P : Type 0} (beginning : Beginning F K Q S M P) (before : History Q S M P) where
-  abbrev sent_in : SpaceId → Sent P M
+  abbrev pub sent_in : SpaceId → Sent P M
   sent_in space = sent_by beginning.queue.words ((logs_of beginning before).spaces space)
 
   abbrev Leaves : (SpaceId → Option (SpaceEntry P M)) → Type 0
@@ -56,7 +56,7 @@ module _ {F K Q S M P : Type 0} (beginning : Beginning F K Q S M P) (before : Hi
   stays space entry nothing = in_one sent_in space entry (nothing (sent_in space))
 
   -- the number that is given out was not given out before
-  is_new : (space : SpaceId) → (sent_in space).next ≤ number_in (known_by beginning (logs_of beginning before)) space
+  pub is_new : (space : SpaceId) → (sent_in space).next ≤ number_in (known_by beginning (logs_of beginning before)) space
   is_new Initial = omega arith
   is_new Handshake = omega arith
   is_new Data = number_from_above beginning.config.skips beginning.random (sent_in Data).next

@@ -104,6 +104,25 @@ same_refusals e f of no_text is_e is_f =
     let Same : Refusal → Type 0 = SameRefusal e in
     subst Same equal (same_as_itself e)
 
+-- of a refusal that holds no text there is one alone with its number
+pub only_refusal : (given of : Refusal) → (refusal_number of == 17) ≡ false → same_refusal given of ≡ true → given ≡ of
+only_refusal given of no_text same =
+    let one = same_number given of same in
+    named given (ap (λ (n : ℕ). n == 17) one ∙ no_text) ∙ ap of_number one ∙ sym (named of no_text)
+
+-- ---- the least id that is held
+
+pub not_held : (entry : Option (List ℕ × Option (List ℕ))) → IsSome entry → entry ≡ None → ⊥
+not_held None some none = cc
+not_held (Some entry) some none = none-some entry (sym none)
+
+pub least_held : (held : Table) (low one other : ℕ) → IsLeastHeld held low one → IsLeastHeld held low other → one ≡ other
+least_held held low one other is_one is_other =
+    omega (arith, not_before one other is_one is_other, not_before other one is_other is_one)
+  where
+    not_before : (m n : ℕ) → IsLeastHeld held low m → IsLeastHeld held low n → ¬ (m < n)
+    not_before m n is_m is_n less = not_held (held m) is_m.is_held (is_n.least m is_m.bound less)
+
 module _ {Q S M P : Type 0} (q : QueueMeaning Q S M P) where
   -- of two replies that may be given, neither of which says that memory was refused, both are the same
   abbrev Decides : (Reply Q → Type 0) → Type 0
@@ -242,17 +261,6 @@ module _ {Q S M P : Type 0} (q : QueueMeaning Q S M P) where
   ecn_decides here newly counts (Err one) other m n is_one is_other = absurd is_one
 
   -- ---- ids
-
-  not_held : (entry : Option (List ℕ × Option (List ℕ))) → IsSome entry → entry ≡ None → ⊥
-  not_held None some none = cc
-  not_held (Some entry) some none = none-some entry (sym none)
-
-  least_held : (held : Table) (low one other : ℕ) → IsLeastHeld held low one → IsLeastHeld held low other → one ≡ other
-  least_held held low one other is_one is_other =
-      omega (arith, not_before one other is_one is_other, not_before other one is_other is_one)
-    where
-      not_before : (m n : ℕ) → IsLeastHeld held low m → IsLeastHeld held low n → ¬ (m < n)
-      not_before m n is_m is_n less = not_held (held m) is_m.is_held (is_n.least m is_m.bound less)
 
   same_token : (held : Table) (n : ℕ) (one other : List ℕ) → HasToken held n one → HasToken held n other → one ≡ other
   same_token held n one other has_one has_other =

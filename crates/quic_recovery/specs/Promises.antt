@@ -3,11 +3,17 @@ pub mod Blocked
 pub mod Bursts
 pub mod Datagrams
 pub mod Few
+pub mod GivenIds
 pub mod Holes
 pub mod Mtu
 pub mod Near
 pub mod NewNumbers
 pub mod Once
+pub mod OwnIds
+pub mod Paths
+pub mod PeerIds
 pub mod Probes
+pub mod Refused
 pub mod Threefold
 pub mod Timeouts
+pub mod Tracked

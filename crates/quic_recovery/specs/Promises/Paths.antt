@@ -1,0 +1,22 @@
+-- Paths (RFC 9000, 9.3): the one in use, and the one that was in use before it, until that is dropped. The generation of a
+-- path is how many were made before it.
+use Rattle.std.specs.Prelude.{ℕ, ◌+◌, [], ◌∷◌, Option, None, Some, Ok}
+use Rattle.recovery_paths.specs.declared.live_paths.PathName.{PathName}
+use Rattle.recovery_paths.specs.declared.live_paths.PathName.TheVariants.{Current, Previous}
+use Rattle.quic_recovery.specs.declared.event.Event.TheVariants.{NewPath, DropPrevious}
+use Rattle.quic_recovery.specs.History.{History}
+
+module _ {Q S M P : Type 0} where
+  -- how many paths were made behind the first one: the generation of the path in use
+  abbrev pub paths_made : History Q S M P → ℕ
+  paths_made [] = 0
+  paths_made ((NewPath now remote is_fresh, Ok answer) ∷ earlier) = paths_made earlier + 1
+  paths_made (happened ∷ earlier) = paths_made earlier
+
+  -- the generation of a path, where it lives
+  abbrev pub generation_of : PathName → History Q S M P → Option ℕ
+  generation_of Current history = Some (paths_made history)
+  generation_of Previous [] = None
+  generation_of Previous ((NewPath now remote is_fresh, Ok answer) ∷ earlier) = Some (paths_made earlier)
+  generation_of Previous ((DropPrevious, Ok answer) ∷ earlier) = None
+  generation_of Previous (happened ∷ earlier) = generation_of Previous earlier

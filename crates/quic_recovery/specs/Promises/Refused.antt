@@ -1,0 +1,51 @@
+-- Refusals that follow from the history alone: in a space whose keys were dropped (RFC 9002, 6.4), of a packet that is not
+-- tracked (A.7), on no path (RFC 9000, 9.3), of a late initial id (7.2). Each is given exactly where its cause holds.
+use Rattle.std.specs.Prelude.{◌≡◌, ◌==◌, Bool, is_some, Option, None, Some, Err, if◌then◌else◌}
+use Rattle.recovery_base.specs.declared.below.SpaceId.{SpaceId}
+use Rattle.recovery_base.specs.declared.below.SpaceId.TheVariants.{Data}
+use Rattle.recovery_paths.specs.declared.live_paths.PathName.TheVariants.{Previous}
+use Rattle.quic_recovery.specs.declared.event.Event.{Event}
+use Rattle.quic_recovery.specs.declared.event.Event.TheVariants.{Received, Send, Acked, Lost, AckFrequencyIn, AcksSent, AckDelayTimeout, PollMtu, Ecn, CheckAck, QueueProbe, TakePending, DiscardSpace, DatagramIn, Validated, InFlight, DropPrevious, InitialId}
+use Rattle.quic_recovery.specs.declared.event.Refusal.{Refusal}
+use Rattle.quic_recovery.specs.declared.event.Refusal.TheVariants.{SpaceDiscarded, NotTracked, NoSuchPath, NotInitialId}
+use Rattle.quic_recovery.specs.History.{History, Reply}
+use Rattle.quic_recovery.specs.Promises.GivenIds.{active_id}
+use Rattle.quic_recovery.specs.Promises.NewNumbers.{is_discarded}
+use Rattle.quic_recovery.specs.Promises.Paths.{generation_of}
+use Rattle.quic_recovery.specs.Promises.Tracked.{is_tracked}
+
+module _ {Q S M P : Type 0} (history : History Q S M P) where
+  abbrev pub unless : Bool → Refusal → Option Refusal
+  unless fine refusal = if fine then None else Some refusal
+
+  abbrev pub in_space : SpaceId → Option Refusal → Option Refusal
+  in_space space otherwise = if is_discarded space history then Some SpaceDiscarded else otherwise
+
+  -- which of these causes an event has, the first where several hold
+  abbrev pub cause : Event Q S M P → Option Refusal
+  cause (Acked space now number app_limited) = in_space space (unless (is_tracked space number history) NotTracked)
+  cause (Lost space number) = in_space space (unless (is_tracked space number history) NotTracked)
+  cause (Received space now number eliciting) = in_space space None
+  cause (Send space now size eliciting largest queue frames) = in_space space None
+  cause (AckFrequencyIn frame) = in_space Data None
+  cause (AcksSent space) = in_space space None
+  cause (AckDelayTimeout space) = in_space space None
+  cause (PollMtu now) = in_space Data None
+  cause (Ecn space newly counts) = in_space space None
+  cause (CheckAck space low high) = in_space space None
+  cause (QueueProbe space immediate streams) = in_space space None
+  cause (TakePending space) = in_space space None
+  cause (DiscardSpace space) = in_space space None
+  cause (DatagramIn path bytes) = unless (is_some (generation_of path history)) NoSuchPath
+  cause (Validated path) = unless (is_some (generation_of path history)) NoSuchPath
+  cause (InFlight path) = unless (is_some (generation_of path history)) NoSuchPath
+  cause DropPrevious = unless (is_some (generation_of Previous history)) NoSuchPath
+  cause (InitialId id) = unless (active_id history == 0) NotInitialId
+  cause event = None
+
+  abbrev pub RefusesRightly : Event Q S M P → Reply Q → Type 0
+  RefusesRightly event (Err SpaceDiscarded) = cause event ≡ Some SpaceDiscarded
+  RefusesRightly event (Err NotTracked) = cause event ≡ Some NotTracked
+  RefusesRightly event (Err NoSuchPath) = cause event ≡ Some NoSuchPath
+  RefusesRightly event (Err NotInitialId) = cause event ≡ Some NotInitialId
+  RefusesRightly event reply = cause event ≡ None
