@@ -1,11 +1,11 @@
 -- By the history alone reports of black holes need four bursts and come at four, as the entries of the search say.
-use Rattle.std.proofs.Common.{ℕ, ◌≡◌, ◌+◌, ◌==◌, ◌&&◌, Bool, true, false, cond, if◌then◌else◌, List, [], ◌∷◌, ◌++◌, filter, Option, None, Some, Ok, Err, refl, sym, ap, ap₂, subst, ◌∙◌, is_some}
+use Rattle.std.proofs.Common.{ℕ, ◌≡◌, ◌+◌, ◌==◌, ◌||◌, ◌≤◌, nat_lt, length, Bool, true, false, cond, if◌then◌else◌, List, [], ◌∷◌, ◌++◌, filter, Option, None, Some, Ok, Err, refl, sym, ap, ap₂, subst, ◌∙◌, is_some}
 use Rattle.recovery_base.specs.declared.below.SpaceId.TheVariants as space
 use Rattle.recovery_config.specs.declared.config.TransportConfig.{TransportConfig}
 use Rattle.recovery_ledger.specs.Packets.{Packet}
 use Rattle.recovery_ledger.specs.Tracked.{sent_by}
 use Rattle.recovery_mtud.specs.declared.config.MtuDiscoveryConfig.{MtuDiscoveryConfig}
-use Rattle.recovery_mtud.specs.BurstRuns.{Loss, AreFour, follows, if_any, is_above, is_past}
+use Rattle.recovery_mtud.specs.BurstRuns.{Loss, follows, from_first, if_any, is_above, is_past}
 use Rattle.recovery_mtud.specs.BurstRuns as entries_
 use Rattle.recovery_mtud.specs.Discovery.{Discovery}
 use Rattle.recovery_mtud.specs.MtuEntries.{MtuEntry, probed as probed_entry, unprobed, limited, acked, probe_lost, lost, losses_over, reported, reset, probe_in_flight, size_at, min_mtu_in_use}
@@ -20,7 +20,7 @@ use Rattle.quic_recovery.specs.Entries.{logs_of}
 use Rattle.quic_recovery.specs.History.{Beginning, History, Reply, Throughout}
 use Rattle.quic_recovery.specs.Known.{settings_of}
 use Rattle.quic_recovery.specs.Promises.Bursts.{size_of, open_run}
-use Rattle.quic_recovery.specs.Promises.Holes.{ReportsAtFour, acked_numbers, standing, unanswered}
+use Rattle.quic_recovery.specs.Promises.Holes.{ReportsAtFour, larger_acked, standing, unanswered}
 use Rattle.quic_recovery.specs.Search.{data_packet, entered_so_far}
 use Rattle.quic_recovery.specs.Told.{Told}
 use Rattle.quic_recovery.proofs.BurstLaws.{comes_at_four, needs_four}
@@ -55,20 +55,20 @@ module _ {Q S M P : Type 0} (least : ℕ) where
   TiedTo history entries =
       (open_run history ≡ entries_.open_run entries)
       × (standing history ≡ entries_.standing entries)
-      × (unanswered history ≡ entries_.unanswered entries)
-      × (acked_numbers history ≡ entries_.acked_numbers entries)
+      × (unanswered least history ≡ entries_.unanswered least entries)
+      × (larger_acked least history ≡ entries_.larger_acked least entries)
       × ResetsTo least entries
 
   module _ (history : History Q S M P) (entries : List MtuEntry) (tied : TiedTo history entries) where
     acked_tied : (now number bytes : ℕ) (app_limited : Bool) → bytes ≡ size_of history number
         → TiedTo ((Acked space.Data now number app_limited, Ok (answer.Acked (is_some (size_at number (probe_in_flight entries))))) ∷ history)
         (acked number bytes ∷ entries)
-    acked_tied now number bytes app_limited same = (
+    acked_tied now number bytes app_limited same = let is_own = is_some (size_at number (probe_in_flight entries)) in (
       tied.0,
       ap₂ (λ (size : ℕ) (bursts : List (List Loss)). if is_some (size_at number (probe_in_flight entries)) then [] else filter (is_above size) bursts)
           (sym same) tied.1,
-      refl,
-      ap (λ numbers. number ∷ numbers) tied.3,
+      ap₂ (λ (size : ℕ) (bursts : List (List Loss)). if is_own || nat_lt least size then [] else bursts) (sym same) tied.2,
+      ap₂ (λ (size : ℕ) (numbers : List ℕ). if is_own || nat_lt least size then number ∷ numbers else numbers) (sym same) tied.3,
       tied.4,
     )
 
@@ -216,18 +216,18 @@ module _ {F K Q S M P : Type 0} (beginning : Beginning F K Q S M P) where
       let is = least_known history kept in
       let Needed : Reply Q → Type 0 = λ r. NeedsFourBursts beginning history (LossesDone now) r in
       let all : List (List Loss) → List Loss → List (List Loss) = λ bursts run. if_any run ++ bursts in
-      let Stand : ℕ → List (List Loss) → Type 0 = λ size bursts. AreFour (is_above size) bursts in
+      let Stand : ℕ → List (List Loss) → Type 0 = λ size bursts. 4 ≤ length (filter (is_above size) bursts) in
       let Force : ℕ → List ℕ → List (List Loss) → Type 0 =
-      λ size numbers bursts. AreFour (λ burst. is_above size burst && is_past numbers burst) bursts in
+      λ size numbers bursts. 4 ≤ length (from_first (is_past numbers) (filter (is_above size) bursts)) in
       let standing_same = ap₂ all kept.tied.1 kept.tied.0 in
       let unanswered_same = ap₂ all kept.tied.2 kept.tied.0 in
       (
         λ reports. subst (Stand least) (sym standing_same)
             (subst (λ size. Stand size (all (entries_.standing entries) (entries_.open_run entries))) is (subst Needed reports known.1.0)),
         λ four. known.1.1
-            (subst (λ size. Force size (entries_.acked_numbers entries) (all (entries_.unanswered entries) (entries_.open_run entries))) (sym is)
-            (subst (λ numbers. Force least numbers (all (entries_.unanswered entries) (entries_.open_run entries))) kept.tied.3
-            (subst (Force least (acked_numbers history)) unanswered_same four))),
+            (subst (λ size. Force size (entries_.larger_acked size entries) (all (entries_.unanswered size entries) (entries_.open_run entries))) (sym is)
+            (subst (λ numbers. Force least numbers (all (entries_.unanswered least entries) (entries_.open_run entries))) kept.tied.3
+            (subst (Force least (larger_acked least history)) unanswered_same four))),
       )
   holes_one history event reply known kept after = tt
 

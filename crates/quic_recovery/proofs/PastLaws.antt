@@ -14,17 +14,25 @@ use Rattle.quic_recovery.specs.Bursts.{ComesAtFourBursts, NeedsFourBursts}
 use Rattle.quic_recovery.specs.Pacing.{DelaysByBalance, KeepsPace, PassesSoon, PassesWhenNamed}
 use Rattle.quic_recovery.specs.Search.{EndsNear, EntersAsTold, LimitsOutside, ProbesInTurn, SearchesFew, TellsProbes, UsesMtu}
 use Rattle.quic_recovery.specs.Promises.Blocked.{BlocksExactly}
+use Rattle.quic_recovery.specs.Promises.Few.{ProbesFew}
+use Rattle.quic_recovery.specs.Promises.Holes.{ReportsAtFour}
+use Rattle.quic_recovery.specs.Promises.Near.{EndsNearBy}
 use Rattle.quic_recovery.specs.Promises.Once.{LeaveOnceEach}
+use Rattle.quic_recovery.specs.Promises.PeerIds.{AcceptsIds}
 use Rattle.quic_recovery.specs.Promises.Threefold.{KeepsThreefold}
 use Rattle.quic_recovery.specs.Told.{Told}
 use Rattle.quic_recovery.proofs.BlockedLaws.{blocks_exactly}
 use Rattle.quic_recovery.proofs.BurstLaws.{comes_at_four, needs_four}
 use Rattle.quic_recovery.proofs.DepartureLaws.{leave_once_in}
 use Rattle.quic_recovery.proofs.EnteredLaws.{entries_told}
+use Rattle.quic_recovery.proofs.FewLaws.{few_told}
+use Rattle.quic_recovery.proofs.HolesLaws.{holes_told}
 use Rattle.quic_recovery.proofs.LeftLaws.{changes_by_logs, left_after}
+use Rattle.quic_recovery.proofs.NearLaws.{near_told}
 use Rattle.quic_recovery.proofs.NewNumbersLaws.{numbers_told}
 use Rattle.quic_recovery.proofs.OnceLaws.{leave_once_each}
 use Rattle.quic_recovery.proofs.PacingLaws.{delayed, rate, soon, named}
+use Rattle.quic_recovery.proofs.PeerIdsLaws.{accepts_ids}
 use Rattle.quic_recovery.proofs.Runs.{history_from-push, throughout_push}
 use Rattle.quic_recovery.proofs.SearchLaws.{searches, ends, probes, limits, tells, mtu}
 use Rattle.quic_recovery.proofs.ThreefoldLaws.{sends_threefold}
@@ -66,6 +74,7 @@ module _ {F K Q S M P : Type 0} (beginning : Beginning F K Q S M P) where
           told = here;
           new = numbers_told beginning before event reply here;
           timers = timers_told beginning before event reply here;
+          peer_ids = last (AcceptsIds beginning.config.initial_cid) (accepts_ids beginning events replies all);
           threefold = last (KeepsThreefold beginning.config.validated) (sends_threefold beginning events replies all);
           blocked = last (BlocksExactly beginning.config.validated) (blocks_exactly beginning events replies all);
           delayed = last (DelaysByBalance beginning) (delayed beginning events replies all);
@@ -79,6 +88,9 @@ module _ {F K Q S M P : Type 0} (beginning : Beginning F K Q S M P) where
           limits = last (LimitsOutside beginning) (limits beginning events replies all);
           tells = last (TellsProbes beginning) (tells beginning events replies all);
           mtu = last (UsesMtu beginning) (mtu beginning events replies all);
+          few = last (ProbesFew beginning) (few_told beginning came.small events replies all);
+          near = last (EndsNearBy beginning) (near_told beginning came.small events replies all);
+          holes = last (ReportsAtFour beginning.config.transport.min_mtu) (holes_told beginning events replies all);
           needs_four = last (NeedsFourBursts beginning) (needs_four beginning events replies all);
           comes_at_four = last (ComesAtFourBursts beginning) (comes_at_four beginning events replies all);
           once = subst Leave longer (leave_once_each beginning (history events replies) (leave_once_in beginning events replies all));

@@ -10,8 +10,12 @@ use Rattle.quic_recovery.specs.History.{Beginning, History, Reply, QueueMeaning,
 use Rattle.quic_recovery.specs.Pacing.{DelaysByBalance, KeepsPace, PassesSoon, PassesWhenNamed}
 use Rattle.quic_recovery.specs.Parts.{Parts}
 use Rattle.quic_recovery.specs.Promises.Blocked.{BlocksExactly}
+use Rattle.quic_recovery.specs.Promises.Few.{ProbesFew}
+use Rattle.quic_recovery.specs.Promises.Holes.{ReportsAtFour}
+use Rattle.quic_recovery.specs.Promises.Near.{EndsNearBy}
 use Rattle.quic_recovery.specs.Promises.NewNumbers.{CallsNew}
 use Rattle.quic_recovery.specs.Promises.Once.{LeaveOnceEach}
+use Rattle.quic_recovery.specs.Promises.PeerIds.{AcceptsIds}
 use Rattle.quic_recovery.specs.Promises.Threefold.{KeepsThreefold}
 use Rattle.quic_recovery.specs.Promises.Timeouts.{TellsTimers}
 use Rattle.quic_recovery.specs.Search.{EndsNear, EntersAsTold, LimitsOutside, ProbesInTurn, SearchesFew, TellsProbes, UsesMtu}
@@ -49,6 +53,7 @@ module _ {F K Q S M P : Type 0} (beginning : Beginning F K Q S M P) where
     pub told : Told beginning before event reply
     pub new : CallsNew before event reply
     pub timers : TellsTimers before event reply
+    pub peer_ids : AcceptsIds beginning.config.initial_cid before event reply
     pub threefold : KeepsThreefold beginning.config.validated before event reply
     pub blocked : BlocksExactly beginning.config.validated before event reply
     pub delayed : DelaysByBalance beginning before event reply
@@ -62,6 +67,9 @@ module _ {F K Q S M P : Type 0} (beginning : Beginning F K Q S M P) where
     pub limits : LimitsOutside beginning before event reply
     pub tells : TellsProbes beginning before event reply
     pub mtu : UsesMtu beginning before event reply
+    pub few : ProbesFew beginning before event reply
+    pub near : EndsNearBy beginning before event reply
+    pub holes : ReportsAtFour beginning.config.transport.min_mtu before event reply
     pub needs_four : NeedsFourBursts beginning before event reply
     pub comes_at_four : ComesAtFourBursts beginning before event reply
     pub once : LeaveOnceEach ((event, reply) ∷ before)

@@ -1,8 +1,8 @@
 -- Black holes (RFC 8899, 4.3): a report needs four bursts of losses of large packets that no acknowledgement refuted, and it comes at
--- four with no acknowledgement since.
-use Rattle.std.specs.Prelude.{◌≡◌, ℕ, Bool, true, ◌&&◌, List, [], ◌∷◌, ◌++◌, filter, Ok, if◌then◌else◌}
+-- four since the first of which no large packet was acknowledged, though small ones may be.
+use Rattle.std.specs.Prelude.{◌≡◌, ℕ, ◌≤◌, nat_lt, true, ◌||◌, List, [], ◌∷◌, ◌++◌, length, filter, Ok, if◌then◌else◌}
 use Rattle.recovery_base.specs.declared.below.SpaceId.TheVariants.{Data}
-use Rattle.recovery_mtud.specs.BurstRuns.{Loss, if_any, is_above, is_past, AreFour}
+use Rattle.recovery_mtud.specs.BurstRuns.{Loss, from_first, if_any, is_above, is_past}
 use Rattle.quic_recovery.specs.declared.event.Event.{Event}
 use Rattle.quic_recovery.specs.declared.event.Event.TheVariants.{Acked, LossesDone, NewPath}
 use Rattle.quic_recovery.specs.declared.event.Answer.TheVariants as answer
@@ -19,23 +19,27 @@ module _ {Q S M P : Type 0} where
       if probe then [] else filter (is_above (size_of earlier n)) (standing earlier)
   standing (happened ∷ earlier) = if begins_anew happened then [] else closed happened earlier ++ standing earlier
 
-  -- those closed since then with no acknowledgement since
-  abbrev pub unanswered : History Q S M P → List (List Loss)
-  unanswered [] = []
-  unanswered ((Acked Data now n app_limited, Ok given) ∷ earlier) = []
-  unanswered (happened ∷ earlier) = if begins_anew happened then [] else closed happened earlier ++ unanswered earlier
+  -- those closed since then with neither a probe nor a packet larger than this acknowledged since
+  abbrev pub unanswered : ℕ → History Q S M P → List (List Loss)
+  unanswered size [] = []
+  unanswered size ((Acked Data now n app_limited, Ok (answer.Acked probe)) ∷ earlier) =
+      if probe || nat_lt size (size_of earlier n) then [] else unanswered size earlier
+  unanswered size (happened ∷ earlier) =
+      if begins_anew happened then [] else closed happened earlier ++ unanswered size earlier
 
-  -- the numbers acknowledged since the last fresh path
-  abbrev pub acked_numbers : History Q S M P → List ℕ
-  acked_numbers [] = []
-  acked_numbers ((Acked Data now n app_limited, Ok given) ∷ earlier) = n ∷ acked_numbers earlier
-  acked_numbers ((NewPath now remote true, Ok given) ∷ earlier) = []
-  acked_numbers (happened ∷ earlier) = acked_numbers earlier
+  -- the numbers of those acknowledged since the last fresh path
+  abbrev pub larger_acked : ℕ → History Q S M P → List ℕ
+  larger_acked size [] = []
+  larger_acked size ((Acked Data now n app_limited, Ok (answer.Acked probe)) ∷ earlier) =
+      if probe || nat_lt size (size_of earlier n) then n ∷ larger_acked size earlier else larger_acked size earlier
+  larger_acked size ((NewPath now remote true, Ok given) ∷ earlier) = []
+  larger_acked size (happened ∷ earlier) = larger_acked size earlier
 
-  -- bursts count whose packets are all larger than the least MTU; those that force a report end past each number acknowledged
+  -- bursts count whose packets are all above the least MTU; of those that force a report the first ends past each such number
   abbrev pub ReportsAtFour : ℕ → History Q S M P → Event Q S M P → Reply Q → Type 0
   ReportsAtFour least history (LossesDone now) reply =
-      let is_strong : List Loss → Bool = λ burst. is_above least burst && is_past (acked_numbers history) burst in
-      (reply ≡ Ok (answer.BlackHole true) → AreFour (is_above least) (if_any (open_run history) ++ standing history))
-      × (AreFour is_strong (if_any (open_run history) ++ unanswered history) → reply ≡ Ok (answer.BlackHole true))
+      let now_closed = if_any (open_run history) in
+      let bursts = filter (is_above least) (now_closed ++ unanswered least history) in
+      (reply ≡ Ok (answer.BlackHole true) → 4 ≤ length (filter (is_above least) (now_closed ++ standing history)))
+      × (4 ≤ length (from_first (is_past (larger_acked least history)) bursts) → reply ≡ Ok (answer.BlackHole true))
   ReportsAtFour least history event reply = Unit {0}
