@@ -3,9 +3,8 @@ use Rattle.std.proofs.Common.{ℕ, ◌≡◌, ◌≤◌, ◌==◌, ◌<◌, ◌^
 use Rattle.std.specs.Prelude.{is_none, nat_eq}
 use Rattle.std.specs.Option.{ForSome}
 use Rattle.std.specs.Set.{distinct_count}
-use Rattle.std.proofs.lemmas.Bool.{false_from_ne_true}
 use Rattle.recovery_base.specs.declared.below.SpaceId.TheVariants as space
-use Rattle.recovery_mtud.specs.MtuEntries.{MtuEntry, MtuProbe, probed as probed_entry, unprobed, limited, acked, probe_lost, lost, losses_over, reported, probe_in_flight, size_at, unless_number}
+use Rattle.recovery_mtud.specs.MtuEntries.{MtuEntry, MtuProbe, unprobed, limited, acked, probe_lost, lost, losses_over, reported, probe_in_flight, size_at, unless_number}
 use Rattle.recovery_mtud.specs.SearchRuns.{probed_sizes, search_of, search_runs}
 use Rattle.quic_recovery.specs.declared.event.Event.{Event}
 use Rattle.quic_recovery.specs.declared.event.Event.TheVariants.{PollMtu, Acked, Lost, LossesDone, PeerLimit, ResetPath, NewPath}
@@ -86,8 +85,8 @@ module _ {Q S M P : Type 0} where
     polled_tied now = (
       tied.0,
       ap (λ sizes. if is_in_flight history then sizes else []) tied.1
-      ∙ ap (λ (flies : Bool). if flies then probed_sizes (search_of entries) else []) tied.0
-      ∙ sizes_polled entries now (probe_in_flight entries) (search_runs entries) refl,
+          ∙ ap (λ (flies : Bool). if flies then probed_sizes (search_of entries) else []) tied.0
+          ∙ sizes_polled entries now (probe_in_flight entries) (search_runs entries) refl,
     )
 
 module _ {F K Q S M P : Type 0} (beginning : Beginning F K Q S M P) where

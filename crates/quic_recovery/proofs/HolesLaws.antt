@@ -1,5 +1,5 @@
 -- By the history alone reports of black holes need four bursts and come at four, as the entries of the search say.
-use Rattle.std.proofs.Common.{ℕ, ◌≡◌, ◌+◌, ◌==◌, ◌&&◌, Bool, true, false, cond, if◌then◌else◌, List, [], ◌∷◌, ◌++◌, filter, Option, None, Some, Ok, Err, refl, sym, ap, ap₂, subst, ◌∙◌, is_some}
+use Rattle.std.proofs.Common.{ℕ, ◌≡◌, ◌&&◌, Bool, true, false, if◌then◌else◌, List, [], ◌∷◌, ◌++◌, filter, Option, None, Some, Ok, Err, refl, sym, ap, ap₂, subst, ◌∙◌, is_some}
 use Rattle.recovery_base.specs.declared.below.SpaceId.TheVariants as space
 use Rattle.recovery_config.specs.declared.config.TransportConfig.{TransportConfig}
 use Rattle.recovery_ledger.specs.Packets.{Packet}
@@ -8,8 +8,8 @@ use Rattle.recovery_mtud.specs.declared.config.MtuDiscoveryConfig.{MtuDiscoveryC
 use Rattle.recovery_mtud.specs.BurstRuns.{Loss, AreFour, follows, if_any, is_above, is_past}
 use Rattle.recovery_mtud.specs.BurstRuns as entries_
 use Rattle.recovery_mtud.specs.Discovery.{Discovery}
-use Rattle.recovery_mtud.specs.MtuEntries.{MtuEntry, probed as probed_entry, unprobed, limited, acked, probe_lost, lost, losses_over, reported, reset, probe_in_flight, size_at, min_mtu_in_use}
-use Rattle.recovery_paths.specs.PathMaking.{discovery_with, first_discovery}
+use Rattle.recovery_mtud.specs.MtuEntries.{MtuEntry, acked, probe_lost, lost, losses_over, reported, reset, probe_in_flight, size_at, min_mtu_in_use}
+use Rattle.recovery_paths.specs.PathMaking.{discovery_with}
 use Rattle.quic_recovery.specs.declared.event.Event.{Event}
 use Rattle.quic_recovery.specs.declared.event.Event.TheVariants.{PollMtu, Acked, Lost, LossesDone, PeerLimit, ResetPath, NewPath}
 use Rattle.quic_recovery.specs.declared.event.Answer.{Answer}
@@ -18,7 +18,6 @@ use Rattle.quic_recovery.specs.declared.event.Refusal.{Refusal}
 use Rattle.quic_recovery.specs.Bursts.{ComesAtFourBursts, NeedsFourBursts}
 use Rattle.quic_recovery.specs.Entries.{logs_of}
 use Rattle.quic_recovery.specs.History.{Beginning, History, Reply, Throughout}
-use Rattle.quic_recovery.specs.Known.{settings_of}
 use Rattle.quic_recovery.specs.Promises.Bursts.{size_of, open_run}
 use Rattle.quic_recovery.specs.Promises.Holes.{ReportsAtFour, acked_numbers, standing, unanswered}
 use Rattle.quic_recovery.specs.Search.{data_packet, entered_so_far}
@@ -220,8 +219,7 @@ module _ {F K Q S M P : Type 0} (beginning : Beginning F K Q S M P) where
       let Force : ℕ → List ℕ → List (List Loss) → Type 0 =
       λ size numbers bursts. AreFour (λ burst. is_above size burst && is_past numbers burst) bursts in
       let standing_same = ap₂ all kept.tied.1 kept.tied.0 in
-      let unanswered_same = ap₂ all kept.tied.2 kept.tied.0 in
-      (
+      let unanswered_same = ap₂ all kept.tied.2 kept.tied.0 in (
         λ reports. subst (Stand least) (sym standing_same)
             (subst (λ size. Stand size (all (entries_.standing entries) (entries_.open_run entries))) is (subst Needed reports known.1.0)),
         λ four. known.1.1

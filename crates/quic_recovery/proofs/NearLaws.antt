@@ -1,12 +1,12 @@
 -- By the history alone a search ends near the best size of an honest link, as its entries say.
-use Rattle.std.proofs.Common.{ℕ, ◌≡◌, ◌+◌, ◌*◌, ◌<◌, ◌≤◌, ◌^◌, ◌==◌, ◌&&◌, ◌||◌, min, max, nat_lt, Bool, true, false, not, if◌then◌else◌, List, [], ◌∷◌, ◌++◌, length, Option, None, Some, Ok, Err, refl, sym, ap, ap₂, subst, ◌∙◌, is_some, arith}
+use Rattle.std.proofs.Common.{ℕ, ◌≡◌, ◌+◌, ◌*◌, ◌<◌, ◌≤◌, ◌^◌, ◌==◌, ◌&&◌, ◌||◌, min, max, Bool, true, false, not, if◌then◌else◌, List, [], ◌∷◌, ◌++◌, Option, None, Some, Ok, Err, refl, sym, ap, ap₂, subst, ◌∙◌, is_some, arith}
 use Rattle.std.specs.Prelude.{All, is_none, option_map, option_to_list, unwrap_or}
 use Rattle.std.specs.Option.{ForSome}
 use Rattle.recovery_base.specs.declared.below.SpaceId.TheVariants as space
 use Rattle.recovery_config.specs.declared.config.TransportConfig.{TransportConfig}
 use Rattle.recovery_config.specs.Settings.{initial_mtu_of}
 use Rattle.recovery_mtud.specs.declared.config.MtuDiscoveryConfig.{MtuDiscoveryConfig}
-use Rattle.recovery_mtud.specs.Discovery.{Discovery, discovery_made, limit_or_greatest, within}
+use Rattle.recovery_mtud.specs.Discovery.{Discovery, limit_or_greatest, within}
 use Rattle.recovery_mtud.specs.DiscoveryLog.{kept_limit}
 use Rattle.recovery_mtud.specs.MtuEntries.{MtuEntry, MtuProbe, probed as probed_entry, unprobed, limited, acked, probe_lost, lost, losses_over, reported, reset, probe_in_flight, size_at, unless_number, limit_in_use, min_mtu_in_use, mtu_in_use}
 use Rattle.recovery_mtud.specs.Search.{later, upper_from}
@@ -23,7 +23,7 @@ use Rattle.quic_recovery.specs.History.{Beginning, History, QueueMeaning, Reply,
 use Rattle.quic_recovery.specs.Known.{Known, known_by, last_limit}
 use Rattle.quic_recovery.specs.Logs.{onto}
 use Rattle.quic_recovery.specs.Search.{EndsNear, LimitsOutside, discovery_settings, entered_so_far}
-use Rattle.quic_recovery.specs.Promises.Few.{is_in_flight, probed}
+use Rattle.quic_recovery.specs.Promises.Few.{is_in_flight}
 use Rattle.quic_recovery.specs.Promises.Mtu.{limit, mtu}
 use Rattle.quic_recovery.specs.Promises.Near.{EndsNearBy, IsNear, next, start}
 use Rattle.quic_recovery.specs.Promises.Probes.{acked_probes, are_some, last_probe, lost_probes, runs}
@@ -287,8 +287,7 @@ module _ {Q S M P : Type 0} (first least : ℕ) (settings : MtuDiscoveryConfig) 
     -- and of those where nothing is entered
     still : (happened : Event Q S M P × Reply Q) → few.TiedTo (happened ∷ history) entries → Acks happened entries × Losses happened entries
     still happened after =
-        let same = runs_same (happened ∷ history) entries after in
-        (
+        let same = runs_same (happened ∷ history) entries after in (
           list_still entries acked_sizes refl (acked_probes history) tied.4 (runs (happened ∷ history)) same,
           list_still entries lost_sizes refl (lost_probes history) tied.5 (runs (happened ∷ history)) same,
         )
@@ -301,8 +300,7 @@ module _ {Q S M P : Type 0} (first least : ℕ) (settings : MtuDiscoveryConfig) 
     polled_tied now = λ after. (
         let by : Bool → Bool → Option ℕ → Option ℕ = λ quiet running last.
         if quiet && (running || is_due last now) then Some (later now settings.interval) else last in
-        let quiet = ap not before.0 ∙ is_none_not (probe_in_flight entries) in
-        (
+        let quiet = ap not before.0 ∙ is_none_not (probe_in_flight entries) in (
           (
             tied.0,
             tied.1,
@@ -321,8 +319,7 @@ module _ {Q S M P : Type 0} (first least : ℕ) (settings : MtuDiscoveryConfig) 
     acked_tied : (now number bytes : ℕ) (app_limited : Bool) (found : Option ℕ) → size_at number (probe_in_flight entries) ≡ found
         → After (Acked space.Data now number app_limited, Ok (answer.Acked (is_some found))) (acked number bytes ∷ entries)
     acked_tied now number bytes app_limited None is = λ after. (
-        let happened : Event Q S M P × Reply Q = (Acked space.Data now number app_limited, Ok (answer.Acked false)) in
-        (
+        let happened : Event Q S M P × Reply Q = (Acked space.Data now number app_limited, Ok (answer.Acked false)) in (
           (
             last_unless (last_probe history) number (probe_in_flight entries) tied.0,
             tied.1,
@@ -340,8 +337,7 @@ module _ {Q S M P : Type 0} (first least : ℕ) (settings : MtuDiscoveryConfig) 
         let happened : Event Q S M P × Reply Q = (Acked space.Data now number app_limited, Ok (answer.Acked true)) in
         let flying = flying_size number (probe_in_flight entries) found is in
         let last = last_found (last_probe history) (probe_in_flight entries) found tied.0 flying in
-        let running = runs_in_flight entries (flies (probe_in_flight entries) found flying) in
-        (
+        let running = runs_in_flight entries (flies (probe_in_flight entries) found flying) in (
           (
             last_unless (last_probe history) number (probe_in_flight entries) tied.0,
             tied.1,
@@ -360,8 +356,7 @@ module _ {Q S M P : Type 0} (first least : ℕ) (settings : MtuDiscoveryConfig) 
     lost_tied : (number bytes : ℕ) (found : Option ℕ) → size_at number (probe_in_flight entries) ≡ found
         → After (Lost space.Data number, Ok (answer.Lost (is_some found))) ((if is_some found then probe_lost else lost number bytes) ∷ entries)
     lost_tied number bytes None is = λ after. (
-        let happened : Event Q S M P × Reply Q = (Lost space.Data number, Ok (answer.Lost false)) in
-        (
+        let happened : Event Q S M P × Reply Q = (Lost space.Data number, Ok (answer.Lost false)) in (
           (
             tied.0,
             tied.1,
@@ -378,8 +373,7 @@ module _ {Q S M P : Type 0} (first least : ℕ) (settings : MtuDiscoveryConfig) 
         let happened : Event Q S M P × Reply Q = (Lost space.Data number, Ok (answer.Lost true)) in
         let flying = flying_size number (probe_in_flight entries) found is in
         let last = last_found (last_probe history) (probe_in_flight entries) found tied.0 flying in
-        let running = runs_in_flight entries (flies (probe_in_flight entries) found flying) in
-        (
+        let running = runs_in_flight entries (flies (probe_in_flight entries) found flying) in (
           (
             tt,
             tied.1,
@@ -400,8 +394,7 @@ module _ {Q S M P : Type 0} (first least : ℕ) (settings : MtuDiscoveryConfig) 
         → After (LossesDone now, Ok (answer.BlackHole hole)) ((if hole then reported now else losses_over) ∷ entries)
     ended_tied now is true = λ after. ((tt, tied.1, is, refl, refl, refl, tied.6), goes (reported now))
     ended_tied now is false = λ after. (
-        let happened : Event Q S M P × Reply Q = (LossesDone now, Ok (answer.BlackHole false)) in
-        (
+        let happened : Event Q S M P × Reply Q = (LossesDone now, Ok (answer.BlackHole false)) in (
           (
             tied.0,
             tied.1,
@@ -417,8 +410,7 @@ module _ {Q S M P : Type 0} (first least : ℕ) (settings : MtuDiscoveryConfig) 
 
     limited_tied : (size : ℕ) (given : Answer Q) → search_runs entries ≡ false → After (PeerLimit size, Ok given) (limited size ∷ entries)
     limited_tied size given outside = λ after. (
-        let happened : Event Q S M P × Reply Q = (PeerLimit size, Ok given) in
-        (
+        let happened : Event Q S M P × Reply Q = (PeerLimit size, Ok given) in (
           (
             tied.0,
             ap (option_map (λ old. size)) tied.1,
@@ -444,8 +436,7 @@ module _ {Q S M P : Type 0} (first least : ℕ) (settings : MtuDiscoveryConfig) 
 
     stays_tied : (happened : Event Q S M P × Reply Q) → Stays happened → After happened entries
     stays_tied happened same = λ after. (
-        let lists = still happened after in
-        (
+        let lists = still happened after in (
           (
             subst (λ size. LastOf size (probe_in_flight entries)) (sym same.0) tied.0,
             tied.1 ∙ ap (λ (l : Option ℕ). Some (limit_or_greatest l)) (sym same.1),
@@ -659,8 +650,7 @@ module _ {F K Q S M P : Type 0} (beginning : Beginning F K Q S M P) (settings : 
         start = subst (λ size. size ≤ link) searched.start starts;
         acked = subst (λ (sizes : List ℕ). All (λ size. size ≤ link) sizes) tied.4 acks;
         lost = subst (λ (sizes : List ℕ). All (λ size. link < size) sizes) tied.5 losses;
-      }) in
-      (
+      }) in (
         subst (λ size. size ≤ link) (sym tied.2) found.carried,
         subst (λ upper. min link upper < mtu first least history + 2 * settings.minimum_change) (upper_is history searched)
             (subst (λ size. min link (start_upper (made_in beginning history) settings entries) < size + 2 * settings.minimum_change) (sym tied.2) found.near),

@@ -1,5 +1,5 @@
 -- What an event is to the search on the path in use, for what is read off the history: one step of its entries.
-use Rattle.std.proofs.Common.{ℕ, ◌≡◌, Bool, true, false, if◌then◌else◌, List, [], ◌∷◌, ◌++◌, Option, None, Some, Ok, refl, sym, ap, subst, ◌∙◌, is_some}
+use Rattle.std.proofs.Common.{ℕ, ◌≡◌, Bool, if◌then◌else◌, List, [], ◌∷◌, ◌++◌, Option, None, Some, Ok, refl, sym, ap, subst, ◌∙◌, is_some}
 use Rattle.recovery_base.specs.declared.below.SpaceId.TheVariants.{Data}
 use Rattle.recovery_ledger.specs.Packets.{Packet}
 use Rattle.recovery_mtud.specs.Discovery.{reports}

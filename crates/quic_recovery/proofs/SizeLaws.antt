@@ -16,11 +16,11 @@ use Rattle.recovery_skips.proofs.SkipLaws.{number_from_above}
 use Rattle.quic_recovery.specs.declared.event.Event.{Event}
 use Rattle.quic_recovery.specs.declared.event.Event.TheVariants.{Received, Send, Acked, Lost, AckFrequencyIn, AcksSent, AckDelayTimeout, DiscardSpace, PollMtu, Transmit, Ecn, QueueProbe, TakePending}
 use Rattle.quic_recovery.specs.declared.event.Answer.{Answer}
-use Rattle.quic_recovery.specs.declared.event.Answer.TheVariants.{New, Flag, Sent, Probe, NoProbe, Transmitted, Delayed}
+use Rattle.quic_recovery.specs.declared.event.Answer.TheVariants.{New, Flag, Probe, NoProbe, Transmitted, Delayed}
 use Rattle.quic_recovery.specs.declared.event.Refusal.{Refusal}
 use Rattle.quic_recovery.specs.declared.event.Refusal.TheVariants.{DelayTooSmall}
 use Rattle.recovery_mtud.specs.Discovery.{poll_of}
-use Rattle.quic_recovery.specs.Entries.{answered, entries_of, logs_of, refused}
+use Rattle.quic_recovery.specs.Entries.{answered, logs_of, refused}
 use Rattle.quic_recovery.specs.History.{Beginning, History, Reply}
 use Rattle.quic_recovery.specs.Known.{Known, known_by, packet_now}
 use Rattle.quic_recovery.specs.Logs.{onto}
@@ -93,8 +93,7 @@ module _ {P M : Type 0} where
         tt,
       )
       sized_push (entry ∷ packets) packet same sized =
-          let below : entry.0 < limit = sized.1 in
-          (
+          let below : entry.0 < limit = sized.1 in (
             sized.0 ∙ ap (λ (own : Bool). if own then bytes else size entry.0) (sym (ne_eqb entry.0 number (λ is. omega (arith, is, below, above)))),
             omega (arith, below, above),
             sized_push packets packet same sized.2,
