@@ -1,5 +1,5 @@
--- Black holes (RFC 8899, 4.3): a report needs four bursts of losses of large packets that no acknowledgement refuted, and it comes at
--- four with no acknowledgement since.
+-- Black holes (RFC 8899, 4.3): a report needs four bursts of losses of large packets that no acknowledgement refuted,
+-- and it comes at four with no acknowledgement since.
 use Rattle.std.specs.Prelude.{◌≡◌, ℕ, Bool, true, ◌&&◌, List, [], ◌∷◌, ◌++◌, filter, Ok, if◌then◌else◌}
 use Rattle.recovery_base.specs.declared.below.SpaceId.TheVariants.{Data}
 use Rattle.recovery_mtud.specs.BurstRuns.{Loss, if_any, is_above, is_past, AreFour}
@@ -11,8 +11,8 @@ use Rattle.quic_recovery.specs.Promises.Few.{begins_anew}
 use Rattle.quic_recovery.specs.Promises.Bursts.{size_of, open_run, closed}
 
 module _ {Q S M P : Type 0} where
-  -- the bursts closed since all began anew, but those that an acknowledged packet refutes: a probe all, another one those with a packet
-  -- no larger
+  -- the bursts closed since all began anew, but those that an acknowledged packet refutes: a probe all, another one
+  -- those with a packet no larger
   abbrev pub standing : History Q S M P → List (List Loss)
   standing [] = []
   standing ((Acked Data now n app_limited, Ok (answer.Acked probe)) ∷ earlier) =
@@ -32,7 +32,7 @@ module _ {Q S M P : Type 0} where
   acked_numbers ((NewPath now remote true, Ok given) ∷ earlier) = []
   acked_numbers (happened ∷ earlier) = acked_numbers earlier
 
-  -- bursts count whose packets are all larger than the least MTU; those that force a report end past each number acknowledged
+  -- for bursts of packets all larger than the least MTU; those that force a report end past each number acknowledged
   abbrev pub ReportsAtFour : ℕ → History Q S M P → Event Q S M P → Reply Q → Type 0
   ReportsAtFour least history (LossesDone now) reply =
       let is_strong : List Loss → Bool = λ burst. is_above least burst && is_past (acked_numbers history) burst in
