@@ -21,7 +21,8 @@ use Rattle.quic_recovery.specs.Entries.{acked_entry, acked_search, is_own, logs_
 use Rattle.quic_recovery.specs.History.{Beginning, History, Reply}
 use Rattle.quic_recovery.specs.Known.{Known, first_path, known_by, last_limit, settings_of, tracked_known}
 
-module _ {K P M : Type 0} (settings : PathSettings K) (first : PathMaking K) (log : List PathsEntry) (known : Known K P M) where
+module _ {K P M : Type 0} (settings : PathSettings K) (first : PathMaking K) (log : List PathsEntry)
+    (known : Known K P M) where
   -- that of the path in use, once all this happened too
   abbrev made_with : List PathsEntry → Discovery
   made_with entries = (pasts_by settings first (entries ++ log)).current.making.discovery
@@ -30,7 +31,8 @@ module _ {K P M : Type 0} (settings : PathSettings K) (first : PathMaking K) (lo
   searched_made true call = refl
   searched_made false call = refl
 
-  data_made : (in_data changes : Bool) (call : MtuCall) → made_with (if in_data then searched known changes call else []) ≡ made_with []
+  data_made : (in_data changes : Bool) (call : MtuCall)
+      → made_with (if in_data then searched known changes call else []) ≡ made_with []
   data_made true changes call = searched_made changes call
   data_made false changes call = refl
 
@@ -42,18 +44,22 @@ module _ {K P M : Type 0} (settings : PathSettings K) (first : PathMaking K) (lo
   acked_made : (space : SpaceId) (now number : ℕ) (app_limited : Bool) (packet : Option (Packet P M))
       → made_with (acked_entry known now app_limited packet ++ acked_search known space number packet) ≡ made_with []
   acked_made space now number app_limited None = refl
-  acked_made space.Initial now number app_limited (Some packet) = own_made (is_own known packet && packet.ack_eliciting) _ []
-  acked_made space.Handshake now number app_limited (Some packet) = own_made (is_own known packet && packet.ack_eliciting) _ []
+  acked_made space.Initial now number app_limited (Some packet) = own_made
+      (is_own known packet && packet.ack_eliciting) _ []
+  acked_made space.Handshake now number app_limited (Some packet) = own_made
+      (is_own known packet && packet.ack_eliciting) _ []
   acked_made space.Data now number app_limited (Some packet) =
       let probed = is_path_probe space.Data number known.paths.current.state in
       let call = acks_packet number packet.size in
       own_made (is_own known packet && packet.ack_eliciting) _ (searched known probed call) ∙ searched_made probed call
 
-  lost_made : (space : SpaceId) (number : ℕ) (packet : Option (Packet P M)) → made_with (lost_search known space number packet) ≡ made_with []
+  lost_made : (space : SpaceId) (number : ℕ) (packet : Option (Packet P M))
+      → made_with (lost_search known space number packet) ≡ made_with []
   lost_made space number None = refl
   lost_made space.Initial number (Some packet) = refl
   lost_made space.Handshake number (Some packet) = refl
-  lost_made space.Data number (Some packet) = searched_made false (loss_call number packet.size known.paths.current.state.discovery)
+  lost_made space.Data number (Some packet) = searched_made false
+      (loss_call number packet.size known.paths.current.state.discovery)
 
 module _ {F K Q S M P : Type 0} (beginning : Beginning F K Q S M P) where
   abbrev pub made_in : History Q S M P → Discovery
@@ -61,7 +67,8 @@ module _ {F K Q S M P : Type 0} (beginning : Beginning F K Q S M P) where
 
   -- a fresh path has one of its own, by the limit that the peer told last
   abbrev pub made_after : History Q S M P → Event Q S M P → Reply Q → Discovery
-  made_after history (NewPath now remote true) (Ok given) = (settings_of beginning).discovery (last_limit (logs_of beginning history).limits)
+  made_after history (NewPath now remote true) (Ok given) = (settings_of beginning).discovery
+      (last_limit (logs_of beginning history).limits)
   made_after history event reply = made_in history
 
   module _ (past : History Q S M P) where
@@ -78,11 +85,14 @@ module _ {F K Q S M P : Type 0} (beginning : Beginning F K Q S M P) where
     answered_made (NewPath now remote true) given = refl
     answered_made (NewPath now remote false) given = refl
     answered_made (Acked space now number app_limited) given =
-        acked_made (settings_of beginning) (first_path beginning) log known space now number app_limited (packet_at (tracked_known known space) number)
+        acked_made (settings_of beginning) (first_path beginning) log known space now number app_limited
+        (packet_at (tracked_known known space) number)
     answered_made (Lost space number) given =
-        lost_made (settings_of beginning) (first_path beginning) log known space number (packet_at (tracked_known known space) number)
+        lost_made (settings_of beginning) (first_path beginning) log known space number
+        (packet_at (tracked_known known space) number)
     answered_made (LossesDone now) given =
-        searched_made (settings_of beginning) (first_path beginning) log known (reports known.paths.current.state.discovery) (losses_end now)
+        searched_made (settings_of beginning) (first_path beginning) log known
+        (reports known.paths.current.state.discovery) (losses_end now)
     answered_made (PollMtu now) (Probe number size) = refl
     answered_made (PollMtu now) given = refl
     answered_made (Transmit now bytes true) Transmitted = refl
@@ -107,6 +117,7 @@ module _ {F K Q S M P : Type 0} (beginning : Beginning F K Q S M P) where
     refused_made (AckFrequencyIn frame) refusal = refl
     refused_made event refusal = refl
 
-  pub is_made : (past : History Q S M P) (event : Event Q S M P) (reply : Reply Q) → made_in ((event, reply) ∷ past) ≡ made_after past event reply
+  pub is_made : (past : History Q S M P) (event : Event Q S M P) (reply : Reply Q)
+      → made_in ((event, reply) ∷ past) ≡ made_after past event reply
   is_made past event (Ok given) = answered_made past event given
   is_made past event (Err refusal) = refused_made past event refusal

@@ -1,4 +1,5 @@
--- Worked rows of the promises of searches for the MTU and of black holes, computed: with the right answer each holds, and with a wrong one
+-- Worked rows of the promises of searches for the MTU and of black holes, computed: with the right answer each holds,
+-- and with a wrong one
 -- it does not.
 use Rattle.std.proofs.Common.{◌≡◌, ℕ, ◌<◌, ◌≤◌, zero, suc, true, false, [], ◌∷◌, None, Some, Ok, Err, refl, arith}
 use Rattle.std.specs.Prelude.{All}
@@ -24,7 +25,8 @@ module _ {F K Q S M P : Type 0} (beginning : Beginning F K Q S M P) (settings : 
   -- so many probes, each of them lost, of these sizes
   abbrev polls : ℕ → (ℕ → ℕ) → History Q S M P
   polls zero size = []
-  polls (suc n) size = (event.Lost Data n, Ok (answer.Lost true)) ∷ (event.PollMtu n, Ok (answer.Probe n (size n))) ∷ polls n size
+  polls (suc n) size = (event.Lost Data n, Ok (answer.Lost true)) ∷
+      (event.PollMtu n, Ok (answer.Probe n (size n))) ∷ polls n size
 
   one_more_fits : ProbesFew beginning (polls 47 (λ n. 1300)) (event.PollMtu 60) (Ok (answer.Probe 60 1301))
   one_more_fits = λ own same wide. (omega arith, omega arith)
@@ -36,7 +38,8 @@ module _ {F K Q S M P : Type 0} (beginning : Beginning F K Q S M P) (settings : 
   size_17 = λ few. let many = (few settings is change).1 in omega (arith, many)
 
   -- a search that ended counts no more
-  after_its_end : ProbesFew beginning ((event.PollMtu 50, Ok answer.NoProbe) ∷ polls 48 (λ n. 1300)) (event.PollMtu 60) (Ok (answer.Probe 60 1301))
+  after_its_end : ProbesFew beginning ((event.PollMtu 50, Ok answer.NoProbe) ∷ polls 48 (λ n. 1300)) (event.PollMtu 60)
+      (Ok (answer.Probe 60 1301))
   after_its_end = λ own same wide. (omega arith, omega arith)
 
 one_all : (Holds : ℕ → Type 0) (n : ℕ) → Holds n → All Holds (n ∷ [])
@@ -75,11 +78,13 @@ module _ (Q S M P : Type 0) where
 
   -- to end here is too far from 1380, which may get through
   too_early : ¬ IsNear 1200 1200 by 1380 ended
-  too_early = λ near. let far = (near (omega arith) (one_all (λ size. size ≤ 1380) 1326 (omega arith)) (one_all (λ size. 1380 < size) 1389 (omega arith))).1 in omega (arith, far)
+  too_early = λ near. let far = (near (omega arith) (one_all (λ size. size ≤ 1380) 1326 (omega arith))
+      (one_all (λ size. 1380 < size) 1389 (omega arith))).1 in omega (arith, far)
 
   -- no probe at the first poll ends a search at once: too far from 1452
   never_probed : ¬ IsNear {Q = Q} {S = S} {M = M} {P = P} 1200 1200 by 1452 []
-  never_probed = λ near. let far = (near (omega arith) (λ k d below. absurd (omega (arith, below))) (λ k d below. absurd (omega (arith, below)))).1 in omega (arith, far)
+  never_probed = λ near. let far = (near (omega arith) (λ k d below. absurd (omega (arith, below)))
+      (λ k d below. absurd (omega (arith, below)))).1 in omega (arith, far)
 
   -- what the peer takes is a bound too
   at_its_limit : IsNear {Q = Q} {S = S} {M = M} {P = P} 1200 1200 by 1452 ((event.PeerLimit 1210, Ok answer.Done) ∷ [])
@@ -134,7 +139,8 @@ module _ (Q S M P : Type 0) (queue : Q) (frames : M) where
   large : size_of four_lost 2 ≡ 1400
   large = refl
 
-  one_run : open_run (lost 5 ∷ three_lost) ≡ record { number = 5; bytes = 1400 } ∷ record { number = 4; bytes = 1400 } ∷ []
+  one_run : open_run (lost 5 ∷ three_lost)
+      ≡ record { number = 5; bytes = 1400 } ∷ record { number = 4; bytes = 1400 } ∷ []
   one_run = refl
 
   reported : ReportsAtFour 1200 four_lost (event.LossesDone 9) (Ok (answer.BlackHole true))
@@ -154,9 +160,11 @@ module _ (Q S M P : Type 0) (queue : Q) (frames : M) where
   joined_is_wrong = λ e. let four = e.0 refl in omega (arith, four)
 
   -- a packet no smaller that was acknowledged refutes those before it
-  refuted_is_wrong : ¬ ReportsAtFour 1200 (lost 6 ∷ (event.Acked Data 8 5 false, Ok (answer.Acked false)) ∷ three_lost) (event.LossesDone 9) (Ok (answer.BlackHole true))
+  refuted_is_wrong : ¬ ReportsAtFour 1200 (lost 6 ∷ (event.Acked Data 8 5 false, Ok (answer.Acked false)) ∷ three_lost)
+      (event.LossesDone 9) (Ok (answer.BlackHole true))
   refuted_is_wrong = λ e. let four = e.0 refl in omega (arith, four)
 
   -- a refused acknowledgement refutes none
-  refused_is_none : ¬ ReportsAtFour 1200 (lost 6 ∷ (event.Acked Data 8 9 false, Err refusal.NotTracked) ∷ three_lost) (event.LossesDone 9) (Ok (answer.BlackHole false))
+  refused_is_none : ¬ ReportsAtFour 1200 (lost 6 ∷ (event.Acked Data 8 9 false, Err refusal.NotTracked) ∷ three_lost)
+      (event.LossesDone 9) (Ok (answer.BlackHole false))
   refused_is_none = λ e. let is = e.1 (omega arith) in cc

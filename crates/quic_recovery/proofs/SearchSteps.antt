@@ -1,5 +1,5 @@
 -- What an event is to the search on the path in use, for what is read off the history: one step of its entries.
-use Rattle.std.proofs.Common.{ℕ, ◌≡◌, Bool, true, false, if◌then◌else◌, List, [], ◌∷◌, ◌++◌, Option, None, Some, Ok, refl, sym, ap, subst, ◌∙◌, is_some}
+use Rattle.std.proofs.Common.{ℕ, ◌≡◌, Bool, if◌then◌else◌, List, [], ◌∷◌, ◌++◌, Option, None, Some, Ok, refl, sym, ap, subst, ◌∙◌, is_some}
 use Rattle.recovery_base.specs.declared.below.SpaceId.TheVariants.{Data}
 use Rattle.recovery_ledger.specs.Packets.{Packet}
 use Rattle.recovery_mtud.specs.Discovery.{reports}
@@ -30,9 +30,12 @@ module _ {Q S M P : Type 0} (A B : History Q S M P → Event Q S M P → Reply Q
   throughout_both before (event ∷ events) [] all others = absurd all
 
 -- what is kept by each event of which that holds holds before and after each
-module _ {Q S M P : Type 0} (A Holds : History Q S M P → Event Q S M P → Reply Q → Type 0) (Kept : History Q S M P → Type 0)
-    (keeps : (before : History Q S M P) (event : Event Q S M P) (reply : Reply Q) → A before event reply → Kept before → Kept ((event, reply) ∷ before))
-    (holds : (before : History Q S M P) (event : Event Q S M P) (reply : Reply Q) → A before event reply → Kept before → Kept ((event, reply) ∷ before)
+module _ {Q S M P : Type 0} (A Holds : History Q S M P → Event Q S M P → Reply Q → Type 0)
+    (Kept : History Q S M P → Type 0)
+    (keeps : (before : History Q S M P) (event : Event Q S M P) (reply : Reply Q) → A before event reply → Kept before
+    → Kept ((event, reply) ∷ before))
+    (holds : (before : History Q S M P) (event : Event Q S M P) (reply : Reply Q) → A before event reply → Kept before
+    → Kept ((event, reply) ∷ before)
     → Holds before event reply) where
   pub throughout_by : (before : History Q S M P) (events : List (Event Q S M P)) (replies : List (Reply Q))
       → ThroughoutFrom A before events replies → Kept before → ThroughoutFrom Holds before events replies
@@ -45,7 +48,8 @@ module _ {Q S M P : Type 0} (A Holds : History Q S M P → Event Q S M P → Rep
 
 -- ---- what is known of an event and its reply
 
-pub record Facts {F K Q S M P : Type 0} (beginning : Beginning F K Q S M P) (history : History Q S M P) (event : Event Q S M P) (reply : Reply Q)
+pub record Facts {F K Q S M P : Type 0} (beginning : Beginning F K Q S M P) (history : History Q S M P)
+    (event : Event Q S M P) (reply : Reply Q)
     : Type 0 where
   pub told : Told beginning history event reply
   pub entered : EntersAsTold beginning history event reply
@@ -53,8 +57,10 @@ pub record Facts {F K Q S M P : Type 0} (beginning : Beginning F K Q S M P) (his
 
 module _ {F K Q S M P : Type 0} (beginning : Beginning F K Q S M P) where
   facts_from : (before : History Q S M P) (events : List (Event Q S M P)) (replies : List (Reply Q))
-      → ThroughoutFrom (Told beginning) before events replies → ThroughoutFrom (EntersAsTold beginning) before events replies
-      → ThroughoutFrom (TellsProbes beginning) before events replies → ThroughoutFrom (Facts beginning) before events replies
+      → ThroughoutFrom (Told beginning) before events replies
+      → ThroughoutFrom (EntersAsTold beginning) before events replies
+      → ThroughoutFrom (TellsProbes beginning) before events replies
+      → ThroughoutFrom (Facts beginning) before events replies
   facts_from before [] [] told enters probes = tt
   facts_from before (event ∷ events) (reply ∷ replies) told enters probes = (
     record { told = told.0; entered = enters.0; tells = probes.0 },
@@ -65,12 +71,14 @@ module _ {F K Q S M P : Type 0} (beginning : Beginning F K Q S M P) where
 
   pub facts : (events : List (Event Q S M P)) (replies : List (Reply Q)) → Throughout (Told beginning) events replies
       → Throughout (Facts beginning) events replies
-  facts events replies told = facts_from [] events replies told (entries_told beginning events replies told) (tells beginning events replies told)
+  facts events replies told = facts_from [] events replies told (entries_told beginning events replies told)
+      (tells beginning events replies told)
 
 -- ---- events whose answer says what they are
 
 -- the packet that was found
-found_packet : {P M : Type 0} (found : Option (Packet P M)) → ¬ (found ≡ None) → (packet : Packet P M) × (found ≡ Some packet)
+found_packet : {P M : Type 0} (found : Option (Packet P M)) → ¬ (found ≡ None) → (packet : Packet P M)
+    × (found ≡ Some packet)
 found_packet None there = absurd (there refl)
 found_packet (Some packet) there = (packet, refl)
 
@@ -79,11 +87,13 @@ pub turned : {after entries : List MtuEntry} (G : List MtuEntry → Type 0) → 
 turned G is holds = subst G (sym is) holds
 
 -- so of what is answered, and of the entries after it
-pub seen_as : {Q : Type 0} (G : Answer Q → List MtuEntry → Type 0) (given other : Answer Q) (after entries : List MtuEntry) → given ≡ other → after ≡ entries
+pub seen_as : {Q : Type 0} (G : Answer Q → List MtuEntry → Type 0) (given other : Answer Q)
+    (after entries : List MtuEntry) → given ≡ other → after ≡ entries
     → G other entries → G given after
 seen_as G given other after entries same is holds = subst (λ g. G g after) (sym same) (subst (G other) (sym is) holds)
 
-module _ {F K Q S M P : Type 0} (beginning : Beginning F K Q S M P) (history : History Q S M P) (G : Answer Q → List MtuEntry → Type 0) where
+module _ {F K Q S M P : Type 0} (beginning : Beginning F K Q S M P) (history : History Q S M P)
+    (G : Answer Q → List MtuEntry → Type 0) where
   abbrev before : List MtuEntry
   before = entered_so_far beginning history
 
@@ -92,18 +102,22 @@ module _ {F K Q S M P : Type 0} (beginning : Beginning F K Q S M P) (history : H
   is_probed number = is_some (size_at number (probe_in_flight before))
 
   -- a packet of 1-RTT keys is acknowledged
-  pub acked_as : (now number : ℕ) (app_limited : Bool) (given : Answer Q) → Facts beginning history (Acked Data now number app_limited) (Ok given)
-      → ((packet : Packet P M) → data_packet beginning history number ≡ Some packet → G (answer.Acked (is_probed number)) (acked number packet.size ∷ before))
+  pub acked_as : (now number : ℕ) (app_limited : Bool) (given : Answer Q)
+      → Facts beginning history (Acked Data now number app_limited) (Ok given)
+      → ((packet : Packet P M) → data_packet beginning history number ≡ Some packet
+      → G (answer.Acked (is_probed number)) (acked number packet.size ∷ before))
       → G given (entered_so_far beginning ((Acked Data now number app_limited, Ok given) ∷ history))
   acked_as now number app_limited given facts each =
       let found = found_packet (data_packet beginning history number) facts.told.1.0 in
       seen_as G given (answer.Acked (is_probed number)) _ (acked number found.0.size ∷ before) facts.tells
-      (facts.entered ∙ ap (λ (packet : Option (Packet P M)). of_packet (acked number) packet ++ before) found.1) (each found.0 found.1)
+      (facts.entered ∙ ap (λ (packet : Option (Packet P M)). of_packet (acked number) packet ++ before) found.1)
+      (each found.0 found.1)
 
   -- one is lost
   pub lost_as : (number : ℕ) (given : Answer Q) → Facts beginning history (Lost Data number) (Ok given)
       → ((packet : Packet P M) → data_packet beginning history number ≡ Some packet
-      → G (answer.Lost (is_probed number)) ((if is_probed number then probe_lost else lost number packet.size) ∷ before))
+      → G (answer.Lost (is_probed number))
+      ((if is_probed number then probe_lost else lost number packet.size) ∷ before))
       → G given (entered_so_far beginning ((Lost Data number, Ok given) ∷ history))
   lost_as number given facts each =
       let found = found_packet (data_packet beginning history number) facts.told.1.0 in
@@ -119,4 +133,5 @@ module _ {F K Q S M P : Type 0} (beginning : Beginning F K Q S M P) (history : H
   ended_as now given facts each =
       let hole = reports (known_by beginning (logs_of beginning history)).paths.current.state.discovery in
       seen_as G given (answer.BlackHole hole) _ ((if hole then reported now else losses_over) ∷ before) facts.told
-      (facts.entered ∙ ap (λ (g : Answer Q). entered beginning history (LossesDone now) g ++ before) facts.told) (each hole)
+      (facts.entered ∙ ap (λ (g : Answer Q). entered beginning history (LossesDone now) g ++ before) facts.told)
+      (each hole)

@@ -1,5 +1,5 @@
--- Bursts of losses (RFC 8899, 4.3): packets of 1-RTT keys lost one after another, none of them a probe; with the sizes of packets by
--- their numbers.
+-- Bursts of losses (RFC 8899, 4.3): packets of 1-RTT keys lost one after another, none of them a probe; with the sizes
+-- of packets by their numbers.
 use Rattle.std.specs.Prelude.{ℕ, ◌==◌, false, List, [], ◌∷◌, Ok, if◌then◌else◌}
 use Rattle.recovery_base.specs.declared.below.SpaceId.TheVariants.{Data}
 use Rattle.recovery_mtud.specs.BurstRuns.{Loss, follows, if_any}
@@ -18,7 +18,7 @@ module _ {Q S M P : Type 0} where
   size_of ((PollMtu now, Ok (answer.Probe m size)) ∷ earlier) n = if n == m then size else size_of earlier n
   size_of (happened ∷ earlier) n = size_of earlier n
 
-  -- the packets lost one after another, up to the one lost last, since all losses of a moment were told or all began anew
+  -- the packets lost one after another, up to the last, since all losses of a moment were told or all began anew
   abbrev pub open_run : History Q S M P → List Loss
   open_run [] = []
   open_run ((Lost Data n, Ok (answer.Lost false)) ∷ earlier) =
@@ -26,8 +26,9 @@ module _ {Q S M P : Type 0} where
   open_run ((LossesDone now, Ok given) ∷ earlier) = []
   open_run (happened ∷ earlier) = if begins_anew happened then [] else open_run earlier
 
-  -- the burst that ends with an event, if any: by a lost number that does not follow, or as all losses of a moment were told
+  -- the burst that an event ends, if any: a lost number that does not follow, or the end of a moment's losses
   abbrev pub closed : Event Q S M P × Reply Q → History Q S M P → List (List Loss)
-  closed (Lost Data n, Ok (answer.Lost false)) earlier = if follows n (open_run earlier) then [] else if_any (open_run earlier)
+  closed (Lost Data n, Ok (answer.Lost false)) earlier =
+      if follows n (open_run earlier) then [] else if_any (open_run earlier)
   closed (LossesDone now, Ok given) earlier = if_any (open_run earlier)
   closed happened earlier = []

@@ -1,5 +1,5 @@
--- The search for the MTU (RFC 8899, 5; RFC 9000, 14.3): from its first probe to its end a search takes at most 48 probes, of at most 16
--- sizes.
+-- The search for the MTU (RFC 8899, 5; RFC 9000, 14.3): from its first probe to its end a search takes at most 48
+-- probes, of at most 16 sizes.
 use Rattle.std.specs.Prelude.{ℕ, ◌≤◌, nat_eq, Bool, true, false, List, [], ◌∷◌, length, Ok, if◌then◌else◌}
 use Rattle.std.specs.Set.{distinct_count}
 use Rattle.quic_recovery.specs.declared.event.Event.{Event}

@@ -1,4 +1,4 @@
--- The MTU in use (RFC 8899, 5; RFC 9000, 14.3): the size of the last probe acknowledged, unless it was lowered or begun anew since.
+-- The MTU in use (RFC 8899, 5; RFC 9000, 14.3): the size of the last probe acknowledged, unless it was lowered since.
 use Rattle.std.specs.Prelude.{ℕ, min, true, Option, None, Some, [], ◌∷◌, Ok}
 use Rattle.recovery_mtud.specs.Discovery.{limit_or_greatest, within}
 use Rattle.quic_recovery.specs.declared.event.Event.TheVariants.{Acked, LossesDone, PeerLimit, ResetPath, NewPath}

@@ -1,4 +1,4 @@
--- The end of a search for the MTU (RFC 8899, 5.3): over a link that carries just the sizes up to one, it ends near the best size.
+-- The end of a search for the MTU (RFC 8899, 5.3): over a link that carries the sizes up to one, it is near the best.
 use Rattle.std.specs.Prelude.{◌≡◌, ℕ, ◌+◌, ◌*◌, ◌<◌, ◌≤◌, min, max, All, true, false, not, ◌&&◌, ◌||◌, Option, None, Some, [], ◌∷◌, Ok, if◌then◌else◌}
 use Rattle.recovery_config.specs.Settings.{initial_mtu_of}
 use Rattle.recovery_mtud.specs.declared.config.MtuDiscoveryConfig.{MtuDiscoveryConfig}
@@ -20,7 +20,8 @@ module _ {Q S M P : Type 0} where
   next settings [] = None
   next settings ((PollMtu now, Ok answer.NoProbe) ∷ earlier) =
       let last = next settings earlier in
-      if not (is_in_flight earlier) && (runs earlier || is_due last now) then Some (later now settings.interval) else last
+      let ends = not (is_in_flight earlier) && (runs earlier || is_due last now) in
+      if ends then Some (later now settings.interval) else last
   next settings ((LossesDone now, Ok (answer.BlackHole true)) ∷ earlier) = Some (later now settings.black_hole_cooldown)
   next settings (happened ∷ earlier) = if begins_anew happened then None else next settings earlier
 
@@ -28,12 +29,14 @@ module _ {Q S M P : Type 0} where
     -- what was in use before the first probe of the search that runs
     abbrev pub start : History Q S M P → ℕ
     start [] = first
-    start (happened ∷ earlier) = if runs (happened ∷ earlier) then start earlier else mtu first least (happened ∷ earlier)
+    start (happened ∷ earlier) =
+        if runs (happened ∷ earlier) then start earlier else mtu first least (happened ∷ earlier)
 
-    -- where in that search each probe acknowledged fits the link, each lost one does not, and what was in use at first fits
+    -- where what was in use at first and each probe acknowledged fit the link, and each lost one does not
     abbrev pub IsNear : MtuDiscoveryConfig → ℕ → History Q S M P → Type 0
     IsNear settings link history =
-        start history ≤ link → All (λ size. size ≤ link) (acked_probes history) → All (λ size. link < size) (lost_probes history)
+        start history ≤ link
+        → All (λ size. size ≤ link) (acked_probes history) → All (λ size. link < size) (lost_probes history)
         → let best = min link (min (max settings.upper_bound (start history)) (limit_or_greatest (limit history))) in
         (mtu first least history ≤ link) × (best < mtu first least history + 2 * settings.minimum_change)
 
@@ -41,7 +44,7 @@ module _ {F K Q S M P : Type 0} (beginning : Beginning F K Q S M P) where
   -- where the least change is at least 3, for a poll that ends a search that runs, or one that is due
   abbrev pub EndsNearBy : History Q S M P → Event Q S M P → Reply Q → Type 0
   EndsNearBy history (PollMtu now) (Ok answer.NoProbe) =
-      let config = beginning.config.transport in
-      WhereSearched beginning (λ settings. is_in_flight history ≡ false → (runs history || is_due (next settings history) now) ≡ true
-      → (link : ℕ) → IsNear (initial_mtu_of config) config.min_mtu settings link history)
+      WhereSearched beginning (λ settings. is_in_flight history ≡ false
+      → (runs history || is_due (next settings history) now) ≡ true → (link : ℕ)
+      → IsNear (initial_mtu_of beginning.config.transport) beginning.config.transport.min_mtu settings link history)
   EndsNearBy history event reply = Unit {0}

@@ -23,7 +23,8 @@ module _ {Q S M P : Type 0} where
   -- the sizes of the probes that were acknowledged
   abbrev pub acked_probes : History Q S M P → List ℕ
   acked_probes [] = []
-  acked_probes ((Acked space now number app_limited, Ok (answer.Acked true)) ∷ earlier) = last_probe earlier ∷ acked_probes earlier
+  acked_probes ((Acked space now number app_limited, Ok (answer.Acked true)) ∷ earlier) =
+      last_probe earlier ∷ acked_probes earlier
   acked_probes (happened ∷ earlier) = if runs (happened ∷ earlier) then acked_probes earlier else []
 
   -- the sizes of those that were lost
