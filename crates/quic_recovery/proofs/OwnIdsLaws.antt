@@ -1,28 +1,28 @@
 -- Ids of this end are issued and retired as the history itself says.
-use Rattle.std.proofs.Common.{◌≡◌, ◌≢◌, ◌≤◌, ◌<◌, ◌+◌, ◌^◌, ℕ, zero, suc, ◌==◌, ◌&&◌, ◌||◌, nat_lt, nat_le, not, Bool, true, false, cond, List, [], ◌∷◌, ◌++◌, length, map, filter, Ok, Err, refl, sym, ap, subst, ◌∙◌, arith, leb-true, le-leb, ltb-true, lt-ltb}
+use Rattle.std.proofs.Common.{◌≡◌, ◌≢◌, ◌<◌, ◌+◌, ◌^◌, ℕ, ◌==◌, ◌&&◌, ◌||◌, nat_lt, nat_le, not, Bool, true, false, cond, List, [], ◌∷◌, length, map, filter, Ok, Err, refl, sym, ap, subst, ◌∙◌, leb-true, le-leb}
 use Rattle.std.specs.Prelude.{count_by, if◌then◌else◌}
 use Rattle.std.specs.Bool.{Decides}
 use Rattle.std.specs.List.{range_with_len}
-use Rattle.std.proofs.lemmas.Bool.Decides.{nat_tests, Decides-and, Decides-eqb, Decides-ltb, Decides-not, Decides-like, same_from_decides}
+use Rattle.std.proofs.lemmas.Bool.Decides.{Decides-and, Decides-eqb, Decides-ltb, Decides-like, same_from_decides}
 use Rattle.std.proofs.lemmas.List.Elements.{filter_agree}
 use Rattle.std.proofs.lemmas.List.Sums.{length-filter}
 use Rattle.recovery_base.specs.declared.below.ids.IssuedCid.{IssuedCid}
 use Rattle.recovery_ids.specs.LocalIds.{LocalIds, without_number}
-use Rattle.recovery_ids.specs.LocalLog.{LocalEntry, FirstIds, issues, passes, retires, issued_by, was_retired, unretired_by, local_ids_by}
+use Rattle.recovery_ids.specs.LocalLog.{LocalEntry, FirstIds, issued_by, was_retired, local_ids_by}
 use Rattle.quic_recovery.specs.declared.event.Event.{Event}
 use Rattle.quic_recovery.specs.declared.event.Event.TheVariants.{Received, AckFrequencyIn, PollMtu, Transmit, IssueIds, PeerRetired, IdTimeout}
 use Rattle.quic_recovery.specs.declared.event.Answer.{Answer}
 use Rattle.quic_recovery.specs.declared.event.Answer.TheVariants.{New, Flag, Probe, Transmitted, Delayed, Done}
 use Rattle.quic_recovery.specs.declared.event.Refusal.{Refusal}
 use Rattle.quic_recovery.specs.declared.event.Refusal.TheVariants.{NoMemory, DelayTooSmall, NumberTooLarge, BadRange, CidsNotInUse, UnissuedCid}
-use Rattle.quic_recovery.specs.Entries.{answered, refused, entries_of, logs_of}
+use Rattle.quic_recovery.specs.Entries.{entries_of, logs_of}
 use Rattle.quic_recovery.specs.History.{Beginning, History, QueueMeaning, Reply}
 use Rattle.quic_recovery.specs.IdReplies.{IssueReply, RetirementReply, IsRoom}
 use Rattle.quic_recovery.specs.Known.{Known, known_by, first_ids}
 use Rattle.quic_recovery.specs.Logs.{onto}
 use Rattle.quic_recovery.specs.Replies.{Refuses, Answers, AlwaysAnswers}
 use Rattle.quic_recovery.specs.Told.{Told}
-use Rattle.quic_recovery.specs.Promises.OwnIds.{go_on, issue_reply, IsIssue, issued, is_retired, IssuesIds}
+use Rattle.quic_recovery.specs.Promises.OwnIds.{go_on, IsIssue, issued, is_retired, IssuesIds}
 use Rattle.quic_recovery.proofs.ReplyLaws.{refused_by}
 use Rattle.quic_recovery.proofs.TableLaws.{only_refusal}
 
