@@ -1,5 +1,5 @@
 -- Worked rows of the promises of ids, of what is tracked, of paths and of refusals, computed: the right replies, and wrong ones.
-use Rattle.std.proofs.Common.{◌≡◌, ℕ, ◌^◌, Bool, true, false, [], ◌∷◌, None, Some, Ok, Err, refl, ap, arith}
+use Rattle.std.proofs.Common.{◌≡◌, ℕ, ◌^◌, true, false, [], ◌∷◌, None, Some, Ok, Err, refl, ap, arith}
 use Rattle.std.specs.declared.net.socket_addr.SocketAddr.{SocketAddr}
 use Rattle.recovery_base.specs.declared.below.SpaceId.TheVariants.{Initial, Data}
 use Rattle.recovery_base.specs.declared.below.ids.NewConnectionId.{NewConnectionId}
@@ -10,7 +10,6 @@ use Rattle.quic_recovery.specs.declared.event.Event.TheVariants as event
 use Rattle.quic_recovery.specs.declared.event.Answer.TheVariants as answer
 use Rattle.quic_recovery.specs.declared.event.Refusal.TheVariants as refusal
 use Rattle.quic_recovery.specs.History.{History, Reply}
-use Rattle.quic_recovery.specs.Promises.GivenIds.{active_id}
 use Rattle.quic_recovery.specs.Promises.OwnIds.{IsIssue, IssuesIds}
 use Rattle.quic_recovery.specs.Promises.Paths.{generation_of}
 use Rattle.quic_recovery.specs.Promises.PeerIds.{AcceptsIds}
@@ -206,6 +205,3 @@ module _ (Q S M P : Type 0) (queue : Q) (frames : M) (remote : SocketAddr) where
 
   late_id_is_wrong : ¬ RefusesRightly later (event.InitialId (1 ∷ [])) (Ok answer.Done)
   late_id_is_wrong = λ e. cc
-
-pub rows : Unit {0}
-rows = tt

@@ -221,7 +221,7 @@ module _ {F K Q S M P : Type 0} (beginning : Beginning F K Q S M P) where
       let logs = logs_of beginning earlier in
       reply_came beginning.queue (known_by beginning logs) earlier space (logs.spaces space) (all_came earlier space) happened.0 happened.1
 
-  all_dropped : (history : History Q S M P) (space : SpaceId)
+  pub all_dropped : (history : History Q S M P) (space : SpaceId)
       → is_discarded space history ≡ was_discarded space (logs_of beginning history).discarded
   all_dropped [] space = refl
   all_dropped (happened ∷ earlier) space =

@@ -1,5 +1,5 @@
 -- Ids of the peer are taken, refused and moved to as the history itself says.
-use Rattle.std.proofs.Common.{◌≡◌, ◌≢◌, ◌≤◌, ◌<◌, ◌+◌, ◌^◌, ℕ, ◌==◌, max, min, nat_lt, nat_le, not, Bool, true, false, cond, List, [], ◌∷◌, Option, None, Some, IsSome, Ok, Err, ◌⊎◌, inl, inr, refl, sym, ap, subst, ◌∙◌, arith, leb-true, le-leb}
+use Rattle.std.proofs.Common.{◌≡◌, ◌≤◌, ◌<◌, ◌+◌, ◌^◌, ℕ, ◌==◌, max, min, nat_lt, nat_le, not, Bool, true, false, List, [], ◌∷◌, Option, None, Some, IsSome, Ok, Err, refl, sym, ap, subst, ◌∙◌, arith, leb-true, le-leb}
 use Rattle.std.specs.Prelude.{bytes_eq, IfSome, is_some, option_map, unwrap_or, if◌then◌else◌}
 use Rattle.std.specs.Bool.{Decides}
 use Rattle.std.specs.declared.ops.Range.{Range}
@@ -7,7 +7,7 @@ use Rattle.std.proofs.lemmas.Bool.Decides.{nat_tests, Decides-and, Decides-eqb, 
 use Rattle.std.proofs.lemmas.Bool.{cond-true, cond-false, lt-leb}
 use Rattle.std.proofs.lemmas.Slice.Eq.{bytes_eq-Decides}
 use Rattle.recovery_base.specs.declared.below.ids.NewConnectionId.{NewConnectionId}
-use Rattle.recovery_ids.specs.RemoteIds.{HeldId, Table, RemoteIds, IsLeastHeld, AreInWindow, Repeats, TellsMove, active_connection_id_limit, with_id, with_frame, without_id}
+use Rattle.recovery_ids.specs.RemoteIds.{HeldId, Table, RemoteIds, IsLeastHeld, AreInWindow, Repeats, active_connection_id_limit, with_id, with_frame, without_id}
 use Rattle.recovery_ids.specs.RemoteLog.{RemoteEntry, given, used, replaced, remote_ids_with, remote_ids_by}
 use Rattle.recovery_ids.proofs.RemoteLogLaws.{gives, uses, uses_none, replaces}
 use Rattle.quic_recovery.specs.declared.event.Event.{Event}
@@ -16,9 +16,9 @@ use Rattle.quic_recovery.specs.declared.event.Answer.{Answer}
 use Rattle.quic_recovery.specs.declared.event.Answer.TheVariants.{New, Flag, Probe, Transmitted, Delayed, Retire, Done}
 use Rattle.quic_recovery.specs.declared.event.Refusal.{Refusal}
 use Rattle.quic_recovery.specs.declared.event.Refusal.TheVariants.{NoMemory, DelayTooSmall, NumberTooLarge, BadRetirePriorTo, Retired, ExceedsLimit, Conflict, NotInitialId}
-use Rattle.quic_recovery.specs.Entries.{answered, refused, entries_of, logs_of}
+use Rattle.quic_recovery.specs.Entries.{answered, refused, logs_of}
 use Rattle.quic_recovery.specs.History.{Beginning, History, Reply, Throughout}
-use Rattle.quic_recovery.specs.IdReplies.{FrameReply, IsFrameAnswer, IsNextAnswer, InitialReply, HasToken}
+use Rattle.quic_recovery.specs.IdReplies.{FrameReply, IsFrameAnswer, IsNextAnswer, InitialReply}
 use Rattle.quic_recovery.specs.Known.{known_by}
 use Rattle.quic_recovery.specs.Logs.{onto}
 use Rattle.quic_recovery.specs.Replies.{AlwaysAnswers}

@@ -1,6 +1,6 @@
 -- A packet is tracked by its space exactly where the history says so.
 use Rattle.std.proofs.Common.{◌≡◌, ◌≤◌, ◌+◌, ℕ, ◌==◌, ◌&&◌, ◌||◌, not, Bool, true, false, cond, List, [], ◌∷◌, Option, None, Some, Ok, Err, refl, sym, ap, subst, arith}
-use Rattle.std.specs.Prelude.{is_some, sum_by}
+use Rattle.std.specs.Prelude.{is_some}
 use Rattle.std.specs.BTreeMap.{is_at}
 use Rattle.std.specs.Cmp.{nat_cmp_total, tied_itself}
 use Rattle.std.specs.Ordering.{nat_cmp, is_eq}
@@ -26,7 +26,7 @@ use Rattle.quic_recovery.specs.declared.event.Answer.TheVariants.{New, Flag, Pro
 use Rattle.quic_recovery.specs.declared.event.Refusal.{Refusal}
 use Rattle.quic_recovery.specs.declared.event.Refusal.TheVariants.{DelayTooSmall}
 use Rattle.quic_recovery.specs.Entries.{answered, refused, entries_of, found_in, logs_of}
-use Rattle.quic_recovery.specs.History.{Beginning, History, QueueMeaning, Reply, ThroughoutFrom, Throughout, history_from, history}
+use Rattle.quic_recovery.specs.History.{Beginning, History, QueueMeaning, Reply, history}
 use Rattle.quic_recovery.specs.Known.{Known, known_by, number_in, packet_now}
 use Rattle.quic_recovery.specs.Logs.{onto}
 use Rattle.quic_recovery.specs.Promises.Tracked.{is_tracked}

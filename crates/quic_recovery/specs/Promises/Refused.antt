@@ -14,38 +14,37 @@ use Rattle.quic_recovery.specs.Promises.NewNumbers.{is_discarded}
 use Rattle.quic_recovery.specs.Promises.Paths.{generation_of}
 use Rattle.quic_recovery.specs.Promises.Tracked.{is_tracked}
 
-module _ {Q S M P : Type 0} (history : History Q S M P) where
-  abbrev pub unless : Bool → Refusal → Option Refusal
-  unless fine refusal = if fine then None else Some refusal
+abbrev pub unless : Bool → Refusal → Option Refusal
+unless fine refusal = if fine then None else Some refusal
 
+module _ {Q S M P : Type 0} (history : History Q S M P) where
   abbrev pub in_space : SpaceId → Option Refusal → Option Refusal
   in_space space otherwise = if is_discarded space history then Some SpaceDiscarded else otherwise
 
-  -- which of these causes an event has, the first where several hold
-  abbrev pub cause : Event Q S M P → Option Refusal
-  cause (Acked space now number app_limited) = in_space space (unless (is_tracked space number history) NotTracked)
-  cause (Lost space number) = in_space space (unless (is_tracked space number history) NotTracked)
-  cause (Received space now number eliciting) = in_space space None
-  cause (Send space now size eliciting largest queue frames) = in_space space None
-  cause (AckFrequencyIn frame) = in_space Data None
-  cause (AcksSent space) = in_space space None
-  cause (AckDelayTimeout space) = in_space space None
-  cause (PollMtu now) = in_space Data None
-  cause (Ecn space newly counts) = in_space space None
-  cause (CheckAck space low high) = in_space space None
-  cause (QueueProbe space immediate streams) = in_space space None
-  cause (TakePending space) = in_space space None
-  cause (DiscardSpace space) = in_space space None
-  cause (DatagramIn path bytes) = unless (is_some (generation_of path history)) NoSuchPath
-  cause (Validated path) = unless (is_some (generation_of path history)) NoSuchPath
-  cause (InFlight path) = unless (is_some (generation_of path history)) NoSuchPath
-  cause DropPrevious = unless (is_some (generation_of Previous history)) NoSuchPath
-  cause (InitialId id) = unless (active_id history == 0) NotInitialId
-  cause event = None
+  abbrev pub first_cause : Event Q S M P → Option Refusal
+  first_cause (Acked space now number app_limited) = in_space space (unless (is_tracked space number history) NotTracked)
+  first_cause (Lost space number) = in_space space (unless (is_tracked space number history) NotTracked)
+  first_cause (Received space now number eliciting) = in_space space None
+  first_cause (Send space now size eliciting largest queue frames) = in_space space None
+  first_cause (AckFrequencyIn frame) = in_space Data None
+  first_cause (AcksSent space) = in_space space None
+  first_cause (AckDelayTimeout space) = in_space space None
+  first_cause (PollMtu now) = in_space Data None
+  first_cause (Ecn space newly counts) = in_space space None
+  first_cause (CheckAck space low high) = in_space space None
+  first_cause (QueueProbe space immediate streams) = in_space space None
+  first_cause (TakePending space) = in_space space None
+  first_cause (DiscardSpace space) = in_space space None
+  first_cause (DatagramIn path bytes) = unless (is_some (generation_of path history)) NoSuchPath
+  first_cause (Validated path) = unless (is_some (generation_of path history)) NoSuchPath
+  first_cause (InFlight path) = unless (is_some (generation_of path history)) NoSuchPath
+  first_cause DropPrevious = unless (is_some (generation_of Previous history)) NoSuchPath
+  first_cause (InitialId id) = unless (active_id history == 0) NotInitialId
+  first_cause event = None
 
   abbrev pub RefusesRightly : Event Q S M P → Reply Q → Type 0
-  RefusesRightly event (Err SpaceDiscarded) = cause event ≡ Some SpaceDiscarded
-  RefusesRightly event (Err NotTracked) = cause event ≡ Some NotTracked
-  RefusesRightly event (Err NoSuchPath) = cause event ≡ Some NoSuchPath
-  RefusesRightly event (Err NotInitialId) = cause event ≡ Some NotInitialId
-  RefusesRightly event reply = cause event ≡ None
+  RefusesRightly event (Err SpaceDiscarded) = first_cause event ≡ Some SpaceDiscarded
+  RefusesRightly event (Err NotTracked) = first_cause event ≡ Some NotTracked
+  RefusesRightly event (Err NoSuchPath) = first_cause event ≡ Some NoSuchPath
+  RefusesRightly event (Err NotInitialId) = first_cause event ≡ Some NotInitialId
+  RefusesRightly event reply = first_cause event ≡ None

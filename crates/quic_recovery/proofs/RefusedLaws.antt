@@ -1,0 +1,259 @@
+-- Refusals that follow from the history are given exactly where it says so.
+use Rattle.std.proofs.Common.{◌≡◌, ◌≢◌, ℕ, ◌==◌, Bool, true, false, List, [], Option, None, Some, Ok, Err, refl, sym, ap, ◌∙◌, MatchBool}
+use Rattle.std.specs.Prelude.{is_some, option_map, if◌then◌else◌}
+use Rattle.std.specs.Bool.{Decides}
+use Rattle.std.proofs.lemmas.Bool.Decides.{Decides-eqb}
+use Rattle.recovery_base.specs.declared.below.SpaceId.{SpaceId}
+use Rattle.recovery_base.specs.declared.below.SpaceId.TheVariants.{Data}
+use Rattle.recovery_base.specs.declared.below.frames.EcnCounts.{EcnCounts}
+use Rattle.recovery_ledger.specs.Packets.{Packet, packet_at}
+use Rattle.recovery_paths.specs.declared.live_paths.PathName.{PathName}
+use Rattle.recovery_paths.specs.declared.live_paths.PathName.TheVariants.{Previous}
+use Rattle.recovery_paths.specs.PathLog.{PathKnown, path_of}
+use Rattle.quic_recovery.specs.declared.event.Event.{Event}
+use Rattle.quic_recovery.specs.declared.event.Event.TheVariants.{Received, Send, Acked, Lost, NewId, NextId, InitialId, IssueIds, IdTimeout, PeerRetired, AckFrequencyIn, AcksSent, AckDelayTimeout, SetTimer, StopTimer, NextTimeout, DiscardSpace, InFlight, DatagramIn, Validated, Sample, Transmit, PacerCheck, Congestion, EndAcks, PollMtu, PeerLimit, LossesDone, Ecn, CheckAck, QueueProbe, TakePending, NewPath, ResetPath, DropPrevious}
+use Rattle.quic_recovery.specs.declared.event.Answer.{Answer}
+use Rattle.quic_recovery.specs.declared.event.Refusal.{Refusal}
+use Rattle.quic_recovery.specs.declared.event.Refusal.TheVariants as refusal
+use Rattle.quic_recovery.specs.declared.event.Refusal.TheVariants.{SpaceDiscarded, NotTracked, NoSuchPath, NotInitialId, NoMemory}
+use Rattle.quic_recovery.specs.Entries.{logs_of}
+use Rattle.quic_recovery.specs.History.{Beginning, History, Reply, Throughout}
+use Rattle.quic_recovery.specs.Known.{SpaceKnown, Known, known_by}
+use Rattle.quic_recovery.specs.Replies.{Refuses, Answers, same_refusal}
+use Rattle.quic_recovery.specs.Told.{Told, EcnAnswer, InSpace, Is, LeaveReply, OnPath, ProbeOutReply}
+use Rattle.quic_recovery.specs.Promises.Paths.{generation_of}
+use Rattle.quic_recovery.specs.Promises.Refused.{unless, in_space, RefusesRightly, first_cause}
+use Rattle.quic_recovery.specs.Promises.Tracked.{is_tracked}
+use Rattle.quic_recovery.proofs.AmplificationLaws.{throughout_kept}
+use Rattle.quic_recovery.proofs.NewNumbersLaws.{all_dropped}
+use Rattle.quic_recovery.proofs.PathLaws.{generation_told}
+use Rattle.quic_recovery.proofs.PeerIdsLaws.{HoldsIds, active_told, holds_first, keeps_ids}
+use Rattle.quic_recovery.proofs.TrackedLaws.{AllTracked, keeps_tracked, none_tracked, tracked_found}
+
+-- ---- which of these causes a reply names
+
+-- another refusal
+abbrev IsOther : Refusal → Type 0
+IsOther other =
+    (same_refusal SpaceDiscarded other ≡ false) × (same_refusal NotTracked other ≡ false)
+    × (same_refusal NoSuchPath other ≡ false) × (same_refusal NotInitialId other ≡ false)
+
+module _ {Q : Type 0} where
+  abbrev named : Reply Q → Option Refusal
+  named (Err SpaceDiscarded) = Some SpaceDiscarded
+  named (Err NotTracked) = Some NotTracked
+  named (Err NoSuchPath) = Some NoSuchPath
+  named (Err NotInitialId) = Some NotInitialId
+  named reply = None
+
+  -- where this holds, the reply names the cause
+  abbrev Names : Option Refusal → (Reply Q → Type 0) → Type 0
+  Names cause Holds = (reply : Reply Q) → Holds reply → named reply ≡ cause
+
+  answers_name : (Grows : Type 0) (IsAnswer : Answer Q → Type 0) → Names None (Answers Grows IsAnswer)
+  answers_name Grows IsAnswer (Ok answer) told = refl
+  answers_name Grows IsAnswer (Err NoMemory) told = refl
+  answers_name Grows IsAnswer (Err refusal) told = absurd told
+
+  passes : (given other : Refusal) (Cause : Type 0) (Otherwise : Reply Q → Type 0) → same_refusal given other ≡ false
+      → Refuses other Cause Otherwise (Err given) → Otherwise (Err given)
+  passes given other Cause Otherwise differs told = go (same_refusal given other) differs told
+    where
+      go : (b : Bool) → b ≡ false → MatchBool b Cause ((¬ Cause) × Otherwise (Err given)) → Otherwise (Err given)
+      go false e told = told.1
+      go true e told = cc
+
+  passes_name : (other : Refusal) (Cause : Type 0) (Otherwise : Reply Q → Type 0) → IsOther other → Names None Otherwise
+      → Names None (Refuses other Cause Otherwise)
+  passes_name other Cause Otherwise is names (Ok answer) told = refl
+  passes_name other Cause Otherwise is names (Err SpaceDiscarded) told =
+      names (Err SpaceDiscarded) (passes SpaceDiscarded other Cause Otherwise is.0 told)
+  passes_name other Cause Otherwise is names (Err NotTracked) told =
+      names (Err NotTracked) (passes NotTracked other Cause Otherwise is.1 told)
+  passes_name other Cause Otherwise is names (Err NoSuchPath) told =
+      names (Err NoSuchPath) (passes NoSuchPath other Cause Otherwise is.2 told)
+  passes_name other Cause Otherwise is names (Err NotInitialId) told =
+      names (Err NotInitialId) (passes NotInitialId other Cause Otherwise is.3 told)
+  passes_name other Cause Otherwise is names (Err refusal) told = refl
+
+  -- where a test decides the cause, a reply names it, or what the others name
+  space_names : (discarded : Bool) (Otherwise : Reply Q → Type 0) (cause : Option Refusal) → Names cause Otherwise
+      → Names (if discarded then Some SpaceDiscarded else cause) (Refuses SpaceDiscarded (discarded ≡ true) Otherwise)
+  space_names true Otherwise cause names (Ok answer) told = absurd (told.0 refl)
+  space_names true Otherwise cause names (Err SpaceDiscarded) told = refl
+  space_names true Otherwise cause names (Err refusal) told = absurd (told.0 refl)
+  space_names false Otherwise cause names (Ok answer) told = names (Ok answer) told.1
+  space_names false Otherwise cause names (Err SpaceDiscarded) told = cc
+  space_names false Otherwise cause names (Err refusal) told = names (Err refusal) told.1
+
+  tracked_names : {P M : Type 0} (found : Option (Packet P M)) (Otherwise : Reply Q → Type 0) → Names None Otherwise
+      → Names (unless (is_some found) NotTracked) (Refuses NotTracked (found ≡ None) Otherwise)
+  tracked_names None Otherwise names (Ok answer) told = absurd (told.0 refl)
+  tracked_names None Otherwise names (Err NotTracked) told = refl
+  tracked_names None Otherwise names (Err refusal) told = absurd (told.0 refl)
+  tracked_names (Some packet) Otherwise names (Ok answer) told = names (Ok answer) told.1
+  tracked_names (Some packet) Otherwise names (Err NotTracked) told = cc
+  tracked_names (Some packet) Otherwise names (Err refusal) told = names (Err refusal) told.1
+
+  path_names : {K : Type 0} (found : Option (PathKnown K)) (Replies : PathKnown K → Reply Q → Type 0)
+      → ((path : PathKnown K) → Names None (Replies path))
+      → Names (unless (is_some found) NoSuchPath) (OnPath found Replies)
+  path_names None Replies names (Ok answer) told = absurd told.1
+  path_names None Replies names (Err NoSuchPath) told = refl
+  path_names None Replies names (Err refusal) told = absurd told.1
+  path_names (Some path) Replies names reply told = names path reply told
+
+  initial_names : (active : ℕ) (first : Bool) (Otherwise : Reply Q → Type 0) → Decides first (active ≡ 0) → Names None Otherwise
+      → Names (unless first NotInitialId) (Refuses NotInitialId (active ≢ 0) Otherwise)
+  initial_names active true Otherwise is names (Ok answer) told = names (Ok answer) told.1
+  initial_names active true Otherwise is names (Err NotInitialId) told = absurd (told (is.0 refl))
+  initial_names active true Otherwise is names (Err refusal) told = names (Err refusal) told.1
+  initial_names active false Otherwise is names (Ok answer) told =
+      absurd (told.0 (λ zero. (let wrong = is.1 zero in cc)))
+  initial_names active false Otherwise is names (Err NotInitialId) told = refl
+  initial_names active false Otherwise is names (Err refusal) told =
+      absurd (told.0 (λ zero. (let wrong = is.1 zero in cc)))
+
+  ecn_names : {P M : Type 0} (here : SpaceKnown P M) (newly : ℕ) (counts : EcnCounts) → Names None (EcnAnswer here newly counts)
+  ecn_names here newly counts (Ok answer) told = refl
+  ecn_names here newly counts (Err (refusal.Ecn text)) told = refl
+  ecn_names here newly counts (Err other) told = absurd told
+
+-- what is named is refused rightly
+module _ {Q S M P : Type 0} (history : History Q S M P) (event : Event Q S M P) where
+  by_name : (reply : Reply Q) → named reply ≡ first_cause history event → RefusesRightly history event reply
+  by_name (Ok answer) is = sym is
+  by_name (Err SpaceDiscarded) is = sym is
+  by_name (Err NotTracked) is = sym is
+  by_name (Err NoSuchPath) is = sym is
+  by_name (Err NotInitialId) is = sym is
+  by_name (Err refusal) is = sym is
+
+-- ---- the table
+
+module _ {F K Q S M P : Type 0} (beginning : Beginning F K Q S M P) where
+  -- what the history says of what is tracked and of ids
+  pub record Stands (history : History Q S M P) : Type 0 where
+    pub tracked : AllTracked beginning history
+    pub ids : HoldsIds beginning history
+
+  module _ (history : History Q S M P) (stands : Stands history) where
+    abbrev known : Known K P M
+    known = known_by beginning (logs_of beginning history)
+
+    -- an event in a space
+    in_one : (space : SpaceId) (Otherwise : Reply Q → Type 0) (cause : Option Refusal) → Names cause Otherwise
+        → Names (in_space history space cause) (InSpace (known.spaces space) Otherwise)
+    in_one space Otherwise cause names reply told =
+        space_names (known.spaces space).discarded Otherwise cause names reply told
+        ∙ ap (λ (b : Bool). if b then Some SpaceDiscarded else cause) (sym (all_dropped beginning history space))
+
+    -- one that is refused for no other of these causes
+    only_in : (space : SpaceId) (Otherwise : Reply Q → Type 0) → Names None Otherwise
+        → Names (in_space history space None) (InSpace (known.spaces space) Otherwise)
+    only_in space Otherwise names = in_one space Otherwise None names
+
+    -- a packet leaves
+    leave_names : (space : SpaceId) (Grows : Type 0) (number : ℕ) (given : Answer Q)
+        → Names (in_space history space (unless (is_tracked space number history) NotTracked))
+        (LeaveReply (known.spaces space) Grows number given)
+    leave_names space Grows number given =
+        in_one space _ _ (λ reply told.
+        tracked_names (packet_at (known.spaces space).sent.tracked number) _ (answers_name Grows (Is given)) reply told
+        ∙ ap (λ (b : Bool). unless b NotTracked) (tracked_found beginning history stands.tracked space number))
+
+    -- a path that lives
+    on_path : (name : PathName) (Replies : PathKnown K → Reply Q → Type 0) → ((path : PathKnown K) → Names None (Replies path))
+        → Names (unless (is_some (generation_of name history)) NoSuchPath) (OnPath (path_of name known.paths) Replies)
+    on_path name Replies names reply told =
+        path_names (path_of name known.paths) Replies names reply told
+        ∙ ap (λ (b : Bool). unless b NoSuchPath) (mapped (path_of name known.paths)
+        ∙ ap (λ (g : Option ℕ). is_some g) (generation_told beginning history name))
+      where
+        mapped : (found : Option (PathKnown K)) → is_some found ≡ is_some (option_map (λ path. path.generation) found)
+        mapped None = refl
+        mapped (Some path) = refl
+
+    probe_names : (now : ℕ) (due : Option ℕ) → Names None (ProbeOutReply beginning.queue known now due)
+    probe_names now None = answers_name ⊥ _
+    probe_names now (Some size) = passes_name refusal.Overflow _ _ (refl, refl, refl, refl) (answers_name _ _)
+
+    names : (event : Event Q S M P) → Names (first_cause history event) (Told beginning history event)
+    names (Received space now number eliciting) =
+        only_in space _ (passes_name refusal.NumberTooLarge _ _ (refl, refl, refl, refl) (answers_name _ _))
+    names (Send space now size eliciting largest queue frames) =
+        only_in space _
+        (passes_name refusal.NumberTooLarge _ _ (refl, refl, refl, refl)
+        (passes_name refusal.NumbersExhausted _ _ (refl, refl, refl, refl)
+        (passes_name refusal.Overflow _ _ (refl, refl, refl, refl) (answers_name _ _))))
+    names (Acked space now number app_limited) = leave_names space ⊥ number _
+    names (Lost space number) = leave_names space (Unit {0}) number _
+    names (NewId frame) =
+        passes_name refusal.NumberTooLarge _ _ (refl, refl, refl, refl)
+        (passes_name refusal.BadRetirePriorTo _ _ (refl, refl, refl, refl)
+        (passes_name refusal.Retired _ _ (refl, refl, refl, refl)
+        (passes_name refusal.ExceedsLimit _ _ (refl, refl, refl, refl)
+        (passes_name refusal.Conflict _ _ (refl, refl, refl, refl) (answers_name _ _)))))
+    names NextId = answers_name _ _
+    names (InitialId id) = λ reply told. (
+        initial_names known.remote_ids.active (known.remote_ids.active == 0) _ (Decides-eqb known.remote_ids.active 0)
+        (answers_name _ _) reply told
+        ∙ ap (λ (a : ℕ). unless (a == 0) NotInitialId) (sym (active_told beginning history stands.ids))
+        )
+    names (IssueIds now ids) =
+        passes_name refusal.NumberTooLarge _ _ (refl, refl, refl, refl)
+        (passes_name refusal.BadRange _ _ (refl, refl, refl, refl) (answers_name _ _))
+    names IdTimeout = answers_name _ _
+    names (PeerRetired sequence limit) =
+        passes_name refusal.CidsNotInUse _ _ (refl, refl, refl, refl)
+        (passes_name refusal.UnissuedCid _ _ (refl, refl, refl, refl) (answers_name _ _))
+    names (AckFrequencyIn frame) =
+        only_in Data _ (passes_name refusal.DelayTooSmall _ _ (refl, refl, refl, refl) (answers_name _ _))
+    names (AcksSent space) = only_in space _ (answers_name _ _)
+    names (AckDelayTimeout space) = only_in space _ (answers_name _ _)
+    names (SetTimer timer time) = answers_name _ _
+    names (StopTimer timer) = answers_name _ _
+    names NextTimeout = answers_name _ _
+    names (DiscardSpace space) = only_in space _ (answers_name _ _)
+    names (InFlight path) = on_path path _ (λ there. answers_name _ _)
+    names (DatagramIn path bytes) =
+        on_path path _ (λ there. passes_name refusal.Overflow _ _ (refl, refl, refl, refl) (answers_name _ _))
+    names (Validated path) = on_path path _ (λ there. answers_name _ _)
+    names (Sample delay rtt) = answers_name _ _
+    names (Transmit now bytes checked) = passes_name refusal.Overflow _ _ (refl, refl, refl, refl) (answers_name _ _)
+    names (PacerCheck now bytes) = answers_name _ _
+    names (Congestion now sent persistent bytes) = answers_name _ _
+    names (EndAcks now app_limited largest) = answers_name _ _
+    names (PollMtu now) =
+        only_in Data _ (passes_name refusal.NumbersExhausted _ _ (refl, refl, refl, refl) (probe_names now _))
+    names (PeerLimit size) =
+        passes_name refusal.ZeroMtu _ _ (refl, refl, refl, refl)
+        (passes_name refusal.Searching _ _ (refl, refl, refl, refl) (answers_name _ _))
+    names (LossesDone now) = answers_name _ _
+    names (Ecn space newly counts) = only_in space _ (ecn_names (known.spaces space) newly counts)
+    names (CheckAck space low high) =
+        only_in space _
+        (passes_name refusal.NumberTooLarge _ _ (refl, refl, refl, refl)
+        (passes_name refusal.BadRange _ _ (refl, refl, refl, refl)
+        (passes_name refusal.SkippedAcked _ _ (refl, refl, refl, refl) (answers_name _ _))))
+    names (QueueProbe space immediate streams) = only_in space _ (answers_name _ _)
+    names (TakePending space) = only_in space _ (answers_name _ _)
+    names (NewPath now remote is_fresh) = passes_name refusal.Overflow _ _ (refl, refl, refl, refl) (answers_name _ _)
+    names (ResetPath now) = answers_name _ _
+    names DropPrevious = on_path Previous _ (λ there. answers_name _ _)
+
+    -- what an event is told, it is refused rightly
+    pub refused_told : (event : Event Q S M P) (reply : Reply Q) → Told beginning history event reply → RefusesRightly history event reply
+    refused_told event reply told = by_name history event reply (names event reply told)
+
+  -- throughout a run
+  pub refuses_rightly : (events : List (Event Q S M P)) (replies : List (Reply Q)) → Throughout (Told beginning) events replies
+      → Throughout RefusesRightly events replies
+  refuses_rightly events replies told =
+      throughout_kept beginning Stands RefusesRightly
+      (λ before event reply here stands. record {
+        tracked = keeps_tracked beginning before event reply here stands.tracked;
+        ids = keeps_ids beginning before stands.ids event reply here;
+      })
+      (λ before event reply here stands. refused_told before stands event reply here) [] events replies told
+      (record { tracked = none_tracked beginning; ids = holds_first beginning })
