@@ -19,6 +19,7 @@ use Rattle.quic_recovery.specs.Promises.Holes.{ReportsAtFour}
 use Rattle.quic_recovery.specs.Promises.Near.{EndsNearBy}
 use Rattle.quic_recovery.specs.Promises.Once.{LeaveOnceEach}
 use Rattle.quic_recovery.specs.Promises.PeerIds.{AcceptsIds}
+use Rattle.quic_recovery.specs.Promises.Refused.{RefusesRightly}
 use Rattle.quic_recovery.specs.Promises.Threefold.{KeepsThreefold}
 use Rattle.quic_recovery.specs.Told.{Told}
 use Rattle.quic_recovery.proofs.BlockedLaws.{blocks_exactly}
@@ -31,8 +32,10 @@ use Rattle.quic_recovery.proofs.LeftLaws.{changes_by_logs, left_after}
 use Rattle.quic_recovery.proofs.NearLaws.{near_told}
 use Rattle.quic_recovery.proofs.NewNumbersLaws.{numbers_told}
 use Rattle.quic_recovery.proofs.OnceLaws.{leave_once_each}
+use Rattle.quic_recovery.proofs.OwnIdsLaws.{issues_ids}
 use Rattle.quic_recovery.proofs.PacingLaws.{delayed, rate, soon, named}
 use Rattle.quic_recovery.proofs.PeerIdsLaws.{accepts_ids}
+use Rattle.quic_recovery.proofs.RefusedLaws.{refuses_rightly}
 use Rattle.quic_recovery.proofs.Runs.{history_from-push, throughout_push}
 use Rattle.quic_recovery.proofs.SearchLaws.{searches, ends, probes, limits, tells, mtu}
 use Rattle.quic_recovery.proofs.ThreefoldLaws.{sends_threefold}
@@ -75,6 +78,8 @@ module _ {F K Q S M P : Type 0} (beginning : Beginning F K Q S M P) where
           new = numbers_told beginning before event reply here;
           timers = timers_told beginning before event reply here;
           peer_ids = last (AcceptsIds beginning.config.initial_cid) (accepts_ids beginning events replies all);
+          own_ids = issues_ids beginning before event reply here;
+          refused = last RefusesRightly (refuses_rightly beginning events replies all);
           threefold = last (KeepsThreefold beginning.config.validated) (sends_threefold beginning events replies all);
           blocked = last (BlocksExactly beginning.config.validated) (blocks_exactly beginning events replies all);
           delayed = last (DelaysByBalance beginning) (delayed beginning events replies all);

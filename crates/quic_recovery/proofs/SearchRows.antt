@@ -168,3 +168,21 @@ module _ (Q S M P : Type 0) (queue : Q) (frames : M) where
   refused_is_none : ¬ ReportsAtFour 1200 (lost 6 ∷ (event.Acked Data 8 9 false, Err refusal.NotTracked) ∷ three_lost)
       (event.LossesDone 9) (Ok (answer.BlackHole false))
   refused_is_none = λ e. let is = e.1 (omega arith) in cc
+
+  -- ---- small packets may be acknowledged in between
+
+  abbrev small : ℕ → Event Q S M P × Reply Q
+  small n = (event.Send Data 5 1200 true None queue frames, Ok (answer.Sent n None))
+
+  abbrev acked : ℕ → Event Q S M P × Reply Q
+  acked n = (event.Acked Data 8 n false, Ok (answer.Acked false))
+
+  abbrev small_between : History Q S M P
+  small_between = lost 6 ∷ acked 3 ∷ lost 4 ∷ acked 1 ∷ lost 2 ∷ lost 0 ∷ small 3 ∷ small 1 ∷ all_sent
+
+  found_is_told : ¬ ReportsAtFour 1200 small_between (event.LossesDone 9) (Ok (answer.BlackHole false))
+  found_is_told = λ e. let is = e.1 (omega arith) in cc
+
+  -- a large one in between leaves nothing to report
+  large_between : ReportsAtFour 1200 (lost 6 ∷ acked 5 ∷ three_lost) (event.LossesDone 9) (Ok (answer.BlackHole false))
+  large_between = (λ is. cc, λ four. absurd (omega (arith, four)))

@@ -15,7 +15,9 @@ use Rattle.quic_recovery.specs.Promises.Holes.{ReportsAtFour}
 use Rattle.quic_recovery.specs.Promises.Near.{EndsNearBy}
 use Rattle.quic_recovery.specs.Promises.NewNumbers.{CallsNew}
 use Rattle.quic_recovery.specs.Promises.Once.{LeaveOnceEach}
+use Rattle.quic_recovery.specs.Promises.OwnIds.{IssuesIds}
 use Rattle.quic_recovery.specs.Promises.PeerIds.{AcceptsIds}
+use Rattle.quic_recovery.specs.Promises.Refused.{RefusesRightly}
 use Rattle.quic_recovery.specs.Promises.Threefold.{KeepsThreefold}
 use Rattle.quic_recovery.specs.Promises.Timeouts.{TellsTimers}
 use Rattle.quic_recovery.specs.Search.{EndsNear, EntersAsTold, LimitsOutside, ProbesInTurn, SearchesFew, TellsProbes, UsesMtu}
@@ -54,6 +56,8 @@ module _ {F K Q S M P : Type 0} (beginning : Beginning F K Q S M P) where
     pub new : CallsNew before event reply
     pub timers : TellsTimers before event reply
     pub peer_ids : AcceptsIds beginning.config.initial_cid before event reply
+    pub own_ids : IssuesIds beginning.config.issued beginning.config.cid_len before event reply
+    pub refused : RefusesRightly before event reply
     pub threefold : KeepsThreefold beginning.config.validated before event reply
     pub blocked : BlocksExactly beginning.config.validated before event reply
     pub delayed : DelaysByBalance beginning before event reply
