@@ -1,4 +1,5 @@
--- Worked rows of the promises of ids, of what is tracked, of paths and of refusals, computed: the right replies, and wrong ones.
+-- Worked rows of the promises of ids, of what is tracked, of paths and of refusals, computed: the right replies, and
+-- wrong ones.
 use Rattle.std.proofs.Common.{◌≡◌, ℕ, ◌^◌, true, false, [], ◌∷◌, None, Some, Ok, Err, refl, ap, arith}
 use Rattle.std.specs.declared.net.socket_addr.SocketAddr.{SocketAddr}
 use Rattle.recovery_base.specs.declared.below.SpaceId.TheVariants.{Initial, Data}
@@ -39,13 +40,16 @@ module _ (Q S M P : Type 0) (queue : Q) (frames : M) (remote : SocketAddr) where
       ∷ (event.NewId (frame 2 0), Ok (answer.Retire None))
       ∷ []
 
-  retires : AcceptsIdsHere ids (event.NewId (frame 4 1)) (Ok (answer.Retire (Some (record { start = 0; end = 2 }, 2 ∷ 7 ∷ []))))
+  retires : AcceptsIdsHere ids (event.NewId (frame 4 1))
+      (Ok (answer.Retire (Some (record { start = 0; end = 2 }, 2 ∷ 7 ∷ []))))
   retires = refl
 
-  cut : AcceptsIdsHere ids (event.NewId (frame 9 9)) (Ok (answer.Retire (Some (record { start = 0; end = 8 }, 9 ∷ 7 ∷ []))))
+  cut : AcceptsIdsHere ids (event.NewId (frame 9 9))
+      (Ok (answer.Retire (Some (record { start = 0; end = 8 }, 9 ∷ 7 ∷ []))))
   cut = refl
 
-  uncut_is_wrong : ¬ AcceptsIdsHere ids (event.NewId (frame 9 9)) (Ok (answer.Retire (Some (record { start = 0; end = 9 }, 9 ∷ 7 ∷ []))))
+  uncut_is_wrong : ¬ AcceptsIdsHere ids (event.NewId (frame 9 9))
+      (Ok (answer.Retire (Some (record { start = 0; end = 9 }, 9 ∷ 7 ∷ []))))
   uncut_is_wrong = λ e. let ends : 9 ≡ 8 = ap end_of e in omega (arith, ends)
 
   past_limit : AcceptsIdsHere ids (event.NewId (frame 8 0)) (Err refusal.ExceedsLimit)
@@ -66,7 +70,8 @@ module _ (Q S M P : Type 0) (queue : Q) (frames : M) (remote : SocketAddr) where
   other_token : AcceptsIdsHere ids (event.NewId (record (frame 2 0) { reset_token = 8 ∷ [] })) (Err refusal.Conflict)
   other_token = refl
 
-  other_id_is_not_held : ¬ AcceptsIdsHere ids (event.NewId (record (frame 2 0) { id = 8 ∷ [] })) (Ok (answer.Retire None))
+  other_id_is_not_held : ¬ AcceptsIdsHere ids (event.NewId (record (frame 2 0) { id = 8 ∷ [] }))
+      (Ok (answer.Retire None))
   other_id_is_not_held = λ e. cc
 
   -- the initial id has no token: a frame that repeats it may give one
@@ -77,7 +82,8 @@ module _ (Q S M P : Type 0) (queue : Q) (frames : M) (remote : SocketAddr) where
   other_initial = refl
 
   -- the initial id was replaced
-  replaced : AcceptsIdsHere ((event.InitialId (0 ∷ []), Ok answer.Done) ∷ ids) (event.NewId (frame 0 0)) (Ok (answer.Retire None))
+  replaced : AcceptsIdsHere ((event.InitialId (0 ∷ []), Ok answer.Done) ∷ ids) (event.NewId (frame 0 0))
+      (Ok (answer.Retire None))
   replaced = refl
 
   abbrev later : History Q S M P
@@ -86,8 +92,10 @@ module _ (Q S M P : Type 0) (queue : Q) (frames : M) (remote : SocketAddr) where
   retired : AcceptsIdsHere later (event.NewId (frame 1 0)) (Err refusal.Retired)
   retired = refl
 
-  last_stays : AcceptsIdsHere ((event.NextId, Ok (answer.Retire (Some (record { start = 2; end = 3 }, 3 ∷ 7 ∷ [])))) ∷ later)
-      event.NextId (Ok (answer.Retire None))
+  abbrev last : History Q S M P
+  last = (event.NextId, Ok (answer.Retire (Some (record { start = 2; end = 3 }, 3 ∷ 7 ∷ [])))) ∷ later
+
+  last_stays : AcceptsIdsHere last event.NextId (Ok (answer.Retire None))
   last_stays = refl
 
   not_initial : AcceptsIdsHere later (event.InitialId (0 ∷ [])) (Err refusal.NotInitialId)
@@ -151,7 +159,8 @@ module _ (Q S M P : Type 0) (queue : Q) (frames : M) (remote : SocketAddr) where
   zero_was : is_tracked Data 0 flight ≡ false
   zero_was = refl
 
-  forgotten : is_tracked Data 1 ((event.Send Data 9 3 false None queue frames, Ok (answer.Sent 3 (Some 1))) ∷ flight) ≡ false
+  forgotten : is_tracked Data 1 ((event.Send Data 9 3 false None queue frames, Ok (answer.Sent 3 (Some 1))) ∷ flight)
+      ≡ false
   forgotten = refl
 
   discarded : is_tracked Data 1 ((event.DiscardSpace Data, Ok answer.Done) ∷ flight) ≡ false
@@ -182,10 +191,12 @@ module _ (Q S M P : Type 0) (queue : Q) (frames : M) (remote : SocketAddr) where
   acked_twice_is_wrong : ¬ RefusesRightly flight (event.Acked Data 9 0 false) (Ok (answer.Acked false))
   acked_twice_is_wrong = λ e. cc
 
-  closed_first : RefusesRightly ((event.DiscardSpace Data, Ok answer.Done) ∷ flight) (event.Lost Data 1) (Err refusal.SpaceDiscarded)
+  closed_first : RefusesRightly ((event.DiscardSpace Data, Ok answer.Done) ∷ flight) (event.Lost Data 1)
+      (Err refusal.SpaceDiscarded)
   closed_first = refl
 
-  closed_twice : ¬ RefusesRightly ((event.DiscardSpace Data, Ok answer.Done) ∷ flight) (event.DiscardSpace Data) (Ok answer.Done)
+  closed_twice : ¬ RefusesRightly ((event.DiscardSpace Data, Ok answer.Done) ∷ flight) (event.DiscardSpace Data)
+      (Ok answer.Done)
   closed_twice = λ e. cc
 
   other_refusals_pass : RefusesRightly flight (event.Received Data 9 (2 ^ 62) true) (Err refusal.NumberTooLarge)

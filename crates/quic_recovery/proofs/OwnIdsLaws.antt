@@ -33,7 +33,8 @@ go_on_decides : (n : ℕ) (ids : List IssuedCid)
     → Decides (go_on n ids) (map (λ id. id.sequence) ids ≡ range_with_len n (length ids))
 go_on_decides n [] = (λ e. refl, λ e. refl)
 go_on_decides n (id ∷ ids) =
-    Decides-like (id.sequence == n && go_on (n + 1) ids) (λ both. (let here = both.0 in let rest = both.1 in cc)) (λ all. (cc, cc))
+    Decides-like (id.sequence == n && go_on (n + 1) ids) (λ both. (let here = both.0 in let rest = both.1 in cc))
+    (λ all. (cc, cc))
     (Decides-and (id.sequence == n) (go_on (n + 1) ids) (Decides-eqb id.sequence n) (go_on_decides (n + 1) ids))
 
 -- what one test keeps of what another kept
@@ -60,7 +61,8 @@ record SameOwn {Q S M P : Type 0} (first : FirstIds) (history : History Q S M P)
   count : issued first.issued history ≡ issued_by first log
   gone : (n : ℕ) → is_retired history n ≡ was_retired log n
 
-module _ {K Q S M P : Type 0} (q : QueueMeaning Q S M P) (first : FirstIds) (known : Known K P M) (earlier : History Q S M P)
+module _ {K Q S M P : Type 0} (q : QueueMeaning Q S M P) (first : FirstIds) (known : Known K P M)
+    (earlier : History Q S M P)
     (log : List LocalEntry) (same : SameOwn first earlier log) where
   abbrev After : Event Q S M P → Reply Q → Type 0
   After event reply = SameOwn first ((event, reply) ∷ earlier) (onto (entries_of q known event reply).local_ids log)
@@ -130,7 +132,8 @@ module _ {Q : Type 0} where
   issue_as count (id ∷ ids) (Err NoMemory) is = is.1
   issue_as count (id ∷ ids) (Err refusal) is = is
 
-  issues_told : (ids : LocalIds) (more : List IssuedCid) (reply : Reply Q) → IssueReply ids more reply → IsIssue ids.issued more reply
+  issues_told : (ids : LocalIds) (more : List IssuedCid) (reply : Reply Q) → IssueReply ids more reply
+      → IsIssue ids.issued more reply
   issues_told ids more reply told =
       issue_as ids.issued more reply (
       issue_told (2 ^ 62 < ids.issued + length more)
@@ -141,17 +144,21 @@ module _ {Q : Type 0} where
 
   -- ---- ids that the peer retires
 
-  retires_told : (ids : LocalIds) (sequence limit left : ℕ) → length (without_number sequence ids).unretired ≡ left → (reply : Reply Q)
+  retires_told : (ids : LocalIds) (sequence limit left : ℕ) → length (without_number sequence ids).unretired ≡ left
+      → (reply : Reply Q)
       → RetirementReply ids sequence limit reply
       → reply ≡ (if ids.cid_len == 0 then Err CidsNotInUse
       else if nat_le ids.issued sequence then Err UnissuedCid else Ok (Flag (nat_lt left limit)))
   retires_told ids sequence limit left same =
-      refused_by CidsNotInUse (λ r. only_refusal r CidsNotInUse refl) (ids.cid_len == 0) _ _ _ (Decides-eqb ids.cid_len 0)
+      refused_by CidsNotInUse (λ r. only_refusal r CidsNotInUse refl) (ids.cid_len == 0) _ _ _
+      (Decides-eqb ids.cid_len 0)
       (λ reply used.
-      refused_by UnissuedCid (λ r. only_refusal r UnissuedCid refl) (nat_le ids.issued sequence) _ _ (Ok (Flag (nat_lt left limit)))
+      refused_by UnissuedCid (λ r. only_refusal r UnissuedCid refl) (nat_le ids.issued sequence) _ _
+      (Ok (Flag (nat_lt left limit)))
       (leb-true ids.issued sequence, le-leb ids.issued sequence) (λ reply issued. room reply) reply)
     where
-      room : (reply : Reply Q) → AlwaysAnswers (IsRoom (without_number sequence ids) limit) reply → reply ≡ Ok (Flag (nat_lt left limit))
+      room : (reply : Reply Q) → AlwaysAnswers (IsRoom (without_number sequence ids) limit) reply
+          → reply ≡ Ok (Flag (nat_lt left limit))
       room (Ok (Flag more)) is =
           ap (λ flag. Ok (Flag flag)) (same_from_decides more (nat_lt left limit) (is.0, is.1)
           (subst (λ n. Decides (nat_lt left limit) (n < limit)) (sym same) (Decides-ltb left limit)))
@@ -166,7 +173,8 @@ module _ {F K Q S M P : Type 0} (beginning : Beginning F K Q S M P) where
   all_same [] = record { count = refl; gone = λ n. refl }
   all_same (happened ∷ earlier) =
       let logs = logs_of beginning earlier in
-      reply_same beginning.queue (first_ids beginning) (known_by beginning logs) earlier logs.local_ids (all_same earlier) happened.0 happened.1
+      reply_same beginning.queue (first_ids beginning) (known_by beginning logs) earlier logs.local_ids
+      (all_same earlier) happened.0 happened.1
 
   -- what is left by the log is what is left by the history
   left_same : (history : History Q S M P) (sequence : ℕ) → let first = first_ids beginning in
@@ -182,12 +190,14 @@ module _ {F K Q S M P : Type 0} (beginning : Beginning F K Q S M P) where
       ap (λ (ns : List ℕ). length ns) (
       filter_twice (λ n. not (n == sequence)) (λ n. not (was_retired log n)) numbers
       ∙ filter_agree (λ n. not (was_retired log n) && not (n == sequence)) test
-      (λ n. neither (n == sequence) (was_retired log n) ∙ ap (λ b. not (n == sequence || b)) (sym (same.gone n))) numbers
+      (λ n. neither (n == sequence) (was_retired log n) ∙ ap (λ b. not (n == sequence || b)) (sym (same.gone n)))
+      numbers
       )
       ∙ length-filter test numbers ∙ ap (λ n. count_by test (range_with_len 0 n)) (sym same.count)
 
   -- what an event is told, it is told of the ids of this end
-  pub issues_ids : (history : History Q S M P) (event : Event Q S M P) (reply : Reply Q) → Told beginning history event reply
+  pub issues_ids : (history : History Q S M P) (event : Event Q S M P) (reply : Reply Q)
+      → Told beginning history event reply
       → IssuesIds beginning.config.issued beginning.config.cid_len history event reply
   issues_ids history (IssueIds now ids) reply told =
       subst (λ n. IsIssue n ids.items reply) (sym (all_same history).count)
@@ -197,5 +207,6 @@ module _ {F K Q S M P : Type 0} (beginning : Beginning F K Q S M P) where
       (range_with_len 0 (issued beginning.config.issued history)) in
       subst (λ n. reply ≡ (if beginning.config.cid_len == 0 then Err CidsNotInUse
       else if nat_le n sequence then Err UnissuedCid else Ok (Flag (nat_lt left limit)))) (sym (all_same history).count)
-      (retires_told (known_by beginning (logs_of beginning history)).local_ids sequence limit left (left_same history sequence) reply told)
+      (retires_told (known_by beginning (logs_of beginning history)).local_ids sequence limit left
+      (left_same history sequence) reply told)
   issues_ids history event reply told = tt

@@ -57,11 +57,13 @@ module _ {K : Type 0} (settings : PathSettings K) (first : PathMaking K) where
   previous_stays entry None = refl
   previous_stays entry (Some past) = ap (λ (n : ℕ). Some n) (entry_stays entry past)
 
-  on_stays : (name : PathName) (entry : PathEntry) (log : List PathsEntry) → generations (on name entry ∷ log) ≡ generations log
+  on_stays : (name : PathName) (entry : PathEntry) (log : List PathsEntry)
+      → generations (on name entry ∷ log) ≡ generations log
   on_stays Current entry log =
       ap (λ (n : ℕ). both n (generations log).previous) (entry_stays entry (pasts_by settings first log).current)
   on_stays Previous entry log =
-      ap (λ (n : Option ℕ). both (generations log).current n) (previous_stays entry (pasts_by settings first log).previous)
+      ap (λ (n : Option ℕ). both (generations log).current n)
+      (previous_stays entry (pasts_by settings first log).previous)
 
   all_stay : (entries log : List PathsEntry) → AreOnPaths entries → generations (entries ++ log) ≡ generations log
   all_stay [] log are = refl
@@ -90,7 +92,8 @@ module _ {K P M : Type 0} (known : Known K P M) where
       acked_with (is_own known packet && packet.ack_eliciting) _ (acked_search known space number (Some packet))
       (data_on (is_data space) (is_path_probe space number known.paths.current.state) (acks_packet number packet.size))
 
-  lost_on : (space : SpaceId) (number : ℕ) (packet : Option (Packet P M)) → AreOnPaths (lost_search known space number packet)
+  lost_on : (space : SpaceId) (number : ℕ) (packet : Option (Packet P M))
+      → AreOnPaths (lost_search known space number packet)
   lost_on space number None = tt
   lost_on space number (Some packet) =
       data_on (is_data space) false (loss_call number packet.size known.paths.current.state.discovery)
@@ -101,9 +104,11 @@ module _ {K P M : Type 0} (known : Known K P M) where
 abbrev made_by : {Q S M P : Type 0} → History Q S M P → OfPaths ℕ
 made_by history = both (paths_made history) (generation_of Previous history)
 
-module _ {K Q S M P : Type 0} (q : QueueMeaning Q S M P) (settings : PathSettings K) (first : PathMaking K) (known : Known K P M)
+module _ {K Q S M P : Type 0} (q : QueueMeaning Q S M P) (settings : PathSettings K) (first : PathMaking K)
+    (known : Known K P M)
     (earlier : History Q S M P) (log : List PathsEntry) (same : generations settings first log ≡ made_by earlier) where
-  stays : (entries : List PathsEntry) → AreOnPaths entries → generations settings first (entries ++ log) ≡ made_by earlier
+  stays : (entries : List PathsEntry) → AreOnPaths entries
+      → generations settings first (entries ++ log) ≡ made_by earlier
   stays entries are = all_stay settings first entries log are ∙ same
 
   kept : (event : Event Q S M P) (answer : Answer Q) → AreOnPaths (answered q known event answer).paths
@@ -117,14 +122,16 @@ module _ {K Q S M P : Type 0} (q : QueueMeaning Q S M P) (settings : PathSetting
   moved now remote false = ap (λ (g : OfPaths ℕ). both (g.current + 1) (Some g.current)) same
 
   answer_makes : (event : Event Q S M P) (answer : Answer Q)
-      → generations settings first ((answered q known event answer).paths ++ log) ≡ made_by ((event, Ok answer) ∷ earlier)
+      → generations settings first ((answered q known event answer).paths ++ log)
+      ≡ made_by ((event, Ok answer) ∷ earlier)
   answer_makes (NewPath now remote is_fresh) answer = moved now remote is_fresh
   answer_makes DropPrevious answer = ap (λ (g : OfPaths ℕ). both g.current None) same
   answer_makes (Transmit now bytes true) Transmitted = kept (Transmit now bytes true) Transmitted tt
   answer_makes (Transmit now bytes true) (Delayed until) = kept (Transmit now bytes true) (Delayed until) tt
   answer_makes (Transmit now bytes true) answer = same
   answer_makes (Transmit now bytes false) answer = kept (Transmit now bytes false) answer tt
-  answer_makes (Send space now size eliciting largest queue frames) answer = kept (Send space now size eliciting largest queue frames) answer tt
+  answer_makes (Send space now size eliciting largest queue frames) answer =
+      kept (Send space now size eliciting largest queue frames) answer tt
   answer_makes (DatagramIn path bytes) answer = kept (DatagramIn path bytes) answer tt
   answer_makes (Validated path) answer = kept (Validated path) answer tt
   answer_makes (Sample delay rtt) answer = kept (Sample delay rtt) answer tt
@@ -132,8 +139,10 @@ module _ {K Q S M P : Type 0} (q : QueueMeaning Q S M P) (settings : PathSetting
   answer_makes (Congestion now sent persistent bytes) answer = kept (Congestion now sent persistent bytes) answer tt
   answer_makes (EndAcks now app_limited largest) answer = kept (EndAcks now app_limited largest) answer tt
   answer_makes (Acked space now number app_limited) answer =
-      kept (Acked space now number app_limited) answer (acked_on known space now number app_limited (packet_at (tracked_known known space) number))
-  answer_makes (Lost space number) answer = kept (Lost space number) answer (lost_on known space number (packet_at (tracked_known known space) number))
+      kept (Acked space now number app_limited) answer
+      (acked_on known space now number app_limited (packet_at (tracked_known known space) number))
+  answer_makes (Lost space number) answer =
+      kept (Lost space number) answer (lost_on known space number (packet_at (tracked_known known space) number))
   answer_makes (PollMtu now) (Probe number size) = kept (PollMtu now) (Probe number size) tt
   answer_makes (PollMtu now) answer = kept (PollMtu now) answer tt
   answer_makes (PeerLimit size) answer = kept (PeerLimit size) answer tt
@@ -159,16 +168,19 @@ module _ {K Q S M P : Type 0} (q : QueueMeaning Q S M P) (settings : PathSetting
   reply_makes event (Err refusal) = refusal_makes event refusal
 
 module _ {F K Q S M P : Type 0} (beginning : Beginning F K Q S M P) where
-  all_made : (history : History Q S M P) → generations (settings_of beginning) (first_path beginning) (logs_of beginning history).paths ≡ made_by history
+  all_made : (history : History Q S M P) → generations (settings_of beginning) (first_path beginning)
+      (logs_of beginning history).paths ≡ made_by history
   all_made [] = refl
   all_made (happened ∷ earlier) =
       let logs = logs_of beginning earlier in
-      reply_makes beginning.queue (settings_of beginning) (first_path beginning) (known_by beginning logs) earlier logs.paths
+      reply_makes beginning.queue (settings_of beginning) (first_path beginning) (known_by beginning logs) earlier
+      logs.paths
       (all_made earlier) happened.0 happened.1
 
   -- a path that lives has the generation that the history says, and one that does not has none
   pub generation_told : (history : History Q S M P) (name : PathName)
-      → option_map (λ path. path.generation) (path_of name (known_by beginning (logs_of beginning history)).paths) ≡ generation_of name history
+      → option_map (λ path. path.generation) (path_of name (known_by beginning (logs_of beginning history)).paths)
+      ≡ generation_of name history
   generation_told history Current = ap (λ (g : OfPaths ℕ). Some g.current) (all_made history)
   generation_told history Previous =
       twice (pasts_of beginning history).previous ∙ ap (λ (g : OfPaths ℕ). g.previous) (all_made history)

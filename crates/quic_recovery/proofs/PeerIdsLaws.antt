@@ -32,9 +32,11 @@ use Rattle.quic_recovery.proofs.TableLaws.{least_held, not_held, only_refusal}
 -- ---- a frame repeats what is held
 
 abbrev RepeatsHeld : NewConnectionId → Option HeldId → Type 0
-RepeatsHeld frame held = IfSome held (λ entry. (frame.id ≡ entry.0) × IfSome entry.1 (λ token. frame.reset_token ≡ token))
+RepeatsHeld frame held =
+    IfSome held (λ entry. (frame.id ≡ entry.0) × IfSome entry.1 (λ token. frame.reset_token ≡ token))
 
-repeats_decides : (frame : NewConnectionId) (held : Option HeldId) → Decides (repeats frame held) (RepeatsHeld frame held)
+repeats_decides : (frame : NewConnectionId) (held : Option HeldId)
+    → Decides (repeats frame held) (RepeatsHeld frame held)
 repeats_decides frame None = (λ e. tt, λ u. refl)
 repeats_decides frame (Some (id, None)) =
     let same = bytes_eq-Decides frame.id id in (λ e. (same.0 e, tt), λ both. same.1 both.0)
@@ -48,9 +50,11 @@ abbrev IsLeastFrom : Table → ℕ → Option ℕ → Type 0
 IsLeastFrom held low None = (n : ℕ) → low ≤ n → held n ≡ None
 IsLeastFrom held low (Some least) = IsLeastHeld held low least
 
-same_least : (held : Table) (low : ℕ) (one other : Option ℕ) → IsLeastFrom held low one → IsLeastFrom held low other → one ≡ other
+same_least : (held : Table) (low : ℕ) (one other : Option ℕ) → IsLeastFrom held low one → IsLeastFrom held low other
+    → one ≡ other
 same_least held low None None is_one is_other = refl
-same_least held low None (Some n) is_one is_other = absurd (not_held (held n) is_other.is_held (is_one n is_other.bound))
+same_least held low None (Some n) is_one is_other =
+    absurd (not_held (held n) is_other.is_held (is_one n is_other.bound))
 same_least held low (Some n) None is_one is_other = absurd (not_held (held n) is_one.is_held (is_other n is_one.bound))
 same_least held low (Some n) (Some m) is_one is_other = ap (λ k. Some k) (least_held held low n m is_one is_other)
 
@@ -59,11 +63,13 @@ module _ (held : Table) (low number : ℕ) (entry : HeldId) where
   with_more least = if nat_lt number low then least else Some (unwrap_or (option_map (min number) least) number)
 
   -- one more id is held
-  least_with : (least : Option ℕ) → IsLeastFrom held low least → IsLeastFrom (with_id number entry held) low (with_more least)
+  least_with : (least : Option ℕ) → IsLeastFrom held low least
+      → IsLeastFrom (with_id number entry held) low (with_more least)
   least_with least is = go (nat_lt number low) refl least is
     where
       go : (b : Bool) → nat_lt number low ≡ b → (least : Option ℕ) → IsLeastFrom held low least
-          → IsLeastFrom (with_id number entry held) low (if b then least else Some (unwrap_or (option_map (min number) least) number))
+          → IsLeastFrom (with_id number entry held) low
+          (if b then least else Some (unwrap_or (option_map (min number) least) number))
       go true below None is = λ n above. (let none = is n above in grind (arith, nat_tests, none, below, above))
       go true below (Some m) is =
           let bound = is.bound in
@@ -84,11 +90,14 @@ module _ (held : Table) (low number : ℕ) (entry : HeldId) where
           record {
             bound = grind (arith, nat_tests, above, bound);
             is_held = grind (arith, nat_tests, held_there);
-            least = λ n over less. (let none = is.least n over (omega (arith, less)) in grind (arith, nat_tests, none, less));
+            least =
+                λ n over less. (let none = is.least n over (omega (arith, less)) in
+                grind (arith, nat_tests, none, less));
           }
 
   -- the id of a number that is held is another one
-  least_again : IsSome (held number) → (least : Option ℕ) → IsLeastFrom held low least → IsLeastFrom (with_id number entry held) low least
+  least_again : IsSome (held number) → (least : Option ℕ) → IsLeastFrom held low least
+      → IsLeastFrom (with_id number entry held) low least
   least_again there None is = λ n above. (let none = is n above in grind (arith, nat_tests, none, there))
   least_again there (Some m) is =
       let held_there = is.is_held in
@@ -107,7 +116,8 @@ module _ {Q S M P : Type 0} (initial : List ℕ) where
   zero_given [] = refl
   zero_given ((NewId frame, Ok answer) ∷ earlier) = go (0 == frame.sequence) (zero_given earlier)
     where
-      go : (b : Bool) → IsSome (ids_given earlier 0) → is_some (if b then Some (frame.id, Some frame.reset_token) else ids_given earlier 0) ≡ true
+      go : (b : Bool) → IsSome (ids_given earlier 0)
+          → is_some (if b then Some (frame.id, Some frame.reset_token) else ids_given earlier 0) ≡ true
       go true there = refl
       go false there = there
   zero_given ((NewId frame, Err refusal) ∷ earlier) = zero_given earlier
@@ -127,15 +137,19 @@ module _ {Q S M P : Type 0} (initial : List ℕ) where
       }
       go false other = λ n above. grind (arith, nat_tests, other, above)
   least_is low ((NewId frame, Ok answer) ∷ earlier) =
-      least_with (ids_given earlier) low frame.sequence (frame.id, Some frame.reset_token) (least_from low earlier) (least_is low earlier)
+      least_with (ids_given earlier) low frame.sequence (frame.id, Some frame.reset_token) (least_from low earlier)
+      (least_is low earlier)
   least_is low ((NewId frame, Err refusal) ∷ earlier) = least_is low earlier
   least_is low ((InitialId id, Ok answer) ∷ earlier) =
-      least_again (ids_given earlier) low 0 (id, None) (zero_given earlier) (least_from low earlier) (least_is low earlier)
+      least_again (ids_given earlier) low 0 (id, None) (zero_given earlier) (least_from low earlier)
+      (least_is low earlier)
   least_is low ((InitialId id, Err refusal) ∷ earlier) = least_is low earlier
   least_is low ((event, reply) ∷ earlier) = least_is low earlier
 
-  least_found : (low : ℕ) (history : History Q S M P) (least : Option ℕ) → IsLeastFrom (ids_given history) low least → least_from low history ≡ least
-  least_found low history least is = same_least (ids_given history) low (least_from low history) least (least_is low history) is
+  least_found : (low : ℕ) (history : History Q S M P) (least : Option ℕ) → IsLeastFrom (ids_given history) low least
+      → least_from low history ≡ least
+  least_found low history least is =
+      same_least (ids_given history) low (least_from low history) least (least_is low history) is
 
   -- ---- the ids that are held, by the history
 
@@ -146,11 +160,13 @@ module _ {Q S M P : Type 0} (initial : List ℕ) where
 
   module _ (history : History Q S M P) (ids : RemoteIds) (same : SameIds history ids) where
     -- the least number held from one on that is not retired is the least one given from there on
-    least_held_found : (low next : ℕ) → retired_below history ≤ low → IsLeastHeld ids.held low next → least_from low history ≡ Some next
+    least_held_found : (low next : ℕ) → retired_below history ≤ low → IsLeastHeld ids.held low next
+        → least_from low history ≡ Some next
     least_held_found low next above is =
         least_found low history (Some next) (record {
           bound = is.bound;
-          is_held = subst (λ entry. IsSome entry) (same.held next (let b = is.bound in omega (arith, b, above))) is.is_held;
+          is_held =
+              subst (λ entry. IsSome entry) (same.held next (let b = is.bound in omega (arith, b, above))) is.is_held;
           least = λ n over less. sym (same.held n (omega (arith, over, above))) ∙ is.least n over less;
         })
 
@@ -162,7 +178,9 @@ module _ {Q S M P : Type 0} (initial : List ℕ) where
     }
 
     pub active_same : active_id history ≡ ids.active
-    active_same = ap (λ (least : Option ℕ). unwrap_or least 0) (least_held_found (retired_below history) ids.active (omega arith) is_active)
+    active_same =
+        ap (λ (least : Option ℕ). unwrap_or least 0)
+        (least_held_found (retired_below history) ids.active (omega arith) is_active)
 
 -- what is not refuted is so, where a test decides it
 settled : (b : Bool) (P : Type 0) → Decides b P → ¬ (¬ P) → P
@@ -171,7 +189,8 @@ settled false P decides not_not = absurd (not_not (λ p. (let wrong = decides.1 
 
 -- ---- what an event makes of them
 
-module _ {Q S M P : Type 0} (initial : List ℕ) (history : History Q S M P) (ids : RemoteIds) (same : SameIds initial history ids) where
+module _ {Q S M P : Type 0} (initial : List ℕ) (history : History Q S M P) (ids : RemoteIds)
+    (same : SameIds initial history ids) where
   -- a frame that may be accepted
   record IsFine (frame : NewConnectionId) : Type 0 where
     ordered : frame.retire_prior_to ≤ frame.sequence
@@ -192,7 +211,8 @@ module _ {Q S M P : Type 0} (initial : List ℕ) (history : History Q S M P) (id
         let near = fine.near in
         let retired = same.retired in
         let inside = same.window.within next in
-        let above : max ids.active frame.retire_prior_to ≤ next = grind (arith, nat_tests, here, ordered, ahead, inside) in
+        let above : max ids.active frame.retire_prior_to ≤ next =
+        grind (arith, nat_tests, here, ordered, ahead, inside) in
         record {
           held = λ n over. (let was = same.held n in grind (arith, nat_tests, was, over));
           retired = omega (arith, above, retired);
@@ -229,7 +249,9 @@ module _ {Q S M P : Type 0} (initial : List ℕ) (history : History Q S M P) (id
           record { ordered = omega (arith, ordered); ahead = omega (arith, ahead); near = omega (arith, near) }
 
       again : Repeats frame ids.held
-      again = settled (repeats frame (ids.held frame.sequence)) _ (repeats_decides frame (ids.held frame.sequence)) told.1.1.1.1.0
+      again =
+          settled (repeats frame (ids.held frame.sequence)) _ (repeats_decides frame (ids.held frame.sequence))
+          told.1.1.1.1.0
 
       go : (answer : Answer Q) → IsFrameAnswer ids frame answer
           → SameIds initial ((NewId frame, Ok answer) ∷ history) (remote_ids_with (given frame) ids)
@@ -277,7 +299,9 @@ module _ {Q S M P : Type 0} (initial : List ℕ) (history : History Q S M P) (id
         whole = refl;
       }) same.window)
       record {
-        held = λ n above. (let was = same.held n in let retired = same.retired in grind (arith, nat_tests, was, above, bound, retired));
+        held =
+            λ n above. (let was = same.held n in let retired = same.retired in
+            grind (arith, nat_tests, was, above, bound, retired));
         retired = omega arith;
         window = record {
           active_held = grind (arith, nat_tests, here, bound);
@@ -295,7 +319,8 @@ module _ {Q S M P : Type 0} (initial : List ℕ) (history : History Q S M P) (id
   initial_step id answer told =
       let new : RemoteIds = record { active = ids.active; held = with_id 0 (id, None) ids.held } in
       let first : ids.active ≡ 0 = settled (ids.active == 0) _ (Decides-eqb ids.active 0) told.0 in
-      subst (λ after. SameIds initial ((InitialId id, Ok answer) ∷ history) after) (replaces ids new id first first (λ n. refl))
+      subst (λ after. SameIds initial ((InitialId id, Ok answer) ∷ history) after)
+      (replaces ids new id first first (λ n. refl))
       record {
         held = λ n above. (let was = same.held n above in grind (arith, nat_tests, was));
         retired = same.retired;
@@ -320,7 +345,8 @@ module _ {Q S M P : Type 0} (initial : List ℕ) (history : History Q S M P) (id
       ap (λ s. retires s told.0.end told.1) starts ∙ ap (λ e. retires start e told.1) ends
 
   -- a move to a number, with its id and token
-  moved_to : (after : History Q S M P) (low next : ℕ) (told : Range ℕ × List ℕ) (id : List ℕ) → told.0.start ≡ ids.active
+  moved_to : (after : History Q S M P) (low next : ℕ) (told : Range ℕ × List ℕ) (id : List ℕ)
+      → told.0.start ≡ ids.active
       → told.0.end ≡ min next (ids.active + active_connection_id_limit) → least_from low after ≡ Some next
       → id_under initial next after ≡ Some (id, Some told.1)
       → (let reply : Reply Q = Ok (Retire (Some told)) in reply) ≡ moved initial ids.active (least_from low after) after
@@ -329,7 +355,8 @@ module _ {Q S M P : Type 0} (initial : List ℕ) (history : History Q S M P) (id
       ∙ ap (λ (entry : Option HeldId). move_reply ids.active next entry) (sym has)
       ∙ ap (λ (to : Option ℕ). moved initial ids.active to after) (sym least)
 
-  frame_accepted : (frame : NewConnectionId) → IsFine frame → (reply : Reply Q) → AlwaysAnswers (IsFrameAnswer ids frame) reply
+  frame_accepted : (frame : NewConnectionId) → IsFine frame → (reply : Reply Q)
+      → AlwaysAnswers (IsFrameAnswer ids frame) reply
       → (let after : History Q S M P = (NewId frame, Ok (Retire None)) ∷ history in
       reply ≡ (if nat_le frame.retire_prior_to ids.active then Ok (Retire None)
       else moved initial ids.active (least_from frame.retire_prior_to after) after))
@@ -347,7 +374,8 @@ module _ {Q S M P : Type 0} (initial : List ℕ) (history : History Q S M P) (id
       } in
       let less = is.0 in
       let retired = same.retired in
-      let found = least_held_found initial after (made frame fine next) new frame.retire_prior_to next (omega (arith, less, retired)) least in
+      let found = least_held_found initial after (made frame fine next) new frame.retire_prior_to next
+      (omega (arith, less, retired)) least in
       let has : id_under initial next after ≡ Some (is.5.0, Some told.1) = sym (new.held next above) ∙ is.5.1 in
       moved_to after frame.retire_prior_to next told is.5.0 is.1 is.4 found has
       ∙ sym (cond-false (nat_le frame.retire_prior_to ids.active) _ _ (lt-leb frame.retire_prior_to ids.active less))
@@ -355,14 +383,16 @@ module _ {Q S M P : Type 0} (initial : List ℕ) (history : History Q S M P) (id
   frame_accepted frame fine (Err NoMemory) is = absurd is
   frame_accepted frame fine (Err refusal) is = absurd is
 
-  frame_told : (frame : NewConnectionId) (reply : Reply Q) → FrameReply ids frame reply → reply ≡ frame_reply initial frame ids.active history
+  frame_told : (frame : NewConnectionId) (reply : Reply Q) → FrameReply ids frame reply
+      → reply ≡ frame_reply initial frame ids.active history
   frame_told frame =
       let seq = frame.sequence in
       let low = frame.retire_prior_to in
       let limit = max ids.active low + active_connection_id_limit in
       refused_by NumberTooLarge (λ r. only_refusal r NumberTooLarge refl) (nat_le (2 ^ 62) seq) _ _ _
       (leb-true (2 ^ 62) seq, le-leb (2 ^ 62) seq) (λ reply small.
-      refused_by BadRetirePriorTo (λ r. only_refusal r BadRetirePriorTo refl) (nat_lt seq low) _ _ _ (Decides-ltb seq low)
+      refused_by BadRetirePriorTo (λ r. only_refusal r BadRetirePriorTo refl) (nat_lt seq low) _ _ _
+      (Decides-ltb seq low)
       (λ reply ordered.
       refused_by Retired (λ r. only_refusal r Retired refl) (nat_lt seq ids.active) _ _ _ (Decides-ltb seq ids.active)
       (λ reply ahead.
@@ -370,7 +400,11 @@ module _ {Q S M P : Type 0} (initial : List ℕ) (history : History Q S M P) (id
       (leb-true limit seq, le-leb limit seq) (λ reply near.
       refused_by Conflict (λ r. only_refusal r Conflict refl) (not (repeats frame (id_under initial seq history))) _ _ _
       (conflicts frame (omega (arith, ahead))) (λ reply again.
-      frame_accepted frame (record { ordered = omega (arith, ordered); ahead = omega (arith, ahead); near = omega (arith, near) }) reply)
+      frame_accepted frame (record {
+        ordered = omega (arith, ordered);
+        ahead = omega (arith, ahead);
+        near = omega (arith, near);
+      }) reply)
       reply) reply) reply) reply)
     where
       conflicts : (frame : NewConnectionId) → ids.active ≤ frame.sequence
@@ -401,7 +435,8 @@ module _ {Q S M P : Type 0} (initial : List ℕ) (history : History Q S M P) (id
   next_told (Err NoMemory) is = absurd is
   next_told (Err refusal) is = absurd is
 
-  initial_told : (reply : Reply Q) → InitialReply ids reply → reply ≡ (if ids.active == 0 then Ok Done else Err NotInitialId)
+  initial_told : (reply : Reply Q) → InitialReply ids reply
+      → reply ≡ (if ids.active == 0 then Ok Done else Err NotInitialId)
   initial_told reply told =
       refused_by NotInitialId (λ r. only_refusal r NotInitialId refl) (not (ids.active == 0)) _ _ (Ok Done)
       (Decides-not _ (Decides-eqb ids.active 0)) (λ other first. done other) reply told
@@ -412,7 +447,8 @@ module _ {Q S M P : Type 0} (initial : List ℕ) (history : History Q S M P) (id
       done (Err NoMemory) is = absurd is
       done (Err refusal) is = absurd is
 
-      turned : (b : Bool) → (let reply : Reply Q = if not b then Err NotInitialId else Ok Done in reply) ≡ (if b then Ok Done else Err NotInitialId)
+      turned : (b : Bool) → (let reply : Reply Q = if not b then Err NotInitialId else Ok Done in reply)
+          ≡ (if b then Ok Done else Err NotInitialId)
       turned true = refl
       turned false = refl
 
@@ -441,10 +477,13 @@ module _ {F K Q S M P : Type 0} (beginning : Beginning F K Q S M P) where
 
   module _ (before : History Q S M P) (same : HoldsIds before) where
     abbrev After : Event Q S M P → Reply Q → Option RemoteEntry → Type 0
-    After event reply entry = SameIds initial_id ((event, reply) ∷ before) (remote_ids_by initial_id (onto entry (logs_of beginning before).remote_ids))
+    After event reply entry =
+        SameIds initial_id ((event, reply) ∷ before)
+        (remote_ids_by initial_id (onto entry (logs_of beginning before).remote_ids))
 
     answer_holds : (event : Event Q S M P) (answer : Answer Q) → Told beginning before event (Ok answer)
-        → After event (Ok answer) (answered beginning.queue (known_by beginning (logs_of beginning before)) event answer).remote_ids
+        → After event (Ok answer)
+        (answered beginning.queue (known_by beginning (logs_of beginning before)) event answer).remote_ids
     answer_holds (NewId frame) answer told = frame_step initial_id before (ids_by before) same frame answer told
     answer_holds NextId answer told = next_step initial_id before (ids_by before) same answer told
     answer_holds (InitialId id) answer told = initial_step initial_id before (ids_by before) same id answer told
@@ -466,7 +505,8 @@ module _ {F K Q S M P : Type 0} (beginning : Beginning F K Q S M P) where
         record { held = same.held; retired = same.retired; window = same.window }
     answer_holds event answer told = record { held = same.held; retired = same.retired; window = same.window }
 
-    refusal_holds : (event : Event Q S M P) (refusal : Refusal) → After event (Err refusal) (refused event refusal).remote_ids
+    refusal_holds : (event : Event Q S M P) (refusal : Refusal)
+        → After event (Err refusal) (refused event refusal).remote_ids
     refusal_holds (AckFrequencyIn frame) DelayTooSmall =
         record { held = same.held; retired = same.retired; window = same.window }
     refusal_holds (AckFrequencyIn frame) refusal =
@@ -474,7 +514,8 @@ module _ {F K Q S M P : Type 0} (beginning : Beginning F K Q S M P) where
     refusal_holds event refusal = record { held = same.held; retired = same.retired; window = same.window }
 
     -- an event that was told keeps that
-    pub keeps_ids : (event : Event Q S M P) (reply : Reply Q) → Told beginning before event reply → HoldsIds ((event, reply) ∷ before)
+    pub keeps_ids : (event : Event Q S M P) (reply : Reply Q) → Told beginning before event reply
+        → HoldsIds ((event, reply) ∷ before)
     keeps_ids event (Ok answer) told = answer_holds event answer told
     keeps_ids event (Err refusal) told = refusal_holds event refusal
 
@@ -497,7 +538,8 @@ module _ {F K Q S M P : Type 0} (beginning : Beginning F K Q S M P) where
     accepts_told event reply told = tt
 
   -- throughout a run
-  pub accepts_ids : (events : List (Event Q S M P)) (replies : List (Reply Q)) → Throughout (Told beginning) events replies
+  pub accepts_ids : (events : List (Event Q S M P)) (replies : List (Reply Q))
+      → Throughout (Told beginning) events replies
       → Throughout (AcceptsIds initial_id) events replies
   accepts_ids events replies told =
       throughout_kept beginning HoldsIds (AcceptsIds initial_id)

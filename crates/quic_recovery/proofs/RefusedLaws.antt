@@ -103,7 +103,8 @@ module _ {Q : Type 0} where
   path_names None Replies names (Err refusal) told = absurd told.1
   path_names (Some path) Replies names reply told = names path reply told
 
-  initial_names : (active : ℕ) (first : Bool) (Otherwise : Reply Q → Type 0) → Decides first (active ≡ 0) → Names None Otherwise
+  initial_names : (active : ℕ) (first : Bool) (Otherwise : Reply Q → Type 0) → Decides first (active ≡ 0)
+      → Names None Otherwise
       → Names (unless first NotInitialId) (Refuses NotInitialId (active ≢ 0) Otherwise)
   initial_names active true Otherwise is names (Ok answer) told = names (Ok answer) told.1
   initial_names active true Otherwise is names (Err NotInitialId) told = absurd (told (is.0 refl))
@@ -114,7 +115,8 @@ module _ {Q : Type 0} where
   initial_names active false Otherwise is names (Err refusal) told =
       absurd (told.0 (λ zero. (let wrong = is.1 zero in cc)))
 
-  ecn_names : {P M : Type 0} (here : SpaceKnown P M) (newly : ℕ) (counts : EcnCounts) → Names None (EcnAnswer here newly counts)
+  ecn_names : {P M : Type 0} (here : SpaceKnown P M) (newly : ℕ) (counts : EcnCounts)
+      → Names None (EcnAnswer here newly counts)
   ecn_names here newly counts (Ok answer) told = refl
   ecn_names here newly counts (Err (refusal.Ecn text)) told = refl
   ecn_names here newly counts (Err other) told = absurd told
@@ -163,7 +165,8 @@ module _ {F K Q S M P : Type 0} (beginning : Beginning F K Q S M P) where
         ∙ ap (λ (b : Bool). unless b NotTracked) (tracked_found beginning history stands.tracked space number))
 
     -- a path that lives
-    on_path : (name : PathName) (Replies : PathKnown K → Reply Q → Type 0) → ((path : PathKnown K) → Names None (Replies path))
+    on_path : (name : PathName) (Replies : PathKnown K → Reply Q → Type 0)
+        → ((path : PathKnown K) → Names None (Replies path))
         → Names (unless (is_some (generation_of name history)) NoSuchPath) (OnPath (path_of name known.paths) Replies)
     on_path name Replies names reply told =
         path_names (path_of name known.paths) Replies names reply told
@@ -243,11 +246,13 @@ module _ {F K Q S M P : Type 0} (beginning : Beginning F K Q S M P) where
     names DropPrevious = on_path Previous _ (λ there. answers_name _ _)
 
     -- what an event is told, it is refused rightly
-    pub refused_told : (event : Event Q S M P) (reply : Reply Q) → Told beginning history event reply → RefusesRightly history event reply
+    pub refused_told : (event : Event Q S M P) (reply : Reply Q) → Told beginning history event reply
+        → RefusesRightly history event reply
     refused_told event reply told = by_name history event reply (names event reply told)
 
   -- throughout a run
-  pub refuses_rightly : (events : List (Event Q S M P)) (replies : List (Reply Q)) → Throughout (Told beginning) events replies
+  pub refuses_rightly : (events : List (Event Q S M P)) (replies : List (Reply Q))
+      → Throughout (Told beginning) events replies
       → Throughout RefusesRightly events replies
   refuses_rightly events replies told =
       throughout_kept beginning Stands RefusesRightly

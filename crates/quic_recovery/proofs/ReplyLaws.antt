@@ -25,19 +25,22 @@ answers_alike Grows Takes IsAnswer IsOther grows alike (Err NoMemory) told = gro
 answers_alike Grows Takes IsAnswer IsOther grows alike (Err refusal) told = absurd told
 
 -- a reply as a value: where a test decides the cause, and its refusal is the only one with its number
-pub refused_by : {Q : Type 0} (refusal : Refusal) → ((given : Refusal) → same_refusal given refusal ≡ true → given ≡ refusal)
+pub refused_by : {Q : Type 0} (refusal : Refusal)
+    → ((given : Refusal) → same_refusal given refusal ≡ true → given ≡ refusal)
     → (cause : Bool) (Cause : Type 0) (Otherwise : Reply Q → Type 0) (rest : Reply Q) → Decides cause Cause
     → ((reply : Reply Q) → ¬ Cause → Otherwise reply → reply ≡ rest)
     → (reply : Reply Q) → Refuses refusal Cause Otherwise reply → reply ≡ (if cause then Err refusal else rest)
 refused_by refusal only true Cause Otherwise rest decides others (Ok answer) told = absurd (told.0 (decides.0 refl))
 refused_by refusal only false Cause Otherwise rest decides others (Ok answer) told = others (Ok answer) told.0 told.1
-refused_by {Q} refusal only true Cause Otherwise rest decides others (Err given) told = go (same_refusal given refusal) refl told
+refused_by {Q} refusal only true Cause Otherwise rest decides others (Err given) told =
+    go (same_refusal given refusal) refl told
   where
     go : (b : Bool) → same_refusal given refusal ≡ b → MatchBool b Cause ((¬ Cause) × Otherwise (Err given))
         → (let reply : Reply Q = Err given in reply) ≡ Err refusal
     go true same cause = ap (λ (r : Refusal). Err r) (only given same)
     go false same other = absurd (other.0 (decides.0 refl))
-refused_by refusal only false Cause Otherwise rest decides others (Err given) told = go (same_refusal given refusal) told
+refused_by refusal only false Cause Otherwise rest decides others (Err given) told =
+    go (same_refusal given refusal) told
   where
     go : (b : Bool) → MatchBool b Cause ((¬ Cause) × Otherwise (Err given)) → Err given ≡ rest
     go true cause = (let is = decides.1 cause in cc)

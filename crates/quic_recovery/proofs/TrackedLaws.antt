@@ -55,7 +55,8 @@ module _ (n : ℕ) where
   more_sent false false true count sum apart = omega (arith, sum)
   more_sent false false false count sum apart = omega (arith, sum)
 
-  one_less : (here tracked : Bool) (count : ℕ) → count + cond here 1 0 ≡ cond tracked 1 0 → count ≡ cond (not here && tracked) 1 0
+  one_less : (here tracked : Bool) (count : ℕ) → count + cond here 1 0 ≡ cond tracked 1 0
+      → count ≡ cond (not here && tracked) 1 0
   one_less true true count sum = omega (arith, sum)
   one_less true false count sum = absurd (omega (arith, sum))
   one_less false tracked count sum = omega (arith, sum)
@@ -68,7 +69,8 @@ module _ {P M : Type 0} (n : ℕ) where
 
   found_counts : (packets : Packets P M) (packet : Packet P M) → packet_at packets n ≡ Some packet → 1 ≤ times n packets
   found_counts packets packet found =
-      let least = found-le-sum (λ entry. one_if_same entry.0 n) packets n packet found in grind (arith, nat_tests, least)
+      let least = found-le-sum (λ entry. one_if_same entry.0 n) packets n packet found in
+      grind (arith, nat_tests, least)
 
   absent_counts : (packets : Packets P M) → packet_at packets n ≡ None → times n packets ≡ 0
   absent_counts [] absent = refl
@@ -84,20 +86,24 @@ module _ {P M : Type 0} (n : ℕ) where
           grind (arith, nat_tests, cons, other, none)
 
   -- what is forgotten takes the number from a count where it is that one, and tracked
-  forgotten_counts : (packets : Packets P M) (forgotten : Option ℕ) (tracked : Bool) → times n packets ≡ cond tracked 1 0
+  forgotten_counts : (packets : Packets P M) (forgotten : Option ℕ) (tracked : Bool)
+      → times n packets ≡ cond tracked 1 0
       → gone (λ entry. one_if_same entry.0 n) (entry_at packets forgotten) ≡ cond (is_it n forgotten && tracked) 1 0
   forgotten_counts packets None tracked same = refl
   forgotten_counts packets (Some m) tracked same = go (packet_at packets m) tracked refl same
     where
-      go : (found : Option (Packet P M)) (tracked : Bool) → packet_at packets m ≡ found → times n packets ≡ cond tracked 1 0
+      go : (found : Option (Packet P M)) (tracked : Bool) → packet_at packets m ≡ found
+          → times n packets ≡ cond tracked 1 0
           → gone (λ entry. one_if_same entry.0 n) (numbered m found) ≡ cond (m == n && tracked) 1 0
       go None true absent same =
-          let none : m ≡ n → times n packets ≡ 0 = λ is. absent_counts packets (subst (λ k. packet_at packets k ≡ None) is absent) in
+          let none : m ≡ n → times n packets
+          ≡ 0 = λ is. absent_counts packets (subst (λ k. packet_at packets k ≡ None) is absent) in
           grind (arith, nat_tests, none, same)
       go None false absent same = grind (arith, nat_tests)
       go (Some packet) true found same = grind (arith, nat_tests)
       go (Some packet) false found same =
-          let one : m ≡ n → 1 ≤ times n packets = λ is. found_counts packets packet (subst (λ k. packet_at packets k ≡ Some packet) is found) in
+          let one : m ≡ n → 1 ≤ times n packets = λ is. found_counts packets packet
+          (subst (λ k. packet_at packets k ≡ Some packet) is found) in
           grind (arith, nat_tests, one, same)
 
   module _ (sent : Sent P M) (tracked : Bool) (here : Tracks sent tracked) where
@@ -110,11 +116,13 @@ module _ {P M : Type 0} (n : ℕ) where
           let left = forgotten_counts sent.tracked (forgotten_by sent packet) tracked here.same in
           let was = here.same in
           let apart : (number == n) ≡ true → tracked ≡ false = λ is. here.given (grind (arith, nat_tests, is, new)) in
-          more_sent n (number == n) (is_it n (forgotten_by sent packet)) tracked _ (omega (arith, sum, left, was)) apart;
+          more_sent n (number == n) (is_it n (forgotten_by sent packet)) tracked _ (omega (arith, sum, left, was))
+          apart;
       given = λ late. go (is_it n (forgotten_by sent packet)) tracked (here.given (omega (arith, late, new))) late;
     }
       where
-        go : (forgotten tracked : Bool) → tracked ≡ false → number + 1 ≤ n → (number == n || (not forgotten && tracked)) ≡ false
+        go : (forgotten tracked : Bool) → tracked ≡ false → number + 1 ≤ n
+            → (number == n || (not forgotten && tracked)) ≡ false
         go true tracked none late = grind (arith, nat_tests, late)
         go false tracked none late = grind (arith, nat_tests, late, none)
 
@@ -148,12 +156,14 @@ module _ {P M : Type 0} (n : ℕ) where
     looked_up : is_some (packet_at sent.tracked n) ≡ tracked
     looked_up = go (packet_at sent.tracked n) tracked refl here.same
       where
-        go : (found : Option (Packet P M)) (tracked : Bool) → packet_at sent.tracked n ≡ found → times n sent.tracked ≡ cond tracked 1 0
+        go : (found : Option (Packet P M)) (tracked : Bool) → packet_at sent.tracked n ≡ found
+            → times n sent.tracked ≡ cond tracked 1 0
             → is_some found ≡ tracked
         go None true absent same = let none = absent_counts sent.tracked absent in absurd (omega (arith, none, same))
         go None false absent same = refl
         go (Some packet) true found same = refl
-        go (Some packet) false found same = let one = found_counts sent.tracked packet found in absurd (omega (arith, one, same))
+        go (Some packet) false found same =
+            let one = found_counts sent.tracked packet found in absurd (omega (arith, one, same))
 
 -- ---- what an event does to it
 
@@ -163,7 +173,8 @@ one_space Handshake Handshake e = refl
 one_space Data Data e = refl
 one_space there space e = cc
 
-probe_number : {K Q S M P : Type 0} (q : QueueMeaning Q S M P) (known : Known K P M) (now : ℕ) (due : Option ℕ) (number size : ℕ)
+probe_number : {K Q S M P : Type 0} (q : QueueMeaning Q S M P) (known : Known K P M) (now : ℕ) (due : Option ℕ)
+    (number size : ℕ)
     → ProbeOutReply q known now due (Ok (Probe number size)) → number ≡ known.numbers.next
 probe_number q known now None number size told = cc
 probe_number q known now (Some due) number size told = let is = told.1 in cc
@@ -183,7 +194,8 @@ module _ {F K Q S M P : Type 0} (beginning : Beginning F K Q S M P) (before : Hi
   After entry tracked = Tracks n (sent_by beginning.queue.words (onto entry log)) tracked
 
   -- an entry that leaves what is tracked
-  stays : (b : Bool) (entry : SpaceEntry P M) → After (Some entry) tracked_now → After (cond b (Some entry) None) tracked_now
+  stays : (b : Bool) (entry : SpaceEntry P M) → After (Some entry) tracked_now
+      → After (cond b (Some entry) None) tracked_now
   stays true entry first = first
   stays false entry first = here
 
@@ -192,7 +204,8 @@ module _ {F K Q S M P : Type 0} (beginning : Beginning F K Q S M P) (before : Hi
   goes true out entry first = first refl
   goes false out entry first = here
 
-  goes_for : (b out left : Bool) (entry : SpaceEntry P M) → (b ≡ true → After (Some entry) (out || (not left && tracked_now)))
+  goes_for : (b out left : Bool) (entry : SpaceEntry P M)
+      → (b ≡ true → After (Some entry) (out || (not left && tracked_now)))
       → After (cond b (Some entry) None) ((b && out) || (not (b && left) && tracked_now))
   goes_for true out left entry first = first refl
   goes_for false out left entry first = here
@@ -202,19 +215,22 @@ module _ {F K Q S M P : Type 0} (beginning : Beginning F K Q S M P) (before : Hi
   takes true left entry first = first refl
   takes false left entry first = here
 
-  empties : (b : Bool) (entry : SpaceEntry P M) → After (Some entry) false → After (cond b (Some entry) None) (not b && tracked_now)
+  empties : (b : Bool) (entry : SpaceEntry P M) → After (Some entry) false
+      → After (cond b (Some entry) None) (not b && tracked_now)
   empties true entry first = first
   empties false entry first = here
 
   -- a packet goes out as it is told
-  goes_told : (there : SpaceId) (packet : Packet P M) (number : ℕ) (forgotten : Option ℕ) → same_space there space ≡ true
+  goes_told : (there : SpaceId) (packet : Packet P M) (number : ℕ) (forgotten : Option ℕ)
+      → same_space there space ≡ true
       → number ≡ number_in known there → forgotten ≡ forgotten_by (known.spaces there).sent packet
       → After (Some (sends (number_in known there) packet)) (number == n || (not (is_it n forgotten) && tracked_now))
   goes_told there packet number forgotten is same_number same_forgotten =
       let at = one_space there space is in
       let k = number_in known there in
       let entry : SpaceEntry P M = sends k packet in
-      let new : (sent_in beginning before space).next ≤ k = subst (λ s. (sent_in beginning before s).next ≤ k) at (is_new beginning before there) in
+      let new : (sent_in beginning before space).next ≤ k = subst (λ s. (sent_in beginning before s).next ≤ k) at
+      (is_new beginning before there) in
       let other : forgotten ≡ forgotten_by (sent_in beginning before space) packet
       = subst (λ s. forgotten ≡ forgotten_by (sent_in beginning before s) packet) at same_forgotten in
       let step = sent_tracks n (sent_in beginning before space) tracked_now here k packet new in
@@ -222,7 +238,8 @@ module _ {F K Q S M P : Type 0} (beginning : Beginning F K Q S M P) (before : Hi
       subst (λ m. After (Some entry) (m == n || (not (is_it n forgotten) && tracked_now))) (sym same_number) moved
 
   -- a tracked packet leaves
-  leaves_told : (there : SpaceId) (number : ℕ) → ¬ (packet_at (known.spaces there).sent.tracked number ≡ None) → same_space there space ≡ true
+  leaves_told : (there : SpaceId) (number : ℕ) → ¬ (packet_at (known.spaces there).sent.tracked number ≡ None)
+      → same_space there space ≡ true
       → Tracks n (sent_less number (sent_in beginning before space)) (not (number == n) && tracked_now)
   leaves_told there number told is =
       let found = is_there (packet_at (known.spaces there).sent.tracked number) told in
@@ -230,7 +247,8 @@ module _ {F K Q S M P : Type 0} (beginning : Beginning F K Q S M P) (before : Hi
       (subst (λ s. IsTracked (sent_in beginning before s) number) (one_space there space is) found)
 
   answer_tracks : (event : Event Q S M P) (answer : Answer Q) → Told beginning before event (Ok answer)
-      → After ((answered beginning.queue known event answer).spaces space) (is_tracked space n ((event, Ok answer) ∷ before))
+      → After ((answered beginning.queue known event answer).spaces space)
+      (is_tracked space n ((event, Ok answer) ∷ before))
   answer_tracks (Acked there now number app_limited) answer told =
       takes (same_space there space) (number == n) (acknowledged number) (leaves_told there number told.1.0)
   answer_tracks (Lost there number) answer told =
@@ -252,8 +270,10 @@ module _ {F K Q S M P : Type 0} (beginning : Beginning F K Q S M P) (before : Hi
   answer_tracks (PollMtu now) answer told = here
   answer_tracks (DiscardSpace there) answer told =
       empties (same_space there space) emptied record { same = refl; given = λ late. refl }
-  answer_tracks (Received there now number eliciting) (New arm) told = stays (same_space there space) (heard now number eliciting) here
-  answer_tracks (Received there now number eliciting) answer told = stays (same_space there space) (heard_again number) here
+  answer_tracks (Received there now number eliciting) (New arm) told =
+      stays (same_space there space) (heard now number eliciting) here
+  answer_tracks (Received there now number eliciting) answer told =
+      stays (same_space there space) (heard_again number) here
   answer_tracks (AckFrequencyIn frame) (Flag true) told = stays (same_space Data space) (asked frame) here
   answer_tracks (AckFrequencyIn frame) (Flag false) told = here
   answer_tracks (AckFrequencyIn frame) answer told = here
@@ -278,7 +298,8 @@ module _ {F K Q S M P : Type 0} (beginning : Beginning F K Q S M P) (before : Hi
   refusal_tracks event refusal = here
 
   reply_tracks : (event : Event Q S M P) (reply : Reply Q) → Told beginning before event reply
-      → After ((entries_of beginning.queue known event reply).spaces space) (is_tracked space n ((event, reply) ∷ before))
+      → After ((entries_of beginning.queue known event reply).spaces space)
+      (is_tracked space n ((event, reply) ∷ before))
   reply_tracks event (Ok answer) told = answer_tracks event answer told
   reply_tracks event (Err refusal) told = refusal_tracks event refusal
 
@@ -287,12 +308,15 @@ module _ {F K Q S M P : Type 0} (beginning : Beginning F K Q S M P) (before : Hi
 module _ {F K Q S M P : Type 0} (beginning : Beginning F K Q S M P) where
   -- each number of each space is tracked where the history says so
   abbrev pub AllTracked : History Q S M P → Type 0
-  AllTracked history = (space : SpaceId) (n : ℕ) → Tracks n (sent_in beginning history space) (is_tracked space n history)
+  AllTracked history =
+      (space : SpaceId) (n : ℕ) → Tracks n (sent_in beginning history space) (is_tracked space n history)
 
   -- an event that was told keeps that
-  pub keeps_tracked : (before : History Q S M P) (event : Event Q S M P) (reply : Reply Q) → Told beginning before event reply
+  pub keeps_tracked : (before : History Q S M P) (event : Event Q S M P) (reply : Reply Q)
+      → Told beginning before event reply
       → AllTracked before → AllTracked ((event, reply) ∷ before)
-  keeps_tracked before event reply told all = λ space n. reply_tracks beginning before space n (all space n) event reply told
+  keeps_tracked before event reply told all =
+      λ space n. reply_tracks beginning before space n (all space n) event reply told
 
   pub none_tracked : AllTracked []
   none_tracked = λ space n. record { same = refl; given = λ late. refl }
@@ -300,4 +324,5 @@ module _ {F K Q S M P : Type 0} (beginning : Beginning F K Q S M P) where
   -- a packet is found where its number is tracked
   pub tracked_found : (history : History Q S M P) → AllTracked history → (space : SpaceId) (n : ℕ)
       → is_some (packet_at (sent_in beginning history space).tracked n) ≡ is_tracked space n history
-  tracked_found history all space n = looked_up n (sent_in beginning history space) (is_tracked space n history) (all space n)
+  tracked_found history all space n =
+      looked_up n (sent_in beginning history space) (is_tracked space n history) (all space n)

@@ -1,5 +1,5 @@
--- Ids that the peer gave (RFC 9000, 5.1.1): the initial one under number 0, and one by each NEW_CONNECTION_ID frame that
--- was accepted. The active one has the least number that is not retired (5.1.2).
+-- Ids that the peer gave (RFC 9000, 5.1.1): the initial one under number 0, and one by each NEW_CONNECTION_ID frame
+-- that was accepted. The active one has the least number that is not retired (5.1.2).
 use Rattle.std.specs.Prelude.{ℕ, max, min, ◌==◌, nat_lt, List, [], ◌∷◌, Option, None, Some, option_map, unwrap_or, Ok, if◌then◌else◌}
 use Rattle.recovery_ids.specs.RemoteIds.{HeldId}
 use Rattle.quic_recovery.specs.declared.event.Event.TheVariants.{NewId, NextId, InitialId}
@@ -12,7 +12,8 @@ module _ {Q S M P : Type 0} where
   id_under initial n [] = if n == 0 then Some (initial, None) else None
   id_under initial n ((NewId frame, Ok answer) ∷ earlier) =
       if n == frame.sequence then Some (frame.id, Some frame.reset_token) else id_under initial n earlier
-  id_under initial n ((InitialId id, Ok answer) ∷ earlier) = if n == 0 then Some (id, None) else id_under initial n earlier
+  id_under initial n ((InitialId id, Ok answer) ∷ earlier) =
+      if n == 0 then Some (id, None) else id_under initial n earlier
   id_under initial n (happened ∷ earlier) = id_under initial n earlier
 
   -- the numbers below this one are retired: by frames, and by moves to the next id
@@ -27,7 +28,8 @@ module _ {Q S M P : Type 0} where
   least_from low [] = if low == 0 then Some 0 else None
   least_from low ((NewId frame, Ok answer) ∷ earlier) =
       let least = least_from low earlier in
-      if nat_lt frame.sequence low then least else Some (unwrap_or (option_map (min frame.sequence) least) frame.sequence)
+      if nat_lt frame.sequence low then least
+      else Some (unwrap_or (option_map (min frame.sequence) least) frame.sequence)
   least_from low (happened ∷ earlier) = least_from low earlier
 
   -- the number of the active id

@@ -1,5 +1,5 @@
--- Paths (RFC 9000, 9.3): the one in use, and the one that was in use before it, until that is dropped. The generation of a
--- path is how many were made before it.
+-- Paths (RFC 9000, 9.3): the one in use, and the one that was in use before it, until that is dropped. The generation
+-- of a path is how many were made before it.
 use Rattle.std.specs.Prelude.{ℕ, ◌+◌, [], ◌∷◌, Option, None, Some, Ok}
 use Rattle.recovery_paths.specs.declared.live_paths.PathName.{PathName}
 use Rattle.recovery_paths.specs.declared.live_paths.PathName.TheVariants.{Current, Previous}

@@ -17,7 +17,7 @@ repeats frame None = true
 repeats frame (Some (id, None)) = bytes_eq frame.id id
 repeats frame (Some (id, Some token)) = bytes_eq frame.id id && bytes_eq frame.reset_token token
 
--- the reply to a move from one number to another with its id: the numbers between are retired, eight at most, and the token is told
+-- the reply to a move to another number with its id: the numbers up to it are retired, eight at most; its token is told
 abbrev pub move_reply : {Q : Type 0} → ℕ → ℕ → Option HeldId → Reply Q
 move_reply start next (Some (id, Some token)) =
     Ok (Retire (Some (record { start = start; end = min next (start + active_connection_id_limit) }, token)))
@@ -35,10 +35,12 @@ module _ {Q S M P : Type 0} (initial : List ℕ) where
       if nat_le (2 ^ 62) frame.sequence then Err NumberTooLarge
       else if nat_lt frame.sequence frame.retire_prior_to then Err BadRetirePriorTo
       else if nat_lt frame.sequence active then Err Retired
-      else if nat_le (max active frame.retire_prior_to + active_connection_id_limit) frame.sequence then Err ExceedsLimit
+      else if nat_le (max active frame.retire_prior_to + active_connection_id_limit) frame.sequence
+      then Err ExceedsLimit
       else if not (repeats frame (id_under initial frame.sequence history)) then Err Conflict
       else if nat_le frame.retire_prior_to active then Ok (Retire None)
-      else (let after = (NewId frame, Ok (Retire None)) ∷ history in moved active (least_from frame.retire_prior_to after) after)
+      else (let after = (NewId frame, Ok (Retire None)) ∷ history in
+      moved active (least_from frame.retire_prior_to after) after)
 
   abbrev pub AcceptsIds : History Q S M P → Event Q S M P → Reply Q → Type 0
   AcceptsIds history (NewId frame) reply = reply ≡ frame_reply frame (active_id history) history

@@ -1,5 +1,5 @@
--- Refusals that follow from the history alone: in a space whose keys were dropped (RFC 9002, 6.4), of a packet that is not
--- tracked (A.7), on no path (RFC 9000, 9.3), of a late initial id (7.2). Each is given exactly where its cause holds.
+-- Refusals that follow from the history alone: in a space whose keys were dropped (RFC 9002, 6.4), of a packet that is
+-- not tracked (A.7), on no path (RFC 9000, 9.3), of a late initial id (7.2). Each is given exactly where it has cause.
 use Rattle.std.specs.Prelude.{◌≡◌, ◌==◌, Bool, is_some, Option, None, Some, Err, if◌then◌else◌}
 use Rattle.recovery_base.specs.declared.below.SpaceId.{SpaceId}
 use Rattle.recovery_base.specs.declared.below.SpaceId.TheVariants.{Data}
@@ -22,7 +22,7 @@ module _ {Q S M P : Type 0} (history : History Q S M P) where
   in_space space otherwise = if is_discarded space history then Some SpaceDiscarded else otherwise
 
   abbrev pub first_cause : Event Q S M P → Option Refusal
-  first_cause (Acked space now number app_limited) = in_space space (unless (is_tracked space number history) NotTracked)
+  first_cause (Acked space now number limited) = in_space space (unless (is_tracked space number history) NotTracked)
   first_cause (Lost space number) = in_space space (unless (is_tracked space number history) NotTracked)
   first_cause (Received space now number eliciting) = in_space space None
   first_cause (Send space now size eliciting largest queue frames) = in_space space None

@@ -1,5 +1,5 @@
--- Packets that are tracked (RFC 9002, A.1): each from the answer that gives its number until it is acknowledged, lost or
--- forgotten, or the keys of its space are dropped.
+-- Packets that are tracked (RFC 9002, A.1): each from the answer that gives its number until it is acknowledged, lost
+-- or forgotten, or the keys of its space are dropped.
 use Rattle.std.specs.Prelude.{ℕ, ◌==◌, Bool, false, not, ◌&&◌, ◌||◌, [], ◌∷◌, Some, Ok}
 use Rattle.recovery_base.specs.declared.below.SpaceId.{SpaceId}
 use Rattle.recovery_base.specs.declared.below.SpaceId.TheVariants.{Data}
