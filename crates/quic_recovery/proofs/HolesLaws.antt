@@ -220,8 +220,7 @@ module _ {F K Q S M P : Type 0} (beginning : Beginning F K Q S M P) where
       let Force : ℕ → List ℕ → List (List Loss) → Type 0 =
       λ size numbers bursts. 4 ≤ length (from_first (is_past numbers) (filter (is_above size) bursts)) in
       let standing_same = ap₂ all kept.tied.1 kept.tied.0 in
-      let unanswered_same = ap₂ all kept.tied.2 kept.tied.0 in
-      (
+      let unanswered_same = ap₂ all kept.tied.2 kept.tied.0 in (
         λ reports. subst (Stand least) (sym standing_same)
             (subst (λ size. Stand size (all (entries_.standing entries) (entries_.open_run entries))) is (subst Needed reports known.1.0)),
         λ four. known.1.1
