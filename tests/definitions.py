@@ -1,0 +1,94 @@
+#!/usr/bin/env python3
+"""Counts what a reader of Recovery::run has to read: the lines of the definitions that its clauses rest on, name by name, without imports,
+blanks and comments; and the lines of each promise that is read off events and answers alone, whole files, at most fifty each."""
+import pathlib
+import re
+import sys
+
+ROOT = pathlib.Path(__file__).resolve().parent.parent
+DRIVER = ROOT / "crates" / "quic_recovery" / "src" / "driver.rt"
+PROMISES = ROOT / "crates" / "quic_recovery" / "specs" / "Promises"
+LONGEST = 50
+DEFINITION = re.compile(r" *(?:(?:unfoldable )?(?:abbrev )?pub |abbrev |pub )(?:record |data )?([^\s(:{]+)")
+USE = re.compile(r"\s*(?:ghost )?use ([\w.]+)\.\{(.*)\};?$")
+WORD = re.compile(r"[^\s(){}\[\],;.λ→×≡]+")
+
+
+def imports(lines):
+    """Which name of which module each word stands for."""
+    found = {}
+    for line in lines:
+        use = USE.match(line)
+        for name in use.group(2).split(",") if use else []:
+            theirs, _, ours = name.strip().partition(" as ")
+            found[ours or theirs] = (use.group(1), theirs)
+    return found
+
+
+def module(path):
+    """The lines of each definition, and what its words stand for."""
+    lines = path.read_text().split("\n")
+    bodies, name = {}, None
+    for line in lines:
+        begins = DEFINITION.match(line)
+        if begins and len(line) - len(line.lstrip()) <= 4:
+            name = begins.group(1)
+        elif not line.strip() or line.startswith("use ") or line.lstrip().startswith("module "):
+            name = None
+        if name and not line.lstrip().startswith("--"):
+            bodies.setdefault(name, []).append(line.split(" -- ")[0])
+    return bodies, imports(lines)
+
+
+def modules():
+    found = {}
+    for path in ROOT.glob("crates/*/specs/**/*.antt"):
+        crate, _, *inner = path.relative_to(ROOT / "crates").with_suffix("").parts
+        found[".".join(["Rattle", crate, "specs", *inner])] = module(path)
+    return found
+
+
+def rests_on(words, every):
+    """All definitions that these rest on."""
+    seen, left = set(), list(words)
+    while left:
+        word = left.pop()
+        place, name = word
+        if word in seen or name not in every.get(place, ({}, {}))[0]:
+            continue
+        seen.add(word)
+        bodies, names = every[place]
+        for line in bodies[name]:
+            for other in WORD.findall(line):
+                left.append((place, other) if other in bodies else names.get(other, ("", "")))
+    return seen
+
+
+def clauses():
+    """The words of each clause of run."""
+    text = DRIVER.read_text()
+    names = imports(text.split("\n"))
+    contract = text[text.index("    pub fn run("):]
+    contract = contract[:contract.index("\n    {\n")]
+    for clause in re.split(r"\n\s+ensures ", contract)[1:]:
+        yield clause.split()[0], [names[word] for word in WORD.findall(clause) if word in names]
+
+
+def main():
+    every = modules()
+    size = lambda words: sum(len(every[place][0][name]) for place, name in words)
+    told, failed = {}, 0
+    for clause, words in clauses():
+        told[clause] = rests_on(words, every)
+        print(f"definitions: {clause}: {size(told[clause])} lines")
+    direct = {path.stem: len(path.read_text().split("\n")) - 1 for path in sorted(PROMISES.glob("*.antt"))}
+    for name, lines in direct.items():
+        if lines > LONGEST:
+            failed += 1
+            print(f"definitions: Promises/{name}: {lines} lines, and not at most {LONGEST}", file=sys.stderr)
+    print(f"definitions: run rests on {size(set().union(*told.values()))} lines; {len(direct)} files of promises have {sum(direct.values())}")
+    print(f"definitions: {len(direct) - failed} passed, {failed} failed")
+    return 1 if failed else 0
+
+
+sys.exit(main())
