@@ -14,6 +14,7 @@ use Rattle.quic_recovery.specs.Bursts.{ComesAtFourBursts, NeedsFourBursts}
 use Rattle.quic_recovery.specs.Pacing.{DelaysByBalance, KeepsPace, PassesSoon, PassesWhenNamed}
 use Rattle.quic_recovery.specs.Search.{EndsNear, EntersAsTold, LimitsOutside, ProbesInTurn, SearchesFew, TellsProbes, UsesMtu}
 use Rattle.quic_recovery.specs.Promises.Blocked.{BlocksExactly}
+use Rattle.quic_recovery.specs.Promises.Counted.{CountsInFlight}
 use Rattle.quic_recovery.specs.Promises.Few.{ProbesFew}
 use Rattle.quic_recovery.specs.Promises.Holes.{ReportsAtFour}
 use Rattle.quic_recovery.specs.Promises.Near.{EndsNearBy}
@@ -24,6 +25,7 @@ use Rattle.quic_recovery.specs.Promises.Threefold.{KeepsThreefold}
 use Rattle.quic_recovery.specs.Told.{Told}
 use Rattle.quic_recovery.proofs.BlockedLaws.{blocks_exactly}
 use Rattle.quic_recovery.proofs.BurstLaws.{comes_at_four, needs_four}
+use Rattle.quic_recovery.proofs.CountedLaws.{counts_in_flight}
 use Rattle.quic_recovery.proofs.DepartureLaws.{leave_once_in}
 use Rattle.quic_recovery.proofs.EnteredLaws.{entries_told}
 use Rattle.quic_recovery.proofs.FewLaws.{few_told}
@@ -80,6 +82,7 @@ module _ {F K Q S M P : Type 0} (beginning : Beginning F K Q S M P) where
           peer_ids = last (AcceptsIds beginning.config.initial_cid) (accepts_ids beginning events replies all);
           own_ids = issues_ids beginning before event reply here;
           refused = last RefusesRightly (refuses_rightly beginning events replies all);
+          counted = last CountsInFlight (counts_in_flight beginning events replies all);
           threefold = last (KeepsThreefold beginning.config.validated) (sends_threefold beginning events replies all);
           blocked = last (BlocksExactly beginning.config.validated) (blocks_exactly beginning events replies all);
           delayed = last (DelaysByBalance beginning) (delayed beginning events replies all);

@@ -167,13 +167,13 @@ module _ {P M : Type 0} (n : ℕ) where
 
 -- ---- what an event does to it
 
-one_space : (there space : SpaceId) → same_space there space ≡ true → there ≡ space
+pub one_space : (there space : SpaceId) → same_space there space ≡ true → there ≡ space
 one_space Initial Initial e = refl
 one_space Handshake Handshake e = refl
 one_space Data Data e = refl
 one_space there space e = cc
 
-probe_number : {K Q S M P : Type 0} (q : QueueMeaning Q S M P) (known : Known K P M) (now : ℕ) (due : Option ℕ)
+pub probe_number : {K Q S M P : Type 0} (q : QueueMeaning Q S M P) (known : Known K P M) (now : ℕ) (due : Option ℕ)
     (number size : ℕ)
     → ProbeOutReply q known now due (Ok (Probe number size)) → number ≡ known.numbers.next
 probe_number q known now None number size told = cc

@@ -10,6 +10,7 @@ use Rattle.quic_recovery.specs.History.{Beginning, History, Reply, QueueMeaning,
 use Rattle.quic_recovery.specs.Pacing.{DelaysByBalance, KeepsPace, PassesSoon, PassesWhenNamed}
 use Rattle.quic_recovery.specs.Parts.{Parts}
 use Rattle.quic_recovery.specs.Promises.Blocked.{BlocksExactly}
+use Rattle.quic_recovery.specs.Promises.Counted.{CountsInFlight}
 use Rattle.quic_recovery.specs.Promises.Few.{ProbesFew}
 use Rattle.quic_recovery.specs.Promises.Holes.{ReportsAtFour}
 use Rattle.quic_recovery.specs.Promises.Near.{EndsNearBy}
@@ -58,6 +59,7 @@ module _ {F K Q S M P : Type 0} (beginning : Beginning F K Q S M P) where
     pub peer_ids : AcceptsIds beginning.config.initial_cid before event reply
     pub own_ids : IssuesIds beginning.config.issued beginning.config.cid_len before event reply
     pub refused : RefusesRightly before event reply
+    pub counted : CountsInFlight before event reply
     pub threefold : KeepsThreefold beginning.config.validated before event reply
     pub blocked : BlocksExactly beginning.config.validated before event reply
     pub delayed : DelaysByBalance beginning before event reply

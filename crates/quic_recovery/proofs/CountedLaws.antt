@@ -1,0 +1,407 @@
+-- Bytes in flight by events and answers are the sums over what the spaces track.
+use Rattle.std.proofs.Common.{◌≡◌, ◌≤◌, ◌+◌, ℕ, ◌==◌, ◌&&◌, ◌||◌, Bool, true, false, cond, if◌then◌else◌, List, [], ◌∷◌, ◌++◌, Option, None, Some, Ok, Err, refl, sym, ap, subst, ◌∙◌, arith}
+use Rattle.std.specs.Prelude.{sum_by, option_map}
+use Rattle.std.specs.BTreeMap.{is_at}
+use Rattle.std.specs.Cmp.{nat_cmp_total, tied_itself}
+use Rattle.std.specs.Ordering.{nat_cmp, is_eq}
+use Rattle.std.proofs.lemmas.Bool.Decides.{nat_tests}
+use Rattle.std.proofs.lemmas.List.Sums.{sum_by-cons, sum_by_push}
+use Rattle.recovery_base.specs.declared.below.SpaceId.{SpaceId}
+use Rattle.recovery_base.specs.declared.below.SpaceId.TheVariants.{Initial, Handshake, Data}
+use Rattle.recovery_base.specs.Spaces.{same_space}
+use Rattle.recovery_ledger.specs.Departures.{one_if_same}
+use Rattle.recovery_ledger.specs.InFlight.{over_spaces, size_in, eliciting_in}
+use Rattle.recovery_ledger.specs.Packets.{Packet, Packets, without, without_some}
+use Rattle.recovery_ledger.specs.Probes.{ProbeFound, pending_stands, moves, nothing_found}
+use Rattle.recovery_ledger.specs.SpaceLog.{SpaceEntry, heard, heard_again, sends, acknowledged, loses, probes, takes_pending, feeds_back, emptied, ack_goes, ack_is_late, asked}
+use Rattle.recovery_ledger.specs.Tracked.{Sent, sent_by, sent_less, sent_more, sent_moved, forgotten_by}
+use Rattle.recovery_ledger.proofs.CarryLaws.{sum-carrying}
+use Rattle.recovery_ledger.proofs.DepartureLaws.{times}
+use Rattle.recovery_ledger.proofs.PacketLaws.{number_at}
+use Rattle.recovery_paths.specs.PathLog.{PathKnown, path_of}
+use Rattle.recovery_paths.specs.declared.live_paths.PathName.TheVariants.{Current}
+use Rattle.quic_recovery.specs.declared.event.Event.{Event}
+use Rattle.quic_recovery.specs.declared.event.Event.TheVariants.{Received, Send, Acked, Lost, AckFrequencyIn, AcksSent, AckDelayTimeout, DiscardSpace, PollMtu, Transmit, Ecn, QueueProbe, TakePending, InFlight}
+use Rattle.quic_recovery.specs.declared.event.Answer.{Answer}
+use Rattle.quic_recovery.specs.declared.event.Answer.TheVariants as answers
+use Rattle.quic_recovery.specs.declared.event.Answer.TheVariants.{New, Flag, Probe, Transmitted, Delayed}
+use Rattle.quic_recovery.specs.declared.event.Refusal.{Refusal}
+use Rattle.quic_recovery.specs.declared.event.Refusal.TheVariants.{DelayTooSmall, NoMemory, NoSuchPath}
+use Rattle.quic_recovery.specs.Entries.{here, in_space, answered, refused, entries_of, found_in, logs_of}
+use Rattle.quic_recovery.specs.History.{Beginning, History, Reply, Throughout}
+use Rattle.quic_recovery.specs.Known.{Known, known_by, number_in, packet_now}
+use Rattle.quic_recovery.specs.Logs.{onto}
+use Rattle.quic_recovery.specs.Replies.{AlwaysAnswers}
+use Rattle.quic_recovery.specs.Told.{Told, Is, OnPath, counters_answer}
+use Rattle.quic_recovery.specs.Promises.Counted.{sum_on, total, IsTally, CountsInFlight}
+use Rattle.quic_recovery.specs.Promises.Paths.{paths_made, generation_of}
+use Rattle.quic_recovery.proofs.AmplificationLaws.{throughout_kept}
+use Rattle.quic_recovery.proofs.DepartureLaws.{sent_in}
+use Rattle.quic_recovery.proofs.PathLaws.{generation_told}
+use Rattle.quic_recovery.proofs.TrackedLaws.{AllTracked, keeps_tracked, none_tracked, probe_number, one_space}
+
+-- ---- sums over tracked packets, but for the numbers that are gone
+
+at_itself : (n : ℕ) → is_at (nat_cmp n) n ≡ true
+at_itself n = ap is_eq (tied_itself nat_cmp_total n)
+
+nothing_either : (b : Bool) → cond {A = ℕ} b 0 0 ≡ 0
+nothing_either true = refl
+nothing_either false = refl
+
+at_most_one : (tracked : Bool) (count : ℕ) → count ≡ cond tracked 1 0 → count ≤ 1
+at_most_one true count is = omega (arith, is)
+at_most_one false count is = omega (arith, is)
+
+-- a number is gone too
+abbrev gone_too : (ℕ → Bool) → ℕ → ℕ → Bool
+gone_too gone number n = number == n || gone n
+
+-- one is perhaps forgotten, in this space or in another one
+abbrev gone_with : Bool → Option ℕ → (ℕ → Bool) → ℕ → Bool
+gone_with b None gone n = gone n
+gone_with b (Some m) gone n = (b && m == n) || gone n
+
+module _ {P M : Type 0} (weigh : ℕ → Bool → ℕ) (generation : ℕ) where
+  abbrev weigh_in : (ℕ → Bool) → ℕ × Packet P M → ℕ
+  weigh_in gone entry =
+      if entry.1.path_generation == generation then (if gone entry.0 then 0 else weigh entry.1.size entry.1.ack_eliciting) else 0
+
+  abbrev sum_in : (ℕ → Bool) → Packets P M → ℕ
+  sum_in gone packets = sum_by (weigh_in gone) packets
+
+  -- where all numbers are gone
+  sum_of_none : (packets : Packets P M) → sum_in (λ n. true) packets ≡ 0
+  sum_of_none [] = refl
+  sum_of_none (entry ∷ packets) =
+      let cons = sum_by-cons (weigh_in (λ n. true)) entry packets in
+      let later = sum_of_none packets in
+      let nothing = nothing_either (entry.1.path_generation == generation) in
+      omega (arith, cons, later, nothing)
+
+  module _ (gone : ℕ → Bool) (number : ℕ) where
+    -- of another number it is all the same
+    other_number : (entry : ℕ × Packet P M) → (number == entry.0) ≡ false → weigh_in (gone_too gone number) entry ≡ weigh_in gone entry
+    other_number entry other = ap (λ b. cond (entry.1.path_generation == generation) (cond (b || gone entry.0) 0 (weigh entry.1.size entry.1.ack_eliciting)) 0) other
+
+    that_number : (entry : ℕ × Packet P M) → (number == entry.0) ≡ true → weigh_in (gone_too gone number) entry ≡ 0
+    that_number entry is =
+        ap (λ b. cond (entry.1.path_generation == generation) (cond (b || gone entry.0) 0 (weigh entry.1.size entry.1.ack_eliciting)) 0) is
+        ∙ nothing_either (entry.1.path_generation == generation)
+
+    -- a number that is not there
+    sum_of_others : (packets : Packets P M) → times number packets ≡ 0 → sum_in (gone_too gone number) packets ≡ sum_in gone packets
+    sum_of_others [] none = refl
+    sum_of_others (entry ∷ packets) none =
+        let stands = sum_by-cons (λ (e : ℕ × Packet P M). one_if_same e.0 number) entry packets in
+        let cons = sum_by-cons (weigh_in gone) entry packets in
+        let cons_too = sum_by-cons (weigh_in (gone_too gone number)) entry packets in
+        let later = sum_of_others packets (omega (arith, stands, none)) in
+        let other : (number == entry.0) ≡ false = grind (arith, nat_tests, stands, none) in
+        let same = other_number entry other in
+        omega (arith, cons, cons_too, later, same)
+
+    -- the packet of a number, where it stands there once at most
+    sum_without : (packets : Packets P M) → times number packets ≤ 1 → sum_in gone (without packets number) ≡ sum_in (gone_too gone number) packets
+    sum_without [] once = refl
+    sum_without (entry ∷ packets) once = go (is_at (nat_cmp number) entry.0) refl (sum_without packets)
+      where
+        go : (b : Bool) → is_at (nat_cmp number) entry.0 ≡ b
+            → (times number packets ≤ 1 → sum_in gone (without packets number) ≡ sum_in (gone_too gone number) packets)
+            → sum_in gone (cond b packets (entry ∷ without packets number)) ≡ sum_in (gone_too gone number) (entry ∷ packets)
+        go true at later =
+            let stands = sum_by-cons (λ (e : ℕ × Packet P M). one_if_same e.0 number) entry packets in
+            let cons_too = sum_by-cons (weigh_in (gone_too gone number)) entry packets in
+            let same : entry.0 ≡ number = number_at number entry.0 at in
+            let is : (number == entry.0) ≡ true = grind (arith, nat_tests, same) in
+            let one : one_if_same entry.0 number ≡ 1 = grind (arith, nat_tests, same) in
+            let nothing = that_number entry is in
+            let others = sum_of_others packets (omega (arith, stands, once, one)) in
+            omega (arith, cons_too, nothing, others)
+        go false at later =
+            let stands = sum_by-cons (λ (e : ℕ × Packet P M). one_if_same e.0 number) entry packets in
+            let cons = sum_by-cons (weigh_in gone) entry (without packets number) in
+            let cons_too = sum_by-cons (weigh_in (gone_too gone number)) entry packets in
+            let apart : ¬ (entry.0 ≡ number) = λ same. (let itself = at_itself number in cc (same, itself, at)) in
+            let other : (number == entry.0) ≡ false = grind (arith, nat_tests, apart) in
+            let same = other_number entry other in
+            let rest = later (omega (arith, stands, once)) in
+            omega (arith, cons, cons_too, same, rest)
+
+  -- ---- one entry more, in this space or in another one
+
+  -- a packet goes out
+  sum_sent : (sent : Sent P M) (gone : ℕ → Bool) (number : ℕ) (packet : Packet P M) (forgotten : Option ℕ)
+      → forgotten ≡ forgotten_by sent packet → ((m : ℕ) → times m sent.tracked ≤ 1)
+      → sum_in gone (sent_more number packet sent).tracked ≡ sum_in (λ n. gone_with true forgotten gone n) sent.tracked + weigh_in gone (number, packet)
+  sum_sent sent gone number packet forgotten is once =
+      let push = sum_by_push (weigh_in gone) (without_some sent.tracked (forgotten_by sent packet)) (number, packet) in
+      let same = ap (λ f. sum_in gone (without_some sent.tracked f)) is in
+      let left = go forgotten in
+      omega (arith, push, same, left)
+    where
+      go : (f : Option ℕ) → sum_in gone (without_some sent.tracked f) ≡ sum_in (λ n. gone_with true f gone n) sent.tracked
+      go None = refl
+      go (Some m) = sum_without gone m sent.tracked (once m)
+
+  sum_moved : (sent : Sent P M) (gone : ℕ → Bool) (empty : P) (found : ProbeFound)
+      → sum_in gone sent.tracked ≡ sum_in gone (sent_moved empty found sent).tracked
+  sum_moved sent gone empty pending_stands = refl
+  sum_moved sent gone empty nothing_found = refl
+  sum_moved sent gone empty (moves number) = sym (sum-carrying sent.tracked number (weigh_in gone) empty (λ m packet. refl))
+
+-- ---- over all spaces
+
+spaces_same : (f g : SpaceId → ℕ) → ((space : SpaceId) → f space ≡ g space) → over_spaces f ≡ over_spaces g
+spaces_same f g same = let a = same Initial in let b = same Handshake in let c = same Data in omega (arith, a, b, c)
+
+spaces_more : (f g more : SpaceId → ℕ) (there : SpaceId)
+    → ((space : SpaceId) → g space ≡ f space + cond (same_space there space) (more space) 0) → more there + over_spaces f ≡ over_spaces g
+spaces_more f g more Initial each =
+    let a : g Initial ≡ f Initial + more Initial = each Initial in
+    let b : g Handshake ≡ f Handshake + 0 = each Handshake in
+    let c : g Data ≡ f Data + 0 = each Data in omega (arith, a, b, c)
+spaces_more f g more Handshake each =
+    let a : g Initial ≡ f Initial + 0 = each Initial in
+    let b : g Handshake ≡ f Handshake + more Handshake = each Handshake in
+    let c : g Data ≡ f Data + 0 = each Data in omega (arith, a, b, c)
+spaces_more f g more Data each =
+    let a : g Initial ≡ f Initial + 0 = each Initial in
+    let b : g Handshake ≡ f Handshake + 0 = each Handshake in
+    let c : g Data ≡ f Data + more Data = each Data in omega (arith, a, b, c)
+
+none_more : (b : Bool) (x y : ℕ) → x ≡ y → cond b 0 0 + x ≡ y
+none_more b x y is = let nothing = nothing_either b in omega (arith, nothing, is)
+
+-- ---- the table
+
+-- what spaces track weighs as much as the history says, whatever numbers are gone
+abbrev Counts : {F K Q S M P : Type 0} → Beginning F K Q S M P → History Q S M P → Type 0
+Counts beginning history = (weigh : ℕ → Bool → ℕ) (generation : ℕ) (gone : SpaceId → ℕ → Bool)
+    → sum_on weigh generation gone history ≡ over_spaces (λ space. sum_in weigh generation (gone space) (sent_in beginning history space).tracked)
+
+module _ {F K Q S M P : Type 0} (beginning : Beginning F K Q S M P) (before : History Q S M P) (all : AllTracked beginning before)
+    (same : Counts beginning before) (weigh : ℕ → Bool → ℕ) (generation : ℕ) (gone : SpaceId → ℕ → Bool) where
+  abbrev log : SpaceId → List (SpaceEntry P M)
+  log = (logs_of beginning before).spaces
+
+  abbrev known : Known K P M
+  known = known_by beginning (logs_of beginning before)
+
+  abbrev sent : SpaceId → Sent P M
+  sent = sent_in beginning before
+
+  abbrev sum_of : SpaceId → Sent P M → ℕ
+  sum_of space sent = sum_in weigh generation (gone space) sent.tracked
+
+  -- after an entry, or none
+  abbrev sum_after : (SpaceId → Option (SpaceEntry P M)) → SpaceId → ℕ
+  sum_after entries space = sum_of space (sent_by beginning.queue.words (onto (entries space) (log space)))
+
+  abbrev only : SpaceId → SpaceEntry P M → SpaceId → Option (SpaceEntry P M)
+  only there entry space = here there space entry
+
+  abbrev is_path : Bool
+  is_path = paths_made before == generation
+
+  once : (space : SpaceId) (m : ℕ) → times m (sent space).tracked ≤ 1
+  once space m = at_most_one _ _ (all space m).same
+
+  nothing : cond is_path 0 0 + sum_on weigh generation gone before ≡ over_spaces (λ space. sum_of space (sent space))
+  nothing = none_more is_path _ _ (same weigh generation gone)
+
+  -- an entry of a space that keeps the sum
+  stays : (there : SpaceId) (entry : SpaceEntry P M)
+      → ((space : SpaceId) → sum_of space (sent space) ≡ sum_of space (sent_by beginning.queue.words (entry ∷ log space)))
+      → cond is_path 0 0 + sum_on weigh generation gone before ≡ over_spaces (sum_after (only there entry))
+  stays there entry keeps = nothing ∙ spaces_same _ (sum_after (only there entry)) (λ space. go space (same_space there space))
+    where
+      go : (space : SpaceId) (b : Bool)
+          → sum_of space (sent space) ≡ sum_of space (sent_by beginning.queue.words (onto (cond b (Some entry) None) (log space)))
+      go space true = keeps space
+      go space false = refl
+
+  -- one number of a space is gone too
+  leaves_one : (there : SpaceId) (number : ℕ) (entry : SpaceEntry P M)
+      → ((space : SpaceId) → sent_by beginning.queue.words (entry ∷ log space) ≡ sent_less number (sent space))
+      → cond is_path 0 0 + sum_on weigh generation (λ space n. (same_space there space && number == n) || gone space n) before
+      ≡ over_spaces (sum_after (only there entry))
+  leaves_one there number entry less =
+      none_more is_path _ _ (same weigh generation (λ space n. (same_space there space && number == n) || gone space n)
+      ∙ spaces_same _ (sum_after (only there entry)) (λ space. go space (same_space there space)))
+    where
+      go : (space : SpaceId) (b : Bool)
+          → sum_in weigh generation (λ n. (b && number == n) || gone space n) (sent space).tracked
+          ≡ sum_of space (sent_by beginning.queue.words (onto (cond b (Some entry) None) (log space)))
+      go space true = sym (ap (sum_of space) (less space) ∙ sum_without weigh generation (gone space) number (sent space).tracked (once space number))
+      go space false = refl
+
+  -- a whole space is gone
+  leaves_all : (there : SpaceId) → cond is_path 0 0 + sum_on weigh generation (λ space n. same_space there space || gone space n) before
+      ≡ over_spaces (sum_after (only there emptied))
+  leaves_all there =
+      none_more is_path _ _ (same weigh generation (λ space n. same_space there space || gone space n)
+      ∙ spaces_same _ (sum_after (only there emptied)) (λ space. go space (same_space there space)))
+    where
+      go : (space : SpaceId) (b : Bool)
+          → sum_in weigh generation (λ n. b || gone space n) (sent space).tracked
+          ≡ sum_of space (sent_by beginning.queue.words (onto (cond b (Some emptied) None) (log space)))
+      go space true = sum_of_none weigh generation (sent space).tracked
+      go space false = refl
+
+  -- a packet goes out
+  made_now : paths_made before ≡ known.paths.current.generation
+  made_now = some_same (sym (generation_told beginning before Current))
+    where
+      some_same : {m n : ℕ} → Some m ≡ Some n → m ≡ n
+      some_same e = cc
+
+  goes_out : (there : SpaceId) (number : ℕ) (packet : Packet P M) (forgotten : Option ℕ)
+      → number ≡ number_in known there → forgotten ≡ forgotten_by (sent there) packet → packet.path_generation ≡ known.paths.current.generation
+      → cond is_path (cond (gone there number) 0 (weigh packet.size packet.ack_eliciting)) 0
+      + sum_on weigh generation (λ space n. gone_with (same_space there space) forgotten (gone space) n) before
+      ≡ over_spaces (sum_after (only there (sends (number_in known there) packet)))
+  goes_out there number packet forgotten is forgets on_path =
+      let k = number_in known there in
+      let entry : SpaceEntry P M = sends k packet in
+      let weighs = ap (λ n. cond (n == generation) (cond (gone there number) 0 (weigh packet.size packet.ack_eliciting)) 0)
+      (made_now ∙ sym on_path)
+      ∙ ap (λ n. weigh_in weigh generation (gone there) (n, packet)) is in
+      let rest = same weigh generation (λ space n. gone_with (same_space there space) forgotten (gone space) n) in
+      let sums = spaces_more (λ space. sum_in weigh generation (λ n. gone_with (same_space there space) forgotten (gone space) n) (sent space).tracked)
+      (sum_after (only there entry)) (λ space. weigh_in weigh generation (gone space) (k, packet)) there
+      (λ space. go space (same_space there space) refl) in
+      omega (arith, weighs, rest, sums)
+    where
+      go : (space : SpaceId) (b : Bool) → same_space there space ≡ b
+          → sum_of space (sent_by beginning.queue.words (onto (cond b (Some (sends (number_in known there) packet)) None) (log space)))
+          ≡ sum_in weigh generation (λ n. gone_with b forgotten (gone space) n) (sent space).tracked
+          + cond b (weigh_in weigh generation (gone space) (number_in known there, packet)) 0
+      go space true at =
+          let forgets_here : forgotten ≡ forgotten_by (sent space) packet
+          = subst (λ s. forgotten ≡ forgotten_by (sent s) packet) (one_space there space at) forgets in
+          sum_sent weigh generation (sent space) (gone space) (number_in known there) packet forgotten forgets_here (once space)
+      go space false at = others forgotten
+        where
+          others : (f : Option ℕ) → sum_of space (sent space)
+              ≡ sum_in weigh generation (λ n. gone_with false f (gone space) n) (sent space).tracked + 0
+          others None = omega arith
+          others (Some m) = omega arith
+
+  abbrev Answered : Event Q S M P → Answer Q → Type 0
+  Answered event answer = sum_on weigh generation gone ((event, Ok answer) ∷ before)
+      ≡ over_spaces (sum_after (answered beginning.queue known event answer).spaces)
+
+  answer_counts : (event : Event Q S M P) (answer : Answer Q) → Told beginning before event (Ok answer) → Answered event answer
+  answer_counts (Send there now size eliciting largest queue frames) (answers.Sent number None) told =
+      let packet = packet_now known now size eliciting largest (beginning.queue.contents queue) frames in
+      let is = told.1.1.1.1 in
+      goes_out there number packet None (cc) (cc) refl
+  answer_counts (Send there now size eliciting largest queue frames) (answers.Sent number (Some forgotten)) told =
+      let packet = packet_now known now size eliciting largest (beginning.queue.contents queue) frames in
+      let is = told.1.1.1.1 in
+      goes_out there number packet (Some forgotten) (cc) (cc) refl
+  answer_counts (Send there now size eliciting largest queue frames) answer told = let is = told.1.1.1.1 in cc
+  answer_counts (PollMtu now) (Probe number size) told =
+      let packet = packet_now known now size true None beginning.queue.words.empty beginning.queue.blank in
+      let is = probe_number beginning.queue known now _ number size told.1.1 in
+      goes_out Data number packet None is refl refl
+  answer_counts (PollMtu now) answer told = nothing
+  answer_counts (Acked there now number app_limited) answer told = leaves_one there number (acknowledged number) (λ space. refl)
+  answer_counts (Lost there number) answer told = leaves_one there number (loses number) (λ space. refl)
+  answer_counts (DiscardSpace there) answer told = leaves_all there
+  answer_counts (Received there now number eliciting) (New arm) told = stays there (heard now number eliciting) (λ space. refl)
+  answer_counts (Received there now number eliciting) answer told = stays there (heard_again number) (λ space. refl)
+  answer_counts (AckFrequencyIn frame) (Flag true) told = stays Data (asked frame) (λ space. refl)
+  answer_counts (AckFrequencyIn frame) (Flag false) told = nothing
+  answer_counts (AckFrequencyIn frame) answer told = nothing
+  answer_counts (AcksSent there) answer told = stays there ack_goes (λ space. refl)
+  answer_counts (AckDelayTimeout there) answer told = stays there ack_is_late (λ space. refl)
+  answer_counts (Ecn there newly counts) answer told = stays there (feeds_back counts) (λ space. refl)
+  answer_counts (QueueProbe there immediate streams) answer told =
+      let found = found_in known beginning.queue.words streams there in
+      stays there (probes immediate found) (λ space. sum_moved weigh generation (sent space) (gone space) beginning.queue.words.empty found)
+  answer_counts (TakePending there) answer told = stays there takes_pending (λ space. refl)
+  answer_counts (Transmit now bytes true) Transmitted told = nothing
+  answer_counts (Transmit now bytes true) (Delayed until) told = nothing
+  answer_counts (Transmit now bytes true) answer told = nothing
+  answer_counts (Transmit now bytes false) answer told = nothing
+  answer_counts event answer told = nothing
+
+  refusal_counts : (event : Event Q S M P) (refusal : Refusal)
+      → sum_on weigh generation gone ((event, Err refusal) ∷ before) ≡ over_spaces (sum_after (refused event refusal).spaces)
+  refusal_counts (AckFrequencyIn frame) DelayTooSmall = nothing
+  refusal_counts (AckFrequencyIn frame) refusal = nothing
+  refusal_counts event refusal = nothing
+
+  reply_counts : (event : Event Q S M P) (reply : Reply Q) → Told beginning before event reply
+      → sum_on weigh generation gone ((event, reply) ∷ before) ≡ over_spaces (sum_after (entries_of beginning.queue known event reply).spaces)
+  reply_counts event (Ok answer) told = answer_counts event answer told
+  reply_counts event (Err refusal) told = refusal_counts event refusal
+
+-- ---- what is told of it
+
+module _ {F K Q S M P : Type 0} (beginning : Beginning F K Q S M P) where
+  abbrev Kept : History Q S M P → Type 0
+  Kept history = AllTracked beginning history × Counts beginning history
+
+  keeps : (before : History Q S M P) (event : Event Q S M P) (reply : Reply Q) → Told beginning before event reply
+      → Kept before → Kept ((event, reply) ∷ before)
+  keeps before event reply told kept = (
+    keeps_tracked beginning before event reply told kept.0,
+    λ weigh generation gone. reply_counts beginning before kept.0 kept.1 weigh generation gone event reply told,
+  )
+
+  module _ (before : History Q S M P) (counts : Counts beginning before) where
+    abbrev known_then : Known K P M
+    known_then = known_by beginning (logs_of beginning before)
+
+    eliciting_same : (generation : ℕ) (packets : Packets P M)
+        → sum_in (λ size eliciting. if eliciting then 1 else 0) generation (λ n. false) packets ≡ sum_by (eliciting_in generation) packets
+    eliciting_same generation [] = refl
+    eliciting_same generation (entry ∷ packets) =
+        let weighs = weigh_in (λ size eliciting. if eliciting then 1 else 0) generation (λ n. false) in
+        let cons = sum_by-cons weighs entry packets in
+        let other = sum_by-cons (eliciting_in generation) entry packets in
+        let later = eliciting_same generation packets in
+        let one = both (entry.1.path_generation == generation) entry.1.ack_eliciting in
+        omega (arith, cons, other, later, one)
+      where
+        both : (a b : Bool) → cond {A = ℕ} a (cond b 1 0) 0 ≡ cond (a && b) 1 0
+        both true b = refl
+        both false b = refl
+
+    bytes_same : (generation : ℕ) → total (λ size eliciting. size) generation before
+        ≡ over_spaces (λ space. sum_by (size_in generation) (sent_in beginning before space).tracked)
+    bytes_same generation = counts (λ size eliciting. size) generation (λ space n. false)
+
+    count_same : (generation : ℕ) → total (λ size eliciting. if eliciting then 1 else 0) generation before
+        ≡ over_spaces (λ space. sum_by (eliciting_in generation) (sent_in beginning before space).tracked)
+    count_same generation = counts (λ size eliciting. if eliciting then 1 else 0) generation (λ space n. false)
+        ∙ spaces_same _ _ (λ space. eliciting_same generation (sent_in beginning before space).tracked)
+
+    tally : (path : Option (PathKnown K)) (reply : Reply Q)
+        → OnPath path (λ there. AlwaysAnswers (Is (counters_answer known_then there))) reply
+        → IsTally before (option_map (λ p. p.generation) path) reply
+    tally None (Ok answer) told = absurd told.1
+    tally None (Err NoSuchPath) told = refl
+    tally None (Err refusal) told = absurd told.1
+    tally (Some path) (Ok answer) told =
+        ap (λ a. Ok a) told ∙ ap (λ n. Ok (answers.InFlight n (over_spaces (λ space. sum_by (eliciting_in path.generation) (sent_in beginning before space).tracked)))) (sym (bytes_same path.generation))
+        ∙ ap (λ n. Ok (answers.InFlight (total (λ size eliciting. size) path.generation before) n)) (sym (count_same path.generation))
+    tally (Some path) (Err NoMemory) told = absurd told
+    tally (Some path) (Err refusal) told = absurd told
+
+  holds : (before : History Q S M P) (event : Event Q S M P) (reply : Reply Q) → Told beginning before event reply
+      → Kept before → CountsInFlight before event reply
+  holds before (InFlight name) reply told kept =
+      subst (λ g. IsTally before g reply) (generation_told beginning before name)
+      (tally before kept.1 (path_of name (known_by beginning (logs_of beginning before)).paths) reply told)
+  holds before event reply told kept = tt
+
+  -- throughout a run
+  pub counts_in_flight : (events : List (Event Q S M P)) (replies : List (Reply Q))
+      → Throughout (Told beginning) events replies → Throughout CountsInFlight events replies
+  counts_in_flight events replies told =
+      throughout_kept beginning Kept CountsInFlight keeps holds [] events replies told
+      (none_tracked beginning, λ weigh generation gone. refl)
