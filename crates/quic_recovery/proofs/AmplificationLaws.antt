@@ -15,7 +15,7 @@ use Rattle.recovery_paths.specs.PathMaking.{PathSettings}
 use Rattle.recovery_paths.specs.PathStates.{is_blocked, is_path_probe, loss_call, path_delay}
 use Rattle.recovery_paths.specs.Threefold.{IsWithinThreefold}
 use Rattle.recovery_paths.proofs.AllowedLaws.{AreAllowed}
-use Rattle.recovery_paths.proofs.ThreefoldLaws.{threefold_after, within_at_first}
+use Rattle.recovery_paths.proofs.ThreefoldLaws.{threefold_after}
 use Rattle.quic_recovery.specs.declared.event.Event.{Event}
 use Rattle.quic_recovery.specs.declared.event.Event.TheVariants.{Received, Send, Acked, Lost, AckFrequencyIn, PollMtu, PeerLimit, LossesDone, Transmit, DatagramIn, Validated, Sample, PacerCheck, Congestion, EndAcks, NewPath, ResetPath, DropPrevious}
 use Rattle.quic_recovery.specs.declared.event.Answer.{Answer}
@@ -24,7 +24,7 @@ use Rattle.quic_recovery.specs.declared.event.Refusal.{Refusal}
 use Rattle.quic_recovery.specs.declared.event.Refusal.TheVariants.{DelayTooSmall}
 use Rattle.quic_recovery.specs.Amplification.{pasts_of}
 use Rattle.quic_recovery.specs.Entries.{answered, entries_of, refused, acked_entry, acked_search, lost_search, searched, is_own, logs_of}
-use Rattle.quic_recovery.specs.History.{Beginning, History, QueueMeaning, Reply, ThroughoutFrom, Throughout}
+use Rattle.quic_recovery.specs.History.{Beginning, History, QueueMeaning, Reply, ThroughoutFrom}
 use Rattle.quic_recovery.specs.Known.{Known, known_by, first_path, settings_of, tracked_known}
 use Rattle.quic_recovery.specs.Told.{Told, ToldBy, delayed_or}
 

@@ -1,5 +1,5 @@
 -- A datagram is blocked exactly where the events and answers before it say so.
-use Rattle.std.proofs.Common.{ℕ, ◌≡◌, ◌≤◌, ◌+◌, ◌*◌, ◌^◌, ◌&&◌, not, nat_lt, nat_le, Bool, true, false, cond, List, [], ◌∷◌, None, Some, Option, Ok, Err, refl, sym, subst}
+use Rattle.std.proofs.Common.{ℕ, ◌≡◌, ◌≤◌, ◌+◌, ◌*◌, ◌^◌, ◌&&◌, not, nat_lt, nat_le, Bool, true, false, cond, List, [], None, Some, Option, Ok, Err, refl, sym, subst}
 use Rattle.std.proofs.lemmas.Bool.{leb-true, le-leb}
 use Rattle.recovery_congestion.specs.Controllers.{ControllerWords}
 use Rattle.recovery_paths.specs.PathLog.{state_of}
@@ -7,7 +7,7 @@ use Rattle.recovery_paths.specs.PathStates.{PathState, is_blocked, path_delay}
 use Rattle.quic_recovery.specs.declared.event.Event.{Event}
 use Rattle.quic_recovery.specs.declared.event.Event.TheVariants.{Transmit}
 use Rattle.quic_recovery.specs.declared.event.Answer.{Answer}
-use Rattle.quic_recovery.specs.declared.event.Answer.TheVariants.{Transmitted, Blocked, Delayed}
+use Rattle.quic_recovery.specs.declared.event.Answer.TheVariants.{Transmitted, Blocked}
 use Rattle.quic_recovery.specs.declared.event.Refusal.TheVariants.{Overflow}
 use Rattle.quic_recovery.specs.Amplification.{pasts_of}
 use Rattle.quic_recovery.specs.History.{Beginning, History, Reply, Throughout}

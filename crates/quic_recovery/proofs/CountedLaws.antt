@@ -1,5 +1,5 @@
 -- Bytes in flight by events and answers are the sums over what the spaces track.
-use Rattle.std.proofs.Common.{◌≡◌, ◌≤◌, ◌+◌, ℕ, ◌==◌, ◌&&◌, ◌||◌, Bool, true, false, cond, if◌then◌else◌, List, [], ◌∷◌, ◌++◌, Option, None, Some, Ok, Err, refl, sym, ap, subst, ◌∙◌, arith}
+use Rattle.std.proofs.Common.{◌≡◌, ◌≤◌, ◌+◌, ℕ, ◌==◌, ◌&&◌, ◌||◌, Bool, true, false, cond, if◌then◌else◌, List, [], ◌∷◌, Option, None, Some, Ok, Err, refl, sym, ap, subst, ◌∙◌, arith}
 use Rattle.std.specs.Prelude.{sum_by, option_map}
 use Rattle.std.specs.BTreeMap.{is_at}
 use Rattle.std.specs.Cmp.{nat_cmp_total, tied_itself}
@@ -27,14 +27,14 @@ use Rattle.quic_recovery.specs.declared.event.Answer.TheVariants as answers
 use Rattle.quic_recovery.specs.declared.event.Answer.TheVariants.{New, Flag, Probe, Transmitted, Delayed}
 use Rattle.quic_recovery.specs.declared.event.Refusal.{Refusal}
 use Rattle.quic_recovery.specs.declared.event.Refusal.TheVariants.{DelayTooSmall, NoMemory, NoSuchPath}
-use Rattle.quic_recovery.specs.Entries.{here, in_space, answered, refused, entries_of, found_in, logs_of}
+use Rattle.quic_recovery.specs.Entries.{here, answered, refused, entries_of, found_in, logs_of}
 use Rattle.quic_recovery.specs.History.{Beginning, History, Reply, Throughout}
 use Rattle.quic_recovery.specs.Known.{Known, known_by, number_in, packet_now}
 use Rattle.quic_recovery.specs.Logs.{onto}
 use Rattle.quic_recovery.specs.Replies.{AlwaysAnswers}
 use Rattle.quic_recovery.specs.Told.{Told, Is, OnPath, counters_answer}
 use Rattle.quic_recovery.specs.Promises.Counted.{sum_on, total, IsTally, CountsInFlight}
-use Rattle.quic_recovery.specs.Promises.Paths.{paths_made, generation_of}
+use Rattle.quic_recovery.specs.Promises.Paths.{paths_made}
 use Rattle.quic_recovery.proofs.AmplificationLaws.{throughout_kept}
 use Rattle.quic_recovery.proofs.DepartureLaws.{sent_in}
 use Rattle.quic_recovery.proofs.PathLaws.{generation_told}
@@ -82,7 +82,8 @@ module _ {P M : Type 0} (weigh : ℕ → Bool → ℕ) (generation : ℕ) where
   module _ (gone : ℕ → Bool) (number : ℕ) where
     -- of another number it is all the same
     other_number : (entry : ℕ × Packet P M) → (number == entry.0) ≡ false → weigh_in (gone_too gone number) entry ≡ weigh_in gone entry
-    other_number entry other = ap (λ b. cond (entry.1.path_generation == generation) (cond (b || gone entry.0) 0 (weigh entry.1.size entry.1.ack_eliciting)) 0) other
+    other_number entry other =
+        ap (λ b. cond (entry.1.path_generation == generation) (cond (b || gone entry.0) 0 (weigh entry.1.size entry.1.ack_eliciting)) 0) other
 
     that_number : (entry : ℕ × Packet P M) → (number == entry.0) ≡ true → weigh_in (gone_too gone number) entry ≡ 0
     that_number entry is =
@@ -387,7 +388,10 @@ module _ {F K Q S M P : Type 0} (beginning : Beginning F K Q S M P) where
     tally None (Err NoSuchPath) told = refl
     tally None (Err refusal) told = absurd told.1
     tally (Some path) (Ok answer) told =
-        ap (λ a. Ok a) told ∙ ap (λ n. Ok (answers.InFlight n (over_spaces (λ space. sum_by (eliciting_in path.generation) (sent_in beginning before space).tracked)))) (sym (bytes_same path.generation))
+        ap (λ a. Ok a) told
+        ∙ ap (λ n. Ok (answers.InFlight n
+        (over_spaces (λ space. sum_by (eliciting_in path.generation) (sent_in beginning before space).tracked))))
+        (sym (bytes_same path.generation))
         ∙ ap (λ n. Ok (answers.InFlight (total (λ size eliciting. size) path.generation before) n)) (sym (count_same path.generation))
     tally (Some path) (Err NoMemory) told = absurd told
     tally (Some path) (Err refusal) told = absurd told

@@ -1,13 +1,13 @@
 -- The datagrams of each path by the history itself are those that its past in the logs has.
-use Rattle.std.proofs.Common.{ℕ, ◌≡◌, ◌+◌, ◌&&◌, Bool, true, false, cond, if◌then◌else◌, List, [], ◌∷◌, ◌++◌, Option, None, Some, option_map, Ok, Err, refl, sym, ap, subst, ◌∙◌, arith}
-use Rattle.std.specs.Prelude.{sum_by, MatchOption}
+use Rattle.std.proofs.Common.{ℕ, ◌≡◌, ◌+◌, ◌&&◌, Bool, true, false, cond, List, [], ◌∷◌, ◌++◌, Option, None, Some, option_map, Ok, Err, refl, sym, ap, subst, ◌∙◌, arith}
+use Rattle.std.specs.Prelude.{sum_by}
 use Rattle.std.specs.List.{list_all}
 use Rattle.std.proofs.lemmas.List.Sums.{sum_by-cons}
 use Rattle.recovery_base.specs.declared.below.SpaceId.{SpaceId}
 use Rattle.recovery_congestion.specs.Calls.{ControllerCall}
 use Rattle.recovery_ledger.specs.Packets.{Packet, packet_at}
 use Rattle.recovery_mtud.specs.Discovery.{is_data, reports}
-use Rattle.recovery_mtud.specs.DiscoveryLog.{MtuCall, losses_end, polls, is_limited, acks as acks_packet}
+use Rattle.recovery_mtud.specs.DiscoveryLog.{MtuCall, losses_end, acks as acks_packet}
 use Rattle.recovery_paths.specs.declared.live_paths.PathName.{PathName}
 use Rattle.recovery_paths.specs.declared.live_paths.PathName.TheVariants.{Current, Previous}
 use Rattle.recovery_paths.specs.PathLog.{OfPaths, PathEntry, PathsEntry, PathPast, PathKnown, total, total_transmitted, each_path, known_of, on, moves, drops_previous, on_current, receives, is_validated as validates, samples, tells, searches, asks, transmits, passes, is_reset, past_with, pasts_by}
@@ -20,7 +20,7 @@ use Rattle.quic_recovery.specs.declared.event.Answer.TheVariants.{New, Flag, Tra
 use Rattle.quic_recovery.specs.declared.event.Refusal.{Refusal}
 use Rattle.quic_recovery.specs.declared.event.Refusal.TheVariants.{DelayTooSmall}
 use Rattle.quic_recovery.specs.Amplification.{pasts_of}
-use Rattle.quic_recovery.specs.Entries.{answered, entries_of, refused, acked_entry, acked_search, lost_search, searched, is_own, logs_of}
+use Rattle.quic_recovery.specs.Entries.{answered, refused, acked_entry, acked_search, lost_search, searched, is_own, logs_of}
 use Rattle.quic_recovery.specs.History.{Beginning, History, Reply}
 use Rattle.quic_recovery.specs.Known.{Known, known_by, first_path, settings_of, tracked_known}
 use Rattle.quic_recovery.specs.Told.{Told, OnPath}

@@ -1,5 +1,5 @@
 -- By the history alone reports of black holes need four bursts and come at four, as the entries of the search say.
-use Rattle.std.proofs.Common.{ℕ, ◌≡◌, ◌+◌, ◌==◌, ◌||◌, ◌≤◌, nat_lt, length, Bool, true, false, cond, if◌then◌else◌, List, [], ◌∷◌, ◌++◌, filter, Option, None, Some, Ok, Err, refl, sym, ap, ap₂, subst, ◌∙◌, is_some}
+use Rattle.std.proofs.Common.{ℕ, ◌≡◌, ◌||◌, ◌≤◌, nat_lt, length, Bool, true, false, if◌then◌else◌, List, [], ◌∷◌, ◌++◌, filter, Option, None, Some, Ok, Err, refl, sym, ap, ap₂, subst, ◌∙◌, is_some}
 use Rattle.recovery_base.specs.declared.below.SpaceId.TheVariants as space
 use Rattle.recovery_config.specs.declared.config.TransportConfig.{TransportConfig}
 use Rattle.recovery_ledger.specs.Packets.{Packet}
@@ -8,8 +8,8 @@ use Rattle.recovery_mtud.specs.declared.config.MtuDiscoveryConfig.{MtuDiscoveryC
 use Rattle.recovery_mtud.specs.BurstRuns.{Loss, follows, from_first, if_any, is_above, is_past}
 use Rattle.recovery_mtud.specs.BurstRuns as entries_
 use Rattle.recovery_mtud.specs.Discovery.{Discovery}
-use Rattle.recovery_mtud.specs.MtuEntries.{MtuEntry, probed as probed_entry, unprobed, limited, acked, probe_lost, lost, losses_over, reported, reset, probe_in_flight, size_at, min_mtu_in_use}
-use Rattle.recovery_paths.specs.PathMaking.{discovery_with, first_discovery}
+use Rattle.recovery_mtud.specs.MtuEntries.{MtuEntry, acked, probe_lost, lost, losses_over, reported, reset, probe_in_flight, size_at, min_mtu_in_use}
+use Rattle.recovery_paths.specs.PathMaking.{discovery_with}
 use Rattle.quic_recovery.specs.declared.event.Event.{Event}
 use Rattle.quic_recovery.specs.declared.event.Event.TheVariants.{PollMtu, Acked, Lost, LossesDone, PeerLimit, ResetPath, NewPath}
 use Rattle.quic_recovery.specs.declared.event.Answer.{Answer}
@@ -18,7 +18,6 @@ use Rattle.quic_recovery.specs.declared.event.Refusal.{Refusal}
 use Rattle.quic_recovery.specs.Bursts.{ComesAtFourBursts, NeedsFourBursts}
 use Rattle.quic_recovery.specs.Entries.{logs_of}
 use Rattle.quic_recovery.specs.History.{Beginning, History, Reply, Throughout}
-use Rattle.quic_recovery.specs.Known.{settings_of}
 use Rattle.quic_recovery.specs.Promises.Bursts.{size_of, open_run}
 use Rattle.quic_recovery.specs.Promises.Holes.{ReportsAtFour, larger_acked, standing, unanswered}
 use Rattle.quic_recovery.specs.Search.{data_packet, entered_so_far}
@@ -154,9 +153,12 @@ module _ {F K Q S M P : Type 0} (beginning : Beginning F K Q S M P) where
     refused_tied : (event : Event Q S M P) (refusal : Refusal) → Facts beginning history event (Err refusal) → Tied ((event, Err refusal) ∷ history)
     refused_tied (NewPath now remote true) refusal facts = subst (TiedTo least ((NewPath now remote true, Err refusal) ∷ history)) (sym facts.entered) tied
     refused_tied (NewPath now remote false) refusal facts = subst (TiedTo least ((NewPath now remote false, Err refusal) ∷ history)) (sym facts.entered) tied
-    refused_tied (Acked space.Data now number app_limited) refusal facts = turned (TiedTo least ((Acked space.Data now number app_limited, Err refusal) ∷ history)) facts.entered tied
-    refused_tied (Acked space.Initial now number app_limited) refusal facts = turned (TiedTo least ((Acked space.Initial now number app_limited, Err refusal) ∷ history)) facts.entered tied
-    refused_tied (Acked space.Handshake now number app_limited) refusal facts = turned (TiedTo least ((Acked space.Handshake now number app_limited, Err refusal) ∷ history)) facts.entered tied
+    refused_tied (Acked space.Data now number app_limited) refusal facts =
+        turned (TiedTo least ((Acked space.Data now number app_limited, Err refusal) ∷ history)) facts.entered tied
+    refused_tied (Acked space.Initial now number app_limited) refusal facts =
+        turned (TiedTo least ((Acked space.Initial now number app_limited, Err refusal) ∷ history)) facts.entered tied
+    refused_tied (Acked space.Handshake now number app_limited) refusal facts =
+        turned (TiedTo least ((Acked space.Handshake now number app_limited, Err refusal) ∷ history)) facts.entered tied
     refused_tied (Lost space.Data number) refusal facts = turned (TiedTo least ((Lost space.Data number, Err refusal) ∷ history)) facts.entered tied
     refused_tied (Lost space.Initial number) refusal facts = turned (TiedTo least ((Lost space.Initial number, Err refusal) ∷ history)) facts.entered tied
     refused_tied (Lost space.Handshake number) refusal facts = turned (TiedTo least ((Lost space.Handshake number, Err refusal) ∷ history)) facts.entered tied

@@ -1,12 +1,9 @@
 -- The bound on what goes to an address that is not validated, by events and answers.
-use Rattle.std.proofs.Common.{ℕ, ◌≡◌, ◌≤◌, ◌*◌, ◌↔◌, Bool, true, false, [], ◌∷◌, List, None, Some, Option, option_map, refl, sym, ap, subst, arith}
-use Rattle.std.specs.Prelude.{sum_by}
-use Rattle.std.specs.List.{All, list_all}
+use Rattle.std.proofs.Common.{◌≡◌, ◌≤◌, ◌*◌, Bool, true, false, [], ◌∷◌, List, None, Some, Option, option_map, refl, sym, subst, arith}
 use Rattle.std.specs.Option.{ForSome}
 use Rattle.std.proofs.lemmas.List.Sums.{AllPass-from_list_all, list_all-from_AllPass}
-use Rattle.recovery_paths.specs.declared.live_paths.PathName.{PathName}
 use Rattle.recovery_paths.specs.declared.live_paths.PathName.TheVariants.{Current, Previous}
-use Rattle.recovery_paths.specs.PathLog.{OfPaths, OnEachPath, PathPast, Transmission, total, total_transmitted, each_path}
+use Rattle.recovery_paths.specs.PathLog.{OfPaths, OnEachPath, PathPast, Transmission, each_path}
 use Rattle.recovery_paths.specs.Threefold.{IsWithinThreefold}
 use Rattle.recovery_paths.proofs.ThreefoldLaws.{within_at_first}
 use Rattle.quic_recovery.specs.declared.event.Event.{Event}
@@ -14,8 +11,8 @@ use Rattle.quic_recovery.specs.Amplification.{pasts_of}
 use Rattle.quic_recovery.specs.History.{Beginning, History, Reply, Throughout}
 use Rattle.quic_recovery.specs.Known.{first_path, settings_of}
 use Rattle.quic_recovery.specs.Told.{Told}
-use Rattle.quic_recovery.specs.Promises.Datagrams.{datagrams_on, bytes_in, bytes_out, is_validated}
-use Rattle.quic_recovery.specs.Promises.Threefold.{is_checked, KeepsThreefold, SendsThreefold}
+use Rattle.quic_recovery.specs.Promises.Datagrams.{datagrams_on, is_validated}
+use Rattle.quic_recovery.specs.Promises.Threefold.{KeepsThreefold, SendsThreefold}
 use Rattle.quic_recovery.proofs.AmplificationLaws.{after_one, throughout_kept}
 use Rattle.quic_recovery.proofs.DatagramLaws.{Flow, flow_of, flow_by, AreFlows, IsFlowWhereLives, FlowsAgree, flows_at_first, flows_after}
 

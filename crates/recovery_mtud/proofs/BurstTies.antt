@@ -482,7 +482,8 @@ module _ (min_mtu : ℕ) (run : List Loss) (bursts : List (List Loss)) (numbers 
   coming_acked number bytes tie = go (nat_lt bytes s.acked) (bytes == s.acked)
     where
       older : (s.acked ≤ min_mtu) ⊎ (has s.newest (number ∷ numbers) ≡ true)
-      older = ⊎_elim (λ (little : s.acked ≤ min_mtu). inl little) (λ (known : has s.newest numbers ≡ true). inr (has_more s.newest number numbers known)) tie.newest
+      older = ⊎_elim (λ (little : s.acked ≤ min_mtu). inl little)
+          (λ (known : has s.newest numbers ≡ true). inr (has_more s.newest number numbers known)) tie.newest
 
       newer : (s.acked ≤ min_mtu) ⊎ (has (max s.newest number) (number ∷ numbers) ≡ true)
       newer = ⊎_elim
@@ -584,7 +585,8 @@ module _ (min_mtu : ℕ) (run : List Loss) (bursts : List (List Loss)) (numbers 
           (closed_with b.0 run bursts) numbers (lost_with b.1 number bytes s)) (λ i. (sym is i, sym (same ∙ is) i))
           (left joined is)
 
-  pub coming_ended : Coming min_mtu run bursts numbers s → (hole : Bool) → Coming min_mtu [] (if hole then [] else if_any run ++ bursts) numbers (ended_with hole s)
+  pub coming_ended : Coming min_mtu run bursts numbers s → (hole : Bool)
+      → Coming min_mtu [] (if hole then [] else if_any run ++ bursts) numbers (ended_with hole s)
   coming_ended tie true =
       let after = close_comes tie in
       record {

@@ -93,7 +93,9 @@ module _ (call : PacerCall) (first : Bucket) where
   fills_asked : (other : PacerCall) (questions : ℕ) (bucket : Bucket) → 0 < call.rtt → IsAlike call other → Fills questions bucket
       → Fills (suc questions) (paced other bucket)
   fills_asked other questions bucket some alike fills =
-      subst (Fills (suc questions)) (sym (ap (λ (b : Bucket). cond (may_send other b) b (refilled other.rtt other.window other.now b)) same)) (by_test (may_send other bucket))
+      subst (Fills (suc questions))
+      (sym (ap (λ (b : Bucket). cond (may_send other b) b (refilled other.rtt other.window other.now b)) same))
+      (by_test (may_send other bucket))
     where
       same : resized other.rtt other.window other.mtu bucket ≡ bucket
       same = resized_alike other.rtt other.window other.mtu bucket (alike.window ∙ sym fills.window) (alike.mtu ∙ sym fills.mtu)
