@@ -10,7 +10,8 @@ use Rattle.recovery_acks.specs.Acks.{Acks, HasReached, IsOutOfOrder, Receives, R
 -- the greatest number has been reached where both have
 pub reaches : (Known : ℕ → Type 0) (before : Option ℕ) (number : ℕ) → HasReached Known number
     → IfSome before (HasReached Known) → HasReached Known (max (unwrap_or before 0) number)
-reaches Known None number reached earlier = (reached.0, reached.1, let h : number ≤ reached.0 = reached.2 in omega arith)
+reaches Known None number reached earlier =
+    (reached.0, reached.1, let h : number ≤ reached.0 = reached.2 in omega arith)
 reaches Known (Some k) number reached earlier = go (cases_lt k number)
   where
     go : (k < number) ⊎ (number ≤ k) → HasReached Known (max k number)
@@ -26,7 +27,8 @@ eliciting_receives Known old new now number false arm is received = absurd (fals
 module _ (Known : ℕ → Type 0) (old : Acks) (now number greatest count : ℕ) (out req can noticed : Bool)
     (greatest_is : greatest ≡ max (number_or_zero old.greatest) number)
     (count_is : count ≡ counted old.eliciting)
-    (out_is : Decides out (IsOutOfOrder Known old.reordering old.acknowledged (number_or_zero old.greatest) greatest number))
+    (out_is : Decides out (IsOutOfOrder Known old.reordering old.acknowledged (number_or_zero old.greatest) greatest
+    number))
     (req_is : Decides req (IsTrue old.required ⊎ (IsTrue (nat_lt old.threshold count) ⊎ IsTrue out)))
     (can_is : Decides can (IsTrue req × ((n : ℕ) × InRanges old.ranges n)))
     (noticed_is : MatchBool noticed ((old.base ≢ None) ⊎ IsTrue can) ((old.base ≡ None) × ¬ IsTrue can)) where
@@ -81,7 +83,8 @@ module _ (Known : ℕ → Type 0) (old : Acks) (now number greatest count : ℕ)
 pub out_of_order_by : (A B : ℕ → Type 0)
     → ((low high : ℕ) (found : Option ℕ) → IsLeastMissing A low high found → IsLeastMissing B low high found)
     → (threshold : ℕ) (acknowledged : Option ℕ) (before greatest number : ℕ)
-    → IsOutOfOrder A threshold acknowledged before greatest number → IsOutOfOrder B threshold acknowledged before greatest number
+    → IsOutOfOrder A threshold acknowledged before greatest number
+    → IsOutOfOrder B threshold acknowledged before greatest number
 out_of_order_by A B missing threshold acknowledged before greatest number (inl one) = inl
     (one.0, elim one.1 [ inl below ↦ inl below | inr gap ↦ inr (gap.0, missing before number (Some gap.0) gap.1) ])
 out_of_order_by A B missing threshold (Some k) before greatest number (inr more) = inr

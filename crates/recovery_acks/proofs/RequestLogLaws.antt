@@ -13,7 +13,8 @@ request_law first (too_small frame) log old new left step = step ∙ ap (with_la
 
 -- a frame leaves the greatest ack-eliciting number
 pub asked_greatest : (old : Frequency) (acks : Acks) (frame : AckFrequency) (result : Result Bool TransportError)
-    (new : Frequency) (after : Acks) → FrequencyReceived old acks frame result new after → after.greatest ≡ acks.greatest
+    (new : Frequency) (after : Acks) → FrequencyReceived old acks frame result new after
+    → after.greatest ≡ acks.greatest
 asked_greatest old acks frame (Ok true) new after received = ap (λ (a : Acks). a.greatest) received.3
 asked_greatest old acks frame (Ok false) new after received = ap (λ (a : Acks). a.greatest) received.2
 asked_greatest old acks frame (Err error) new after received = ap (λ (a : Acks). a.greatest) received.4

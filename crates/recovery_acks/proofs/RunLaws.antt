@@ -46,7 +46,8 @@ few_ends : (low from : ℕ) (ranges : Ranges) → AreApart low ranges → (numbe
 unfolding Ascend InRanges AreApart
 few_ends low from ranges apart [] up = omega arith
 few_ends low from [] apart (n ∷ numbers) up = absurd up.1.0
-few_ends low from (range ∷ others) apart (n ∷ numbers) up = go (λ start ns u. few_ends (range.end + 1) start others apart.2 ns u) (cases_lt n range.end)
+few_ends low from (range ∷ others) apart (n ∷ numbers) up =
+    go (λ start ns u. few_ends (range.end + 1) start others apart.2 ns u) (cases_lt n range.end)
   where
     first_ends : n < range.end → range.end ≤ n + 1
     first_ends below = elim (cases_lt (n + 1) range.end) [
@@ -84,14 +85,16 @@ unfolding ends
 length-ends [] = refl
 length-ends (range ∷ others) = ap suc (length-ends others)
 
-end_of_first : (low : ℕ) (range : Range ℕ) (others : Ranges) → AreApart low (range ∷ others) → EndsRun (InRanges (range ∷ others)) (range.end - 1)
+end_of_first : (low : ℕ) (range : Range ℕ) (others : Ranges) → AreApart low (range ∷ others)
+    → EndsRun (InRanges (range ∷ others)) (range.end - 1)
 unfolding InRanges AreApart
 end_of_first low range others apart =
     let filled : range.start < range.end = apart.1 in (
       inl (omega arith, omega arith),
       λ next. elim next [
         | inl here ↦ (let h : range.end - 1 + 1 < range.end = here.1 in omega arith)
-        | inr there ↦ (let h : range.end + 1 ≤ range.end - 1 + 1 = in_above (range.end + 1) others (range.end - 1 + 1) apart.2 there in omega arith)
+        | inr there ↦ (let h : range.end + 1 ≤ range.end - 1 + 1 = in_above (range.end + 1) others (range.end - 1 + 1)
+            apart.2 there in omega arith)
       ],
     )
 
@@ -107,12 +110,14 @@ ends_ascend low (range ∷ others) apart = (
       (ends_ascend (range.end + 1) others apart.2),
 )
 
-pub highest_all : (ranges : Ranges) → AreApart 0 ranges → length ranges ≤ 64 → (n : ℕ) → InRanges ranges n ↔ IsInHighest 64 (InRanges ranges) n
+pub highest_all : (ranges : Ranges) → AreApart 0 ranges → length ranges ≤ 64 → (n : ℕ)
+    → InRanges ranges n ↔ IsInHighest 64 (InRanges ranges) n
 highest_all ranges apart few n = (
   λ here. (
     here,
     λ numbers up. let h : length numbers ≤ length ranges = few_ends 0 0
-        ranges apart numbers (ascend_as (λ m. (n ≤ m) × EndsRun (InRanges ranges) m) (EndsRun (InRanges ranges)) 0 0 numbers
+        ranges apart numbers (ascend_as (λ m. (n ≤ m) × EndsRun (InRanges ranges) m) (EndsRun (InRanges ranges)) 0 0
+        numbers
         (omega arith) (λ m above both. both.1) up) in omega arith,
   ),
   λ both. both.0,
@@ -135,12 +140,14 @@ highest_rest range others apart size n = (to, λ both. from both.0 both.1)
           omega arith,
     )
 
-    from : InRanges (range ∷ others) n → AtMost 64 (λ m. (n ≤ m) × EndsRun (InRanges (range ∷ others)) m) → InRanges others n
+    from : InRanges (range ∷ others) n → AtMost 64 (λ m. (n ≤ m) × EndsRun (InRanges (range ∷ others)) m)
+        → InRanges others n
     from (inr here) few = here
     from (inl here) few =
         let inside : n < range.end = here.1 in
         let all = ends_ascend 0 (range ∷ others) apart in
-        let raised : Ascend (EndsRun (InRanges (range ∷ others))) (range.end - 1) (ends (range ∷ others)) = (omega arith, all.1, all.2) in
+        let raised : Ascend (EndsRun (InRanges (range ∷ others))) (range.end - 1) (ends (range ∷ others)) =
+        (omega arith, all.1, all.2) in
         let many : length (ends (range ∷ others)) ≤ 64 = few (ends (range ∷ others))
         (ascend_as (EndsRun (InRanges (range ∷ others))) (λ m. (n ≤ m) × EndsRun (InRanges (range ∷ others)) m)
         (range.end - 1) 0 (ends (range ∷ others)) (omega arith) (λ m above ends'. (omega arith, ends')) raised) in
@@ -148,7 +155,8 @@ highest_rest range others apart size n = (to, λ both. from both.0 both.1)
         absurd (omega arith)
 
 -- the highest runs of sets with the same numbers
-pub highest_alike : (A B : ℕ → Type 0) → ((n : ℕ) → A n ↔ B n) → (count n : ℕ) → IsInHighest count A n → IsInHighest count B n
+pub highest_alike : (A B : ℕ → Type 0) → ((n : ℕ) → A n ↔ B n) → (count n : ℕ) → IsInHighest count A n
+    → IsInHighest count B n
 highest_alike A B alike count n high = (
   (alike n).0 high.0,
   λ numbers up. high.1 numbers
@@ -161,8 +169,10 @@ highest_alike A B alike count n high = (
 module _ (old mid : Ranges) (number : ℕ) (is_new : Bool) (inserted : InsertsOne old number is_new mid) where
   pub inserted_kept : length mid ≤ 64 → (n : ℕ) → InRanges mid n ↔ IsInHighest 64 (With number (InRanges old)) n
   inserted_kept few n =
-      let all = highest_all mid inserted.apart few n in
-      (λ here. highest_alike (InRanges mid) (With number (InRanges old)) inserted.numbers 64 n (all.0 here), λ high. (inserted.numbers n).1 high.0)
+      let all = highest_all mid inserted.apart few n in (
+        λ here. highest_alike (InRanges mid) (With number (InRanges old)) inserted.numbers 64 n (all.0 here),
+        λ high. (inserted.numbers n).1 high.0,
+      )
 
   pub inserted_cut : length old ≤ 64 → 64 < length mid → (popped : Option (Range ℕ)) (new : Ranges)
       → mid ≡ option_to_list popped ++ new → IfNone popped (mid ≡ [])

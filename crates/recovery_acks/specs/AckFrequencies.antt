@@ -1,4 +1,5 @@
--- How often the peer is asked to acknowledge, and how often it asks (draft-ietf-quic-ack-frequency-04, sections 4 and 7).
+-- How often the peer is asked to acknowledge, and how often it asks (draft-ietf-quic-ack-frequency-04, sections 4 and
+-- 7).
 use Rattle.std.specs.Prelude.{ℕ, ◌≡◌, ◌≢◌, ◌+◌, ◌-◌, ◌*◌, ◌<◌, ◌≤◌, ◌^◌, ◌⊎◌, min, max, Bool, true, false, Option, None, Some, Result, Ok, Err}
 use lib.Chars.{codes}
 use Rattle.recovery_base.specs.declared.below.frames.AckFrequency.{AckFrequency}

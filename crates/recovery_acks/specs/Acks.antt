@@ -40,8 +40,8 @@ IsUpTo None other = ⊤
 IsUpTo (Some n) None = ⊥
 IsUpTo (Some n) (Some m) = n ≤ m
 
--- the most ranges that are kept: an ACK frame spells each in 16 bytes at most (RFC 9000, 19.3.1), so that one of 64 fits into
--- the least datagram, of 1200 bytes
+-- the most ranges that are kept: an ACK frame spells each in 16 bytes at most (RFC 9000, 19.3.1), so that one of 64
+-- fits into the least datagram, of 1200 bytes
 abbrev pub most_ranges : ℕ
 most_ranges = 64
 
@@ -85,7 +85,8 @@ counted n = min (n + 1) (2 ^ 64 - 1)
 abbrev pub silent_received : Acks → Acks
 silent_received old = record old { silent = counted old.silent }
 
--- above the numbers that the last ACK lets the peer call lost, the least one missing lies a threshold below the greatest
+-- above the numbers that the last ACK lets the peer call lost, the least one missing lies a threshold below the
+-- greatest
 abbrev pub IsReported : (ℕ → Type 0) → ℕ → ℕ → Option ℕ → Type 0
 IsReported Known threshold greatest None = ⊥
 IsReported Known threshold greatest (Some k) =

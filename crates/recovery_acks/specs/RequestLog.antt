@@ -1,4 +1,5 @@
--- The ACK_FREQUENCY frames that came (draft-ietf-quic-ack-frequency-04, section 4), and what they leave: the newest first.
+-- The ACK_FREQUENCY frames that came (draft-ietf-quic-ack-frequency-04, section 4), and what they leave: the newest
+-- first.
 use Rattle.std.specs.Prelude.{ℕ, ◌≡◌, List, [], ◌∷◌, Option, None, Some}
 use Rattle.recovery_base.specs.declared.below.frames.AckFrequency.{AckFrequency}
 use Rattle.recovery_acks.specs.AckFrequencies.{Frequency, delay_of, with_last, with_request}

@@ -17,7 +17,8 @@ NoneSpans start end (range ∷ others) = ((range.start < start) → range.end �
 clipped_by : (start end : ℕ) (range : Range ℕ) (below : Bool) → ltb range.start start ≡ below
     → clipped start end range ≡ cond below (span range.start (min range.end start))
     (span (max range.start end) range.end)
-clipped_by start end range below is = ap (λ b. cond b (span range.start (min range.end start)) (span (max range.start end) range.end)) is
+clipped_by start end range below is =
+    ap (λ b. cond b (span range.start (min range.end start)) (span (max range.start end) range.end)) is
 
 record Clips (start end : ℕ) (range new : Range ℕ) : Type 0 where
   from : range.start ≤ new.start
@@ -58,9 +59,17 @@ cut_one start end low range new others left first filled clip rest true is =
     let a : range.start ≤ new.start = clip.from in
     let b : new.end ≤ range.end = clip.to in
     record {
-      apart = (omega arith, ltb-true new.start new.end is, apart_lower (range.end + 1) (new.end + 1) left (omega arith) rest.apart);
+      apart = (
+        omega arith,
+        ltb-true new.start new.end is,
+        apart_lower (range.end + 1) (new.end + 1) left (omega arith)
+            rest.apart,
+      );
       to = λ n here. elim here [
-        | inl h ↦ (inl (let c : new.start ≤ n = h.0 in omega arith, let d : n < new.end = h.1 in omega arith), clip.takes n h.0 h.1)
+        | inl h ↦ (
+          inl (let c : new.start ≤ n = h.0 in omega arith, let d : n < new.end = h.1 in omega arith),
+          clip.takes n h.0 h.1,
+        )
         | inr h ↦ (inr (rest.to n h).0, (rest.to n h).1)
       ];
       from = λ n here out. elim here [ inl h ↦ inl (clip.keeps n h.0 h.1 out) | inr h ↦ inr (rest.from n h out) ];
@@ -71,7 +80,8 @@ cut_one start end low range new others left first filled clip rest false is =
       apart = apart_lower (range.end + 1) low left (omega arith) rest.apart;
       to = λ n here. (inr (rest.to n here).0, (rest.to n here).1);
       from = λ n here out. elim here [
-        | inl h ↦ (let k = clip.keeps n h.0 h.1 out in let c : new.start ≤ n = k.0 in let d : n < new.end = k.1 in absurd (omega arith))
+        | inl h ↦ (let k = clip.keeps n h.0 h.1 out in let c : new.start ≤ n = k.0 in let d : n
+            < new.end = k.1 in absurd (omega arith))
         | inr h ↦ rest.from n h out
       ];
     }
@@ -86,7 +96,8 @@ cut_all start end low (range ∷ others) some none apart =
     (cut_all start end (range.end + 1) others some none.1 apart.2)
     (is_some_range (clipped start end range)) refl
 
-count_one : (some : Bool) (range : Range ℕ) (left others : Ranges) → length left ≤ length others → length (cond some (range ∷ left) left) ≤ suc (length others)
+count_one : (some : Bool) (range : Range ℕ) (left others : Ranges) → length left ≤ length others
+    → length (cond some (range ∷ left) left) ≤ suc (length others)
 count_one true range left others less = omega arith
 count_one false range left others less = omega arith
 
@@ -117,12 +128,15 @@ removes_none start end ranges apart none = record {
   count = λ _. omega arith;
 }
 
-spans_joined : (start end : ℕ) (before after : Ranges) → NoneSpans start end before → NoneSpans start end after → NoneSpans start end (before ++ after)
+spans_joined : (start end : ℕ) (before after : Ranges) → NoneSpans start end before → NoneSpans start end after
+    → NoneSpans start end (before ++ after)
 unfolding NoneSpans
 spans_joined start end [] after first second = second
-spans_joined start end (range ∷ before) after first second = (first.0, spans_joined start end before after first.1 second)
+spans_joined start end (range ∷ before) after first second =
+    (first.0, spans_joined start end before after first.1 second)
 
-below_spans : (start end low : ℕ) (before : Ranges) → start < end → AreApart low before → floor_above low before ≤ start + 1 → NoneSpans start end before
+below_spans : (start end low : ℕ) (before : Ranges) → start < end → AreApart low before
+    → floor_above low before ≤ start + 1 → NoneSpans start end before
 unfolding NoneSpans AreApart floor_above
 below_spans start end low [] some apart below = tt
 below_spans start end low (range ∷ before) some apart below = (
@@ -141,7 +155,8 @@ above_spans start end low (range ∷ after) above apart = let a : low ≤ range.
           apart.2,
     )
 
-in_far_below : (low : ℕ) (ranges : Ranges) (n : ℕ) → AreApart low ranges → InRanges ranges n → n + 1 < floor_above low ranges
+in_far_below : (low : ℕ) (ranges : Ranges) (n : ℕ) → AreApart low ranges → InRanges ranges n
+    → n + 1 < floor_above low ranges
 unfolding InRanges AreApart floor_above
 in_far_below low [] n apart here = absurd here
 in_far_below low (range ∷ others) n apart (inl here) = let h : n < range.end = here.1 in let f : range.end + 1 ≤
@@ -150,7 +165,8 @@ in_far_below low (range ∷ others) n apart (inr there) = in_far_below (range.en
 
 -- ---- numbers out of the ranges, by places
 
-module _ (ranges : Ranges) (start end at : ℕ) (apart : AreApart 0 ranges) (some : start < end) (place : IsPlace ranges (start + 1) at) where
+module _ (ranges : Ranges) (start end at : ℕ) (apart : AreApart 0 ranges) (some : start < end)
+    (place : IsPlace ranges (start + 1) at) where
   far_below : (n : ℕ) → InRanges (take at ranges) n → n < start
   far_below n here = let h : n + 1 < floor_above 0 (take at ranges) = in_far_below 0 (take at ranges) n
       (apart_left 0 (take at ranges) (drop at ranges) (subst (λ (rs : Ranges). AreApart 0 rs)
@@ -214,7 +230,8 @@ module _ (ranges : Ranges) (start end at : ℕ) (apart : AreApart 0 ranges) (som
               (let h : start < range.end = ends_past in omega arith) right.2,
         ))
 
-    pub cut_at : range.start < end → ((range.start < start) → range.end ≤ end) → Removes ranges start end true (cut_ranges start end ranges)
+    pub cut_at : range.start < end → ((range.start < start) → range.end ≤ end)
+        → Removes ranges start end true (cut_ranges start end ranges)
     cut_at before short = cut_removes start end ranges some (none_spans short) apart (one before)
 
     -- a range that holds numbers on both sides becomes two
@@ -231,9 +248,11 @@ module _ (ranges : Ranges) (start end at : ℕ) (apart : AreApart 0 ranges) (som
     })
       where
         front : take (at + 1) ranges ≡ take at ranges ++ (range ∷ [])
-        front = ap (λ i. take i ranges) (add-one at) ∙ take-suc ranges at range within ∙ ap (λ (r : Range ℕ). take at ranges ++ (r ∷ [])) (sym is)
+        front = ap (λ i. take i ranges) (add-one at) ∙ take-suc ranges at range within
+            ∙ ap (λ (r : Range ℕ). take at ranges ++ (r ∷ [])) (sym is)
 
-        put : insert ranges (at + 1) (span end range.end) ≡ take at ranges ++ (range ∷ span end range.end ∷ drop (suc at) ranges)
+        put : insert ranges (at + 1) (span end range.end) ≡ take at ranges
+            ++ (range ∷ span end range.end ∷ drop (suc at) ranges)
         put = ap (λ (rs : Ranges). rs ++ span end range.end ∷ drop (at + 1) ranges) front
             ∙ append_assoc (take at ranges) (range ∷ []) (span end range.end ∷ drop (at + 1) ranges)
             ∙ ap (λ i. take at ranges ++ (range ∷ span end range.end ∷ drop i ranges)) (add-one at)
@@ -247,43 +266,48 @@ module _ (ranges : Ranges) (start end at : ℕ) (apart : AreApart 0 ranges) (som
         to : (n : ℕ)
             → InRanges (take at ranges ++ (span range.start start ∷ span end range.end ∷ drop (suc at) ranges)) n
             → InRanges ranges n × ¬ IsBetween start end n
-        to n here = elim (in_joined (take at ranges) (span range.start start ∷ span end range.end ∷ drop (suc at) ranges) n here) [
-          | inl h ↦ (
-            subst (λ (rs : Ranges). InRanges rs n) split
-                (in_left (take at ranges) (range ∷ drop (suc at) ranges) n h),
-            λ between. let a : n < start = far_below n h in let b : start ≤ n = between.0 in omega arith,
-          )
-          | inr h ↦ elim h [
-            | inl k ↦ (let a : n < start = k.1 in (
-              subst (λ (rs : Ranges). InRanges rs n) split
-                  (in_right (take at ranges) (range ∷ drop (suc at) ranges) n (inl (k.0, omega arith))),
-              λ between. let b : start ≤ n = between.0 in omega arith,
-            ))
-            | inr rest ↦ elim rest [
-              | inl k ↦ (let a : end ≤ n = k.0 in (
+        to n here = elim (in_joined (take at ranges) (span range.start start ∷ span end range.end ∷ drop (suc at)
+            ranges) n here) [
+              | inl h ↦ (
                 subst (λ (rs : Ranges). InRanges rs n) split
-                    (in_right (take at ranges) (range ∷ drop (suc at) ranges) n (inl (omega arith, k.1))),
-                λ between. let b : n < end = between.1 in omega arith,
-              ))
-              | inr k ↦ (
-                subst (λ (rs : Ranges). InRanges rs n) split
-                    (in_right (take at ranges) (range ∷ drop (suc at) ranges) n (inr k)),
-                λ between. let a : range.end + 1 ≤ n = in_above (range.end + 1) (drop (suc at) ranges) n right.2
-                    k in let b : n < end = between.1 in omega arith,
+                    (in_left (take at ranges) (range ∷ drop (suc at) ranges) n h),
+                λ between. let a : n < start = far_below n h in let b : start ≤ n = between.0 in omega arith,
               )
+              | inr h ↦ elim h [
+                | inl k ↦ (let a : n < start = k.1 in (
+                  subst (λ (rs : Ranges). InRanges rs n) split
+                      (in_right (take at ranges) (range ∷ drop (suc at) ranges) n (inl (k.0, omega arith))),
+                  λ between. let b : start ≤ n = between.0 in omega arith,
+                ))
+                | inr rest ↦ elim rest [
+                  | inl k ↦ (let a : end ≤ n = k.0 in (
+                    subst (λ (rs : Ranges). InRanges rs n) split
+                        (in_right (take at ranges) (range ∷ drop (suc at) ranges) n (inl (omega arith, k.1))),
+                    λ between. let b : n < end = between.1 in omega arith,
+                  ))
+                  | inr k ↦ (
+                    subst (λ (rs : Ranges). InRanges rs n) split
+                        (in_right (take at ranges) (range ∷ drop (suc at) ranges) n (inr k)),
+                    λ between. let a : range.end + 1 ≤ n = in_above (range.end + 1) (drop (suc at) ranges) n right.2
+                        k in let b : n < end = between.1 in omega arith,
+                  )
+                ]
+              ]
             ]
-          ]
-        ]
 
         from : (n : ℕ) → InRanges ranges n → ¬ IsBetween start end n
             → InRanges (take at ranges ++ (span range.start start ∷ span end range.end ∷ drop (suc at) ranges)) n
-        from n here out = elim (in_joined (take at ranges) (range ∷ drop (suc at) ranges) n (subst (λ (rs : Ranges). InRanges rs n) (sym split) here)) [
-          | inl h ↦ in_left (take at ranges) (span range.start start ∷ span end range.end ∷ drop (suc at) ranges) n h
-          | inr h ↦ in_right (take at ranges) (span range.start start ∷ span end range.end ∷ drop (suc at) ranges) n (elim h [
-            | inl k ↦ elim (cases_lt n start) [
-              | inl below ↦ inl (k.0, below)
-              | inr above ↦ inr (inl (elim (cases_lt n end) [ inl under ↦ absurd (out (above, under)) | inr over ↦ over ], k.1))
+        from n here out = elim (in_joined (take at ranges) (range ∷ drop (suc at) ranges) n
+            (subst (λ (rs : Ranges). InRanges rs n) (sym split) here)) [
+              | inl h ↦ in_left (take at ranges) (span range.start start ∷ span end range.end ∷ drop (suc at) ranges) n
+                  h
+              | inr h ↦ in_right (take at ranges) (span range.start start ∷ span end range.end ∷ drop (suc at) ranges) n
+                  (elim h [
+                    | inl k ↦ elim (cases_lt n start) [
+                      | inl below ↦ inl (k.0, below)
+                      | inr above ↦ inr (inl
+                          (elim (cases_lt n end) [ inl under ↦ absurd (out (above, under)) | inr over ↦ over ], k.1))
+                    ]
+                    | inr k ↦ inr (inr k)
+                  ])
             ]
-            | inr k ↦ inr (inr k)
-          ])
-        ]

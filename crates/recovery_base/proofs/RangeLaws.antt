@@ -28,7 +28,8 @@ none_in_none n here = here
 pub apart_lower : (low other : ℕ) (ranges : Ranges) → other ≤ low → AreApart low ranges → AreApart other ranges
 unfolding AreApart
 apart_lower low other [] less apart = tt
-apart_lower low other (range ∷ others) less apart = (let h : low ≤ range.start = apart.0 in omega arith, apart.1, apart.2)
+apart_lower low other (range ∷ others) less apart =
+    (let h : low ≤ range.start = apart.0 in omega arith, apart.1, apart.2)
 
 pub apart_rest : (low : ℕ) (range : Range ℕ) (others : Ranges) → AreApart low (range ∷ others) → AreApart low others
 unfolding AreApart
@@ -42,21 +43,25 @@ unfolding AreApart
 apart_left low [] after apart = tt
 apart_left low (range ∷ before) after apart = (apart.0, apart.1, apart_left (range.end + 1) before after apart.2)
 
-pub apart_right : (low : ℕ) (before after : Ranges) → AreApart low (before ++ after) → AreApart (floor_above low before) after
+pub apart_right : (low : ℕ) (before after : Ranges) → AreApart low (before ++ after)
+    → AreApart (floor_above low before) after
 unfolding AreApart floor_above
 apart_right low [] after apart = apart
 apart_right low (range ∷ before) after apart = apart_right (range.end + 1) before after apart.2
 
-pub apart_joined : (low : ℕ) (before after : Ranges) → AreApart low before → AreApart (floor_above low before) after → AreApart low (before ++ after)
+pub apart_joined : (low : ℕ) (before after : Ranges) → AreApart low before → AreApart (floor_above low before) after
+    → AreApart low (before ++ after)
 unfolding AreApart floor_above
 apart_joined low [] after first second = second
-apart_joined low (range ∷ before) after first second = (first.0, first.1, apart_joined (range.end + 1) before after first.2 second)
+apart_joined low (range ∷ before) after first second =
+    (first.0, first.1, apart_joined (range.end + 1) before after first.2 second)
 
 pub in_joined : (before after : Ranges) (n : ℕ) → InRanges (before ++ after) n → InRanges before n ⊎ InRanges after n
 unfolding InRanges
 in_joined [] after n here = inr here
 in_joined (range ∷ before) after n (inl here) = inl (inl here)
-in_joined (range ∷ before) after n (inr there) = elim (in_joined before after n there) [ inl h ↦ inl (inr h) | inr h ↦ inr h ]
+in_joined (range ∷ before) after n (inr there) =
+    elim (in_joined before after n there) [ inl h ↦ inl (inr h) | inr h ↦ inr h ]
 
 pub in_left : (before after : Ranges) (n : ℕ) → InRanges before n → InRanges (before ++ after) n
 unfolding InRanges
@@ -72,7 +77,8 @@ in_right (range ∷ before) after n here = inr (in_right before after n here)
 pub in_above : (low : ℕ) (ranges : Ranges) (n : ℕ) → AreApart low ranges → InRanges ranges n → low ≤ n
 unfolding InRanges AreApart
 in_above low [] n apart here = absurd here
-in_above low (range ∷ others) n apart (inl here) = let a : low ≤ range.start = apart.0 in let b : range.start ≤ n = here.0 in omega arith
+in_above low (range ∷ others) n apart (inl here) = let a : low ≤ range.start = apart.0 in let b : range.start ≤ n =
+    here.0 in omega arith
 in_above low (range ∷ others) n apart (inr there) =
     let a : low ≤ range.start = apart.0 in
     let b : range.start < range.end = apart.1 in
@@ -88,7 +94,8 @@ floor_grows low (range ∷ others) apart =
     let c : range.end + 1 ≤ floor_above (range.end + 1) others = floor_grows (range.end + 1) others apart.2 in
     omega arith
 
-pub in_below : (low : ℕ) (ranges : Ranges) (n : ℕ) → AreApart low ranges → InRanges ranges n → n < floor_above low ranges
+pub in_below : (low : ℕ) (ranges : Ranges) (n : ℕ) → AreApart low ranges → InRanges ranges n
+    → n < floor_above low ranges
 unfolding InRanges AreApart floor_above
 in_below low [] n apart here = absurd here
 in_below low (range ∷ others) n apart (inl here) = let h : n < range.end = here.1 in let f : range.end + 1 ≤ floor_above
@@ -123,7 +130,8 @@ replaced before old new after x apart fits numbers few absent = record {
     to n here = elim (in_joined before (new ++ after) n here) [
       | inl h ↦ inr (in_left before (old ++ after) n h)
       | inr h ↦ elim (in_joined new after n h) [
-        | inl k ↦ elim ((numbers n).0 k) [ inl same ↦ inl same | inr there ↦ inr (in_right before (old ++ after) n (in_left old after n there)) ]
+        | inl k ↦ elim ((numbers n).0 k)
+            [ inl same ↦ inl same | inr there ↦ inr (in_right before (old ++ after) n (in_left old after n there)) ]
         | inr k ↦ inr (in_right before (old ++ after) n (in_right old after n k))
       ]
     ]
@@ -138,7 +146,8 @@ replaced before old new after x apart fits numbers few absent = record {
       ]
     ]
 
-absent_from : (before after : Ranges) (x : ℕ) → floor_above 0 before ≤ x → AreApart 0 (before ++ after) → ¬ InRanges after x → ¬ InRanges (before ++ after) x
+absent_from : (before after : Ranges) (x : ℕ) → floor_above 0 before ≤ x → AreApart 0 (before ++ after)
+    → ¬ InRanges after x → ¬ InRanges (before ++ after) x
 absent_from before after x low apart absent here = elim (in_joined before after x here) [
   | inl h ↦ let b : x < floor_above 0 before = in_below 0 before x (apart_left 0 before after apart) h in omega arith
   | inr h ↦ absent h
@@ -177,7 +186,8 @@ module _ (before : Ranges) (x : ℕ) (low : floor_above 0 before ≤ x) where
       right = apart_right 0 before (range ∷ after) apart
 
       to : (n : ℕ) → InRanges (span x range.end ∷ []) n → With x (InRanges (range ∷ [])) n
-      to n (inl here) = let a : x ≤ n = here.0 in elim (cases_eq n x) [ inl same ↦ inl same | inr apart ↦ inr (inl (omega (arith, apart), here.1)) ]
+      to n (inl here) = let a : x ≤ n =
+          here.0 in elim (cases_eq n x) [ inl same ↦ inl same | inr apart ↦ inr (inl (omega (arith, apart), here.1)) ]
       to n (inr none) = absurd none
 
       from : (n : ℕ) → With x (InRanges (range ∷ [])) n → InRanges (span x range.end ∷ []) n
@@ -205,7 +215,8 @@ module _ (before : Ranges) (x : ℕ) (low : floor_above 0 before ≤ x) where
       absent (inr there) = absent_above (range.end + 1) after x (omega arith) right.2 there
 
       to : (n : ℕ) → InRanges (span range.start (x + 1) ∷ []) n → With x (InRanges (range ∷ [])) n
-      to n (inl here) = let a : n < x + 1 = here.1 in elim (cases_eq n x) [ inl same ↦ inl same | inr apart ↦ inr (inl (here.0, omega (arith, apart))) ]
+      to n (inl here) = let a : n < x + 1 =
+          here.1 in elim (cases_eq n x) [ inl same ↦ inl same | inr apart ↦ inr (inl (here.0, omega (arith, apart))) ]
       to n (inr none) = absurd none
 
       from : (n : ℕ) → With x (InRanges (range ∷ [])) n → InRanges (span range.start (x + 1) ∷ []) n
@@ -234,14 +245,18 @@ module _ (before : Ranges) (x : ℕ) (low : floor_above 0 before ≤ x) where
       to : (n : ℕ) → InRanges (span range.start next.end ∷ []) n → With x (InRanges (range ∷ next ∷ [])) n
       to n (inl here) = elim (cases_lt n x) [
         | inl below ↦ inr (inl (here.0, omega arith))
-        | inr from ↦ elim (cases_eq n x) [ inl same ↦ inl same | inr apart ↦ inr (inr (inl (omega (arith, apart), here.1))) ]
+        | inr from ↦ elim (cases_eq n x)
+            [ inl same ↦ inl same | inr apart ↦ inr (inr (inl (omega (arith, apart), here.1))) ]
       ]
       to n (inr none) = absurd none
 
       from : (n : ℕ) → With x (InRanges (range ∷ next ∷ [])) n → InRanges (span range.start next.end ∷ []) n
-      from n (inl same) = let h : range.start < range.end = right.1 in let k : next.start < next.end = right.2.1 in inl (omega arith, omega arith)
-      from n (inr (inl here)) = let a : n < range.end = here.1 in let k : next.start < next.end = right.2.1 in inl (here.0, omega arith)
-      from n (inr (inr (inl here))) = let a : next.start ≤ n = here.0 in let h : range.start < range.end = right.1 in inl (omega arith, here.1)
+      from n (inl same) = let h : range.start < range.end = right.1 in let k : next.start < next.end =
+          right.2.1 in inl (omega arith, omega arith)
+      from n (inr (inl here)) = let a : n < range.end = here.1 in let k : next.start < next.end =
+          right.2.1 in inl (here.0, omega arith)
+      from n (inr (inr (inl here))) = let a : next.start ≤ n = here.0 in let h : range.start < range.end =
+          right.1 in inl (omega arith, here.1)
       from n (inr (inr (inr none))) = absurd none
 
   pub known : (range : Range ℕ) (after : Ranges) → AreApart 0 (before ++ (range ∷ after)) → range.start ≤ x
@@ -302,7 +317,8 @@ module _ (ranges : Ranges) (x at : ℕ) (apart : AreApart 0 ranges) (place : IsP
     low = place.below
 
     pub inserts_known : range.start ≤ x → x < range.end → InsertsOne ranges x false ranges
-    inserts_known from to = subst (λ (rs : Ranges). InsertsOne rs x false rs) split (known before x low range after apart_split from to)
+    inserts_known from to =
+        subst (λ (rs : Ranges). InsertsOne rs x false rs) split (known before x low range after apart_split from to)
 
     pub inserts_between : x + 1 < range.start → InsertsOne ranges x true (insert ranges at (span x (x + 1)))
     unfolding before
@@ -317,9 +333,11 @@ module _ (ranges : Ranges) (x at : ℕ) (apart : AreApart 0 ranges) (place : IsP
     pub inserts_below : x + 1 ≡ range.start → InsertsOne ranges x true (set ranges at (span x range.end))
     inserts_below touches = moved true (span x range.end) (adds_below before x low range after apart_split touches)
 
-    pub inserts_above : range.end ≡ x → BeginsAbove (x + 1) (drop (suc at) ranges) → InsertsOne ranges x true (set ranges at (span range.start (x + 1)))
+    pub inserts_above : range.end ≡ x → BeginsAbove (x + 1) (drop (suc at) ranges)
+        → InsertsOne ranges x true (set ranges at (span range.start (x + 1)))
     unfolding after
-    inserts_above touches above = moved true (span range.start (x + 1)) (adds_above before x low range after apart_split touches above)
+    inserts_above touches above =
+        moved true (span range.start (x + 1)) (adds_above before x low range after apart_split touches above)
 
     -- the place tells that x ends the range where it lies past its start and not below its end
     pub ends_at : range.end ≤ x → range.end ≡ x
@@ -344,20 +362,23 @@ module _ (ranges : Ranges) (x at : ℕ) (apart : AreApart 0 ranges) (place : IsP
         is_suc = is' ∙ ap (λ i. get_or ranges i next) (add-one at)
 
         tail_is : next ∷ drop (suc (suc at)) ranges ≡ drop (suc at) ranges
-        tail_is = ap (λ (r : Range ℕ). r ∷ drop (suc (suc at)) ranges) is_suc ∙ sym (drop-cons ranges (suc at) next inside)
+        tail_is = ap (λ (r : Range ℕ). r ∷ drop (suc (suc at)) ranges) is_suc
+            ∙ sym (drop-cons ranges (suc at) next inside)
 
         whole : before ++ (range ∷ next ∷ (drop (suc (suc at)) ranges)) ≡ ranges
         whole = ap (λ (rs : Ranges). before ++ (range ∷ rs)) tail_is ∙ split
 
         front : take (at + 1) ranges ≡ before ++ (range ∷ [])
-        front = ap (λ i. take i ranges) (add-one at) ∙ take-suc ranges at range within ∙ ap (λ (r : Range ℕ). take at ranges ++ (r ∷ [])) (sym is)
+        front = ap (λ i. take i ranges) (add-one at) ∙ take-suc ranges at range within
+            ∙ ap (λ (r : Range ℕ). take at ranges ++ (r ∷ [])) (sym is)
 
         left : remove ranges (at + 1) ≡ before ++ (range ∷ (drop (suc (suc at)) ranges))
         left = ap (λ (rs : Ranges). rs ++ drop (suc (at + 1)) ranges) front
             ∙ append_assoc before (range ∷ []) (drop (suc (at + 1)) ranges)
             ∙ ap (λ i. before ++ (range ∷ drop (suc i) ranges)) (add-one at)
 
-        made : set (remove ranges (at + 1)) at (span range.start next.end) ≡ before ++ (span range.start next.end ∷ (drop (suc (suc at)) ranges))
+        made : set (remove ranges (at + 1)) at (span range.start next.end) ≡ before
+            ++ (span range.start next.end ∷ (drop (suc (suc at)) ranges))
         made = ap (λ (rs : Ranges). set rs at (span range.start next.end)) left
             ∙ set_at before range (drop (suc (suc at)) ranges) (span range.start next.end) at
             (length-take-le at ranges (omega arith))
@@ -374,10 +395,12 @@ module _ (ranges : Ranges) (x at : ℕ) (apart : AreApart 0 ranges) (place : IsP
         is_suc = is' ∙ ap (λ i. get_or ranges i next) (add-one at)
 
         tail_is : next ∷ drop (suc (suc at)) ranges ≡ drop (suc at) ranges
-        tail_is = ap (λ (r : Range ℕ). r ∷ drop (suc (suc at)) ranges) is_suc ∙ sym (drop-cons ranges (suc at) next (omega arith))
+        tail_is = ap (λ (r : Range ℕ). r ∷ drop (suc (suc at)) ranges) is_suc
+            ∙ sym (drop-cons ranges (suc at) next (omega arith))
 
         behind : AreApart (range.end + 1) (next ∷ drop (suc (suc at)) ranges)
-        behind = subst (λ (rs : Ranges). AreApart (range.end + 1) rs) (sym tail_is) (apart_right 0 before (range ∷ after) apart_split).2
+        behind = subst (λ (rs : Ranges). AreApart (range.end + 1) rs) (sym tail_is)
+            (apart_right 0 before (range ∷ after) apart_split).2
 
         past : x + 1 < next.start
         past = let h : range.end + 1 ≤ next.start = behind.0 in omega (arith, other)
@@ -393,16 +416,20 @@ ends_below low x (range ∷ others) (suc i) less within below = ends_below (rang
     (let h : range.end < x = below 0 range (omega arith) in omega arith) (omega arith)
     (λ k d here. below (suc k) d (omega arith))
 
-ends_from : (x : ℕ) (ranges : Ranges) (i : ℕ) → ((k : ℕ) (d : Range ℕ) → i ≤ k → k < length ranges → x ≤ (get_or ranges k d).end) → EndsFrom x (drop i ranges)
+ends_from : (x : ℕ) (ranges : Ranges) (i : ℕ)
+    → ((k : ℕ) (d : Range ℕ) → i ≤ k → k < length ranges → x ≤ (get_or ranges k d).end) → EndsFrom x (drop i ranges)
 ends_from x [] zero above = tt
 ends_from x (range ∷ others) zero above = above 0 range (omega arith) (omega arith)
 ends_from x [] (suc i) above = tt
-ends_from x (range ∷ others) (suc i) above = ends_from x others i (λ k d from within. above (suc k) d (omega arith) (omega arith))
+ends_from x (range ∷ others) (suc i) above =
+    ends_from x others i (λ k d from within. above (suc k) d (omega arith) (omega arith))
 
-in_order : (low : ℕ) (ranges : Ranges) → AreApart low ranges → (j : ℕ) (d : Range ℕ) → j < length ranges → low < (get_or ranges j d).end
+in_order : (low : ℕ) (ranges : Ranges) → AreApart low ranges → (j : ℕ) (d : Range ℕ) → j < length ranges
+    → low < (get_or ranges j d).end
 unfolding AreApart
 in_order low [] apart j d within = absurd (omega arith)
-in_order low (range ∷ others) apart zero d within = let a : low ≤ range.start = apart.0 in let b : range.start < range.end = apart.1 in omega arith
+in_order low (range ∷ others) apart zero d within = let a : low ≤ range.start =
+    apart.0 in let b : range.start < range.end = apart.1 in omega arith
 in_order low (range ∷ others) apart (suc j) d within =
     let a : low ≤ range.start = apart.0 in
     let b : range.start < range.end = apart.1 in
@@ -416,7 +443,8 @@ ends_rise low (range ∷ others) apart zero zero d less within = omega arith
 ends_rise low (range ∷ others) apart zero (suc j) d less within = let h : range.end + 1 < (get_or others j d).end =
     in_order (range.end + 1) others apart.2 j d (omega arith) in omega arith
 ends_rise low (range ∷ others) apart (suc i) zero d less within = absurd (omega arith)
-ends_rise low (range ∷ others) apart (suc i) (suc j) d less within = ends_rise (range.end + 1) others apart.2 i j d (omega arith) (omega arith)
+ends_rise low (range ∷ others) apart (suc i) (suc j) d less within =
+    ends_rise (range.end + 1) others apart.2 i j d (omega arith) (omega arith)
 
 pub ends_parted : (ranges : Ranges) (x : ℕ) → AreApart 0 ranges → IsPartitionedBy (λ (r : Range ℕ). ltb r.end x) ranges
 ends_parted ranges x apart = IsPartitionedBy-ltb (λ (r : Range ℕ). r.end) ranges x (ends_rise 0 ranges apart)
@@ -426,11 +454,13 @@ pub place_is : (ranges : Ranges) (x at : ℕ) → at ≤ length ranges
     → IsPlace ranges x at
 place_is ranges x at within parts = record {
   bound = within;
-  below = ends_below 0 x ranges at (omega arith) within (λ k d here. ltb-true (get_or ranges k d).end x (parts.0 k d (omega arith) here));
+  below = ends_below 0 x ranges at (omega arith) within
+      (λ k d here. ltb-true (get_or ranges k d).end x (parts.0 k d (omega arith) here));
   above = ends_from x ranges at (λ k d from inside. ltb-false (get_or ranges k d).end x (parts.1 k d from inside));
 }
 
-starts_from : (low : ℕ) (ranges : Ranges) → AreApart low ranges → (j : ℕ) (d : Range ℕ) → j < length ranges → low ≤ (get_or ranges j d).start
+starts_from : (low : ℕ) (ranges : Ranges) → AreApart low ranges → (j : ℕ) (d : Range ℕ) → j < length ranges
+    → low ≤ (get_or ranges j d).start
 unfolding AreApart
 starts_from low [] apart j d within = absurd (omega arith)
 starts_from low (range ∷ others) apart zero d within = apart.0
@@ -448,12 +478,18 @@ ends_before low [] apart i j d less within = absurd (omega arith)
 ends_before low (range ∷ others) apart i zero d less within = absurd (omega arith)
 ends_before low (range ∷ others) apart zero (suc j) d less within = let h : range.end + 1 ≤ (get_or others j d).start =
     starts_from (range.end + 1) others apart.2 j d (omega arith) in omega arith
-ends_before low (range ∷ others) apart (suc i) (suc j) d less within = ends_before (range.end + 1) others apart.2 i j d (omega arith) (omega arith)
+ends_before low (range ∷ others) apart (suc i) (suc j) d less within =
+    ends_before (range.end + 1) others apart.2 i j d (omega arith) (omega arith)
 
 -- where there is no range, the place is the first
 pub place_of_none : (ranges : Ranges) (x : ℕ) → slice_get ranges (length ranges - 1) ≡ None → IsPlace ranges x 0
 unfolding floor_above
-place_of_none ranges x none = record { bound = omega arith; below = omega arith; above = ends_from x ranges 0 (λ k d from within. absurd (present k d within)) }
+place_of_none ranges x none =
+    record {
+      bound = omega arith;
+      below = omega arith;
+      above = ends_from x ranges 0 (λ k d from within. absurd (present k d within));
+    }
   where
     present : (k : ℕ) (d : Range ℕ) → k < length ranges → ⊥
     present k d within = let h : slice_get ranges (length ranges - 1)
@@ -465,7 +501,8 @@ pub place_behind : (ranges : Ranges) (x : ℕ) (last : Range ℕ) → AreApart 0
 place_behind ranges x last apart is above = record {
   bound = omega arith;
   below = ends_below 0 x ranges (length ranges) (omega arith) (omega arith) (λ k d here.
-      let e : (get_or ranges (length ranges - 1) d).end ≡ last.end = ap (λ (r : Range ℕ). r.end) (get_or_from_slice_get ranges (length ranges - 1) last d is) in
+      let e : (get_or ranges (length ranges - 1) d).end ≡ last.end =
+      ap (λ (r : Range ℕ). r.end) (get_or_from_slice_get ranges (length ranges - 1) last d is) in
       let h : (get_or ranges k d).end ≤ (get_or ranges (length ranges - 1) d).end = ends_rise 0 ranges apart k
       (length ranges - 1) d (omega arith) (omega arith) in
       omega arith);
@@ -481,7 +518,8 @@ place_in_last ranges x last apart is from to = record {
   below = ends_below 0 x ranges (length ranges - 1) (omega arith) (omega arith) (λ k d here.
       let e : (get_or ranges (length ranges - 1) d).start ≡ last.start = ap (λ (r : Range ℕ). r.start)
       (get_or_from_slice_get ranges (length ranges - 1) last d is) in
-      let h : (get_or ranges k d).end < (get_or ranges (length ranges - 1) d).start = ends_before 0 ranges apart k (length ranges - 1) d here (omega arith) in
+      let h : (get_or ranges k d).end < (get_or ranges (length ranges - 1) d).start =
+      ends_before 0 ranges apart k (length ranges - 1) d here (omega arith) in
       omega arith);
   above = ends_from x ranges (length ranges - 1) (λ k d past within.
       let at : k ≡ length ranges - 1 = omega arith in
@@ -506,5 +544,6 @@ pub is_empty_told : (ranges : Ranges) (low count : ℕ) → AreApart low ranges 
 unfolding AreApart InRanges
 is_empty_told [] low count apart size true is = λ n here. here
 is_empty_told [] low count apart size false is = absurd (eqb-false count 0 (sym is) (sym size))
-is_empty_told (range ∷ others) low count apart size true is = let h : count ≡ 0 = eqb-true count 0 (sym is) in absurd (omega arith)
+is_empty_told (range ∷ others) low count apart size true is = let h : count ≡ 0 =
+    eqb-true count 0 (sym is) in absurd (omega arith)
 is_empty_told (range ∷ others) low count apart size false is = (range.start, inl (omega arith, apart.1))

@@ -7,4 +7,5 @@ use Rattle.recovery_base.specs.TimerLog.{TimerEntry, TimerStep, TimersLeft}
 -- what an entry does keeps the timers at what the log says of them
 pub timer_law : (entry : TimerEntry) (log : List TimerEntry) (old new : TimerTable) → TimersLeft log old
     → TimerStep entry old new → TimersLeft (entry ∷ log) new
-timer_law entry log old new left step = λ kind. step kind ∙ ap (λ m. if same_timer kind entry.0 then entry.1 else m) (left kind)
+timer_law entry log old new left step =
+    λ kind. step kind ∙ ap (λ m. if same_timer kind entry.0 then entry.1 else m) (left kind)

@@ -20,5 +20,6 @@ padded bytes = record { len = length bytes; bytes = bytes ++ replicate (20 - len
 -- an id is told by its bytes alone
 pub padded-bytes_of : (id : Inside) → IsPadded id → padded (bytes_of id) ≡ id
 padded-bytes_of id sound =
-    let len : length (take id.len id.bytes) ≡ id.len = omega (arith, length-take id.len id.bytes, sound.small, sound.room) in
+    let len : length (take id.len id.bytes) ≡ id.len =
+    omega (arith, length-take id.len id.bytes, sound.small, sound.room) in
     rw (len, ← sound.zeros) refl

@@ -31,7 +31,8 @@ IsSplitBy ranges start end = (start < end) × Any (λ (range : Range ℕ). (rang
 
 -- the numbers from `start` up to `end` leave the ranges: whether one did, and what they hold then
 pub record Removes (old : List (Range ℕ)) (start end : ℕ) (some : Bool) (new : List (Range ℕ)) : Type 0 where
-  pub answer : MatchBool some ((n : ℕ) × InRanges old n × IsBetween start end n) ((n : ℕ) → IsBetween start end n → ¬ InRanges old n)
+  pub answer : MatchBool some ((n : ℕ) × InRanges old n × IsBetween start end n) ((n : ℕ) → IsBetween start end n
+      → ¬ InRanges old n)
   pub numbers : (n : ℕ) → InRanges new n ↔ (InRanges old n × ¬ IsBetween start end n)
   pub apart : AreApart 0 new
   pub count : start ≡ 0 → length new ≤ length old
@@ -57,7 +58,8 @@ span start end = record { start = start; end = end }
 
 -- a range without them, empty where none is left
 abbrev pub clipped : ℕ → ℕ → Range ℕ → Range ℕ
-clipped start end range = cond (nat_lt range.start start) (span range.start (min range.end start)) (span (max range.start end) range.end)
+clipped start end range =
+    cond (nat_lt range.start start) (span range.start (min range.end start)) (span (max range.start end) range.end)
 
 abbrev pub is_some_range : Range ℕ → Bool
 is_some_range range = nat_lt range.start range.end

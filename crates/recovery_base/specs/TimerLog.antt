@@ -16,7 +16,8 @@ last_set kind (entry ∷ earlier) = if same_timer kind entry.0 then entry.1 else
 
 -- what an entry does to the timers: the others stay
 abbrev pub TimerStep : TimerEntry → TimerTable → TimerTable → Type 0
-TimerStep entry old new = (kind : Timer) → moment kind new ≡ (if same_timer kind entry.0 then entry.1 else moment kind old)
+TimerStep entry old new =
+    (kind : Timer) → moment kind new ≡ (if same_timer kind entry.0 then entry.1 else moment kind old)
 
 -- each timer is set to the moment that it was last set to, if it was not stopped since
 abbrev pub TimersLeft : List TimerEntry → TimerTable → Type 0

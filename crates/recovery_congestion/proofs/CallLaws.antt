@@ -8,19 +8,23 @@ pub sound-told : {K : Type 0} {words : ControllerWords K} {IsSound : K → Type 
     → (call : ControllerCall) → IsPositiveCall call → (k : K) → IsSound k → IsSound (told words call k)
 sound-told laws (sends now bytes number) positive k sound = laws.sent now bytes number k sound
 sound-told laws (acks now sent bytes limited rtt) positive k sound = laws.acked now sent bytes limited rtt k sound
-sound-told laws (ends_acks now in_flight limited largest) positive k sound = laws.end_acks now in_flight limited largest k sound
+sound-told laws (ends_acks now in_flight limited largest) positive k sound =
+    laws.end_acks now in_flight limited largest k sound
 sound-told laws (congests now sent persistent lost) positive k sound = laws.congestion now sent persistent lost k sound
 sound-told laws (takes_mtu mtu) positive k sound = laws.mtu mtu k positive sound
 
 -- all calls, from a sound content
 pub sound-content_by : {K : Type 0} {words : ControllerWords K} {IsSound : K → Type 0} → ControllerLaws words IsSound
-    → (calls : List ControllerCall) → ArePositiveCalls calls → (built : K) → IsSound built → IsSound (content_by words built calls)
+    → (calls : List ControllerCall) → ArePositiveCalls calls → (built : K) → IsSound built
+    → IsSound (content_by words built calls)
 sound-content_by laws [] positive built sound = sound
 sound-content_by {K} {words} laws (call ∷ earlier) positive built sound =
-    sound-told laws call positive.0 (content_by words built earlier) (sound-content_by laws earlier positive.1 built sound)
+    sound-told laws call positive.0 (content_by words built earlier)
+    (sound-content_by laws earlier positive.1 built sound)
 
 -- so the window is above zero after all calls
 pub window-content_by : {K : Type 0} {words : ControllerWords K} {IsSound : K → Type 0} → ControllerLaws words IsSound
-    → (calls : List ControllerCall) → ArePositiveCalls calls → (built : K) → IsSound built → 0 < words.window (content_by words built calls)
+    → (calls : List ControllerCall) → ArePositiveCalls calls → (built : K) → IsSound built
+    → 0 < words.window (content_by words built calls)
 window-content_by {K} {words} laws calls positive built sound =
     laws.window (content_by words built calls) (sound-content_by laws calls positive built sound)

@@ -12,7 +12,8 @@ counts-grown w m c b counted grown sum grows enough =
     let left = counted - w in
     let split : left + w ≡ c + b = omega (arith, sum, enough) in
     let scaled : 2 * m * (left + w) ≡ 2 * m * (c + b) = ap (λ x. 2 * m * x) split in
-    let here : (w + m) * (w + m) + 2 * m * left + m * w ≡ w * w + 2 * m * c + m * (w + m) + 2 * m * b = omega (arith, scaled) in
+    let here : (w + m) * (w + m) + 2 * m * left + m * w ≡ w * w + 2 * m * c + m * (w + m) + 2 * m * b =
+    omega (arith, scaled) in
     subst (λ (x : ℕ). x * x + 2 * m * left + m * w ≡ w * w + 2 * m * c + m * x + 2 * m * b) (sym grows) here
 
 -- the window stays
@@ -34,11 +35,15 @@ counts-avoided sent bytes limited reno below = go (nat_le reno.window counted) r
     sum = omega (arith, below.counted)
 
     go : (test : Bool) → nat_le reno.window counted ≡ test
-        → CountsBytes bytes reno (if test then record reno { window = sum_to_most reno.window reno.current_mtu; bytes_acked = counted - reno.window }
+        → CountsBytes bytes reno (if test then record reno {
+          window = sum_to_most reno.window reno.current_mtu;
+          bytes_acked = counted - reno.window;
+        }
         else record reno { bytes_acked = counted })
     go true is =
         let enough : reno.window ≤ counted = grind (arith, nat_tests) in
         let room : reno.window + reno.current_mtu ≤ most = below.grown (omega (arith, sum, enough)) in
         let grows : sum_to_most reno.window reno.current_mtu ≡ reno.window + reno.current_mtu = omega (arith, room) in
-        counts-grown reno.window reno.current_mtu reno.bytes_acked bytes counted (sum_to_most reno.window reno.current_mtu) sum grows enough
+        counts-grown reno.window reno.current_mtu reno.bytes_acked bytes counted
+        (sum_to_most reno.window reno.current_mtu) sum grows enough
     go false is = counts-kept reno.window reno.current_mtu reno.bytes_acked bytes counted sum

@@ -22,8 +22,11 @@ pub record ControllerWords (K : Type 0) : Type 0 where
 -- every call keeps a content sound, as long as MTUs are above zero, and a sound content has a window above zero
 pub record ControllerLaws {K : Type 0} (words : ControllerWords K) (IsSound : K → Type 0) : Type 0 where
   pub sent : (now bytes number : ℕ) (k : K) → IsSound k → IsSound (words.sent now bytes number k)
-  pub acked : (now sent bytes : ℕ) (limited : Bool) (rtt : Rtt) (k : K) → IsSound k → IsSound (words.acked now sent bytes limited rtt k)
-  pub end_acks : (now in_flight : ℕ) (limited : Bool) (largest : Option ℕ) (k : K) → IsSound k → IsSound (words.end_acks now in_flight limited largest k)
-  pub congestion : (now sent : ℕ) (persistent : Bool) (lost : ℕ) (k : K) → IsSound k → IsSound (words.congestion now sent persistent lost k)
+  pub acked : (now sent bytes : ℕ) (limited : Bool) (rtt : Rtt) (k : K) → IsSound k
+      → IsSound (words.acked now sent bytes limited rtt k)
+  pub end_acks : (now in_flight : ℕ) (limited : Bool) (largest : Option ℕ) (k : K) → IsSound k
+      → IsSound (words.end_acks now in_flight limited largest k)
+  pub congestion : (now sent : ℕ) (persistent : Bool) (lost : ℕ) (k : K) → IsSound k
+      → IsSound (words.congestion now sent persistent lost k)
   pub mtu : (mtu : ℕ) (k : K) → 0 < mtu → IsSound k → IsSound (words.mtu mtu k)
   pub window : (k : K) → IsSound k → 0 < words.window k

@@ -1,5 +1,5 @@
--- NewReno (RFC 9002, 7 and appendix B), with whole numbers: a fraction in place of the reduction factor, sums that stop at
--- the end of 64 bits, and growth in congestion avoidance by counted bytes (RFC 3465, 2.1).
+-- NewReno (RFC 9002, 7 and appendix B), with whole numbers: a fraction in place of the reduction factor, sums that stop
+-- at the end of 64 bits, and growth in congestion avoidance by counted bytes (RFC 3465, 2.1).
 use Rattle.std.specs.Prelude.{ℕ, ◌≡◌, ◌+◌, ◌-◌, ◌*◌, ◌/◌, ◌<◌, ◌≤◌, ◌^◌, min, max, Bool, false, Some, None, ◌||◌, nat_le, nat_lt, if◌then◌else◌}
 use Rattle.recovery_congestion.specs.declared.congestion.ControllerMetrics.{ControllerMetrics}
 use Rattle.recovery_congestion.specs.declared.congestion.new_reno.NewReno.{NewReno}
@@ -37,7 +37,11 @@ is_ignored sent limited reno = limited || nat_le sent reno.recovery_start_time
 abbrev pub slow_started : ℕ → NewReno → NewReno
 slow_started bytes reno =
     let window = sum_to_most reno.window bytes in
-    record reno { window = window; bytes_acked = if nat_le reno.ssthresh window then window - reno.ssthresh else reno.bytes_acked }
+    record reno {
+      window = window;
+      bytes_acked = if nat_le reno.ssthresh window then window - reno.ssthresh
+          else reno.bytes_acked;
+    }
 
 -- in congestion avoidance each window of bytes acknowledged makes it greater by one MTU (RFC 9002, 7.3.3)
 abbrev pub avoided : ℕ → NewReno → NewReno
@@ -48,7 +52,8 @@ avoided counted reno =
 
 abbrev pub reno_grown : ℕ → NewReno → NewReno
 reno_grown bytes reno =
-    if nat_lt reno.window reno.ssthresh then slow_started bytes reno else avoided (sum_to_most reno.bytes_acked bytes) reno
+    if nat_lt reno.window reno.ssthresh then slow_started bytes reno else avoided (sum_to_most reno.bytes_acked bytes)
+    reno
 
 -- a packet was acknowledged
 abbrev pub reno_acked : ℕ → ℕ → Bool → NewReno → NewReno
@@ -56,7 +61,8 @@ reno_acked sent bytes limited reno = if is_ignored sent limited reno then reno e
 
 -- the window after a loss (RFC 9002, 7.3.2)
 abbrev pub reduced_window : NewReno → ℕ
-reduced_window reno = min (max (reno.window * reno.config.numerator / reno.config.denominator) (minimum_window reno)) most
+reduced_window reno = min (max (reno.window * reno.config.numerator / reno.config.denominator) (minimum_window reno))
+    most
 
 -- a recovery begins; persistent congestion leaves the least window (RFC 9002, 7.3.2 and 7.6.2)
 abbrev pub reno_recovering : ℕ → Bool → NewReno → NewReno
@@ -68,7 +74,8 @@ reno_recovering now persistent reno = record reno {
 
 -- packets were lost, or marked: one reduction in a recovery
 abbrev pub reno_congested : ℕ → ℕ → Bool → NewReno → NewReno
-reno_congested now sent persistent reno = if nat_le sent reno.recovery_start_time then reno else reno_recovering now persistent reno
+reno_congested now sent persistent reno =
+    if nat_le sent reno.recovery_start_time then reno else reno_recovering now persistent reno
 
 abbrev pub reno_with_mtu : ℕ → NewReno → NewReno
 reno_with_mtu mtu reno = record reno { current_mtu = mtu; window = max reno.window (2 * mtu) }
@@ -98,9 +105,9 @@ pub record AvoidsBelowMost (sent bytes : ℕ) (limited : Bool) (reno : NewReno) 
   pub counted : reno.bytes_acked + bytes ≤ most
   pub grown : reno.window ≤ reno.bytes_acked + bytes → reno.window + reno.current_mtu ≤ most
 
--- every byte counts once: to grow from a window of one MTU m to w, by m for each window of bytes, takes w·(w - m) / (2·m) bytes;
--- these and the bytes counted since then rise by exactly the bytes acknowledged (here times 2·m, and with m·w of the other
--- window on each side, so that nothing is divided or goes below zero)
+-- every byte counts once: to grow from a window of one MTU m to w, by m for each window of bytes, takes w·(w - m) /
+-- (2·m) bytes; these and the bytes counted since then rise by exactly the bytes acknowledged (here times 2·m, and with
+-- m·w of the other window on each side, so that nothing is divided or goes below zero)
 abbrev pub CountsBytes : ℕ → NewReno → NewReno → Type 0
 CountsBytes bytes old new =
     let mtu = old.current_mtu in

@@ -13,22 +13,33 @@ sound-avoided counted reno sound =
 
 sound-grown : (bytes : ℕ) (reno : NewReno) → IsRenoSound reno → IsRenoSound (reno_grown bytes reno)
 sound-grown bytes reno sound =
-    elim (nat_lt reno.window reno.ssthresh) as (λ b. IsRenoSound (if b then slow_started bytes reno else avoided (sum_to_most reno.bytes_acked bytes) reno))
+    elim (nat_lt reno.window reno.ssthresh) as
+    (λ b. IsRenoSound (if b then slow_started bytes reno else avoided (sum_to_most reno.bytes_acked bytes) reno))
     [ true ↦ (omega (arith, sound.0), sound.1) | false ↦ sound-avoided (sum_to_most reno.bytes_acked bytes) reno sound ]
 
-sound-acked : (sent bytes : ℕ) (limited : Bool) (reno : NewReno) → IsRenoSound reno → IsRenoSound (reno_acked sent bytes limited reno)
+sound-acked : (sent bytes : ℕ) (limited : Bool) (reno : NewReno) → IsRenoSound reno
+    → IsRenoSound (reno_acked sent bytes limited reno)
 sound-acked sent bytes limited reno sound =
     elim (is_ignored sent limited reno) as (λ b. IsRenoSound (if b then reno else reno_grown bytes reno))
     [ true ↦ sound | false ↦ sound-grown bytes reno sound ]
 
-reduced-positive : (reduced mtu : ℕ) (persistent : Bool) → 0 < mtu → 0 < (if persistent then 2 * mtu else min (max reduced (2 * mtu)) most)
+reduced-positive : (reduced mtu : ℕ) (persistent : Bool) → 0 < mtu
+    → 0 < (if persistent then 2 * mtu else min (max reduced (2 * mtu)) most)
 reduced-positive reduced mtu true positive = omega (arith, positive)
 reduced-positive reduced mtu false positive = omega (arith, positive)
 
-sound-congested : (now sent : ℕ) (persistent : Bool) (reno : NewReno) → IsRenoSound reno → IsRenoSound (reno_congested now sent persistent reno)
+sound-congested : (now sent : ℕ) (persistent : Bool) (reno : NewReno) → IsRenoSound reno
+    → IsRenoSound (reno_congested now sent persistent reno)
 sound-congested now sent persistent reno sound =
-    elim (nat_le sent reno.recovery_start_time) as (λ b. IsRenoSound (if b then reno else reno_recovering now persistent reno))
-    [ true ↦ sound | false ↦ (reduced-positive (reno.window * reno.config.numerator / reno.config.denominator) reno.current_mtu persistent sound.1, sound.1) ]
+    elim (nat_le sent reno.recovery_start_time) as
+    (λ b. IsRenoSound (if b then reno else reno_recovering now persistent reno)) [
+      | true ↦ sound
+      | false ↦ (
+        reduced-positive (reno.window * reno.config.numerator / reno.config.denominator)
+            reno.current_mtu persistent sound.1,
+        sound.1,
+      )
+    ]
 
 pub reno_laws : ControllerLaws reno_words IsRenoSound
 reno_laws = record {

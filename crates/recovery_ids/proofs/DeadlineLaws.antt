@@ -23,10 +23,14 @@ without_last_at-end moment (first ∷ next ∷ later) last =
 
 -- a second deadline with the same moment takes the first one's place
 with_deadline-again : (moment first number : ℕ) (deadlines : List CidTimestamp) →
-    with_deadline record { sequence = number; timestamp = moment } (with_deadline record { sequence = first; timestamp = moment } deadlines)
+    with_deadline record { sequence = number; timestamp = moment }
+    (with_deadline record { sequence = first; timestamp = moment } deadlines)
     ≡ with_deadline record { sequence = number; timestamp = moment } deadlines
 with_deadline-again moment first number deadlines =
-    rw (without_last_at-end moment (without_last_at moment deadlines) record { sequence = first; timestamp = moment }, same_moment moment) refl
+    rw (
+      without_last_at-end moment (without_last_at moment deadlines) record { sequence = first; timestamp = moment },
+      same_moment moment,
+    ) refl
 
 again_where : (fits : Bool) (moment first number : ℕ) (deadlines : List CidTimestamp) →
     cond fits (with_deadline record { sequence = number; timestamp = moment }
@@ -37,13 +41,16 @@ again_where true moment first number deadlines = with_deadline-again moment firs
 again_where false moment first number deadlines = refl
 
 deadlines_with-again : (lifetime : Option ℕ) (now first number : ℕ) (deadlines : List CidTimestamp) →
-    deadlines_with lifetime now number (deadlines_with lifetime now first deadlines) ≡ deadlines_with lifetime now number deadlines
+    deadlines_with lifetime now number (deadlines_with lifetime now first deadlines) ≡ deadlines_with lifetime now
+    number deadlines
 deadlines_with-again None now first number deadlines = refl
-deadlines_with-again (Some lifetime) now first number deadlines = again_where (nat_lt (now + lifetime) (2 ^ 64)) (now + lifetime) first number deadlines
+deadlines_with-again (Some lifetime) now first number deadlines =
+    again_where (nat_lt (now + lifetime) (2 ^ 64)) (now + lifetime) first number deadlines
 
 -- deadlines for each number of a run, all made at one moment, are one for the last
 deadlines_with_each-last : (lifetime : Option ℕ) (now first count : ℕ) (deadlines : List CidTimestamp) →
-    deadlines_with_each lifetime now (range_with_len first (suc count)) deadlines ≡ deadlines_with lifetime now (first + count) deadlines
+    deadlines_with_each lifetime now (range_with_len first (suc count)) deadlines ≡ deadlines_with lifetime now
+    (first + count) deadlines
 deadlines_with_each-last lifetime now first zero deadlines = let none : first + 0 ≡ first = omega arith in rw none refl
 deadlines_with_each-last lifetime now first (suc count) deadlines =
     let next : first + 1 + count ≡ first + suc count = omega arith in
@@ -64,16 +71,20 @@ numbers_of deadlines = map (λ deadline. deadline.sequence) deadlines
 
 without_last-rise : (remove : Bool) (low high : ℕ) (last : CidTimestamp) → Rise low high (numbers_of (last ∷ []))
     → Rise low high (numbers_of (cond remove [] (last ∷ [])))
-without_last-rise true low high last rise = let above = rise.0 in let bound : last.sequence + 1 ≤ high = rise.1 in omega arith
+without_last-rise true low high last rise = let above = rise.0 in let bound : last.sequence + 1 ≤ high =
+    rise.1 in omega arith
 without_last-rise false low high last rise = rise
 
 without_last_at-rise : (moment low high : ℕ) (deadlines : List CidTimestamp) → Rise low high (numbers_of deadlines)
     → Rise low high (numbers_of (without_last_at moment deadlines))
 without_last_at-rise moment low high [] rise = rise
-without_last_at-rise moment low high (last ∷ []) rise = without_last-rise (nat_eq last.timestamp moment) low high last rise
-without_last_at-rise moment low high (first ∷ next ∷ later) rise = (rise.0, without_last_at-rise moment (first.sequence + 1) high (next ∷ later) rise.1)
+without_last_at-rise moment low high (last ∷ []) rise =
+    without_last-rise (nat_eq last.timestamp moment) low high last rise
+without_last_at-rise moment low high (first ∷ next ∷ later) rise =
+    (rise.0, without_last_at-rise moment (first.sequence + 1) high (next ∷ later) rise.1)
 
-numbers_of-end : (front : List CidTimestamp) (last : CidTimestamp) → numbers_of (front ++ last ∷ []) ≡ numbers_of front ++ range_with_len last.sequence 1
+numbers_of-end : (front : List CidTimestamp) (last : CidTimestamp)
+    → numbers_of (front ++ last ∷ []) ≡ numbers_of front ++ range_with_len last.sequence 1
 numbers_of-end [] last = refl
 numbers_of-end (first ∷ front) last = ap (λ rest. first.sequence ∷ rest) (numbers_of-end front last)
 
@@ -82,23 +93,29 @@ with_deadline-rise : (low high : ℕ) (deadline : CidTimestamp) (deadlines : Lis
     Rise low high (numbers_of (with_deadline deadline deadlines))
 with_deadline-rise low high deadline deadlines rise below =
     let kept = without_last_at deadline.timestamp deadlines in
-    let front : Rise low deadline.sequence (numbers_of kept) = without_last_at-rise deadline.timestamp low deadline.sequence deadlines rise in
+    let front : Rise low deadline.sequence (numbers_of kept) =
+    without_last_at-rise deadline.timestamp low deadline.sequence deadlines rise in
     rw (numbers_of-end kept deadline)
     (Rise-wider low (deadline.sequence + 1) low high (numbers_of kept ++ range_with_len deadline.sequence 1)
-    (Rise-append low deadline.sequence 1 (deadline.sequence + 1) (numbers_of kept) front refl) (omega arith) (omega arith))
+    (Rise-append low deadline.sequence 1 (deadline.sequence + 1) (numbers_of kept) front refl) (omega arith)
+    (omega arith))
 
 rise_where : (fits : Bool) (low high : ℕ) (deadline : CidTimestamp) (deadlines : List CidTimestamp)
     → Rise low deadline.sequence (numbers_of deadlines) → deadline.sequence < high →
     Rise low high (numbers_of (cond fits (with_deadline deadline deadlines) deadlines))
 rise_where true low high deadline deadlines rise below = with_deadline-rise low high deadline deadlines rise below
-rise_where false low high deadline deadlines rise below = Rise-wider low deadline.sequence low high (numbers_of deadlines) rise (omega arith) (omega arith)
+rise_where false low high deadline deadlines rise below =
+    Rise-wider low deadline.sequence low high (numbers_of deadlines) rise (omega arith) (omega arith)
 
 -- a number above all others keeps the numbers rising
-deadlines_with-rise : (lifetime : Option ℕ) (now low number high : ℕ) (deadlines : List CidTimestamp) → Rise low number (numbers_of deadlines) → number < high →
+deadlines_with-rise : (lifetime : Option ℕ) (now low number high : ℕ) (deadlines : List CidTimestamp)
+    → Rise low number (numbers_of deadlines) → number < high →
     Rise low high (numbers_of (deadlines_with lifetime now number deadlines))
-deadlines_with-rise None now low number high deadlines rise below = Rise-wider low number low high (numbers_of deadlines) rise (omega arith) (omega arith)
+deadlines_with-rise None now low number high deadlines rise below =
+    Rise-wider low number low high (numbers_of deadlines) rise (omega arith) (omega arith)
 deadlines_with-rise (Some lifetime) now low number high deadlines rise below =
-    rise_where (nat_lt (now + lifetime) (2 ^ 64)) low high record { sequence = number; timestamp = now + lifetime } deadlines rise below
+    rise_where (nat_lt (now + lifetime) (2 ^ 64)) low high record { sequence = number; timestamp = now + lifetime }
+    deadlines rise below
 
 -- a deadline for the last number issued, which lies above all others
 pub deadlines_with_last-rise : (lifetime : Option ℕ) (now low bound issued : ℕ) (deadlines : List CidTimestamp)
@@ -109,9 +126,11 @@ deadlines_with_last-rise lifetime now low bound (suc number) deadlines rise belo
     deadlines_with-rise lifetime now low number (suc number) deadlines
     (Rise-wider low bound low number (numbers_of deadlines) rise (omega arith) (omega arith)) (omega arith)
 
-pub deadlines_with_last-rise_first : (lifetime : Option ℕ) (now issued : ℕ) → Rise 0 issued (numbers_of (deadlines_with_last lifetime now issued []))
+pub deadlines_with_last-rise_first : (lifetime : Option ℕ) (now issued : ℕ)
+    → Rise 0 issued (numbers_of (deadlines_with_last lifetime now issued []))
 deadlines_with_last-rise_first lifetime now zero = omega arith
-deadlines_with_last-rise_first lifetime now (suc number) = deadlines_with-rise lifetime now 0 number (suc number) [] (omega arith) (omega arith)
+deadlines_with_last-rise_first lifetime now (suc number) =
+    deadlines_with-rise lifetime now 0 number (suc number) [] (omega arith) (omega arith)
 
 -- ---- the last deadline by its place
 

@@ -22,14 +22,17 @@ last_kept retired issued kept =
 
 -- numbers that are issued now are none that the peer retired
 all_kept : (retired : ℕ → Bool) (issued count : ℕ) → ((n : ℕ) → issued ≤ n → retired n ≡ false)
-    → filter (λ n. not (retired n)) (range_with_len 0 issued) ++ range_with_len issued count ≡ filter (λ n. not (retired n)) (range_with_len 0 (issued + count))
+    → filter (λ n. not (retired n)) (range_with_len 0 issued) ++ range_with_len issued count
+    ≡ filter (λ n. not (retired n)) (range_with_len 0 (issued + count))
 all_kept retired issued zero kept =
     let none : issued + zero ≡ issued = omega arith in
-    append-nil (filter (λ n. not (retired n)) (range_with_len 0 issued)) ∙ ap (λ (n : ℕ). filter (λ n. not (retired n)) (range_with_len 0 n)) (sym none)
+    append-nil (filter (λ n. not (retired n)) (range_with_len 0 issued))
+    ∙ ap (λ (n : ℕ). filter (λ n. not (retired n)) (range_with_len 0 n)) (sym none)
 all_kept retired issued (suc count) kept =
     let next : suc issued ≡ issued + 1 = omega arith in
     let ends : issued + 1 + count ≡ issued + suc count = omega arith in
-    sym (append_assoc (filter (λ n. not (retired n)) (range_with_len 0 issued)) (issued ∷ []) (range_with_len (issued + 1) count))
+    sym (append_assoc (filter (λ n. not (retired n)) (range_with_len 0 issued)) (issued ∷ [])
+    (range_with_len (issued + 1) count))
     ∙ ap (λ (ns : List ℕ). ns ++ range_with_len (issued + 1) count)
     (last_kept retired issued (kept issued (omega arith))
     ∙ ap (λ (n : ℕ). filter (λ n. not (retired n)) (range_with_len 0 n)) next)
@@ -37,12 +40,15 @@ all_kept retired issued (suc count) kept =
     ∙ ap (λ (n : ℕ). filter (λ n. not (retired n)) (range_with_len 0 n)) ends
 
 -- what one test keeps of what another kept
-both_kept : (first second : ℕ → Bool) (ns : List ℕ) → filter (λ n. not (first n)) (filter (λ n. not (second n)) ns) ≡ filter (λ n. not (first n || second n)) ns
+both_kept : (first second : ℕ → Bool) (ns : List ℕ) → filter (λ n. not (first n)) (filter (λ n. not (second n)) ns)
+    ≡ filter (λ n. not (first n || second n)) ns
 both_kept first second [] = refl
 both_kept first second (n ∷ ns) = go (first n) (second n) refl refl (both_kept first second ns)
   where
-    go : (a b : Bool) → first n ≡ a → second n ≡ b → filter (λ n. not (first n)) (filter (λ n. not (second n)) ns) ≡ filter (λ n. not (first n || second n)) ns
-        → filter (λ n. not (first n)) (filter (λ n. not (second n)) (n ∷ ns)) ≡ filter (λ n. not (first n || second n)) (n ∷ ns)
+    go : (a b : Bool) → first n ≡ a → second n ≡ b → filter (λ n. not (first n)) (filter (λ n. not (second n)) ns)
+        ≡ filter (λ n. not (first n || second n)) ns
+        → filter (λ n. not (first n)) (filter (λ n. not (second n)) (n ∷ ns)) ≡ filter (λ n. not (first n || second n))
+        (n ∷ ns)
     go true true a b rest = rw (b, a) rest
     go true false a b rest = rw (b, a) rest
     go false true a b rest = rw (b, a) rest
@@ -59,7 +65,8 @@ pub local_ids_first : (first : FirstIds) (ids : LocalIds)
 local_ids_first first ids is =
     let made = first_issued first.cid_len first.cid_lifetime first.start first.issued in
     record {
-      same = is ∙ ap (λ (ns : List ℕ). record made { unretired = ns }) (sym (all_unretired (range_with_len 0 first.issued)));
+      same = is ∙ ap (λ (ns : List ℕ). record made { unretired = ns })
+          (sym (all_unretired (range_with_len 0 first.issued)));
       retired = λ number holds. cc;
     }
 
@@ -86,11 +93,13 @@ module _ (ids : LocalIds) (retired : ℕ → Bool) (now : ℕ) (kept : (n : ℕ)
         unretired = ns;
         deadlines = deadlines_with_batch ids.cid_lifetime now ids.issued (suc count) ids.deadlines;
       })
-      (ap (λ (ns : List ℕ). ns ++ range_with_len ids.issued (suc count)) unretired ∙ all_kept retired ids.issued (suc count) kept)
+      (ap (λ (ns : List ℕ). ns ++ range_with_len ids.issued (suc count)) unretired
+      ∙ all_kept retired ids.issued (suc count) kept)
 
 -- ---- what an entry leaves
 
-not_retired : (first : FirstIds) (log : List LocalEntry) → ((number : ℕ) → IsTrue (was_retired log number) → number < issued_by first log)
+not_retired : (first : FirstIds) (log : List LocalEntry)
+    → ((number : ℕ) → IsTrue (was_retired log number) → number < issued_by first log)
     → (n : ℕ) → issued_by first log ≤ n → was_retired log n ≡ false
 not_retired first log retired n above = go (was_retired log n) refl
   where
@@ -106,7 +115,8 @@ local_law first (issues now count) log old new left step = record {
   retired = λ number was. let below = left.retired number was in omega (arith, below);
 }
 local_law first passes log old new left step = record {
-  same = step ∙ ap timed_out left.same ∙ go (holds_unretired marks.retired_below marks.retire_prior_to (local_ids_with first log marks));
+  same = step ∙ ap timed_out left.same
+      ∙ go (holds_unretired marks.retired_below marks.retire_prior_to (local_ids_with first log marks));
   retired = left.retired;
 }
   where
@@ -114,7 +124,10 @@ local_law first passes log old new left step = record {
     marks = marks_by first log
 
     moved : Marks
-    moved = record { retired_below = marks.retire_prior_to; retire_prior_to = next_mark marks.retire_prior_to (deadlines_by first log) }
+    moved = record {
+      retired_below = marks.retire_prior_to;
+      retire_prior_to = next_mark marks.retire_prior_to (deadlines_by first log);
+    }
 
     go : (b : Bool) → (if b
         then record (local_ids_with first log marks) { deadlines = drop 1 (deadlines_by first log) }

@@ -34,7 +34,9 @@ frame_table number low least entry old mid new adds is_least drops ahead n =
     let added = adds n in
     let dropped = drops n in
     let none = is_least.least n in
-    let at_most : least ≤ number = least_at_most mid low least number entry is_least (adds number ∙ with_id-there number entry (without_below low old)) ahead in
+    let at_most : least ≤ number =
+    least_at_most mid low least number entry is_least (adds number
+    ∙ with_id-there number entry (without_below low old)) ahead in
     let bound = is_least.bound in
     grind (arith, nat_tests, added, dropped, none, at_most, bound)
 
@@ -46,14 +48,19 @@ with_id-alike number entry held other alike n = let same = alike n in grind (ari
 entry_within : (window : Window) (n : ℕ) → IsSome (held_at window n) → (window.start ≤ n) × (n < window.start + LEN)
 entry_within window n here = (grind (arith, nat_tests), grind (arith, nat_tests))
 
--- the code's steps: numbers below low are dropped, the frame's id is added, and the start moves to the least number held
-module _ (old lower mid new : Window) (frame : NewConnectionId) (token : List ℕ) (low : ℕ) (ordered : frame.retire_prior_to ≤ frame.sequence)
-    (is_low : low ≡ max old.start frame.retire_prior_to) (retires : low ≢ old.start) (above : old.start ≤ frame.sequence)
+-- the code's steps: numbers below low are dropped, the frame's id is added, and the start moves to the least number
+-- held
+module _ (old lower mid new : Window) (frame : NewConnectionId) (token : List ℕ) (low : ℕ)
+    (ordered : frame.retire_prior_to ≤ frame.sequence)
+    (is_low : low ≡ max old.start frame.retire_prior_to) (retires : low ≢ old.start)
+    (above : old.start ≤ frame.sequence)
     (below : frame.sequence - low < LEN) (drops : (n : ℕ) → held_at lower n ≡ without_below low (held_at old) n)
     (adds : (n : ℕ) → held_at mid n ≡ with_id frame.sequence (frame.id, Some frame.reset_token) (held_at lower) n)
     (moves : Advances mid low token new) where
-  mid_table : (n : ℕ) → held_at mid n ≡ with_id frame.sequence (frame.id, Some frame.reset_token) (without_below low (held_at old)) n
-  mid_table n = adds n ∙ with_id-alike frame.sequence (frame.id, Some frame.reset_token) (held_at lower) (without_below low (held_at old)) drops n
+  mid_table : (n : ℕ) → held_at mid n ≡ with_id frame.sequence (frame.id, Some frame.reset_token)
+      (without_below low (held_at old)) n
+  mid_table n = adds n ∙ with_id-alike frame.sequence (frame.id, Some frame.reset_token) (held_at lower)
+      (without_below low (held_at old)) drops n
 
   low_is : low ≡ frame.retire_prior_to
   low_is = omega arith
@@ -83,7 +90,15 @@ module _ (old lower mid new : Window) (frame : NewConnectionId) (token : List �
     held = held_after;
     active = least_after;
     stays = λ stays. absurd (omega (arith, low_is));
-    moves = λ _. record { begins = begins; ends = ends; token_held = (moves.token_held.0, start_held ∙ moves.token_held.1) };
+    moves = λ _. record {
+      begins = begins;
+      ends = ends;
+      token_held = (
+        moves.token_held.0,
+        start_held
+            ∙ moves.token_held.1,
+      );
+    };
   }
 
   pub retires_move : (range : Range ℕ) → range.start ≡ old.start → range.end ≡ min new.start (old.start + LEN) →

@@ -8,34 +8,41 @@ pub Rise-bound : (low high : ℕ) (ns : List ℕ) → Rise low high ns → low �
 Rise-bound low high [] rise = rise
 Rise-bound low high (n ∷ ns) rise = omega (arith, rise.0, Rise-bound (n + 1) high ns rise.1)
 
-pub Rise-wider : (low high lower higher : ℕ) (ns : List ℕ) → Rise low high ns → lower ≤ low → high ≤ higher → Rise lower higher ns
+pub Rise-wider : (low high lower higher : ℕ) (ns : List ℕ) → Rise low high ns → lower ≤ low → high ≤ higher
+    → Rise lower higher ns
 Rise-wider low high lower higher [] rise below above = let bound : low ≤ high = rise in omega arith
 Rise-wider low high lower higher (n ∷ ns) rise below above =
     let first = rise.0 in
     (omega arith, Rise-wider (n + 1) high (n + 1) higher ns rise.1 (omega arith) above)
 
 -- a run with one number more at its end
-pub range_more : (first count next : ℕ) → first + count ≡ next → range_with_len first (suc count) ≡ range_with_len first count ++ next ∷ []
+pub range_more : (first count next : ℕ) → first + count ≡ next
+    → range_with_len first (suc count) ≡ range_with_len first count ++ next ∷ []
 range_more first zero next ends = let same : first ≡ next = omega arith in rw same refl
 range_more first (suc count) next ends = ap (λ rest. first ∷ rest) (range_more (first + 1) count next (omega arith))
 
-range_rises : (low first count high : ℕ) → low ≤ first → first + count ≡ high → Rise low high (range_with_len first count)
+range_rises : (low first count high : ℕ) → low ≤ first → first + count ≡ high
+    → Rise low high (range_with_len first count)
 range_rises low first zero high below ends = omega arith
-range_rises low first (suc count) high below ends = (below, range_rises (first + 1) (first + 1) count high (omega arith) (omega arith))
+range_rises low first (suc count) high below ends =
+    (below, range_rises (first + 1) (first + 1) count high (omega arith) (omega arith))
 
 -- more numbers from the end on
-pub Rise-append : (low first count high : ℕ) (ns : List ℕ) → Rise low first ns → first + count ≡ high → Rise low high (ns ++ range_with_len first count)
+pub Rise-append : (low first count high : ℕ) (ns : List ℕ) → Rise low first ns → first + count ≡ high
+    → Rise low high (ns ++ range_with_len first count)
 Rise-append low first count high [] rise ends = range_rises low first count high rise ends
 Rise-append low first count high (n ∷ ns) rise ends = (rise.0, Rise-append (n + 1) first count high ns rise.1 ends)
 
 filter_rises : (keep : Bool) (test : ℕ → Bool) (low high n : ℕ) (ns : List ℕ) → low ≤ n
     → Rise (n + 1) high (filter test ns) → Rise low high (cond keep (n ∷ filter test ns) (filter test ns))
 filter_rises true test low high n ns below rise = (below, rise)
-filter_rises false test low high n ns below rise = Rise-wider (n + 1) high low high (filter test ns) rise (omega arith) (omega arith)
+filter_rises false test low high n ns below rise =
+    Rise-wider (n + 1) high low high (filter test ns) rise (omega arith) (omega arith)
 
 pub Rise-filter : (test : ℕ → Bool) (low high : ℕ) (ns : List ℕ) → Rise low high ns → Rise low high (filter test ns)
 Rise-filter test low high [] rise = rise
-Rise-filter test low high (n ∷ ns) rise = filter_rises (test n) test low high n ns rise.0 (Rise-filter test (n + 1) high ns rise.1)
+Rise-filter test low high (n ∷ ns) rise =
+    filter_rises (test n) test low high n ns rise.0 (Rise-filter test (n + 1) high ns rise.1)
 
 -- ---- which numbers lie below another
 
@@ -47,12 +54,14 @@ none_below low high end (n ∷ ns) rise past =
     let later = none_below (n + 1) high end ns rise.1 (omega arith) in
     rw (here, later) refl
 
-front_decides : (here : Bool) (high n end : ℕ) (ns : List ℕ) → nat_lt n end ≡ here → Rise (n + 1) high ns → (here || list_any (λ m. nat_lt m end) ns) ≡ here
+front_decides : (here : Bool) (high n end : ℕ) (ns : List ℕ) → nat_lt n end ≡ here → Rise (n + 1) high ns
+    → (here || list_any (λ m. nat_lt m end) ns) ≡ here
 front_decides true high n end ns is rise = refl
 front_decides false high n end ns is rise = none_below (n + 1) high end ns rise (grind (arith, nat_tests, is))
 
 -- the least number decides whether one lies below
-pub list_any-front : (low high n end : ℕ) (ns : List ℕ) → Rise low high (n ∷ ns) → list_any (λ m. nat_lt m end) (n ∷ ns) ≡ nat_lt n end
+pub list_any-front : (low high n end : ℕ) (ns : List ℕ) → Rise low high (n ∷ ns)
+    → list_any (λ m. nat_lt m end) (n ∷ ns) ≡ nat_lt n end
 list_any-front low high n end ns rise = front_decides (nat_lt n end) high n end ns refl rise.1
 
 -- all numbers lie at or above the low end
@@ -74,7 +83,8 @@ list_any-nowhere at (n ∷ ns) =
     rw (here, later) refl
 
 -- where none lies below another number, all rise from that one
-pub Rise-from : (low high from : ℕ) (ns : List ℕ) → Rise low high ns → list_any (λ n. nat_lt n from) ns ≡ false → from ≤ high → Rise from high ns
+pub Rise-from : (low high from : ℕ) (ns : List ℕ) → Rise low high ns → list_any (λ n. nat_lt n from) ns ≡ false
+    → from ≤ high → Rise from high ns
 Rise-from low high from [] rise none below = below
 Rise-from low high from (n ∷ ns) rise none below =
     let here : nat_lt n from ≡ false = sym (list_any-front low high n from ns rise) ∙ none in

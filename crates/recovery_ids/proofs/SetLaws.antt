@@ -29,12 +29,14 @@ found_where x n = go (nat_lt x n) (nat_eq x n) (nat_eq n x) refl refl refl
     go false false true b s o = absurd (grind (arith, nat_tests, s, o))
 
 -- a removal takes a number out by its value
-pub removes : (low high x : ℕ) (ns : List ℕ) → Rise low high ns → remove_key (is_at (nat_cmp x)) ns ≡ filter (λ n. not (n == x)) ns
+pub removes : (low high x : ℕ) (ns : List ℕ) → Rise low high ns
+    → remove_key (is_at (nat_cmp x)) ns ≡ filter (λ n. not (n == x)) ns
 removes low high x [] rise = refl
 removes low high x (n ∷ ns) rise = rw (found_where x n) (go (nat_eq n x) refl (removes (n + 1) high x ns rise.1))
   where
     go : (same : Bool) → nat_eq n x ≡ same → remove_key (is_at (nat_cmp x)) ns ≡ filter (λ m. not (m == x)) ns →
-        cond same ns (n ∷ remove_key (is_at (nat_cmp x)) ns) ≡ cond (not same) (n ∷ filter (λ m. not (m == x)) ns) (filter (λ m. not (m == x)) ns)
+        cond same ns (n ∷ remove_key (is_at (nat_cmp x)) ns) ≡ cond (not same) (n ∷ filter (λ m. not (m == x)) ns)
+        (filter (λ m. not (m == x)) ns)
     go true is rest = sym (absent_below (n + 1) high x ns rise.1 (grind (arith, nat_tests, is)))
     go false is rest = ap (λ later. n ∷ later) rest
 
@@ -52,7 +54,8 @@ inserts_last low x (n ∷ ns) rise =
     rw (above x n (omega arith)) (ap (λ later. n ∷ later) (inserts_last (n + 1) x ns rise.1))
 
 -- the least number decides whether one lies below another
-pub first_below : (low high end least : ℕ) (ns : List ℕ) → Rise low high ns → slice_get ns 0 ≡ Some least → nat_lt least end ≡ list_any (λ n. nat_lt n end) ns
+pub first_below : (low high end least : ℕ) (ns : List ℕ) → Rise low high ns → slice_get ns 0 ≡ Some least
+    → nat_lt least end ≡ list_any (λ n. nat_lt n end) ns
 first_below low high end least [] rise there = absurd cc
 first_below low high end least (n ∷ ns) rise there =
     let same : n ≡ least = cc in
@@ -75,7 +78,8 @@ pops_last xs ys zs k m first far last =
     ∙ take-fewer (m - 1) m xs (omega arith)
 
 -- the same by what a call answers
-pub drops_one : (xs ys zs : List ℕ) (m : ℕ) (popped : Option ℕ) → ys ≡ take m xs → m ≤ length xs → IsSome popped ↔ (0 < length ys) →
+pub drops_one : (xs ys zs : List ℕ) (m : ℕ) (popped : Option ℕ) → ys ≡ take m xs → m ≤ length xs
+    → IsSome popped ↔ (0 < length ys) →
     IfSome popped (λ k. ys ≡ zs ++ k ∷ []) → IfNone popped (zs ≡ ys) → zs ≡ take (m - 1) xs
 drops_one xs ys zs m None first far some last none =
     let long : length ys ≡ m = ap length first ∙ length-take-le m xs far in
@@ -89,5 +93,6 @@ pub taken_back : (before : List ℕ) (first count : ℕ)
     → take (length (before ++ range_with_len first count) - count) (before ++ range_with_len first count) ≡ before
 taken_back before first count =
     let run = range_with_len first count in
-    let size : length (before ++ run) - count ≡ length before = omega (arith, length-append before run, length-range_with_len first count) in
+    let size : length (before ++ run) - count ≡ length before =
+    omega (arith, length-append before run, length-range_with_len first count) in
     rw size (take-append_seam before run)

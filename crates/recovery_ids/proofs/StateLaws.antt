@@ -11,8 +11,10 @@ any_below end ids = list_any (λ n. nat_lt n end) ids.unretired
 
 -- ---- timeouts
 
-pub mark_rises : (mark issued : ℕ) (deadlines : List CidTimestamp) → Rise mark issued (map (λ deadline. deadline.sequence) deadlines) →
-    (mark ≤ next_mark mark deadlines) × Rise (next_mark mark deadlines) issued (map (λ deadline. deadline.sequence) (drop 1 deadlines))
+pub mark_rises : (mark issued : ℕ) (deadlines : List CidTimestamp)
+    → Rise mark issued (map (λ deadline. deadline.sequence) deadlines) →
+    (mark ≤ next_mark mark deadlines)
+    × Rise (next_mark mark deadlines) issued (map (λ deadline. deadline.sequence) (drop 1 deadlines))
 mark_rises mark issued [] rise = (omega arith, rise)
 mark_rises mark issued (oldest ∷ later) rise = let first = rise.0 in (omega arith, rise.1)
 
@@ -22,11 +24,13 @@ numbers-drop : (mark issued : ℕ) (deadlines : List CidTimestamp)
 numbers-drop mark issued [] rise = rise
 numbers-drop mark issued (oldest ∷ later) rise =
     let first = rise.0 in
-    Rise-wider (oldest.sequence + 1) issued mark issued (map (λ deadline. deadline.sequence) later) rise.1 (omega arith) (omega arith)
+    Rise-wider (oldest.sequence + 1) issued mark issued (map (λ deadline. deadline.sequence) later) rise.1 (omega arith)
+    (omega arith)
 
 module _ (ids : LocalIds) (sound : AreSound ids) where
   asked : holds_unretired ids.retired_below ids.retire_prior_to ids ≡ any_below ids.retire_prior_to ids
-  asked = list_any-between ids.retired_below ids.issued ids.retired_below ids.retire_prior_to ids.unretired sound.unretired (omega arith)
+  asked = list_any-between ids.retired_below ids.issued ids.retired_below ids.retire_prior_to ids.unretired
+      sound.unretired (omega arith)
 
   -- where a number below the mark is not retired, the deadline alone goes
   pub waits : any_below ids.retire_prior_to ids ≡ true → record ids { deadlines = drop 1 ids.deadlines } ≡ timed_out ids
@@ -45,7 +49,11 @@ module _ (ids : LocalIds) (sound : AreSound ids) where
 
   -- where none is, the marks move on
   moved : LocalIds
-  moved = record ids { deadlines = drop 1 ids.deadlines; retired_below = ids.retire_prior_to; retire_prior_to = next_mark ids.retire_prior_to ids.deadlines }
+  moved = record ids {
+    deadlines = drop 1 ids.deadlines;
+    retired_below = ids.retire_prior_to;
+    retire_prior_to = next_mark ids.retire_prior_to ids.deadlines;
+  }
 
   pub moves : any_below ids.retire_prior_to ids ≡ false →
       record ids {
@@ -69,8 +77,11 @@ module _ (ids : LocalIds) (sound : AreSound ids) where
       let mark = mark_rises ids.retire_prior_to ids.issued ids.deadlines sound.deadlines in
       record { small = sound.small; marks = mark.0; unretired = rises none; deadlines = mark.1 }
 
-  pub moves_answer : (next : ℕ) → any_below ids.retire_prior_to ids ≡ false → any_below next ids ≡ holds_unretired ids.retire_prior_to next ids
-  moves_answer next none = sym (list_any-between ids.retire_prior_to ids.issued ids.retire_prior_to next ids.unretired (rises none) (omega arith))
+  pub moves_answer : (next : ℕ) → any_below ids.retire_prior_to ids ≡ false
+      → any_below next ids ≡ holds_unretired ids.retire_prior_to next ids
+  moves_answer next none =
+      sym (list_any-between ids.retire_prior_to ids.issued ids.retire_prior_to next ids.unretired (rises none)
+      (omega arith))
 
   -- ---- numbers issued and retired
 
@@ -101,7 +112,8 @@ module _ (ids : LocalIds) (sound : AreSound ids) where
     small = small;
     marks = sound.marks;
     unretired = Rise-append ids.retired_below ids.issued count (ids.issued + count) ids.unretired sound.unretired refl;
-    deadlines = deadlines_with_last-rise ids.cid_lifetime now ids.retire_prior_to ids.issued (ids.issued + count) ids.deadlines sound.deadlines (omega arith);
+    deadlines = deadlines_with_last-rise ids.cid_lifetime now ids.retire_prior_to ids.issued (ids.issued + count)
+        ids.deadlines sound.deadlines (omega arith);
   }
 
   pub retired_sound : (number : ℕ) → AreSound (without_number number ids)

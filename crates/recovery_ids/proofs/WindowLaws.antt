@@ -9,7 +9,8 @@ use Rattle.recovery_ids.specs.Window.{held_at}
 -- numbers that come into the window find no entry, and the others find what they had
 pub drops_below : (old new : Window) → old.start ≤ new.start →
     ((m : ℕ) → max (old.start + LEN) new.start ≤ m → m < new.start + LEN → get_or new.entries (m % LEN) None ≡ None) →
-    ((m : ℕ) → new.start ≤ m → m < old.start + LEN → get_or new.entries (m % LEN) None ≡ get_or old.entries (m % LEN) None) →
+    ((m : ℕ) → new.start ≤ m → m < old.start + LEN
+    → get_or new.entries (m % LEN) None ≡ get_or old.entries (m % LEN) None) →
     (n : ℕ) → held_at new n ≡ without_below new.start (held_at old) n
 drops_below old new ahead fresh kept n =
     let free = fresh n in

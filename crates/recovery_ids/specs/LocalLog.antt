@@ -39,8 +39,8 @@ abbrev pub deadlines_with_batch : Option ℕ → ℕ → ℕ → ℕ → List De
 deadlines_with_batch lifetime now first zero deadlines = deadlines
 deadlines_with_batch lifetime now first (suc count) deadlines = deadlines_with lifetime now (first + count) deadlines
 
--- the deadlines that did not pass, the oldest first: one for each id of the beginning, and for the last id of each later
--- entry, a lifetime behind it (5.1.2)
+-- the deadlines that did not pass, the oldest first: one for each id of the beginning, and for the last id of each
+-- later entry, a lifetime behind it (5.1.2)
 abbrev pub deadlines_by : FirstIds → List LocalEntry → List Deadline
 deadlines_by first [] =
     deadlines_with_each first.cid_lifetime first.start (range_with_len 0 first.issued) []

@@ -48,8 +48,8 @@ abbrev pub with_frame : NewConnectionId → Table → Table
 with_frame frame held =
     with_id frame.sequence (frame.id, Some frame.reset_token) (without_below frame.retire_prior_to held)
 
--- the answer to a move of the active number: the numbers to be retired, at most as many as are stored, and the new active
--- id's token
+-- the answer to a move of the active number: the numbers to be retired, at most as many as are stored, and the new
+-- active id's token
 pub record TellsMove (old : RemoteIds) (range : Range ℕ) (token : List ℕ) (new : RemoteIds) : Type 0 where
   pub begins : range.start ≡ old.active
   pub ends : range.end ≡ min new.active (old.active + active_connection_id_limit)
@@ -62,7 +62,8 @@ Repeats frame held = IfSome (held frame.sequence)
 
 -- what becomes of the ids where a frame is accepted: the active number is the least held one, and moves exactly where
 -- the frame retires it
-pub record AcceptsFrame (old : RemoteIds) (frame : NewConnectionId) (answer : Option (Range ℕ × List ℕ)) (new : RemoteIds) : Type 0 where
+pub record AcceptsFrame (old : RemoteIds) (frame : NewConnectionId) (answer : Option (Range ℕ × List ℕ))
+    (new : RemoteIds) : Type 0 where
   pub in_window : (old.active ≤ frame.sequence)
       × (frame.sequence < max old.active frame.retire_prior_to + active_connection_id_limit)
   pub repeats : Repeats frame old.held

@@ -11,7 +11,8 @@ IsWithin window n = (window.start ≤ n) × (n < window.start + LEN)
 -- what a window holds for a number: nothing outside
 abbrev pub held_at : Window → ℕ → Option HeldId
 held_at window n =
-    if nat_le window.start n && nat_lt n (window.start + LEN) then slice_index_or window.entries (n % LEN) None else None
+    if nat_le window.start n && nat_lt n (window.start + LEN) then slice_index_or window.entries (n % LEN) None
+    else None
 
 -- what a window holds, the active number being its start
 abbrev pub ids_in : Window → RemoteIds

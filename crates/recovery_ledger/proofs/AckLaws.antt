@@ -27,15 +27,30 @@ module _ (A B : ℕ → Type 0) (number : ℕ) (missing : (low high : ℕ) (foun
 pub same_counts : (a b : AckCounts) → a.eliciting ≡ b.eliciting → a.thresholds ≡ b.thresholds → a.greatest ≡ b.greatest
     → a.acknowledged ≡ b.acknowledged → a ≡ b
 same_counts a b e t g k =
-    ap (λ (x : ℕ). let c : AckCounts = record { eliciting = x; thresholds = a.thresholds; greatest = a.greatest; acknowledged = a.acknowledged } in c) e
-    ∙ ap (λ (x : ℕ × ℕ). let c : AckCounts = record { eliciting = b.eliciting; thresholds = x; greatest = a.greatest; acknowledged = a.acknowledged } in c) t
+    ap (λ (x : ℕ). let c : AckCounts = record {
+      eliciting = x;
+      thresholds = a.thresholds;
+      greatest = a.greatest;
+      acknowledged = a.acknowledged;
+    } in c) e
+    ∙ ap (λ (x : ℕ × ℕ). let c : AckCounts = record {
+      eliciting = b.eliciting;
+      thresholds = x;
+      greatest = a.greatest;
+      acknowledged = a.acknowledged;
+    } in c) t
     ∙ ap (λ (x : Option ℕ). let c : AckCounts = record {
       eliciting = b.eliciting;
       thresholds = b.thresholds;
       greatest = x;
       acknowledged = a.acknowledged;
     } in c) g
-    ∙ ap (λ (x : Option ℕ). let c : AckCounts = record { eliciting = b.eliciting; thresholds = b.thresholds; greatest = b.greatest; acknowledged = x } in c) k
+    ∙ ap (λ (x : Option ℕ). let c : AckCounts = record {
+      eliciting = b.eliciting;
+      thresholds = b.thresholds;
+      greatest = b.greatest;
+      acknowledged = x;
+    } in c) k
 
 pairs : {a b c d : ℕ} → a ≡ b → c ≡ d → let p : ℕ × ℕ = (a, c) in let q : ℕ × ℕ = (b, d) in p ≡ q
 pairs {a} {b} {c} {d} first second = ap₂ (λ (x y : ℕ). let p : ℕ × ℕ = (x, y) in p) first second
@@ -75,20 +90,24 @@ starts false now before after Armed is arms free m = (
 module _ (Old New : ℕ → Type 0) (number : ℕ) (greatest : HasGreatest Old)
     (numbers : (n : ℕ) → New n ↔ Recent (With number Old) n) (old added new : Acks) (now : ℕ) (arm : Bool)
     (adds : AddsPending old number now added) where
-  forth : (low high : ℕ) (found : Option ℕ) → IsLeastMissing New low high found → IsLeastMissing (With number Old) low high found
+  forth : (low high : ℕ) (found : Option ℕ) → IsLeastMissing New low high found
+      → IsLeastMissing (With number Old) low high found
   forth = least_missing_left (With number Old) New (greatest_with Old number greatest) numbers
 
-  back : (low high : ℕ) (found : Option ℕ) → IsLeastMissing (With number Old) low high found → IsLeastMissing New low high found
+  back : (low high : ℕ) (found : Option ℕ) → IsLeastMissing (With number Old) low high found
+      → IsLeastMissing New low high found
   back = least_missing_cut (With number Old) New (greatest_with Old number greatest) numbers
 
   module _ (receives : ReceivesEliciting New added now number arm new) where
-    required_eliciting : IsTrue new.required ↔ (IsTrue old.required ⊎ (IsTrue true × AsksAtOnce Old (counts_of old) number))
+    required_eliciting : IsTrue new.required
+        ↔ (IsTrue old.required ⊎ (IsTrue true × AsksAtOnce Old (counts_of old) number))
     required_eliciting = (to, from)
       where
         asks : (E : ℕ) (T R : ℕ) (K G : Option ℕ) (H : Option ℕ) → E ≡ counted old.eliciting → T ≡ old.threshold
             → R ≡ old.reordering → K ≡ old.acknowledged → G ≡ old.greatest
             → H ≡ Some (greatest_number old.greatest number)
-            → ((T < E) ⊎ IsOutOfOrder New R K (number_or_zero G) (number_or_zero H) number) ↔ AsksAtOnce Old (counts_of old) number
+            → ((T < E) ⊎ IsOutOfOrder New R K (number_or_zero G) (number_or_zero H) number)
+            ↔ AsksAtOnce Old (counts_of old) number
         asks E T R K G H e t r k g h =
             rw (e, t, r, k, g, h) (
               λ a. asks_by New Old number forth (old.threshold, old.reordering) old.acknowledged (counted old.eliciting)
@@ -109,7 +128,8 @@ module _ (Old New : ℕ → Type 0) (number : ℕ) (greatest : HasGreatest Old)
             (receives.greatest ∙ ap (λ (g : Option ℕ). Some (greatest_number g number)) adds.others.6)
 
         to : IsTrue new.required → IsTrue old.required ⊎ (IsTrue true × AsksAtOnce Old (counts_of old) number)
-        to required = elim (receives.required.0 required) [ inl was ↦ inl (sym adds.others.0 ∙ was) | inr asks ↦ inr (refl, here.0 asks) ]
+        to required = elim (receives.required.0 required)
+            [ inl was ↦ inl (sym adds.others.0 ∙ was) | inr asks ↦ inr (refl, here.0 asks) ]
 
         from : IsTrue old.required ⊎ (IsTrue true × AsksAtOnce Old (counts_of old) number) → IsTrue new.required
         from (inl was) = receives.required.1 (inl (adds.others.0 ∙ was))
@@ -137,7 +157,8 @@ module _ (Old New : ℕ → Type 0) (number : ℕ) (greatest : HasGreatest Old)
 
     pub hears_eliciting : HearsNew Old old now number true new
     hears_eliciting = record {
-      pending = λ n. let P : Acks → Type 0 = λ a. IsPending a n ↔ IsInHighest 64 (With number (IsPending old)) n in pending n;
+      pending = λ n. let P : Acks → Type 0 =
+          λ a. IsPending a n ↔ IsInHighest 64 (With number (IsPending old)) n in pending n;
       required = required_eliciting;
       started = starts arm now old.base new.base (Arms (heard_with Old old) (counts_of old) number true)
           (receives.base ∙ ap (cond arm (Some now)) adds.others.5) arms_eliciting (λ should. should.1);
@@ -157,7 +178,10 @@ module _ (Old New : ℕ → Type 0) (number : ℕ) (greatest : HasGreatest Old)
   pub hears_silent : new ≡ silent_received added → HearsNew Old old now number false new
   hears_silent is = rw is (record {
     pending = adds.pending;
-    required = (λ was. inl (sym adds.others.0 ∙ was), λ why. elim why [ inl was ↦ adds.others.0 ∙ was | inr asks ↦ false_is_not_true asks.0 ]);
+    required = (
+      λ was. inl (sym adds.others.0 ∙ was),
+      λ why. elim why [ inl was ↦ adds.others.0 ∙ was | inr asks ↦ false_is_not_true asks.0 ],
+    );
     started = starts false now old.base added.base (Arms (heard_with Old old) (counts_of old) number false)
         adds.others.5 (λ armed. false_is_not_true armed, λ should. should.0) (λ should. should.1);
     counts = same_counts _ _ adds.others.1 (pairs adds.others.3 adds.others.4) adds.others.6 adds.others.7;
@@ -165,7 +189,8 @@ module _ (Old New : ℕ → Type 0) (number : ℕ) (greatest : HasGreatest Old)
     largest = adds.largest;
   })
 
-  pub hears : (ack_eliciting : Bool) → Receives New added now number ack_eliciting arm new → HearsNew Old old now number ack_eliciting new
+  pub hears : (ack_eliciting : Bool) → Receives New added now number ack_eliciting arm new
+      → HearsNew Old old now number ack_eliciting new
   hears true receives = hears_eliciting receives
   hears false receives = hears_silent receives.1
 
@@ -181,19 +206,26 @@ pub still_reached : (Old New : ℕ → Type 0) (number : ℕ) → HasGreatest Ol
     → ((n : ℕ) → earlier ≡ Some n → ¬ Exceeds Old n) → IfSome now (HasReached New)
 still_reached Old New number greatest numbers earlier None same within = tt
 still_reached Old New number greatest numbers earlier (Some n) same within =
-    reached New (after (greatest_with Old number greatest)) n (stays_reached Old New number greatest numbers n (within n (sym same)))
+    reached New (after (greatest_with Old number greatest)) n
+    (stays_reached Old New number greatest numbers n (within n (sym same)))
   where
     after : HasGreatest (With number Old) → HasGreatest New
     after (inl none) = inl (λ m here. none m ((numbers m).0 here).0)
-    after (inr g) = inr (g.0, (numbers g.0).1 (g.1, λ m there. let h : m ≤ g.0 = g.2 m there in omega arith), λ m here. g.2 m ((numbers m).0 here).0)
+    after (inr g) = inr (
+      g.0,
+      (numbers g.0).1 (g.1, λ m there. let h : m ≤ g.0 = g.2 m there in omega arith),
+      λ m here. g.2 m ((numbers m).0 here).0,
+    )
 
 -- the greatest ack-eliciting number was received, also when one more came
 pub heard_greatest : {P M : Type 0} → (old new : Space P M) (now number : ℕ) (ack_eliciting : Bool)
     → HasGreatestCome old → ReceivesNew old now number ack_eliciting new → HasGreatestCome new
-heard_greatest old new now number ack_eliciting come step n is exceeds = go ack_eliciting (sym (ap (λ (c : AckCounts). c.greatest) step.hears.counts) ∙ is)
+heard_greatest old new now number ack_eliciting come step n is exceeds =
+    go ack_eliciting (sym (ap (λ (c : AckCounts). c.greatest) step.hears.counts) ∙ is)
   where
     below : (k : ℕ) → (acks_of old).greatest ≡ Some k → ¬ Exceeds (Has new.dedup) k
-    below k was = stays_reached (Has old.dedup) (Has new.dedup) number (has_greatest old.dedup) step.numbers k (come k was)
+    below k was = stays_reached (Has old.dedup) (Has new.dedup) number (has_greatest old.dedup) step.numbers k
+        (come k was)
 
     -- the number itself is reached: so is what it came after, or all exceed it
     here : ¬ Exceeds (Has new.dedup) number
@@ -203,10 +235,12 @@ heard_greatest old new now number ack_eliciting come step n is exceeds = go ack_
         reached_itself (inl none) = none number (inl refl)
         reached_itself (inr g) =
             let le : number ≤ g.0 = g.2 number (inl refl) in
-            let lt : g.0 < number = above g.0 ((step.numbers g.0).1 (g.1, λ k there. let h : k ≤ g.0 = g.2 k there in omega arith)) in
+            let lt : g.0 < number =
+            above g.0 ((step.numbers g.0).1 (g.1, λ k there. let h : k ≤ g.0 = g.2 k there in omega arith)) in
             omega arith
 
-    greater : (earlier : Option ℕ) → (acks_of old).greatest ≡ earlier → Some (greatest_number earlier number) ≡ Some n → ⊥
+    greater : (earlier : Option ℕ) → (acks_of old).greatest ≡ earlier → Some (greatest_number earlier number) ≡ Some n
+        → ⊥
     greater None was same = here (λ m known. let h : m < n = exceeds m known in let e : max 0 number
         ≡ n = some_number (max 0 number) n same in omega (arith, h, e))
     greater (Some k) was same = elim (cases_lt k number) [
@@ -220,7 +254,8 @@ heard_greatest old new now number ack_eliciting come step n is exceeds = go ack_
     go true same = greater (acks_of old).greatest refl same
     go false same = below n same exceeds
 
-subtracted_greatest : (largest : Option ℕ) (old new : Acks) → SubtractsLargest largest old new → new.greatest ≡ old.greatest
+subtracted_greatest : (largest : Option ℕ) (old new : Acks) → SubtractsLargest largest old new
+    → new.greatest ≡ old.greatest
 subtracted_greatest None old new step = ap (λ (a : Acks). a.greatest) step
 subtracted_greatest (Some last) old new step = step.others.7
 

@@ -6,12 +6,14 @@ use Rattle.std.specs.BTreeMap.{is_at}
 use Rattle.recovery_ledger.specs.Packets.{Packet, Packets, packet_at, without, without_some, with_contents, replaced, carrying, sent_onto, forgotten_number, IsAmong, AreAcknowledging, IsTooLarge}
 
 module _ {P M : Type 0} where
-  pub among_found : (packets : Packets P M) (number : ℕ) (packet : Packet P M) → packet_at packets number ≡ Some packet → IsAmong packets packet
+  pub among_found : (packets : Packets P M) (number : ℕ) (packet : Packet P M) → packet_at packets number ≡ Some packet
+      → IsAmong packets packet
   among_found [] number packet found = none packet found
     where
       none : (p : Packet P M) → None ≡ Some p → ⊥
       none p e = cc
-  among_found (entry ∷ packets) number packet found = go (is_at (nat_cmp number) entry.0) found (among_found packets number packet)
+  among_found (entry ∷ packets) number packet found =
+      go (is_at (nat_cmp number) entry.0) found (among_found packets number packet)
     where
       some : (p q : Packet P M) → Some p ≡ Some q → p ≡ q
       some p q e = cc
@@ -22,9 +24,11 @@ module _ {P M : Type 0} where
       go true e later = inl (some entry.1 packet e)
       go false e later = inr (later e)
 
-  among_without : (packets : Packets P M) (number : ℕ) (packet : Packet P M) → IsAmong (without packets number) packet → IsAmong packets packet
+  among_without : (packets : Packets P M) (number : ℕ) (packet : Packet P M) → IsAmong (without packets number) packet
+      → IsAmong packets packet
   among_without [] number packet among = among
-  among_without (entry ∷ packets) number packet among = go (is_at (nat_cmp number) entry.0) among (among_without packets number packet)
+  among_without (entry ∷ packets) number packet among =
+      go (is_at (nat_cmp number) entry.0) among (among_without packets number packet)
     where
       go : (b : Bool) → IsAmong (cond b packets (entry ∷ without packets number)) packet
           → (IsAmong (without packets number) packet → IsAmong packets packet)
@@ -44,7 +48,8 @@ module _ {P M : Type 0} where
   among_replaced : (packets : Packets P M) (number : ℕ) (other packet : Packet P M)
       → IsAmong (replaced number (Some other) packets) packet → IsAmong packets packet ⊎ (other ≡ packet)
   among_replaced [] number other packet among = absurd among
-  among_replaced (entry ∷ packets) number other packet among = go (is_at (nat_cmp number) entry.0) among (among_replaced packets number other packet)
+  among_replaced (entry ∷ packets) number other packet among =
+      go (is_at (nat_cmp number) entry.0) among (among_replaced packets number other packet)
     where
       go : (b : Bool)
           → IsAmong (cond b ((entry.0, other) ∷ packets) (entry ∷ replaced number (Some other) packets)) packet
@@ -65,13 +70,15 @@ module _ {P M : Type 0} (Holds : Packet P M → Type 0) where
   pub all_without : (packets : Packets P M) (number : ℕ) → OfAll packets → OfAll (without packets number)
   all_without packets number all packet among = all packet (among_without packets number packet among)
 
-  all_without_some : (packets : Packets P M) (forgotten : Option ℕ) → OfAll packets → OfAll (without_some packets forgotten)
+  all_without_some : (packets : Packets P M) (forgotten : Option ℕ) → OfAll packets
+      → OfAll (without_some packets forgotten)
   all_without_some packets None all = all
   all_without_some packets (Some number) all = all_without packets number all
 
   pub all_sent : (last : Option ℕ) (number : ℕ) (sent : Packet P M) (packets : Packets P M) → OfAll packets → Holds sent
       → OfAll (sent_onto last number sent packets)
-  all_sent last number sent packets all one packet among = go (among_push (without_some packets (forgotten_number last sent packets)) number sent packet among)
+  all_sent last number sent packets all one packet among =
+      go (among_push (without_some packets (forgotten_number last sent packets)) number sent packet among)
     where
       go : IsAmong (without_some packets (forgotten_number last sent packets)) packet ⊎ (sent ≡ packet) → Holds packet
       go (inl there) = all_without_some packets (forgotten_number last sent packets) all packet there
@@ -80,7 +87,8 @@ module _ {P M : Type 0} (Holds : Packet P M → Type 0) where
   pub all_carrying : (packets : Packets P M) (number : ℕ) (contents : P)
       → ((packet : Packet P M) → Holds packet → Holds (with_contents contents packet)) → OfAll packets
       → OfAll (carrying number contents packets)
-  all_carrying packets number contents alike all = go (packet_at packets number) (λ packet found. all packet (among_found packets number packet found))
+  all_carrying packets number contents alike all =
+      go (packet_at packets number) (λ packet found. all packet (among_found packets number packet found))
     where
       go : (found : Option (Packet P M)) → ((packet : Packet P M) → found ≡ Some packet → Holds packet)
           → OfAll (replaced number (option_map (with_contents contents) found) packets)

@@ -14,26 +14,30 @@ module _ {P M : Type 0} where
   replaced_same : (packets : Packets P M) (number : ℕ) (packet : Packet P M) → packet_at packets number ≡ Some packet
       → replaced number (Some packet) packets ≡ packets
   replaced_same [] number packet found = refl
-  replaced_same (entry ∷ packets) number packet found = go (is_at (nat_cmp number) entry.0) found (replaced_same packets number packet)
+  replaced_same (entry ∷ packets) number packet found =
+      go (is_at (nat_cmp number) entry.0) found (replaced_same packets number packet)
     where
       go : (b : Bool) → cond b (Some entry.1) (packet_at packets number) ≡ Some packet
           → (packet_at packets number ≡ Some packet → replaced number (Some packet) packets ≡ packets)
           → cond b ((entry.0, packet) ∷ packets) (entry ∷ replaced number (Some packet) packets) ≡ entry ∷ packets
-      go true e later = ap (λ (p : Packet P M). let es : Packets P M = (entry.0, p) ∷ packets in es) (sym (some_packet entry.1 packet e))
+      go true e later = ap (λ (p : Packet P M). let es : Packets P M = (entry.0, p) ∷ packets in es)
+          (sym (some_packet entry.1 packet e))
       go false e later = ap (λ (es : Packets P M). entry ∷ es) (later e)
 
   -- the packet put last stays
   replaced_again : (packets : Packets P M) (number : ℕ) (first last : Packet P M)
       → replaced number (Some last) (replaced number (Some first) packets) ≡ replaced number (Some last) packets
   replaced_again [] number first last = refl
-  replaced_again (entry ∷ packets) number first last = go (is_at (nat_cmp number) entry.0) refl (replaced_again packets number first last)
+  replaced_again (entry ∷ packets) number first last =
+      go (is_at (nat_cmp number) entry.0) refl (replaced_again packets number first last)
     where
       go : (b : Bool) → is_at (nat_cmp number) entry.0 ≡ b
           → replaced number (Some last) (replaced number (Some first) packets) ≡ replaced number (Some last) packets
           → replaced number (Some last) (cond b ((entry.0, first) ∷ packets)
           (entry ∷ replaced number (Some first) packets)) ≡ cond b ((entry.0, last) ∷ packets)
           (entry ∷ replaced number (Some last) packets)
-      go true at later = ap (λ (b : Bool). cond b ((entry.0, last) ∷ packets) ((entry.0, first) ∷ replaced number (Some last) packets)) at
+      go true at later = ap
+          (λ (b : Bool). cond b ((entry.0, last) ∷ packets) ((entry.0, first) ∷ replaced number (Some last) packets)) at
       go false at later =
           ap (λ (b : Bool). cond b ((entry.0, last) ∷ replaced number (Some first) packets)
           (entry ∷ replaced number (Some last) (replaced number (Some first) packets))) at
@@ -42,19 +46,25 @@ module _ {P M : Type 0} where
   replaced_found : (packets : Packets P M) (number : ℕ) (packet other : Packet P M)
       → packet_at packets number ≡ Some packet → packet_at (replaced number (Some other) packets) number ≡ Some other
   replaced_found [] number packet other found = no_packet packet found
-  replaced_found (entry ∷ packets) number packet other found = go (is_at (nat_cmp number) entry.0) refl found (replaced_found packets number packet other)
+  replaced_found (entry ∷ packets) number packet other found =
+      go (is_at (nat_cmp number) entry.0) refl found (replaced_found packets number packet other)
     where
       go : (b : Bool) → is_at (nat_cmp number) entry.0 ≡ b
           → cond b (Some entry.1) (packet_at packets number) ≡ Some packet
           → (packet_at packets number ≡ Some packet → packet_at (replaced number (Some other) packets) number
           ≡ Some other)
-          → packet_at (cond b ((entry.0, other) ∷ packets) (entry ∷ replaced number (Some other) packets)) number ≡ Some other
+          → packet_at (cond b ((entry.0, other) ∷ packets) (entry ∷ replaced number (Some other) packets)) number
+          ≡ Some other
       go true at e later = ap (λ (b : Bool). cond b (Some other) (packet_at packets number)) at
-      go false at e later = ap (λ (b : Bool). cond b (Some entry.1) (packet_at (replaced number (Some other) packets) number)) at ∙ later e
+      go false at e later =
+          ap (λ (b : Bool). cond b (Some entry.1) (packet_at (replaced number (Some other) packets) number)) at
+          ∙ later e
 
-  replaced_gone : (packets : Packets P M) (number : ℕ) (packet : Packet P M) → without (replaced number (Some packet) packets) number ≡ without packets number
+  replaced_gone : (packets : Packets P M) (number : ℕ) (packet : Packet P M)
+      → without (replaced number (Some packet) packets) number ≡ without packets number
   replaced_gone [] number packet = refl
-  replaced_gone (entry ∷ packets) number packet = go (is_at (nat_cmp number) entry.0) refl (replaced_gone packets number packet)
+  replaced_gone (entry ∷ packets) number packet =
+      go (is_at (nat_cmp number) entry.0) refl (replaced_gone packets number packet)
     where
       go : (b : Bool) → is_at (nat_cmp number) entry.0 ≡ b
           → without (replaced number (Some packet) packets) number ≡ without packets number
@@ -62,12 +72,15 @@ module _ {P M : Type 0} where
           ≡ cond b packets (entry ∷ without packets number)
       go true at later = ap (λ (b : Bool). cond b packets ((entry.0, packet) ∷ without packets number)) at
       go false at later =
-          ap (λ (b : Bool). cond b (replaced number (Some packet) packets) (entry ∷ without (replaced number (Some packet) packets) number)) at
+          ap (λ (b : Bool). cond b (replaced number (Some packet) packets)
+          (entry ∷ without (replaced number (Some packet) packets) number)) at
           ∙ ap (λ (es : Packets P M). entry ∷ es) later
 
   module _ (packets : Packets P M) (number : ℕ) where
     -- the packet of the number has the other contents
-    pub carrying_found : (contents : P) → packet_at (carrying number contents packets) number ≡ option_map (with_contents contents) (packet_at packets number)
+    pub carrying_found : (contents : P)
+        → packet_at (carrying number contents packets) number ≡ option_map (with_contents contents)
+        (packet_at packets number)
     carrying_found contents = go (packet_at packets number) refl
       where
         go : (found : Option (Packet P M)) → packet_at packets number ≡ found
@@ -80,12 +93,15 @@ module _ {P M : Type 0} where
     pub carrying_gone : (contents : P) → without (carrying number contents packets) number ≡ without packets number
     carrying_gone contents = go (packet_at packets number)
       where
-        go : (found : Option (Packet P M)) → without (replaced number (option_map (with_contents contents) found) packets) number ≡ without packets number
+        go : (found : Option (Packet P M))
+            → without (replaced number (option_map (with_contents contents) found) packets) number ≡ without packets
+            number
         go None = refl
         go (Some packet) = replaced_gone packets number (with_contents contents packet)
 
     -- contents that are put back
-    pub carrying_back : (contents other : P) → carrying number (contents_or other (packet_at packets number)) (carrying number contents packets) ≡ packets
+    pub carrying_back : (contents other : P)
+        → carrying number (contents_or other (packet_at packets number)) (carrying number contents packets) ≡ packets
     carrying_back contents other =
         ap (λ (found : Option (Packet P M)). replaced number (option_map
         (with_contents (contents_or other (packet_at packets number))) found) (carrying number contents packets))
@@ -97,7 +113,8 @@ module _ {P M : Type 0} where
             (option_map (with_contents contents) found)) (replaced number (option_map (with_contents contents) found)
             packets) ≡ packets
         go None absent = refl
-        go (Some packet) e = replaced_again packets number (with_contents contents packet) packet ∙ replaced_same packets number packet e
+        go (Some packet) e = replaced_again packets number (with_contents contents packet) packet
+            ∙ replaced_same packets number packet e
 
     -- a sum that does not look at the contents
     pub sum-carrying : (f : ℕ × Packet P M → ℕ) (contents : P)
@@ -108,14 +125,16 @@ module _ {P M : Type 0} where
         go : (found : Option (Packet P M)) → packet_at packets number ≡ found
             → sum_by f (replaced number (option_map (with_contents contents) found) packets) ≡ sum_by f packets
         go None absent = refl
-        go (Some packet) e = sum-replaced f packets number packet (with_contents contents packet) e (λ n. alike n packet)
+        go (Some packet) e = sum-replaced f packets number packet (with_contents contents packet) e
+            (λ n. alike n packet)
 
   -- what holds of a tracked packet, whatever its contents, holds of it as it is handed back when it is lost
   pub lost_holds : (Holds : Packet P M → Type 0) (found : Option (Packet P M)) (contents : P) (packet : Packet P M)
       → option_map (with_contents contents) found ≡ Some packet
       → ((old : Packet P M) → found ≡ Some old → Holds (with_contents contents old)) → Holds packet
   lost_holds Holds None contents packet is holds = no_packet packet is
-  lost_holds Holds (Some old) contents packet is holds = subst Holds (some_packet (with_contents contents old) packet is) (holds old refl)
+  lost_holds Holds (Some old) contents packet is holds =
+      subst Holds (some_packet (with_contents contents old) packet is) (holds old refl)
 
   pub tracking_back : (tracking : Tracking P M) (number : ℕ) (contents other : P)
       → after_carrying number (contents_or other (packet_at tracking.packets number))
@@ -125,7 +144,8 @@ module _ {P M : Type 0} where
 
 module _ {P M S : Type 0} (words : QueueWords P S) where
   -- a packet whose contents were moved, and that is taken, was lost
-  pub moved_taken : (number : ℕ) (space : Space P M) → space_takes number (space_moves words number space) ≡ space_loses words number space
+  pub moved_taken : (number : ℕ) (space : Space P M)
+      → space_takes number (space_moves words number space) ≡ space_loses words number space
   moved_taken number space =
       ap (λ (es : Packets P M). let s : Space P M = record (space_loses words number space)
       { sent_packets = record (tracking_of space) { packets = es } } in s)
@@ -140,7 +160,8 @@ module _ {P M S : Type 0} (words : QueueWords P S) where
       some_is_none : (p : Packet P M) → Some p ≡ None → ⊥
       some_is_none p e = cc
 
-      go : (found : Option (Packet P M)) → packet_at (packets_of space) number ≡ found → option_map (with_contents words.empty) found ≡ None
+      go : (found : Option (Packet P M)) → packet_at (packets_of space) number ≡ found
+          → option_map (with_contents words.empty) found ≡ None
           → (let s : Space P M = record space {
             sent_packets = after_taking number (tracking_of space);
             pending = joined_with words space.pending found;

@@ -33,7 +33,8 @@ module _ {P M : Type 0} where
   coherent_with spaces Data here all one Data = one
 
   -- what was received and asks for an ACK stays
-  pub come_kept : (old here : Space P M) → HasGreatestCome old → acks_of here ≡ acks_of old → here.dedup ≡ old.dedup → HasGreatestCome here
+  pub come_kept : (old here : Space P M) → HasGreatestCome old → acks_of here ≡ acks_of old → here.dedup ≡ old.dedup
+      → HasGreatestCome here
   come_kept old here come acks dedup = λ n is.
       let Holds : Dedup → Type 0 = λ d. ¬ Exceeds (Has d) n in
       subst Holds (sym dedup) (come n (sym (ap (λ (a : Acks). a.greatest) acks) ∙ is))
@@ -46,7 +47,8 @@ module _ {P M : Type 0} where
         → (tracking_of here).last_eliciting ≡ (tracking_of old).last_eliciting
         → AreBelow (packets_of here) (next_number_of old) → AreAcknowledging (packets_of here) → IsCoherent here
     coherent_by next last below acknowledging = record {
-      packets = are_below _ _ (AllBelow-more (packets_of here) (next_number_of old) (next_number_of here) next (all_below _ _ below));
+      packets = are_below _ _ (AllBelow-more (packets_of here) (next_number_of old) (next_number_of here) next
+          (all_below _ _ below));
       last = λ m is. let h : m < next_number_of old = coherent.last m (sym last ∙ is) in omega (arith, h, next);
       acknowledging = acknowledging;
       received = received;
@@ -62,13 +64,16 @@ module _ {P M : Type 0} where
         (subst Below (sym packets) coherent.packets) (subst Acked (sym packets) coherent.acknowledging)
 
     -- a tracked packet leaves
-    pub coherent_taken : (number : ℕ) → tracking_of here ≡ after_taking number (tracking_of old) → next_number_of here ≡ next_number_of old → IsCoherent here
+    pub coherent_taken : (number : ℕ) → tracking_of here ≡ after_taking number (tracking_of old)
+        → next_number_of here ≡ next_number_of old → IsCoherent here
     coherent_taken number same next =
         let packets : packets_of here ≡ without (packets_of old) number = ap (λ (t : Tracking P M). t.packets) same in
         let Below : Packets P M → Type 0 = λ es. AreBelow es (next_number_of old) in
         let Acked : Packets P M → Type 0 = AreAcknowledging in
         coherent_by (omega (arith, next)) (ap (λ (t : Tracking P M). t.last_eliciting) same)
-        (subst Below (sym packets) (are_below _ _ (AllBelow-without (packets_of old) number (next_number_of old) (all_below _ _ coherent.packets))))
+        (subst Below (sym packets)
+        (are_below _ _ (AllBelow-without (packets_of old) number (next_number_of old)
+        (all_below _ _ coherent.packets))))
         (subst Acked (sym packets) (all_without Acknowledges (packets_of old) number coherent.acknowledging))
 
     -- a tracked packet has other contents
@@ -76,15 +81,20 @@ module _ {P M : Type 0} where
         → tracking_of here ≡ after_carrying number contents (tracking_of old) → next_number_of here ≡ next_number_of old
         → IsCoherent here
     coherent_carrying number contents same next =
-        let packets : packets_of here ≡ carrying number contents (packets_of old) = ap (λ (t : Tracking P M). t.packets) same in
+        let packets : packets_of here ≡ carrying number contents (packets_of old) =
+        ap (λ (t : Tracking P M). t.packets) same in
         let Below : Packets P M → Type 0 = λ es. AreBelow es (next_number_of old) in
         let Acked : Packets P M → Type 0 = AreAcknowledging in
         coherent_by (omega (arith, next)) (ap (λ (t : Tracking P M). t.last_eliciting) same)
-        (subst Below (sym packets) (are_below _ _ (AllBelow-carrying (packets_of old) number contents (next_number_of old) (all_below _ _ coherent.packets))))
-        (subst Acked (sym packets) (all_carrying Acknowledges (packets_of old) number contents (λ packet holds. holds) coherent.acknowledging))
+        (subst Below (sym packets)
+        (are_below _ _ (AllBelow-carrying (packets_of old) number contents (next_number_of old)
+        (all_below _ _ coherent.packets))))
+        (subst Acked (sym packets) (all_carrying Acknowledges (packets_of old) number contents (λ packet holds. holds)
+        coherent.acknowledging))
 
     -- nothing is tracked any more
-    pub coherent_emptied : tracking_of here ≡ record (tracking_of old) { packets = [] } → next_number_of here ≡ next_number_of old → IsCoherent here
+    pub coherent_emptied : tracking_of here ≡ record (tracking_of old) { packets = [] }
+        → next_number_of here ≡ next_number_of old → IsCoherent here
     coherent_emptied same next =
         let packets : packets_of here ≡ [] = ap (λ (t : Tracking P M). t.packets) same in
         let Below : Packets P M → Type 0 = λ es. AreBelow es (next_number_of old) in
@@ -108,7 +118,8 @@ module _ {P M : Type 0} where
         (packets_of old)) number (AllBelow-more (packets_of old) (next_number_of old) number above
         (all_below _ _ coherent.packets)) in
         record {
-          packets = subst Limit (sym next) (subst Below (sym packets) (are_below _ _ (AllBelow-push _ number packet below)));
+          packets = subst Limit (sym next)
+              (subst Below (sym packets) (are_below _ _ (AllBelow-push _ number packet below)));
           last = λ m is. let h : m < number + 1 = go packet.ack_eliciting m
               (sym (ap (λ (t : Tracking P M). t.last_eliciting) tracking) ∙ is) in omega (arith, h, next);
           acknowledging = subst Acked (sym packets) (all_sent Acknowledges (tracking_of old).last_eliciting number
@@ -123,7 +134,8 @@ module _ {P M : Type 0} where
   -- ---- probes and queues
 
   module _ {S : Type 0} (words : QueueWords P S) (old : Space P M) (coherent : IsCoherent old) where
-    pub coherent_probed : (immediate : Bool) (found : ProbeFound) → IsCoherent (space_probes words immediate found (one_probe_more old))
+    pub coherent_probed : (immediate : Bool) (found : ProbeFound)
+        → IsCoherent (space_probes words immediate found (one_probe_more old))
     coherent_probed immediate pending_stands = coherent_kept old
         (space_probes words immediate pending_stands (one_probe_more old)) coherent coherent.received refl refl
     coherent_probed immediate nothing_found = coherent_kept old
@@ -139,9 +151,11 @@ module _ {P M : Type 0} where
 
   one_fresh : (space : Space P M) → tracking_of space ≡ no_packets → acks_of space ≡ new_acks [] → IsCoherent space
   one_fresh space none no_acks = record {
-    packets = λ number packet found. nothing packet (sym (ap (λ (t : Tracking P M). packet_at t.packets number) none) ∙ found);
+    packets = λ number packet found. nothing packet (sym (ap (λ (t : Tracking P M). packet_at t.packets number) none)
+        ∙ found);
     last = λ m is. nothing_last m (sym (ap (λ (t : Tracking P M). t.last_eliciting) none) ∙ is);
-    acknowledging = let Acked : Tracking P M → Type 0 = λ t. AreAcknowledging t.packets in subst Acked (sym none) (λ packet among. absurd among);
+    acknowledging = let Acked : Tracking P M → Type 0 =
+        λ t. AreAcknowledging t.packets in subst Acked (sym none) (λ packet among. absurd among);
     received = λ m is. nothing_last m (sym (ap (λ (a : Acks). a.greatest) no_acks) ∙ is);
   }
     where

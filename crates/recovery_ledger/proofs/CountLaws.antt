@@ -13,84 +13,94 @@ none_is_not_some : {A : Type 0} (number : ℕ) → None ≡ Some number → A
 none_is_not_some number e = cc
 
 module _ {P M : Type 0} where
-  not_silent_above : (last number : ℕ) (packet : Packet P M) → number ≤ last → silent_count (Some last) (number, packet) ≡ 0
-  not_silent_above last number packet below = ap (λ b. cond (b && not packet.ack_eliciting) 1 0) (le-ltb last number below)
+  not_silent_above : (last number : ℕ) (packet : Packet P M) → number ≤ last
+      → silent_count (Some last) (number, packet) ≡ 0
+  not_silent_above last number packet below =
+      ap (λ b. cond (b && not packet.ack_eliciting) 1 0) (le-ltb last number below)
 
-  not_eliciting_above : (last number : ℕ) (packet : Packet P M) → number ≤ last → eliciting_count (Some last) (number, packet) ≡ 0
-  not_eliciting_above last number packet below = ap (λ b. cond (b && packet.ack_eliciting) 1 0) (le-ltb last number below)
+  not_eliciting_above : (last number : ℕ) (packet : Packet P M) → number ≤ last
+      → eliciting_count (Some last) (number, packet) ≡ 0
+  not_eliciting_above last number packet below =
+      ap (λ b. cond (b && packet.ack_eliciting) 1 0) (le-ltb last number below)
 
-  module _ (packets : Packets P M) (last : Option ℕ) (silent sized : ℕ) (counted : AreCounted packets last silent sized) where
-    -- one more packet that elicits an ACK
-    pub counted_eliciting : (number : ℕ) (packet : Packet P M) → AllBelow packets number
-        → AreCounted (packets ++ (number, packet) ∷ []) (Some number) 0 (sized + size_count packet)
-    counted_eliciting number packet below =
-        let silent_push = sum_by_push (silent_count (Some number)) packets (number, packet) in
-        let eliciting_push = sum_by_push (eliciting_count (Some number)) packets (number, packet) in
-        let size_push = sum_by_push (λ (entry : ℕ × Packet P M). size_count entry.1) packets (number, packet) in
-        let no_silent = none_counted (silent_count (Some number)) packets number (λ n p h. not_silent_above number n p (omega arith)) below in
-        let no_eliciting = none_counted (eliciting_count (Some number)) packets number (λ n p h. not_eliciting_above number n p (omega arith)) below in
-        let here = not_silent_above number number packet (omega arith) in
-        let there = not_eliciting_above number number packet (omega arith) in
-        let before = counted.sized_is in
-        record {
-          silent_is = omega (arith, silent_push, no_silent, here);
-          others = omega (arith, eliciting_push, no_eliciting, there);
-          sized_is = omega (arith, size_push, before);
-          bound = omega arith;
-        }
+  module _ (packets : Packets P M) (last : Option ℕ) (silent sized : ℕ) (counted : AreCounted packets last silent sized)
+    where
+      -- one more packet that elicits an ACK
+      pub counted_eliciting : (number : ℕ) (packet : Packet P M) → AllBelow packets number
+          → AreCounted (packets ++ (number, packet) ∷ []) (Some number) 0 (sized + size_count packet)
+      counted_eliciting number packet below =
+          let silent_push = sum_by_push (silent_count (Some number)) packets (number, packet) in
+          let eliciting_push = sum_by_push (eliciting_count (Some number)) packets (number, packet) in
+          let size_push = sum_by_push (λ (entry : ℕ × Packet P M). size_count entry.1) packets (number, packet) in
+          let no_silent = none_counted (silent_count (Some number)) packets number
+          (λ n p h. not_silent_above number n p (omega arith)) below in
+          let no_eliciting = none_counted (eliciting_count (Some number)) packets number
+          (λ n p h. not_eliciting_above number n p (omega arith)) below in
+          let here = not_silent_above number number packet (omega arith) in
+          let there = not_eliciting_above number number packet (omega arith) in
+          let before = counted.sized_is in
+          record {
+            silent_is = omega (arith, silent_push, no_silent, here);
+            others = omega (arith, eliciting_push, no_eliciting, there);
+            sized_is = omega (arith, size_push, before);
+            bound = omega arith;
+          }
 
-    -- one more silent packet
-    pub counted_silent : (number : ℕ) (packet : Packet P M) → IsAboveLast last number → packet.ack_eliciting ≡ false
-        → silent ≤ 1000 → AreCounted (packets ++ (number, packet) ∷ []) last (silent + 1) (sized + size_count packet)
-    counted_silent number packet above is_silent room =
-        let silent_push = sum_by_push (silent_count last) packets (number, packet) in
-        let eliciting_push = sum_by_push (eliciting_count last) packets (number, packet) in
-        let size_push = sum_by_push (λ (entry : ℕ × Packet P M). size_count entry.1) packets (number, packet) in
-        let is_here = above_last last number above in
-        let here : silent_count last (number, packet) ≡ 1 = ap (λ b. cond (b && not packet.ack_eliciting) 1 0) is_here ∙ ap (λ b. cond (not b) 1 0) is_silent in
-        let there : eliciting_count last (number, packet) ≡ 0 = ap (λ b. cond (b && packet.ack_eliciting) 1 0) is_here ∙ ap (λ b. cond b 1 0) is_silent in
-        let silent_before = counted.silent_is in
-        let others_before = counted.others in
-        let sized_before = counted.sized_is in
-        record {
-          silent_is = omega (arith, silent_push, silent_before, here);
-          others = omega (arith, eliciting_push, others_before, there);
-          sized_is = omega (arith, size_push, sized_before);
-          bound = omega arith;
-        }
-
-    module _ (number : ℕ) (packet : Packet P M) (found : packet_at packets number ≡ Some packet) where
-      -- a packet that is taken
-      pub counted_taken : AreCounted (without packets number) last (silent - silent_count last (number, packet)) (sized - size_count packet)
-      counted_taken =
-          let silent_sum = sum-without (silent_count last) packets number packet found in
-          let eliciting_sum = sum-without (eliciting_count last) packets number packet found in
-          let size_sum = sum-without (λ (entry : ℕ × Packet P M). size_count entry.1) packets number packet found in
+      -- one more silent packet
+      pub counted_silent : (number : ℕ) (packet : Packet P M) → IsAboveLast last number → packet.ack_eliciting ≡ false
+          → silent ≤ 1000 → AreCounted (packets ++ (number, packet) ∷ []) last (silent + 1) (sized + size_count packet)
+      counted_silent number packet above is_silent room =
+          let silent_push = sum_by_push (silent_count last) packets (number, packet) in
+          let eliciting_push = sum_by_push (eliciting_count last) packets (number, packet) in
+          let size_push = sum_by_push (λ (entry : ℕ × Packet P M). size_count entry.1) packets (number, packet) in
+          let is_here = above_last last number above in
+          let here : silent_count last (number, packet) ≡ 1 = ap (λ b. cond (b && not packet.ack_eliciting) 1 0) is_here
+          ∙ ap (λ b. cond (not b) 1 0) is_silent in
+          let there : eliciting_count last (number, packet) ≡ 0 = ap (λ b. cond (b && packet.ack_eliciting) 1 0) is_here
+          ∙ ap (λ b. cond b 1 0) is_silent in
           let silent_before = counted.silent_is in
           let others_before = counted.others in
           let sized_before = counted.sized_is in
-          let bound_before = counted.bound in
           record {
-            silent_is = omega (arith, silent_sum, silent_before);
-            others = omega (arith, eliciting_sum, others_before);
-            sized_is = omega (arith, size_sum, sized_before);
-            bound = omega (arith, bound_before);
+            silent_is = omega (arith, silent_push, silent_before, here);
+            others = omega (arith, eliciting_push, others_before, there);
+            sized_is = omega (arith, size_push, sized_before);
+            bound = omega arith;
           }
 
-      -- there is something to take from the counts
-      pub counted_enough : (silent_count last (number, packet) ≤ silent) × (size_count packet ≤ sized)
-      counted_enough =
-          let silent_sum = sum-without (silent_count last) packets number packet found in
-          let size_sum = sum-without (λ (entry : ℕ × Packet P M). size_count entry.1) packets number packet found in
-          let silent_before = counted.silent_is in
-          let sized_before = counted.sized_is in
-          (omega (arith, silent_sum, silent_before), omega (arith, size_sum, sized_before))
+      module _ (number : ℕ) (packet : Packet P M) (found : packet_at packets number ≡ Some packet) where
+        -- a packet that is taken
+        pub counted_taken : AreCounted (without packets number) last (silent - silent_count last (number, packet))
+            (sized - size_count packet)
+        counted_taken =
+            let silent_sum = sum-without (silent_count last) packets number packet found in
+            let eliciting_sum = sum-without (eliciting_count last) packets number packet found in
+            let size_sum = sum-without (λ (entry : ℕ × Packet P M). size_count entry.1) packets number packet found in
+            let silent_before = counted.silent_is in
+            let others_before = counted.others in
+            let sized_before = counted.sized_is in
+            let bound_before = counted.bound in
+            record {
+              silent_is = omega (arith, silent_sum, silent_before);
+              others = omega (arith, eliciting_sum, others_before);
+              sized_is = omega (arith, size_sum, sized_before);
+              bound = omega (arith, bound_before);
+            }
 
-      -- a silent packet above the last eliciting number that is taken
-      pub forgotten_counts : is_above last number ≡ true → silent_count last (number, packet) ≡ 1
-      forgotten_counts above =
-          let is_silent = silent_found last packets number packet counted.others found above in
-          ap (λ b. cond (b && not packet.ack_eliciting) 1 0) above ∙ ap (λ b. cond (not b) 1 0) is_silent
+        -- there is something to take from the counts
+        pub counted_enough : (silent_count last (number, packet) ≤ silent) × (size_count packet ≤ sized)
+        counted_enough =
+            let silent_sum = sum-without (silent_count last) packets number packet found in
+            let size_sum = sum-without (λ (entry : ℕ × Packet P M). size_count entry.1) packets number packet found in
+            let silent_before = counted.silent_is in
+            let sized_before = counted.sized_is in
+            (omega (arith, silent_sum, silent_before), omega (arith, size_sum, sized_before))
+
+        -- a silent packet above the last eliciting number that is taken
+        pub forgotten_counts : is_above last number ≡ true → silent_count last (number, packet) ≡ 1
+        forgotten_counts above =
+            let is_silent = silent_found last packets number packet counted.others found above in
+            ap (λ b. cond (b && not packet.ack_eliciting) 1 0) above ∙ ap (λ b. cond (not b) 1 0) is_silent
 
   -- a packet with other contents
   pub counted_carrying : (packets : Packets P M) (last : Option ℕ) (silent sized : ℕ)
@@ -100,16 +110,20 @@ module _ {P M : Type 0} where
   counted_carrying packets last silent sized counted number packet contents found =
       let other = with_contents contents packet in
       record {
-        silent_is = counted.silent_is ∙ sym (sum-replaced (silent_count last) packets number packet other found (λ n. refl));
+        silent_is = counted.silent_is
+            ∙ sym (sum-replaced (silent_count last) packets number packet other found (λ n. refl));
         others = sum-replaced (eliciting_count last) packets number packet other found (λ n. refl) ∙ counted.others;
-        sized_is = counted.sized_is ∙ sym (sum-replaced (λ (entry : ℕ × Packet P M). size_count entry.1) packets number packet other found (λ n. refl));
+        sized_is = counted.sized_is
+            ∙ sym (sum-replaced (λ (entry : ℕ × Packet P M). size_count entry.1) packets number packet other found
+            (λ n. refl));
         bound = counted.bound;
       }
 
   pub counted_written : (packets new : Packets P M) (last : Option ℕ) (silent sized : ℕ)
       → AreCounted packets last silent sized → (number : ℕ) (packet written : Packet P M) (contents : P)
       → packet_at packets number ≡ Some packet
-      → written ≡ with_contents contents packet → new ≡ replaced number (Some written) packets → AreCounted new last silent sized
+      → written ≡ with_contents contents packet → new ≡ replaced number (Some written) packets
+      → AreCounted new last silent sized
   counted_written packets new last silent sized counted number packet written contents found is set =
       subst (λ (es : Packets P M). AreCounted es last silent sized)
       (sym (set ∙ ap (λ (p : Packet P M). replaced number (Some p) packets) is))
@@ -120,7 +134,8 @@ module _ {P M : Type 0} where
       (counted : AreCounted packets last silent sized) (number : ℕ) (packet : Packet P M) → IsAboveLast last number
       → packet.ack_eliciting ≡ false
       → (least : ℕ) (gone : Packet P M) → packet_at packets least ≡ Some gone → is_above last least ≡ true
-      → AreCounted (without packets least ++ (number, packet) ∷ []) last silent (sized + size_count packet - size_count gone)
+      → AreCounted (without packets least ++ (number, packet) ∷ []) last silent
+      (sized + size_count packet - size_count gone)
   counted_forgetting packets last silent sized counted number packet above is_silent least gone found found_above =
       let enough = counted_enough packets last silent sized counted least gone found in
       let one = forgotten_counts packets last silent sized counted least gone found found_above in
@@ -151,7 +166,8 @@ module _ {P M : Type 0} where
       )
     where
       test_fails : (n : ℕ) → n ≡ 0 → IsTrue (not (n == 0)) → ⊥
-      test_fails n zero some = let e : (n == 0) ≡ true = ap (λ (m : ℕ). m == 0) zero in true_is_not_false (sym (ap not e) ∙ some)
+      test_fails n zero some = let e : (n == 0) ≡ true =
+          ap (λ (m : ℕ). m == 0) zero in true_is_not_false (sym (ap not e) ∙ some)
         where
           true_is_not_false : false ≡ true → ⊥
           true_is_not_false e = cc
@@ -190,7 +206,8 @@ module _ {P M : Type 0} where
   first_of_some (entry ∷ packets) some none = none_is_not_some entry.0 (sym none)
 
   -- where nothing is forgotten there are fewer than 1001 silent packets
-  pub nothing_forgotten : (last : Option ℕ) (packets : Packets P M) → forgotten_silent last packets ≡ None → length (silent_above last packets) ≤ 1000
+  pub nothing_forgotten : (last : Option ℕ) (packets : Packets P M) → forgotten_silent last packets ≡ None
+      → length (silent_above last packets) ≤ 1000
   nothing_forgotten last packets none = go (nat_lt 1000 (length (silent_above last packets))) refl none
     where
       go : (b : Bool) → nat_lt 1000 (length (silent_above last packets)) ≡ b
@@ -204,37 +221,44 @@ module _ {P M : Type 0} where
       → forgotten_silent last packets ≡ Some number → least_number (silent_above last packets) ≡ Some number
   is_forgotten last packets number some = go (nat_lt 1000 (length (silent_above last packets))) some
     where
-      go : (b : Bool) → cond b (least_number (silent_above last packets)) None ≡ Some number → least_number (silent_above last packets) ≡ Some number
+      go : (b : Bool) → cond b (least_number (silent_above last packets)) None ≡ Some number
+          → least_number (silent_above last packets) ≡ Some number
       go true e = e
       go false e = none_is_not_some number e
 
-  module _ (packets : Packets P M) (last : Option ℕ) (silent sized : ℕ) (counted : AreCounted packets last silent sized) where
-    pub forgotten_found : (number : ℕ) → forgotten_silent last packets ≡ Some number
-        → (packet : Packet P M) × (packet_at packets number ≡ Some packet) × (is_above last number ≡ true)
-    forgotten_found number some = first_above_found last packets number
-        (ap least_number (all_silent last packets counted.others) ∙ is_forgotten last packets number some)
+  module _ (packets : Packets P M) (last : Option ℕ) (silent sized : ℕ) (counted : AreCounted packets last silent sized)
+    where
+      pub forgotten_found : (number : ℕ) → forgotten_silent last packets ≡ Some number
+          → (packet : Packet P M) × (packet_at packets number ≡ Some packet) × (is_above last number ≡ true)
+      forgotten_found number some = first_above_found last packets number
+          (ap least_number (all_silent last packets counted.others) ∙ is_forgotten last packets number some)
 
-    pub silent_few : forgotten_silent last packets ≡ None → silent ≤ 1000
-    silent_few none =
-        let few = nothing_forgotten last packets none in
-        let is = silent_count-length last packets in
-        let sum = counted.silent_is in
-        omega (arith, few, is, sum)
+      pub silent_few : forgotten_silent last packets ≡ None → silent ≤ 1000
+      silent_few none =
+          let few = nothing_forgotten last packets none in
+          let is = silent_count-length last packets in
+          let sum = counted.silent_is in
+          omega (arith, few, is, sum)
 
-    -- the least number above the last eliciting one is what is forgotten, once there are 1001 silent packets
-    pub forgotten_is : 1001 ≤ silent → least_number (filter (λ entry. is_above last entry.0) packets) ≡ forgotten_silent last packets
-    forgotten_is full =
-        let is = silent_count-length last packets in
-        let sum = counted.silent_is in
-        let many : nat_lt 1000 (length (silent_above last packets)) ≡ true = lt-ltb 1000 (length (silent_above last packets)) (omega (arith, is, sum)) in
-        ap least_number (all_silent last packets counted.others) ∙ sym (ap (λ b. cond b (least_number (silent_above last packets)) None) many)
+      -- the least number above the last eliciting one is what is forgotten, once there are 1001 silent packets
+      pub forgotten_is : 1001 ≤ silent → least_number (filter (λ entry. is_above last entry.0) packets)
+          ≡ forgotten_silent
+          last packets
+      forgotten_is full =
+          let is = silent_count-length last packets in
+          let sum = counted.silent_is in
+          let many : nat_lt 1000 (length (silent_above last packets)) ≡ true =
+          lt-ltb 1000 (length (silent_above last packets)) (omega (arith, is, sum)) in
+          ap least_number (all_silent last packets counted.others)
+          ∙ sym (ap (λ b. cond b (least_number (silent_above last packets)) None) many)
 
-    pub none_forgotten : silent < 1001 → None ≡ forgotten_silent last packets
-    none_forgotten room =
-        let is = silent_count-length last packets in
-        let sum = counted.silent_is in
-        let few : nat_lt 1000 (length (silent_above last packets)) ≡ false = le-ltb 1000 (length (silent_above last packets)) (omega (arith, is, sum)) in
-        sym (ap (λ b. cond b (least_number (silent_above last packets)) None) few)
+      pub none_forgotten : silent < 1001 → None ≡ forgotten_silent last packets
+      none_forgotten room =
+          let is = silent_count-length last packets in
+          let sum = counted.silent_is in
+          let few : nat_lt 1000 (length (silent_above last packets)) ≡ false =
+          le-ltb 1000 (length (silent_above last packets)) (omega (arith, is, sum)) in
+          sym (ap (λ b. cond b (least_number (silent_above last packets)) None) few)
 
   -- ---- what a packet that is sent leaves
 
@@ -259,10 +283,15 @@ module _ {P M : Type 0} where
               (cond b None (forgotten_silent last packets)) ++ (number, packet) ∷ [];
           last_eliciting = cond b (Some number) last;
         } in t) e
-        ∙ ap (λ (r : Option ℕ). let t : Tracking P M = record { packets = without_some packets r ++ (number, packet) ∷ []; last_eliciting = last } in t) f)
+        ∙ ap (λ (r : Option ℕ). let t : Tracking P M = record {
+          packets = without_some packets r ++ (number, packet)
+              ∷ [];
+          last_eliciting = last;
+        } in t) f)
 
     pub forgotten_eliciting : packet.ack_eliciting ≡ true → None ≡ forgotten_number last packet packets
     forgotten_eliciting e = sym (ap (λ b. cond b None (forgotten_silent last packets)) e)
 
-    pub forgotten_of_silent : packet.ack_eliciting ≡ false → forgotten_number last packet packets ≡ forgotten_silent last packets
+    pub forgotten_of_silent : packet.ack_eliciting ≡ false
+        → forgotten_number last packet packets ≡ forgotten_silent last packets
     forgotten_of_silent e = ap (λ b. cond b None (forgotten_silent last packets)) e

@@ -16,8 +16,8 @@ use Rattle.recovery_ledger.proofs.PacketLaws.{sum-without}
 abbrev pub times : {P M : Type 0} → ℕ → Packets P M → ℕ
 times number packets = sum_by (λ entry. one_if_same entry.0 number) packets
 
--- where numbers left so often, and this is known of the packets sent: a number came once at most, and one that was not given
--- out yet never came
+-- where numbers left so often, and this is known of the packets sent: a number came once at most, and one that was not
+-- given out yet never came
 pub record CameOnce {P M : Type 0} (left : ℕ → ℕ) (sent : Sent P M) : Type 0 where
   pub once : (number : ℕ) → left number + times number sent.tracked ≤ 1
   pub none : (number : ℕ) → sent.next ≤ number → left number + times number sent.tracked ≡ 0
@@ -25,7 +25,8 @@ pub record CameOnce {P M : Type 0} (left : ℕ → ℕ) (sent : Sent P M) : Type
 same_numbers : (number other : ℕ) → (one_if_same number other ≡ 0) ⊎ ((number ≡ other) × (one_if_same number other ≡ 1))
 same_numbers number other = go (number == other) refl
   where
-    go : (same : Bool) → (number == other) ≡ same → (let one : ℕ = cond same 1 0 in (one ≡ 0) ⊎ ((number ≡ other) × (one ≡ 1)))
+    go : (same : Bool) → (number == other) ≡ same
+        → (let one : ℕ = cond same 1 0 in (one ≡ 0) ⊎ ((number ≡ other) × (one ≡ 1)))
     go true is = inr (eqb-true number other is, refl)
     go false is = inl refl
 
@@ -42,13 +43,15 @@ LeavesTracked entry sent = Unit {0}
 
 module _ {P M : Type 0} (left : ℕ → ℕ) (sent : Sent P M) (come : CameOnce left sent) where
   -- a tracked packet leaves
-  leaves_once : (number : ℕ) → IsTracked sent number → CameOnce (λ other. left other + one_if_same number other) (sent_less number sent)
+  leaves_once : (number : ℕ) → IsTracked sent number
+      → CameOnce (λ other. left other + one_if_same number other) (sent_less number sent)
   leaves_once number tracked = record {
     once = λ other. let sum = leaves other in let one = come.once other in omega (arith, sum, one);
     none = λ other late. let sum = leaves other in let none = come.none other late in omega (arith, sum, none);
   }
     where
-      leaves : (other : ℕ) → times other (without sent.tracked number) + one_if_same number other ≡ times other sent.tracked
+      leaves : (other : ℕ) → times other (without sent.tracked number) + one_if_same number other ≡ times other
+          sent.tracked
       leaves other = sum-without (λ entry. one_if_same entry.0 other) sent.tracked number tracked.0 tracked.1
 
   -- a packet is sent under a number that was not given out, and another is perhaps forgotten
@@ -63,7 +66,12 @@ module _ {P M : Type 0} (left : ℕ → ℕ) (sent : Sent P M) (come : CameOnce 
     none = λ other late.
         let sum = sum-sent_onto (λ entry. one_if_same entry.0 other) sent.last number packet sent.tracked in
         elim (same_numbers number other) [
-          | inl zero_more ↦ (let none = come.none other (omega (arith, late, new)) in omega (arith, sum, zero_more, none))
+          | inl zero_more ↦ (let none = come.none other (omega (arith, late, new)) in omega (
+            arith,
+            sum,
+            zero_more,
+            none,
+          ))
           | inr is ↦ absurd (omega (arith, late, is.0))
         ];
   }
@@ -93,11 +101,16 @@ module _ {P M S : Type 0} (words : QueueWords P S) where
   ComeOnce log = CameOnce (λ number. departures number log) (sent_by words log)
 
   -- each entry keeps it
-  pub come_once : (entry : SpaceEntry P M) (log : List (SpaceEntry P M)) → LeavesTracked entry (sent_by words log) → ComeOnce log → ComeOnce (entry ∷ log)
-  come_once (sends number packet) log new come = sent_once (λ n. departures n log) (sent_by words log) come number packet new
-  come_once (acknowledged number) log tracked come = leaves_once (λ n. departures n log) (sent_by words log) come number tracked
-  come_once (loses number) log tracked come = leaves_once (λ n. departures n log) (sent_by words log) come number tracked
-  come_once (probes immediate found) log tracked come = moved_once (λ n. departures n log) (sent_by words log) come words.empty found
+  pub come_once : (entry : SpaceEntry P M) (log : List (SpaceEntry P M)) → LeavesTracked entry (sent_by words log)
+      → ComeOnce log → ComeOnce (entry ∷ log)
+  come_once (sends number packet) log new come =
+      sent_once (λ n. departures n log) (sent_by words log) come number packet new
+  come_once (acknowledged number) log tracked come =
+      leaves_once (λ n. departures n log) (sent_by words log) come number tracked
+  come_once (loses number) log tracked come =
+      leaves_once (λ n. departures n log) (sent_by words log) come number tracked
+  come_once (probes immediate found) log tracked come =
+      moved_once (λ n. departures n log) (sent_by words log) come words.empty found
   come_once emptied log tracked come = emptied_once (λ n. departures n log) (sent_by words log) come
   come_once (heard now number eliciting) log tracked come = record { once = come.once; none = come.none }
   come_once (heard_again number) log tracked come = record { once = come.once; none = come.none }

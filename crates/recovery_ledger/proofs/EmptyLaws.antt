@@ -9,10 +9,12 @@ use Rattle.recovery_ledger.specs.Paths.{generation_of, counters_of, after_leavin
 use Rattle.recovery_ledger.proofs.LedgerLaws.{first_leaves}
 
 -- of all packets of a space, as its ledger was then, those that are not among the rest have left
-pub record Leaving {P M : Type 0} (then : PathLedger) (all : Packets P M) (path : PathLedger) (rest : Packets P M) : Type 0 where
+pub record Leaving {P M : Type 0} (then : PathLedger) (all : Packets P M) (path : PathLedger) (rest : Packets P M) :
+    Type 0 where
   pub generation : generation_of path ≡ generation_of then
   pub counted : IsCountedIn (counters_of path) (generation_of path) rest
-  pub bytes : (counters_of path).bytes + sum_by (size_in (generation_of then)) all ≡ (counters_of then).bytes + sum_by (size_in (generation_of then)) rest
+  pub bytes : (counters_of path).bytes + sum_by (size_in (generation_of then)) all ≡ (counters_of then).bytes
+      + sum_by (size_in (generation_of then)) rest
   pub count : (counters_of path).ack_eliciting + sum_by (eliciting_in (generation_of then)) all
       ≡ (counters_of then).ack_eliciting + sum_by (eliciting_in (generation_of then)) rest
 
@@ -45,7 +47,8 @@ module _ {P M : Type 0} (then : PathLedger) (all : Packets P M) where
       )
 
   -- all have left
-  pub leaving_all : (path : PathLedger) → Leaving then all path [] → SumsLeave (counters_of then) (generation_of then) all (counters_of path)
+  pub leaving_all : (path : PathLedger) → Leaving then all path []
+      → SumsLeave (counters_of then) (generation_of then) all (counters_of path)
   leaving_all path leaving =
       let bytes = leaving.bytes in
       let count = leaving.count in

@@ -26,20 +26,26 @@ module _ {P M : Type 0} (generation : ℕ) where
   up_to_with spaces Data here all one Data = one
 
   -- nothing is tracked yet
-  pub up_to_fresh : (spaces : Spaces P M) → ((space : SpaceId) → tracking_of (space_of space spaces) ≡ no_packets) → AreUpTo generation spaces
-  up_to_fresh spaces none space packet among = let Among : Tracking P M → Type 0 = λ t. IsAmong t.packets packet in absurd (subst Among (none space) among)
+  pub up_to_fresh : (spaces : Spaces P M) → ((space : SpaceId) → tracking_of (space_of space spaces) ≡ no_packets)
+      → AreUpTo generation spaces
+  up_to_fresh spaces none space packet among = let Among : Tracking P M → Type 0 =
+      λ t. IsAmong t.packets packet in absurd (subst Among (none space) among)
 
   -- a newer path
-  pub up_to_more : (newer : ℕ) (spaces : Spaces P M) → generation ≤ newer → AreUpTo generation spaces → AreUpTo newer spaces
-  up_to_more newer spaces le all space packet among = let h : packet.path_generation ≤ generation = all space packet among in omega (arith, h, le)
+  pub up_to_more : (newer : ℕ) (spaces : Spaces P M) → generation ≤ newer → AreUpTo generation spaces
+      → AreUpTo newer spaces
+  up_to_more newer spaces le all space packet among = let h : packet.path_generation ≤ generation =
+      all space packet among in omega (arith, h, le)
 
   pub up_to_none : IsUpTo {P = P} {M = M} generation []
   up_to_none packet among = absurd among
 
-  pub up_to_taken : (packets : Packets P M) (number : ℕ) → IsUpTo generation packets → IsUpTo generation (without packets number)
+  pub up_to_taken : (packets : Packets P M) (number : ℕ) → IsUpTo generation packets
+      → IsUpTo generation (without packets number)
   up_to_taken packets number all = all_without Is packets number all
 
-  pub up_to_carrying : (packets : Packets P M) (number : ℕ) (contents : P) → IsUpTo generation packets → IsUpTo generation (carrying number contents packets)
+  pub up_to_carrying : (packets : Packets P M) (number : ℕ) (contents : P) → IsUpTo generation packets
+      → IsUpTo generation (carrying number contents packets)
   up_to_carrying packets number contents all = all_carrying Is packets number contents (λ packet holds. holds) all
 
   pub up_to_sent : (last : Option ℕ) (number : ℕ) (packet : Packet P M) (packets : Packets P M)

@@ -20,24 +20,38 @@ use Rattle.recovery_ledger.proofs.ReceivedLaws.{came_greatest}
 
 -- ---- by the numbers of the window or by all that came
 
-module _ (Here There : ℕ → Type 0) (greatest : HasGreatest There) (alike : (n : ℕ) → Here n ↔ Recent There n) (number : ℕ) where
+module _ (Here There : ℕ → Type 0) (greatest : HasGreatest There) (alike : (n : ℕ) → Here n ↔ Recent There n)
+    (number : ℕ) where
   pub asks_alike : (counts : AckCounts) → AsksAtOnce Here counts number ↔ AsksAtOnce There counts number
   asks_alike counts = (there, back)
     where
       there : AsksAtOnce Here counts number → AsksAtOnce There counts number
       there (inl many) = inl many
-      there (inr order) = inr (out_of_order_by (With number Here) (With number There) (least_missing_with There Here greatest alike number) _ _ _ _ _ order)
+      there (inr order) = inr
+          (out_of_order_by (With number Here) (With number There) (least_missing_with There Here greatest alike number)
+          _ _ _ _ _ order)
 
       back : AsksAtOnce There counts number → AsksAtOnce Here counts number
       back (inl many) = inl many
-      back (inr order) = inr (out_of_order_by (With number There) (With number Here) (least_missing_back There Here greatest alike number) _ _ _ _ _ order)
+      back (inr order) = inr
+          (out_of_order_by (With number There) (With number Here) (least_missing_back There Here greatest alike number)
+          _ _ _ _ _ order)
 
-  pub arms_alike : (required requires waits wait started starts : Type 0) → required ↔ requires → started ↔ starts → (counts : AckCounts) (ack_eliciting : Bool)
+  pub arms_alike : (required requires waits wait started starts : Type 0) → required ↔ requires → started ↔ starts
+      → (counts : AckCounts) (ack_eliciting : Bool)
       → Arms (record { came = Here; required = required; waits = waits; started = started }) counts number ack_eliciting
       ↔ Arms (record { came = There; required = requires; waits = wait; started = starts }) counts number ack_eliciting
   arms_alike required requires waits wait started starts same since counts ack_eliciting = (
-    λ h. (h.0, λ s. h.1 (since.1 s), λ why. h.2 (elim why [ inl was ↦ inl (same.1 was) | inr asks ↦ inr ((asks_alike counts).1 asks) ])),
-    λ h. (h.0, λ s. h.1 (since.0 s), λ why. h.2 (elim why [ inl was ↦ inl (same.0 was) | inr asks ↦ inr ((asks_alike counts).0 asks) ])),
+    λ h. (
+      h.0,
+      λ s. h.1 (since.1 s),
+      λ why. h.2 (elim why [ inl was ↦ inl (same.1 was) | inr asks ↦ inr ((asks_alike counts).1 asks) ]),
+    ),
+    λ h. (
+      h.0,
+      λ s. h.1 (since.0 s),
+      λ why. h.2 (elim why [ inl was ↦ inl (same.0 was) | inr asks ↦ inr ((asks_alike counts).0 asks) ]),
+    ),
   )
 
 pub none_is_some : (m : ℕ) → None ≡ Some m → ⊥
@@ -47,10 +61,12 @@ same_flag : (a b : Bool) → a ≡ b → IsTrue a ↔ IsTrue b
 same_flag a b e = (λ h. sym e ∙ h, λ h. e ∙ h)
 
 -- some number waits, by the space or by the log
-pub waits_alike : (said : AcksSaid) (acks : Acks) → AcksLeft said acks → ((n : ℕ) × IsPending acks n) ↔ ((n : ℕ) × said.pending n)
+pub waits_alike : (said : AcksSaid) (acks : Acks) → AcksLeft said acks → ((n : ℕ) × IsPending acks n)
+    ↔ ((n : ℕ) × said.pending n)
 waits_alike said acks left = (λ h. (h.0, (left.pending h.0).0 h.1), λ h. (h.0, (left.pending h.0).1 h.1))
 
-module _ {P M S : Type 0} (words : QueueWords P S) (log : List (SpaceEntry P M)) (old : Acks) (left : AcksLeft (acks_by words log) old) where
+module _ {P M S : Type 0} (words : QueueWords P S) (log : List (SpaceEntry P M)) (old : Acks)
+    (left : AcksLeft (acks_by words log) old) where
   pub heard_law : (Known : ℕ → Type 0) → ((n : ℕ) → Known n ↔ Recent (CameIn log) n)
       → (now number : ℕ) (ack_eliciting : Bool) (new : Acks) → HearsNew Known old now number ack_eliciting new
       → AcksLeft (acks_by words (heard now number ack_eliciting ∷ log)) new
@@ -69,14 +85,17 @@ module _ {P M S : Type 0} (words : QueueWords P S) (log : List (SpaceEntry P M))
         λ h. elim h [ inl same ↦ inl same | inr there ↦ inr ((left.pending n).1 there) ],
       )
 
-      highest : (n : ℕ) → IsInHighest 64 (With number (IsPending old)) n ↔ IsInHighest 64 (With number (ToAcknowledge words log)) n
+      highest : (n : ℕ) → IsInHighest 64 (With number (IsPending old)) n
+          ↔ IsInHighest 64 (With number (ToAcknowledge words log)) n
       highest n = (highest_alike _ _ more 64 n, highest_alike _ _ (λ m. ((more m).1, (more m).0)) 64 n)
 
       asks : AsksAtOnce Known (counts_of old) number ↔ AsksAtOnce (CameIn log) (counts_by log) number
-      asks = let Holds : AckCounts → Type 0 = λ c. AsksAtOnce Known (counts_of old) number ↔ AsksAtOnce (CameIn log) c number in
+      asks = let Holds : AckCounts → Type 0 = λ c. AsksAtOnce Known (counts_of old) number
+          ↔ AsksAtOnce (CameIn log) c number in
           subst Holds left.counts (asks_alike Known (CameIn log) (came_greatest log) known number (counts_of old))
 
-      arms : Arms (heard_with Known old) (counts_of old) number ack_eliciting ↔ Arms (heard_by words log) (counts_by log) number ack_eliciting
+      arms : Arms (heard_with Known old) (counts_of old) number ack_eliciting
+          ↔ Arms (heard_by words log) (counts_by log) number ack_eliciting
       arms = let Holds : AckCounts → Type 0 = λ c. Arms (heard_with Known old) (counts_of old) number ack_eliciting ↔
           Arms (heard_by words log) c number ack_eliciting in
           subst Holds left.counts (arms_alike Known (CameIn log) (came_greatest log) known number (IsTrue old.required)
@@ -92,10 +111,13 @@ module _ {P M S : Type 0} (words : QueueWords P S) (log : List (SpaceEntry P M))
         λ why. elim why [ inl was ↦ inl ((left.started m).1 was) | inr h ↦ inr (h.0, arms.1 h.1) ],
       )
 
-      to : IsTrue new.required → IsRequired log ⊎ (IsTrue ack_eliciting × AsksAtOnce (CameIn log) (counts_by log) number)
-      to required = elim (step.required.0 required) [ inl was ↦ inl (left.required.0 was) | inr why ↦ inr (why.0, asks.0 why.1) ]
+      to : IsTrue new.required
+          → IsRequired log ⊎ (IsTrue ack_eliciting × AsksAtOnce (CameIn log) (counts_by log) number)
+      to required = elim (step.required.0 required)
+          [ inl was ↦ inl (left.required.0 was) | inr why ↦ inr (why.0, asks.0 why.1) ]
 
-      from : IsRequired log ⊎ (IsTrue ack_eliciting × AsksAtOnce (CameIn log) (counts_by log) number) → IsTrue new.required
+      from : IsRequired log ⊎ (IsTrue ack_eliciting × AsksAtOnce (CameIn log) (counts_by log) number)
+          → IsTrue new.required
       from (inl was) = step.required.1 (inl (left.required.1 was))
       from (inr why) = step.required.1 (inr (why.0, asks.1 why.1))
 
@@ -119,7 +141,8 @@ module _ {P M S : Type 0} (words : QueueWords P S) (log : List (SpaceEntry P M))
     ),
     step.others.0,
     step.others.5,
-    same_counts _ _ step.others.1 (ap₂ (λ (x y : ℕ). let p : ℕ × ℕ = (x, y) in p) step.others.3 step.others.4) step.others.7 step.others.8,
+    same_counts _ _ step.others.1 (ap₂ (λ (x y : ℕ). let p : ℕ × ℕ = (x, y) in p) step.others.3 step.others.4)
+        step.others.7 step.others.8,
     step.others.2,
     step.others.6,
   )
@@ -134,7 +157,8 @@ module _ {P M S : Type 0} (words : QueueWords P S) (log : List (SpaceEntry P M))
             (ToAcknowledge words log n × IsTrue (is_above (largest_acked_by p) n)) in subst Holds (sym found)
             (done.0 n);
         required = iff_trans (same_flag new.required old.required done.1) left.required;
-        started = λ m. let Holds : Option ℕ → Type 0 = λ b. (b ≡ Some m) ↔ StartedAt words log m in subst Holds (sym done.2) (left.started m);
+        started = λ m. let Holds : Option ℕ → Type 0 =
+            λ b. (b ≡ Some m) ↔ StartedAt words log m in subst Holds (sym done.2) (left.started m);
         counts = done.3 ∙ left.counts;
         silent = done.4 ∙ left.silent;
         largest = done.5 ∙ left.largest;
@@ -155,7 +179,10 @@ module _ {P M S : Type 0} (words : QueueWords P S) (log : List (SpaceEntry P M))
     pending = left.pending;
     required =
         let Holds : ℕ → Type 0 = λ n. IsTrue (nat_lt 0 old.eliciting) ↔ (0 < n) in
-        subst Holds (ap (λ (c : AckCounts). c.eliciting) left.counts) (λ h. ltb-true 0 old.eliciting h, λ h. lt-ltb 0 old.eliciting h);
+        subst Holds (ap (λ (c : AckCounts). c.eliciting) left.counts) (
+          λ h. ltb-true 0 old.eliciting h,
+          λ h. lt-ltb 0 old.eliciting h,
+        );
     started = left.started;
     counts = left.counts;
     silent = left.silent;

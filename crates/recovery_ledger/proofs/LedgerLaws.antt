@@ -17,7 +17,8 @@ use Rattle.recovery_ledger.proofs.CarryLaws.{sum-carrying, lost_holds}
 use Rattle.recovery_ledger.proofs.PacketLaws.{sum-without, found-le-sum, without-absent}
 
 pub same_counters : (a b : InFlight) → a.bytes ≡ b.bytes → a.ack_eliciting ≡ b.ack_eliciting → a ≡ b
-same_counters a b bytes count = ap₂ (λ (m n : ℕ). let c : InFlight = record { bytes = m; ack_eliciting = n } in c) bytes count
+same_counters a b bytes count =
+    ap₂ (λ (m n : ℕ). let c : InFlight = record { bytes = m; ack_eliciting = n } in c) bytes count
 
 module _ {P M : Type 0} where
   -- ---- one packet
@@ -31,8 +32,10 @@ module _ {P M : Type 0} where
         (number, packet) ≡ (counters_of path).ack_eliciting)
     leaves = go (packet.path_generation == generation_of path) enough eliciting
       where
-        go : (b : Bool) → cond b packet.size 0 ≤ (counters_of path).bytes → cond (b && packet.ack_eliciting) 1 0 ≤ (counters_of path).ack_eliciting
-            → ((cond b (without_packet (counters_of path) packet) (counters_of path)).bytes + cond b packet.size 0 ≡ (counters_of path).bytes)
+        go : (b : Bool) → cond b packet.size 0 ≤ (counters_of path).bytes
+            → cond (b && packet.ack_eliciting) 1 0 ≤ (counters_of path).ack_eliciting
+            → ((cond b (without_packet (counters_of path) packet) (counters_of path)).bytes + cond b packet.size 0
+            ≡ (counters_of path).bytes)
             × ((cond b (without_packet (counters_of path) packet) (counters_of path)).ack_eliciting + cond
             (b && packet.ack_eliciting) 1 0 ≡ (counters_of path).ack_eliciting)
         go true h k = (omega (arith, h), omega (arith, k))
@@ -40,13 +43,16 @@ module _ {P M : Type 0} where
 
     pub own_counted : packet.path_generation ≡ generation_of path → IsCounted (counters_of path) packet
     own_counted own =
-        let same : (packet.path_generation == generation_of path) ≡ true = eq-eqb packet.path_generation (generation_of path) own in
+        let same : (packet.path_generation == generation_of path) ≡ true =
+        eq-eqb packet.path_generation (generation_of path) own in
         let size : size_in (generation_of path) (number, packet) ≡ packet.size = ap (λ b. cond b packet.size 0) same in
-        let one : eliciting_in (generation_of path) (number, packet) ≡ eliciting_one packet = ap (λ b. cond (b && packet.ack_eliciting) 1 0) same in
+        let one : eliciting_in (generation_of path) (number, packet) ≡ eliciting_one packet =
+        ap (λ b. cond (b && packet.ack_eliciting) 1 0) same in
         (omega (arith, size, enough), omega (arith, one, eliciting))
 
   -- a packet of another path leaves nothing
-  pub not_leaving : (path : PathLedger) (packet : Packet P M) → packet.path_generation ≢ generation_of path → after_leaving path packet ≡ path
+  pub not_leaving : (path : PathLedger) (packet : Packet P M) → packet.path_generation ≢ generation_of path
+      → after_leaving path packet ≡ path
   not_leaving path packet other = ap (λ (b : Bool). with_counters
       (cond b (without_packet (counters_of path) packet) (counters_of path)) path)
       (ne_eqb packet.path_generation (generation_of path) other)
@@ -55,7 +61,8 @@ module _ {P M : Type 0} where
 
   pub sums_replaced : (f : ℕ × Packet P M → ℕ) (spaces : Spaces P M) (space : SpaceId) (here : Space P M) (a b : ℕ)
       → sum_by f (packets_of here) + a ≡ sum_by f (tracked_by spaces space) + b
-      → over_spaces (λ s. sum_by f (tracked_by (with_space spaces space here) s)) + a ≡ over_spaces (λ s. sum_by f (tracked_by spaces s)) + b
+      → over_spaces (λ s. sum_by f (tracked_by (with_space spaces space here) s)) + a ≡ over_spaces
+      (λ s. sum_by f (tracked_by spaces s)) + b
   sums_replaced f spaces Initial here a b e = omega (arith, e)
   sums_replaced f spaces Handshake here a b e = omega (arith, e)
   sums_replaced f spaces Data here a b e = omega (arith, e)
@@ -67,14 +74,17 @@ module _ {P M : Type 0} where
   part-le f spaces Data = omega arith
 
   module _ (spaces : Spaces P M) (path : PathLedger) (balanced : IsBalancedOn spaces path) where
-    counters_bytes : (counters_of path).bytes ≡ over_spaces (λ s. sum_by (size_in (generation_of path)) (tracked_by spaces s))
+    counters_bytes : (counters_of path).bytes ≡ over_spaces
+        (λ s. sum_by (size_in (generation_of path)) (tracked_by spaces s))
     counters_bytes = ap (λ (c : InFlight). c.bytes) balanced
 
-    counters_count : (counters_of path).ack_eliciting ≡ over_spaces (λ s. sum_by (eliciting_in (generation_of path)) (tracked_by spaces s))
+    counters_count : (counters_of path).ack_eliciting ≡ over_spaces
+        (λ s. sum_by (eliciting_in (generation_of path)) (tracked_by spaces s))
     counters_count = ap (λ (c : InFlight). c.ack_eliciting) balanced
 
     -- the packets of a space are among those counted
-    pub space_counted : (space : SpaceId) → IsCountedIn (counters_of path) (generation_of path) (tracked_by spaces space)
+    pub space_counted : (space : SpaceId)
+        → IsCountedIn (counters_of path) (generation_of path) (tracked_by spaces space)
     space_counted space =
         let sizes = part-le (size_in (generation_of path)) spaces space in
         let elicitings = part-le (eliciting_in (generation_of path)) spaces space in
@@ -82,7 +92,8 @@ module _ {P M : Type 0} where
         let count = counters_count in
         (omega (arith, sizes, bytes), omega (arith, elicitings, count))
 
-    packet_enough : (space : SpaceId) (number : ℕ) (packet : Packet P M) → packet_at (tracked_by spaces space) number ≡ Some packet
+    packet_enough : (space : SpaceId) (number : ℕ) (packet : Packet P M)
+        → packet_at (tracked_by spaces space) number ≡ Some packet
         → (size_in (generation_of path) (number, packet) ≤ (counters_of path).bytes)
         × (eliciting_in (generation_of path) (number, packet) ≤ (counters_of path).ack_eliciting)
     packet_enough space number packet found =
@@ -96,13 +107,18 @@ module _ {P M : Type 0} where
     -- a tracked packet is among those counted, where it is the path's
     pub packet_counted : (space : SpaceId) (number : ℕ) (packet : Packet P M)
         → packet_at (tracked_by spaces space) number ≡ Some packet → IsCountedOn path packet
-    packet_counted space number packet found = let e = packet_enough space number packet found in own_counted path number packet e.0 e.1
+    packet_counted space number packet found = let e =
+        packet_enough space number packet found in own_counted path number packet e.0 e.1
 
     -- one space changes, and the counters by as much
-    balanced_by : (space : SpaceId) (here : Space P M) (new : PathLedger) (a b c d : ℕ) → generation_of new ≡ generation_of path
-        → sum_by (size_in (generation_of path)) (packets_of here) + a ≡ sum_by (size_in (generation_of path)) (tracked_by spaces space) + b
-        → sum_by (eliciting_in (generation_of path)) (packets_of here) + c ≡ sum_by (eliciting_in (generation_of path)) (tracked_by spaces space) + d
-        → (counters_of new).bytes + a ≡ (counters_of path).bytes + b → (counters_of new).ack_eliciting + c ≡ (counters_of path).ack_eliciting + d
+    balanced_by : (space : SpaceId) (here : Space P M) (new : PathLedger) (a b c d : ℕ)
+        → generation_of new ≡ generation_of path
+        → sum_by (size_in (generation_of path)) (packets_of here) + a ≡ sum_by (size_in (generation_of path))
+        (tracked_by spaces space) + b
+        → sum_by (eliciting_in (generation_of path)) (packets_of here) + c ≡ sum_by (eliciting_in (generation_of path))
+        (tracked_by spaces space) + d
+        → (counters_of new).bytes + a ≡ (counters_of path).bytes + b
+        → (counters_of new).ack_eliciting + c ≡ (counters_of path).ack_eliciting + d
         → IsBalancedOn (with_space spaces space here) new
     balanced_by space here new a b c d same sizes elicitings bytes count =
         let Holds : ℕ → Type 0 = λ g. counters_of new ≡ in_flight g (tracked_by (with_space spaces space here)) in
@@ -125,7 +141,8 @@ module _ {P M : Type 0} where
         (ap (λ (n : ℕ). n + 0) elicitings) refl refl
 
     -- nothing that is tracked changes
-    pub balanced_kept : (space : SpaceId) (here : Space P M) → packets_of here ≡ tracked_by spaces space → IsBalancedOn (with_space spaces space here) path
+    pub balanced_kept : (space : SpaceId) (here : Space P M) → packets_of here ≡ tracked_by spaces space
+        → IsBalancedOn (with_space spaces space here) path
     balanced_kept space here same = balanced_alike space here (ap (sum_by (size_in (generation_of path))) same)
         (ap (sum_by (eliciting_in (generation_of path))) same)
 
@@ -154,20 +171,24 @@ module _ {P M : Type 0} where
         (space_probes words immediate (moves number) (one_probe_more (space_of space spaces))) number words.empty refl
 
     -- a tracked packet leaves
-    pub balanced_taken : (space : SpaceId) (here : Space P M) (number : ℕ) (packet : Packet P M) → packet_at (tracked_by spaces space) number ≡ Some packet
-        → packets_of here ≡ without (tracked_by spaces space) number → IsBalancedOn (with_space spaces space here) (after_leaving path packet)
+    pub balanced_taken : (space : SpaceId) (here : Space P M) (number : ℕ) (packet : Packet P M)
+        → packet_at (tracked_by spaces space) number ≡ Some packet
+        → packets_of here ≡ without (tracked_by spaces space) number
+        → IsBalancedOn (with_space spaces space here) (after_leaving path packet)
     balanced_taken space here number packet found packets =
         let enough = packet_enough space number packet found in
         let left = leaves path number packet enough.0 enough.1 in
         let bytes = left.0 in
         let count = left.1 in
         let sizes = sum-without (size_in (generation_of path)) (tracked_by spaces space) number packet found in
-        let elicitings = sum-without (eliciting_in (generation_of path)) (tracked_by spaces space) number packet found in
+        let elicitings = sum-without (eliciting_in (generation_of path)) (tracked_by spaces space) number packet
+        found in
         let here_sizes = ap (λ (es : Packets P M). sum_by (size_in (generation_of path)) es) packets in
         let here_elicitings = ap (λ (es : Packets P M). sum_by (eliciting_in (generation_of path)) es) packets in
         balanced_by space here (after_leaving path packet) (size_in (generation_of path) (number, packet)) 0
         (eliciting_in (generation_of path) (number, packet)) 0 refl
-        (omega (arith, sizes, here_sizes)) (omega (arith, elicitings, here_elicitings)) (omega (arith, bytes)) (omega (arith, count))
+        (omega (arith, sizes, here_sizes)) (omega (arith, elicitings, here_elicitings)) (omega (arith, bytes))
+        (omega (arith, count))
 
     -- a packet that is lost, as it is handed back, is among those counted, where it is the path's
     pub lost_counted : (space : SpaceId) (number : ℕ) (contents : P) (packet : Packet P M)
@@ -180,15 +201,18 @@ module _ {P M : Type 0} where
     -- and leaves
     pub balanced_lost : (space : SpaceId) (here : Space P M) (number : ℕ) (contents : P) (packet : Packet P M)
         → option_map (with_contents contents) (packet_at (tracked_by spaces space) number) ≡ Some packet
-        → packets_of here ≡ without (tracked_by spaces space) number → IsBalancedOn (with_space spaces space here) (after_leaving path packet)
+        → packets_of here ≡ without (tracked_by spaces space) number
+        → IsBalancedOn (with_space spaces space here) (after_leaving path packet)
     balanced_lost space here number contents packet is packets =
         lost_holds (λ (p : Packet P M). IsBalancedOn (with_space spaces space here) (after_leaving path p))
         (packet_at (tracked_by spaces space) number) contents packet is
         (λ old found. balanced_taken space here number old found packets)
 
     -- a space is emptied
-    pub balanced_emptied : (space : SpaceId) (here : Space P M) (new : PathLedger) → generation_of new ≡ generation_of path → packets_of here ≡ []
-        → SumsLeave (counters_of path) (generation_of path) (tracked_by spaces space) (counters_of new) → IsBalancedOn (with_space spaces space here) new
+    pub balanced_emptied : (space : SpaceId) (here : Space P M) (new : PathLedger)
+        → generation_of new ≡ generation_of path → packets_of here ≡ []
+        → SumsLeave (counters_of path) (generation_of path) (tracked_by spaces space) (counters_of new)
+        → IsBalancedOn (with_space spaces space here) new
     balanced_emptied space here new same packets leave =
         let here_sizes = ap (λ (es : Packets P M). sum_by (size_in (generation_of path)) es) packets in
         let here_elicitings = ap (λ (es : Packets P M). sum_by (eliciting_in (generation_of path)) es) packets in
@@ -201,21 +225,29 @@ module _ {P M : Type 0} where
   -- ---- a space that is emptied packet by packet
 
   -- the first packet leaves the counters, and the rest of the space is counted still
-  pub first_leaves : (path : PathLedger) (entry : ℕ × Packet P M) (rest : Packets P M) → IsCountedIn (counters_of path) (generation_of path) (entry ∷ rest)
+  pub first_leaves : (path : PathLedger) (entry : ℕ × Packet P M) (rest : Packets P M)
+      → IsCountedIn (counters_of path) (generation_of path) (entry ∷ rest)
       → IsCountedOn path entry.1 × IsCountedIn (counters_of (after_leaving path entry.1)) (generation_of path) rest
-      × ((counters_of (after_leaving path entry.1)).bytes + size_in (generation_of path) entry ≡ (counters_of path).bytes)
-      × ((counters_of (after_leaving path entry.1)).ack_eliciting + eliciting_in (generation_of path) entry ≡ (counters_of path).ack_eliciting)
+      × ((counters_of (after_leaving path entry.1)).bytes + size_in (generation_of path) entry
+      ≡ (counters_of path).bytes)
+      × ((counters_of (after_leaving path entry.1)).ack_eliciting + eliciting_in (generation_of path) entry
+      ≡ (counters_of path).ack_eliciting)
   first_leaves path entry rest counted =
       let sizes = sum_by-cons (size_in (generation_of path)) entry rest in
       let elicitings = sum_by-cons (eliciting_in (generation_of path)) entry rest in
       let h = counted.0 in
       let k = counted.1 in
       let size : size_in (generation_of path) entry ≤ (counters_of path).bytes = omega (arith, h, sizes) in
-      let one : eliciting_in (generation_of path) entry ≤ (counters_of path).ack_eliciting = omega (arith, k, elicitings) in
+      let one : eliciting_in (generation_of path) entry ≤ (counters_of path).ack_eliciting =
+      omega (arith, k, elicitings) in
       let left = leaves path entry.0 entry.1 size one in
       let bytes = left.0 in
-      let count = left.1 in
-      (own_counted path entry.0 entry.1 size one, (omega (arith, h, sizes, bytes), omega (arith, k, elicitings, count)), bytes, count)
+      let count = left.1 in (
+        own_counted path entry.0 entry.1 size one,
+        (omega (arith, h, sizes, bytes), omega (arith, k, elicitings, count)),
+        bytes,
+        count,
+      )
 
   -- ---- a packet that is sent
 
@@ -231,7 +263,8 @@ module _ {P M : Type 0} where
     where
       go : (found : Option (Packet P M)) → packet_at packets number ≡ found
           → sum_by f (without packets number) + gone f (numbered number found) ≡ sum_by f packets
-      go None absent = let same = ap (λ (es : Packets P M). sum_by f es) (without-absent packets number absent) in omega (arith, same)
+      go None absent = let same =
+          ap (λ (es : Packets P M). sum_by f es) (without-absent packets number absent) in omega (arith, same)
       go (Some packet) found = sum-without f packets number packet found
 
   pub sum-sent_onto : (f : ℕ × Packet P M → ℕ) (last : Option ℕ) (number : ℕ) (packet : Packet P M)
@@ -250,7 +283,8 @@ module _ {P M : Type 0} where
         → ((entry : ℕ × Packet P M) → forgotten ≡ Some entry →
         (size_in (generation_of path) entry ≤ (counters_of path).bytes)
         × (eliciting_in (generation_of path) entry ≤ (counters_of path).ack_eliciting))
-        → ((counters_of (after_forgetting (with_counters counters path) forgotten)).bytes + gone (size_in (generation_of path)) forgotten ≡ counters.bytes)
+        → ((counters_of (after_forgetting (with_counters counters path) forgotten)).bytes
+        + gone (size_in (generation_of path)) forgotten ≡ counters.bytes)
         × ((counters_of (after_forgetting (with_counters counters path) forgotten)).ack_eliciting + gone
         (eliciting_in (generation_of path)) forgotten ≡ counters.ack_eliciting)
         × (generation_of (after_forgetting (with_counters counters path) forgotten) ≡ generation_of path)
@@ -259,7 +293,8 @@ module _ {P M : Type 0} where
         let counted = enough entry refl in
         let h = counted.0 in
         let k = counted.1 in
-        let left = leaves (with_counters counters path) entry.0 entry.1 (omega (arith, h, bytes)) (omega (arith, k, count)) in
+        let left = leaves (with_counters counters path) entry.0 entry.1 (omega (arith, h, bytes))
+        (omega (arith, k, count)) in
         (left.0, left.1, refl)
 
     -- a packet of the path adds its part, and one of another path nothing
@@ -267,13 +302,15 @@ module _ {P M : Type 0} where
         → (size_in (generation_of path) (number, packet) ≡ packet.size)
         × (eliciting_in (generation_of path) (number, packet) ≡ eliciting_one packet)
     own_adds number own =
-        let same : (packet.path_generation == generation_of path) ≡ true = eq-eqb packet.path_generation (generation_of path) own in
+        let same : (packet.path_generation == generation_of path) ≡ true =
+        eq-eqb packet.path_generation (generation_of path) own in
         (ap (λ b. cond b packet.size 0) same, ap (λ b. cond (b && packet.ack_eliciting) 1 0) same)
 
     other_adds : (number : ℕ) → packet.path_generation ≢ generation_of path
         → (size_in (generation_of path) (number, packet) ≡ 0) × (eliciting_in (generation_of path) (number, packet) ≡ 0)
     other_adds number other =
-        let same : (packet.path_generation == generation_of path) ≡ false = ne_eqb packet.path_generation (generation_of path) other in
+        let same : (packet.path_generation == generation_of path) ≡ false =
+        ne_eqb packet.path_generation (generation_of path) other in
         (ap (λ b. cond b packet.size 0) same, ap (λ b. cond (b && packet.ack_eliciting) 1 0) same)
 
   module _ (spaces : Spaces P M) (path : PathLedger) (balanced : IsBalancedOn spaces path) (space : SpaceId) where
@@ -309,7 +346,8 @@ module _ {P M : Type 0} where
 
     module _ (packet : Packet P M) where
       -- a packet that is forgotten is among those counted, where it is the path's
-      pub forgotten_counted : (entry : ℕ × Packet P M) → forgotten_entry packet (tracking_of (space_of space spaces)) ≡ Some entry → IsCountedOn path entry.1
+      pub forgotten_counted : (entry : ℕ × Packet P M) → forgotten_entry packet (tracking_of (space_of space spaces))
+          ≡ Some entry → IsCountedOn path entry.1
       forgotten_counted entry e =
           let tracking = tracking_of (space_of space spaces) in
           let enough = entry_enough (forgotten_number tracking.last_eliciting packet tracking.packets) entry e in
@@ -327,13 +365,15 @@ module _ {P M : Type 0} where
         sent_by_sums counters more more_count =
             let old = tracking_of (space_of space spaces) in
             let last = old.last_eliciting in
-            let packets : packets_of here ≡ sent_onto last number packet (tracked_by spaces space) = ap (λ (t : Tracking P M). t.packets) tracking in
+            let packets : packets_of here ≡ sent_onto last number packet (tracked_by spaces space) =
+            ap (λ (t : Tracking P M). t.packets) tracking in
             let left = forgotten_leaves path packet counters forgotten (omega (arith, more)) (omega (arith, more_count))
             (λ entry e. entry_enough (forgotten_number last packet (tracked_by spaces space)) entry (sym is ∙ e)) in
             let bytes = left.0 in
             let count = left.1 in
             let sizes = sum-sent_onto (size_in (generation_of path)) last number packet (tracked_by spaces space) in
-            let elicitings = sum-sent_onto (eliciting_in (generation_of path)) last number packet (tracked_by spaces space) in
+            let elicitings = sum-sent_onto (eliciting_in (generation_of path)) last number packet
+            (tracked_by spaces space) in
             let here_sizes = ap (λ (es : Packets P M). sum_by (size_in (generation_of path)) es) packets in
             let here_elicitings = ap (λ (es : Packets P M). sum_by (eliciting_in (generation_of path)) es) packets in
             let gone_sizes = ap (gone (size_in (generation_of path))) is in
@@ -347,7 +387,8 @@ module _ {P M : Type 0} where
             (omega (arith, count, more_count))
 
         -- a packet is sent on the path
-        pub balanced_sent : packet.path_generation ≡ generation_of path → IsBalancedOn (with_space spaces space here) (path_after_sending path packet forgotten)
+        pub balanced_sent : packet.path_generation ≡ generation_of path
+            → IsBalancedOn (with_space spaces space here) (path_after_sending path packet forgotten)
         balanced_sent own =
             let adds = own_adds path packet number own in
             let size = adds.0 in
@@ -370,7 +411,8 @@ module _ {P M : Type 0} where
 
   pub generation_after_sending : (path : PathLedger) (packet : Packet P M) (forgotten : Option (ℕ × Packet P M))
       → generation_of (path_after_sending path packet forgotten) ≡ generation_of path
-  generation_after_sending path packet forgotten = generation_after_forgetting (with_counters (with_packet (counters_of path) packet) path) forgotten
+  generation_after_sending path packet forgotten =
+      generation_after_forgetting (with_counters (with_packet (counters_of path) packet) path) forgotten
 
   -- ---- a path on which nothing is in flight
 
@@ -389,7 +431,8 @@ module _ {P M : Type 0} where
       → packet.path_generation ≢ generation_of path)
       → counters_of path ≡ record { bytes = 0; ack_eliciting = 0 } → IsBalancedOn spaces path
   none_balanced spaces path none zero =
-      zero ∙ sym (same_counters (in_flight (generation_of path) (tracked_by spaces)) (record { bytes = 0; ack_eliciting = 0 })
+      zero ∙ sym (same_counters (in_flight (generation_of path) (tracked_by spaces))
+      (record { bytes = 0; ack_eliciting = 0 })
       (no_sum (size_in (generation_of path)) (λ number packet other. (other_adds path packet number other).0))
       (no_sum (eliciting_in (generation_of path)) (λ number packet other. (other_adds path packet number other).1)))
     where
@@ -397,8 +440,10 @@ module _ {P M : Type 0} where
           → ((number : ℕ) (packet : Packet P M) → packet.path_generation ≢ generation_of path → f (number, packet) ≡ 0)
           → over_spaces (λ s. sum_by f (tracked_by spaces s)) ≡ 0
       no_sum f adds =
-          let a = none_below f (tracked_by spaces Initial) (λ n packet among. adds n packet (none Initial packet among)) in
-          let b = none_below f (tracked_by spaces Handshake) (λ n packet among. adds n packet (none Handshake packet among)) in
+          let a = none_below f (tracked_by spaces Initial)
+          (λ n packet among. adds n packet (none Initial packet among)) in
+          let b = none_below f (tracked_by spaces Handshake)
+          (λ n packet among. adds n packet (none Handshake packet among)) in
           let c = none_below f (tracked_by spaces Data) (λ n packet among. adds n packet (none Data packet among)) in
           omega (arith, a, b, c)
 

@@ -62,7 +62,8 @@ pending_by-taken = refl
 probe_found-first : probe_found words tt (pending_by words both_sent) (sent_by words both_sent).tracked ≡ moves 0
 probe_found-first = refl
 
-probe_found-nothing : probe_found words tt [] (sent_by words (probes false (moves 0) ∷ both_sent)).tracked ≡ nothing_found
+probe_found-nothing : probe_found words tt [] (sent_by words (probes false (moves 0) ∷ both_sent)).tracked
+    ≡ nothing_found
 probe_found-nothing = refl
 
 probe_found-pending : probe_found {M = ℕ} words tt (pending_by words (loses 0 ∷ both_sent)) [] ≡ pending_stands
@@ -72,7 +73,8 @@ probe_found-pending = refl
 marks_by-ping : marks_by (probes false nothing_found ∷ both_sent) ≡ record { ping = true; immediate = false }
 marks_by-ping = refl
 
-marks_by-immediate : marks_by (probes false nothing_found ∷ probes true nothing_found ∷ both_sent) ≡ record { ping = false; immediate = true }
+marks_by-immediate : marks_by (probes false nothing_found ∷ probes true nothing_found ∷ both_sent)
+    ≡ record { ping = false; immediate = true }
 marks_by-immediate = refl
 
 probes_by-two : probes_by (probes false nothing_found ∷ probes true nothing_found ∷ both_sent) ≡ 2
@@ -98,7 +100,8 @@ in_flight-other_path = refl
 largest_acknowledged-none : largest_acknowledged words 5 both_sent ≡ record { number = None; sent = 5 }
 largest_acknowledged-none = refl
 
-largest_acknowledged-second : largest_acknowledged words 5 (acknowledged 0 ∷ acknowledged 1 ∷ both_sent) ≡ record { number = Some 1; sent = 8 }
+largest_acknowledged-second : largest_acknowledged words 5 (acknowledged 0 ∷ acknowledged 1 ∷ both_sent)
+    ≡ record { number = Some 1; sent = 8 }
 largest_acknowledged-second = refl
 
 kept_by-given_out : (kept_by words 5 both_sent).given_out ≡ 2
@@ -120,7 +123,12 @@ largest_new-row = refl
 silent_since-row : silent_since came_in ≡ 1
 silent_since-row = refl
 
-counts_by-row : counts_by came_in ≡ record { eliciting = 0; thresholds = (1, 1); greatest = Some 9; acknowledged = Some 9 }
+counts_by-row : counts_by came_in ≡ record {
+  eliciting = 0;
+  thresholds = (1, 1);
+  greatest = Some 9;
+  acknowledged = Some 9;
+}
 counts_by-row = refl
 
 -- a space that was discarded

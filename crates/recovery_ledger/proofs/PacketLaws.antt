@@ -35,12 +35,14 @@ module _ {P M : Type 0} where
 
   pub are_below : (packets : Packets P M) (limit : ℕ) → AllBelow packets limit → AreBelow packets limit
   are_below [] limit below number packet found = no_packet packet found
-  are_below (entry ∷ packets) limit below number packet found = go (is_at (nat_cmp number) entry.0) refl found (are_below packets limit below.1 number packet)
+  are_below (entry ∷ packets) limit below number packet found =
+      go (is_at (nat_cmp number) entry.0) refl found (are_below packets limit below.1 number packet)
     where
       go : (b : Bool) → is_at (nat_cmp number) entry.0 ≡ b
           → cond b (Some entry.1) (packet_at packets number) ≡ Some packet
           → (packet_at packets number ≡ Some packet → number < limit) → number < limit
-      go true at e later = let h : entry.0 ≡ number = number_at number entry.0 at in let below_first : entry.0 < limit = below.0 in omega arith
+      go true at e later = let h : entry.0 ≡ number = number_at number entry.0 at in let below_first : entry.0 < limit =
+          below.0 in omega arith
       go false at e later = later e
 
   -- a number above all others goes to the end
@@ -49,24 +51,28 @@ module _ {P M : Type 0} where
   insert_at_end [] number packet below = refl
   insert_at_end (entry ∷ packets) number packet below =
       let above : nat_cmp number entry.0 ≡ Greater = sym (nat_cmp_is number entry.0 Greater below.0) in
-      ap (λ o. match_ordering o ((number, packet) ∷ entry ∷ packets) ((entry.0, packet) ∷ packets) (entry ∷ insert_entry nat_cmp packets number packet)) above
+      ap (λ o. match_ordering o ((number, packet) ∷ entry ∷ packets) ((entry.0, packet) ∷ packets)
+      (entry ∷ insert_entry nat_cmp packets number packet)) above
       ∙ ap (λ (es : Packets P M). entry ∷ es) (insert_at_end packets number packet below.1)
 
   pub without-append : (packets more : Packets P M) (number : ℕ) (packet : Packet P M)
       → packet_at packets number ≡ Some packet → without (packets ++ more) number ≡ without packets number ++ more
   without-append [] more number packet found = no_packet packet found
-  without-append (entry ∷ packets) more number packet found = go (is_at (nat_cmp number) entry.0) found (without-append packets more number packet)
+  without-append (entry ∷ packets) more number packet found =
+      go (is_at (nat_cmp number) entry.0) found (without-append packets more number packet)
     where
       go : (b : Bool) → cond b (Some entry.1) (packet_at packets number) ≡ Some packet
           → (packet_at packets number ≡ Some packet → without (packets ++ more) number ≡ without packets number ++ more)
-          → cond b (packets ++ more) (entry ∷ without (packets ++ more) number) ≡ cond b packets (entry ∷ without packets number) ++ more
+          → cond b (packets ++ more) (entry ∷ without (packets ++ more) number) ≡ cond b packets
+          (entry ∷ without packets number) ++ more
       go true e later = refl
       go false e later = ap (λ (es : Packets P M). entry ∷ es) (later e)
 
   pub packet_at-append : (packets more : Packets P M) (number : ℕ) (packet : Packet P M)
       → packet_at packets number ≡ Some packet → packet_at (packets ++ more) number ≡ Some packet
   packet_at-append [] more number packet found = no_packet packet found
-  packet_at-append (entry ∷ packets) more number packet found = go (is_at (nat_cmp number) entry.0) found (packet_at-append packets more number packet)
+  packet_at-append (entry ∷ packets) more number packet found =
+      go (is_at (nat_cmp number) entry.0) found (packet_at-append packets more number packet)
     where
       go : (b : Bool) → cond b (Some entry.1) (packet_at packets number) ≡ Some packet
           → (packet_at packets number ≡ Some packet → packet_at (packets ++ more) number ≡ Some packet)
@@ -76,11 +82,14 @@ module _ {P M : Type 0} where
 
   -- ---- numbers below another
 
-  pub AllBelow-without : (packets : Packets P M) (number limit : ℕ) → AllBelow packets limit → AllBelow (without packets number) limit
+  pub AllBelow-without : (packets : Packets P M) (number limit : ℕ) → AllBelow packets limit
+      → AllBelow (without packets number) limit
   AllBelow-without [] number limit below = tt
-  AllBelow-without (entry ∷ packets) number limit below = go (is_at (nat_cmp number) entry.0) (AllBelow-without packets number limit below.1)
+  AllBelow-without (entry ∷ packets) number limit below =
+      go (is_at (nat_cmp number) entry.0) (AllBelow-without packets number limit below.1)
     where
-      go : (b : Bool) → AllBelow (without packets number) limit → AllBelow (cond b packets (entry ∷ without packets number)) limit
+      go : (b : Bool) → AllBelow (without packets number) limit
+          → AllBelow (cond b packets (entry ∷ without packets number)) limit
       go true later = below.1
       go false later = (below.0, later)
 
@@ -92,7 +101,8 @@ module _ {P M : Type 0} where
   pub AllBelow-replaced : (packets : Packets P M) (number : ℕ) (packet : Packet P M) (limit : ℕ)
       → AllBelow packets limit → AllBelow (replaced number (Some packet) packets) limit
   AllBelow-replaced [] number packet limit below = tt
-  AllBelow-replaced (entry ∷ packets) number packet limit below = go (is_at (nat_cmp number) entry.0) (AllBelow-replaced packets number packet limit below.1)
+  AllBelow-replaced (entry ∷ packets) number packet limit below =
+      go (is_at (nat_cmp number) entry.0) (AllBelow-replaced packets number packet limit below.1)
     where
       go : (b : Bool) → AllBelow (replaced number (Some packet) packets) limit
           → AllBelow (cond b ((entry.0, packet) ∷ packets) (entry ∷ replaced number (Some packet) packets)) limit
@@ -103,22 +113,26 @@ module _ {P M : Type 0} where
       → AllBelow (carrying number contents packets) limit
   AllBelow-carrying packets number contents limit below = go (packet_at packets number)
     where
-      go : (found : Option (Packet P M)) → AllBelow (replaced number (option_map (with_contents contents) found) packets) limit
+      go : (found : Option (Packet P M))
+          → AllBelow (replaced number (option_map (with_contents contents) found) packets) limit
       go None = below
       go (Some packet) = AllBelow-replaced packets number (with_contents contents packet) limit below
 
   pub AllBelow-push : (packets : Packets P M) (number : ℕ) (packet : Packet P M) → AllBelow packets number
       → AllBelow (packets ++ (number, packet) ∷ []) (number + 1)
   AllBelow-push [] number packet below = (omega arith, tt)
-  AllBelow-push (entry ∷ packets) number packet below = (let h : entry.0 < number = below.0 in omega arith, AllBelow-push packets number packet below.1)
+  AllBelow-push (entry ∷ packets) number packet below =
+      (let h : entry.0 < number = below.0 in omega arith, AllBelow-push packets number packet below.1)
 
   -- ---- sums
 
   -- a packet that is taken leaves the sum
-  pub sum-without : (f : ℕ × Packet P M → ℕ) (packets : Packets P M) (number : ℕ) (packet : Packet P M) → packet_at packets number ≡ Some packet
+  pub sum-without : (f : ℕ × Packet P M → ℕ) (packets : Packets P M) (number : ℕ) (packet : Packet P M)
+      → packet_at packets number ≡ Some packet
       → sum_by f (without packets number) + f (number, packet) ≡ sum_by f packets
   sum-without f [] number packet found = no_packet packet found
-  sum-without f (entry ∷ packets) number packet found = go (is_at (nat_cmp number) entry.0) refl found (sum-without f packets number packet)
+  sum-without f (entry ∷ packets) number packet found =
+      go (is_at (nat_cmp number) entry.0) refl found (sum-without f packets number packet)
     where
       go : (b : Bool) → is_at (nat_cmp number) entry.0 ≡ b
           → cond b (Some entry.1) (packet_at packets number) ≡ Some packet
@@ -137,7 +151,8 @@ module _ {P M : Type 0} where
           omega (arith, cons, rest, sum)
 
   -- other contents of a packet leave a sum that does not look at them
-  pub sum-replaced : (f : ℕ × Packet P M → ℕ) (packets : Packets P M) (number : ℕ) (packet other : Packet P M) → packet_at packets number ≡ Some packet
+  pub sum-replaced : (f : ℕ × Packet P M → ℕ) (packets : Packets P M) (number : ℕ) (packet other : Packet P M)
+      → packet_at packets number ≡ Some packet
       → ((n : ℕ) → f (n, other) ≡ f (n, packet)) → sum_by f (replaced number (Some other) packets) ≡ sum_by f packets
   sum-replaced f [] number packet other found alike = no_packet packet found
   sum-replaced f (entry ∷ packets) number packet other found alike = go (is_at (nat_cmp number) entry.0) found
@@ -146,11 +161,13 @@ module _ {P M : Type 0} where
       go : (b : Bool) → cond b (Some entry.1) (packet_at packets number) ≡ Some packet
           → (packet_at packets number ≡ Some packet → sum_by f (replaced number (Some other) packets)
           ≡ sum_by f packets)
-          → sum_by f (cond b ((entry.0, other) ∷ packets) (entry ∷ replaced number (Some other) packets)) ≡ sum_by f (entry ∷ packets)
+          → sum_by f (cond b ((entry.0, other) ∷ packets) (entry ∷ replaced number (Some other) packets))
+          ≡ sum_by f (entry ∷ packets)
       go true e later =
           let cons = sum_by-cons f entry packets in
           let here = sum_by-cons f (entry.0, other) packets in
-          let same : f (entry.0, other) ≡ f entry = alike entry.0 ∙ ap (λ (p : Packet P M). f (entry.0, p)) (sym (some_packet entry.1 packet e)) in
+          let same : f (entry.0, other) ≡ f entry =
+          alike entry.0 ∙ ap (λ (p : Packet P M). f (entry.0, p)) (sym (some_packet entry.1 packet e)) in
           omega (arith, cons, here, same)
       go false e later =
           let cons = sum_by-cons f entry packets in
@@ -185,10 +202,12 @@ module _ {P M : Type 0} where
       at_most_one false = omega arith
 
   -- the count of silent packets is their number
-  pub silent_count-length : (last : Option ℕ) (packets : Packets P M) → length (silent_above last packets) ≡ sum_by (silent_count last) packets
+  pub silent_count-length : (last : Option ℕ) (packets : Packets P M)
+      → length (silent_above last packets) ≡ sum_by (silent_count last) packets
   silent_count-length last [] = refl
   silent_count-length last (entry ∷ packets) =
-      let cons = sum_by-cons (silent_count last) entry packets in go (is_silent_above last entry) (silent_count-length last packets) ∙ sym cons
+      let cons = sum_by-cons (silent_count last) entry packets in go (is_silent_above last entry)
+      (silent_count-length last packets) ∙ sym cons
     where
       go : (b : Bool) → length (silent_above last packets) ≡ sum_by (silent_count last) packets
           → length (cond b (entry ∷ silent_above last packets) (silent_above last packets))
@@ -205,7 +224,8 @@ module _ {P M : Type 0} where
       not_both : (entry.1.size == 0) ≡ true → (entry.1.size == 0) ≡ false → ⊥
       not_both p q = cc
 
-      go : (b : Bool) → (entry.1.size == 0) ≡ b → (sum_by (λ e. size_count e.1) packets ≢ 0 → HasSize packets) → HasSize (entry ∷ packets)
+      go : (b : Bool) → (entry.1.size == 0) ≡ b → (sum_by (λ e. size_count e.1) packets ≢ 0 → HasSize packets)
+          → HasSize (entry ∷ packets)
       go false e later = inl (λ zero. not_both (ap (λ (n : ℕ). n == 0) zero) e)
       go true e later = inr (later (λ none. some (
           let cons = sum_by-cons (λ (p : ℕ × Packet P M). size_count p.1) entry packets in
@@ -232,7 +252,8 @@ module _ {P M : Type 0} where
       let cons = sum_by-cons (eliciting_count last) entry packets in
       go (is_above last entry.0) entry.1.ack_eliciting refl refl (all_silent last packets (omega (arith, cons, none)))
     where
-      cons : sum_by (eliciting_count last) (entry ∷ packets) ≡ eliciting_count last entry + sum_by (eliciting_count last) packets
+      cons : sum_by (eliciting_count last) (entry ∷ packets) ≡ eliciting_count last entry
+          + sum_by (eliciting_count last) packets
       cons = sum_by-cons (eliciting_count last) entry packets
 
       go : (above eliciting : Bool) → is_above last entry.0 ≡ above → entry.1.ack_eliciting ≡ eliciting
@@ -242,23 +263,28 @@ module _ {P M : Type 0} where
       go false eliciting e f later = later
       go true false e f later = ap (λ (es : Packets P M). entry ∷ es) later
       go true true e f later =
-          let one : eliciting_count last entry ≡ 1 = ap (λ b. cond (b && entry.1.ack_eliciting) 1 0) e ∙ ap (λ b. cond b 1 0) f in
+          let one : eliciting_count last entry ≡ 1 = ap (λ b. cond (b && entry.1.ack_eliciting) 1 0) e
+          ∙ ap (λ b. cond b 1 0) f in
           absurd (omega (arith, cons, one, none))
 
   -- the first number above another is that of a packet
-  pub first_above_found : (last : Option ℕ) (packets : Packets P M) (number : ℕ) → least_number (filter (λ entry. is_above last entry.0) packets) ≡ Some number
+  pub first_above_found : (last : Option ℕ) (packets : Packets P M) (number : ℕ)
+      → least_number (filter (λ entry. is_above last entry.0) packets) ≡ Some number
       → (packet : Packet P M) × (packet_at packets number ≡ Some packet) × (is_above last number ≡ true)
   first_above_found last [] number e = absurd (none_is_some number e)
     where
       none_is_some : (n : ℕ) → None ≡ Some n → ⊥
       none_is_some n e = cc
-  first_above_found last (entry ∷ packets) number e = go (is_above last entry.0) refl e (first_above_found last packets number)
+  first_above_found last (entry ∷ packets) number e =
+      go (is_above last entry.0) refl e (first_above_found last packets number)
     where
       some_number : (m n : ℕ) → Some m ≡ Some n → m ≡ n
       some_number m n e = cc
 
-      either : (b : Bool) → (packet : Packet P M) × (packet_at packets number ≡ Some packet) × (is_above last number ≡ true)
-          → (packet : Packet P M) × (cond b (Some entry.1) (packet_at packets number) ≡ Some packet) × (is_above last number ≡ true)
+      either : (b : Bool) → (packet : Packet P M) × (packet_at packets number ≡ Some packet)
+          × (is_above last number ≡ true)
+          → (packet : Packet P M) × (cond b (Some entry.1) (packet_at packets number) ≡ Some packet)
+          × (is_above last number ≡ true)
       either true found = (entry.1, refl, found.2)
       either false found = found
 
@@ -270,8 +296,13 @@ module _ {P M : Type 0} where
           → (packet : Packet P M) × (packet_at (entry ∷ packets) number ≡ Some packet) × (is_above last number ≡ true)
       go true above f later =
           let same : entry.0 ≡ number = some_number entry.0 number f in
-          let here : is_at (nat_cmp number) entry.0 ≡ true = ap (λ (n : ℕ). is_at (nat_cmp number) n) same ∙ at_itself number in
-          (entry.1, ap (λ b. cond b (Some entry.1) (packet_at packets number)) here, ap (is_above last) (sym same) ∙ above)
+          let here : is_at (nat_cmp number) entry.0 ≡ true = ap (λ (n : ℕ). is_at (nat_cmp number) n) same
+          ∙ at_itself number in (
+            entry.1,
+            ap (λ b. cond b (Some entry.1) (packet_at packets number)) here,
+            ap (is_above last) (sym same)
+                ∙ above,
+          )
       go false above f later = either (is_at (nat_cmp number) entry.0) (later f)
 
   -- a packet above the last eliciting number elicits none itself
@@ -283,17 +314,22 @@ module _ {P M : Type 0} where
       go : (b : Bool) → packet.ack_eliciting ≡ b → b ≡ false
       go false e = refl
       go true e =
-          let one : eliciting_count last (number, packet) ≡ 1 = ap (λ b. cond (b && packet.ack_eliciting) 1 0) above ∙ ap (λ b. cond b 1 0) e in
+          let one : eliciting_count last (number, packet) ≡ 1 = ap (λ b. cond (b && packet.ack_eliciting) 1 0) above
+          ∙ ap (λ b. cond b 1 0) e in
           let some = found-le-sum (eliciting_count last) packets number packet found in
           absurd (omega (arith, one, some, none))
 
-  pub AllBelow-more : (packets : Packets P M) (limit more : ℕ) → limit ≤ more → AllBelow packets limit → AllBelow packets more
+  pub AllBelow-more : (packets : Packets P M) (limit more : ℕ) → limit ≤ more → AllBelow packets limit
+      → AllBelow packets more
   AllBelow-more [] limit more le below = tt
-  AllBelow-more (entry ∷ packets) limit more le below = (let h : entry.0 < limit = below.0 in omega arith, AllBelow-more packets limit more le below.1)
+  AllBelow-more (entry ∷ packets) limit more le below =
+      (let h : entry.0 < limit = below.0 in omega arith, AllBelow-more packets limit more le below.1)
 
-  pub without-absent : (packets : Packets P M) (number : ℕ) → packet_at packets number ≡ None → without packets number ≡ packets
+  pub without-absent : (packets : Packets P M) (number : ℕ) → packet_at packets number ≡ None
+      → without packets number ≡ packets
   without-absent [] number absent = refl
-  without-absent (entry ∷ packets) number absent = go (is_at (nat_cmp number) entry.0) absent (without-absent packets number)
+  without-absent (entry ∷ packets) number absent =
+      go (is_at (nat_cmp number) entry.0) absent (without-absent packets number)
     where
       go : (b : Bool) → cond b (Some entry.1) (packet_at packets number) ≡ None
           → (packet_at packets number ≡ None → without packets number ≡ packets)
@@ -323,7 +359,8 @@ module _ {P M : Type 0} where
           → (packet : Packet P M) × (packet_at (entry ∷ packets) number ≡ Some packet)
       go true f later =
           let same : entry.0 ≡ number = some_number entry.0 number f in
-          let here : is_at (nat_cmp number) entry.0 ≡ true = ap (λ (n : ℕ). is_at (nat_cmp number) n) same ∙ at_itself number in
+          let here : is_at (nat_cmp number) entry.0 ≡ true = ap (λ (n : ℕ). is_at (nat_cmp number) n) same
+          ∙ at_itself number in
           (entry.1, ap (λ b. cond b (Some entry.1) (packet_at packets number)) here)
       go false f later = either (is_at (nat_cmp number) entry.0) (later f)
 
@@ -331,7 +368,8 @@ module _ {P M : Type 0} where
       → forgotten_silent last packets ≡ Some number → (packet : Packet P M) × (packet_at packets number ≡ Some packet)
   forgotten_silent_found last packets number e = go (nat_lt 1000 (length (silent_above last packets))) e
     where
-      go : (b : Bool) → cond b (least_number (silent_above last packets)) None ≡ Some number → (packet : Packet P M) × (packet_at packets number ≡ Some packet)
+      go : (b : Bool) → cond b (least_number (silent_above last packets)) None ≡ Some number → (packet : Packet P M)
+          × (packet_at packets number ≡ Some packet)
       go true f = first_found (is_silent_above last) packets number f
       go false f = no_number number f
 
@@ -340,10 +378,13 @@ module _ {P M : Type 0} where
       → entry_number (entry_at packets (forgotten_number last packet packets)) ≡ forgotten_number last packet packets
   entry_number_of last packet packets = eliciting packet.ack_eliciting
     where
-      silent : (forgotten : Option ℕ) → forgotten_silent last packets ≡ forgotten → entry_number (entry_at packets forgotten) ≡ forgotten
+      silent : (forgotten : Option ℕ) → forgotten_silent last packets ≡ forgotten
+          → entry_number (entry_at packets forgotten) ≡ forgotten
       silent None e = refl
-      silent (Some number) e = let found = forgotten_silent_found last packets number e in ap (λ r. entry_number (numbered number r)) found.1
+      silent (Some number) e = let found =
+          forgotten_silent_found last packets number e in ap (λ r. entry_number (numbered number r)) found.1
 
-      eliciting : (b : Bool) → entry_number (entry_at packets (cond b None (forgotten_silent last packets))) ≡ cond b None (forgotten_silent last packets)
+      eliciting : (b : Bool) → entry_number (entry_at packets (cond b None (forgotten_silent last packets)))
+          ≡ cond b None (forgotten_silent last packets)
       eliciting true = refl
       eliciting false = silent (forgotten_silent last packets) refl

@@ -11,6 +11,7 @@ module _ {P M : Type 0} where
   -- the numbers that came have a greatest one
   pub came_greatest : (log : List (SpaceEntry P M)) → HasGreatest (CameIn log)
   came_greatest [] = inl (λ m here. here)
-  came_greatest (heard now number ack_eliciting ∷ earlier) = greatest_with (CameIn earlier) number (came_greatest earlier)
+  came_greatest (heard now number ack_eliciting ∷ earlier) =
+      greatest_with (CameIn earlier) number (came_greatest earlier)
   came_greatest (heard_again number ∷ earlier) = greatest_with (CameIn earlier) number (came_greatest earlier)
   came_greatest (entry ∷ earlier) = came_greatest earlier

@@ -35,7 +35,8 @@ module _ {P M : Type 0} where
       → ((n : ℕ) → Has old n ↔ Recent (CameIn log) n)
       → ((n : ℕ) → Has new n ↔ Recent (With number (Has old)) n)
       → (n : ℕ) → Has new n ↔ Recent (With number (CameIn log)) n
-  numbers_law log old new number left step n = iff_trans (step n) (left_with (CameIn log) (Has old) (came_greatest log) left number n)
+  numbers_law log old new number left step n =
+      iff_trans (step n) (left_with (CameIn log) (Has old) (came_greatest log) left number n)
 
   abbrev taken : ℕ → Sent P M → Sent P M
   taken number sent = record sent { tracked = without sent.tracked number }
@@ -53,7 +54,8 @@ module _ {P M : Type 0} where
   kept_acknowledged : (packet : Packet P M) (number : ℕ) (old : Space P M) (acks : Acks)
       → kept_of (with_acks acks (after_acknowledging number packet.time_sent (space_takes number old)))
       ≡ record (kept_of old) { largest = acknowledged_with (Some packet) number (kept_of old).largest }
-  kept_acknowledged packet number old acks = go (is_above old.largest_acked_packet number) old.largest_acked_packet old.largest_acked_packet_sent
+  kept_acknowledged packet number old acks =
+      go (is_above old.largest_acked_packet number) old.largest_acked_packet old.largest_acked_packet_sent
     where
       go : (b : Bool) (n : Option ℕ) (sent : ℕ) → (let a : Acknowledged =
           record { number = cond b (Some number) n; sent = cond b packet.time_sent sent } in record (kept_of old)
@@ -73,7 +75,8 @@ module _ {P M S : Type 0} (words : QueueWords P S) where
       ap (λ (n : ℕ). let k : Kept = record (kept_sent (number + 1 - (sent_by words log).next) packet
       (kept_by words start log)) { given_out = n } in k) (more (sent_by words log).next above)
     where
-      more : (next : ℕ) → next ≤ number → min (min next (2 ^ 64 - 1) + (number + 1 - next)) (2 ^ 64 - 1) ≡ min (number + 1) (2 ^ 64 - 1)
+      more : (next : ℕ) → next ≤ number → min (min next (2 ^ 64 - 1) + (number + 1 - next)) (2 ^ 64 - 1)
+          ≡ min (number + 1) (2 ^ 64 - 1)
       more next le = omega (arith, le)
 
   kept_acks : (start : ℕ) (log : List (SpaceEntry P M)) (number : ℕ) (packet : Packet P M)
@@ -104,7 +107,8 @@ module _ {P M S : Type 0} (words : QueueWords P S) where
       → SpaceLeft words start log old → SpaceStep words entry old new → SpaceLeft words start (entry ∷ log) new
   space_law start (heard now number ack_eliciting) log old new left step = record {
     numbers = numbers_law log old.dedup new.dedup number left.numbers step.numbers;
-    acks = heard_law words log (acks_of old) left.acks (Has old.dedup) left.numbers now number ack_eliciting (acks_of new) step.hears;
+    acks = heard_law words log (acks_of old) left.acks (Has old.dedup) left.numbers now number ack_eliciting
+        (acks_of new) step.hears;
     greatest = ap (λ (s : Space P M). s.rx_packet) step.others ∙ ap (λ (g : ℕ). max g number) left.greatest;
     sent = ap sent_of step.others ∙ left.sent;
     kept = ap kept_of step.others ∙ left.kept;
@@ -112,7 +116,8 @@ module _ {P M S : Type 0} (words : QueueWords P S) where
   }
   space_law start (heard_again number) log old new left step = record {
     numbers = numbers_law log old.dedup new.dedup number left.numbers step.0;
-    acks = let Holds : Acks → Type 0 = AcksLeft (acks_by words (heard_again number ∷ log)) in subst Holds (sym (ap acks_of step.1)) left.acks;
+    acks = let Holds : Acks → Type 0 =
+        AcksLeft (acks_by words (heard_again number ∷ log)) in subst Holds (sym (ap acks_of step.1)) left.acks;
     greatest = ap (λ (s : Space P M). s.rx_packet) step.1 ∙ left.greatest;
     sent = ap sent_of step.1 ∙ left.sent;
     kept = ap kept_of step.1 ∙ left.kept;
@@ -143,7 +148,8 @@ module _ {P M S : Type 0} (words : QueueWords P S) where
     kept =
         ap kept_of step.others ∙ kept_acknowledged step.packet number old (acks_of new)
         ∙ ap (λ (k : Kept). record k { largest = acknowledged_with (Some step.packet) number k.largest }) left.kept
-        ∙ kept_acks start log number step.packet (sym (ap (λ (s : Sent P M). packet_at s.tracked number) left.sent) ∙ step.found);
+        ∙ kept_acks start log number step.packet (sym (ap (λ (s : Sent P M). packet_at s.tracked number) left.sent)
+        ∙ step.found);
     queued = ap queued_of step.others ∙ left.queued;
   }
   space_law start (loses number) log old new left step =
@@ -160,7 +166,9 @@ module _ {P M S : Type 0} (words : QueueWords P S) where
       let Holds : Space P M → Type 0 = SpaceLeft words start (probes immediate found ∷ log) in
       subst Holds (sym step) (probes_law found)
     where
-      probes_law : (found : ProbeFound) → SpaceLeft words start (probes immediate found ∷ log) (space_probes words immediate found (one_probe_more old))
+      probes_law : (found : ProbeFound)
+          → SpaceLeft words start (probes immediate found ∷ log)
+          (space_probes words immediate found (one_probe_more old))
       probes_law pending_stands = record {
         numbers = left.numbers;
         acks = left.acks;
@@ -183,7 +191,8 @@ module _ {P M S : Type 0} (words : QueueWords P S) where
         greatest = left.greatest;
         sent = ap (sent_moved words.empty (moves number)) left.sent;
         kept = ap probed left.kept;
-        queued = ap (marked immediate (moves number)) (with_pending _ old (queued_by words log) left.queued _ (same_joined start log old left number));
+        queued = ap (marked immediate (moves number))
+            (with_pending _ old (queued_by words log) left.queued _ (same_joined start log old left number));
       }
   space_law start takes_pending log old new left step =
       let Holds : Space P M → Type 0 = SpaceLeft words start (takes_pending ∷ log) in
@@ -263,7 +272,10 @@ module _ {P M S : Type 0} (words : QueueWords P S) where
       → IsSendable words streams (heard_by words log) (queued_by words log) frames
   sendable_law start log space left streams frames is =
       let waits = waits_alike (acks_by words log) (acks_of space) left.acks in (
-        (λ h. let both = is.0.0 h in (left.acks.required.0 both.0, waits.0 both.1), λ h. is.0.1 (left.acks.required.1 h.0, waits.1 h.1)),
+        (
+          λ h. let both = is.0.0 h in (left.acks.required.0 both.0, waits.0 both.1),
+          λ h. is.0.1 (left.acks.required.1 h.0, waits.1 h.1),
+        ),
         is.1 ∙ ap (has_other words streams) left.queued,
       )
 
@@ -287,7 +299,11 @@ module _ {P M S : Type 0} (words : QueueWords P S) where
     kept = none_kept;
     queued = none_queued;
     sent =
-        ap (λ (t : Tracking P M). let s : Sent P M = record { next = next_number_of fresh; last = t.last_eliciting; tracked = t.packets } in s) no_tracking
+        ap (λ (t : Tracking P M). let s : Sent P M = record {
+          next = next_number_of fresh;
+          last = t.last_eliciting;
+          tracked = t.packets;
+        } in s) no_tracking
         ∙ ap (λ (n : ℕ). let s : Sent P M = record { next = n; last = None; tracked = [] } in s) zero;
   }
 

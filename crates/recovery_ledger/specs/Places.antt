@@ -15,8 +15,8 @@ pub record IsPlaceOf {P M : Type 0} (packets : Packets P M) (number place slots 
   pub before : length (filter (is_below number) packets) ≤ place
   pub behind : place + length (filter (is_from number) packets) ≤ slots
 
--- the place of a tracked packet, and how many slots were looked at for it: one at least, and at most as many as the count
--- of slots has binary digits
+-- the place of a tracked packet, and how many slots were looked at for it: one at least, and at most as many as the
+-- count of slots has binary digits
 pub record FindsPacket {P M : Type 0} (packets : Packets P M) (number : ℕ) (found : Option ℕ × ℕ) : Type 0 where
   pub slots : ℕ
   pub has : HasSlots packets slots

@@ -147,8 +147,10 @@ after_eliciting eliciting now space = record space {
 -- a number is acknowledged, sent at this moment: the greatest is kept
 abbrev pub after_acknowledging : {P M : Type 0} → ℕ → ℕ → Space P M → Space P M
 after_acknowledging number sent space = record space {
-  largest_acked_packet = (if is_above space.largest_acked_packet number then Some number else space.largest_acked_packet);
-  largest_acked_packet_sent = (if is_above space.largest_acked_packet number then sent else space.largest_acked_packet_sent);
+  largest_acked_packet =
+      (if is_above space.largest_acked_packet number then Some number else space.largest_acked_packet);
+  largest_acked_packet_sent =
+      (if is_above space.largest_acked_packet number then sent else space.largest_acked_packet_sent);
 }
 
 -- ---- what an event does to its space

@@ -14,7 +14,8 @@ use Rattle.recovery_lines.specs.Reading.{◌>>=◌, named, field, flag_names, sp
 use Rattle.recovery_lines.proofs.NumberLaws.{number_takes, number_again, decimal_is_no_dash}
 
 -- the value of a step that did not fail
-pub bind_some : {A B : Type 0} (o : Option A) (f : A → Option B) (y : B) → (o >>= f) ≡ Some y → (x : A) × (o ≡ Some x) × (f x ≡ Some y)
+pub bind_some : {A B : Type 0} (o : Option A) (f : A → Option B) (y : B) → (o >>= f) ≡ Some y → (x : A) × (o ≡ Some x)
+    × (f x ≡ Some y)
 bind_some (Some x) f y e = (x, refl, e)
 bind_some None f y e = absurd cc
 
@@ -38,10 +39,12 @@ pub record IsField {A : Type 0} (word : A → List ℕ) (Fits : A → Type 0) (r
 pub named_takes : {A : Type 0} (word : A → List ℕ) (names : List (List ℕ × A))
     → AllByRecursion (λ p. p.0 ≡ word p.1) names → (text : List ℕ) (x : A) → named names text ≡ Some x → text ≡ word x
 named_takes word [] h text x e = absurd cc
-named_takes word ((name, value) ∷ names) h text x e = go (bytes_eq text name) refl e (named_takes word names h.1 text x) where
-  go : (b : Bool) → bytes_eq text name ≡ b → cond b (Some value) (named names text) ≡ Some x → (named names text ≡ Some x → text ≡ word x) → text ≡ word x
-  go true same f later = (bytes_eq-Decides text name).0 same ∙ h.0 ∙ ap word (some_is value x f)
-  go false other f later = later f
+named_takes word ((name, value) ∷ names) h text x e =
+    go (bytes_eq text name) refl e (named_takes word names h.1 text x) where
+      go : (b : Bool) → bytes_eq text name ≡ b → cond b (Some value) (named names text) ≡ Some x
+          → (named names text ≡ Some x → text ≡ word x) → text ≡ word x
+      go true same f later = (bytes_eq-Decides text name).0 same ∙ h.0 ∙ ap word (some_is value x f)
+      go false other f later = later f
 
 pub number_field : (limit : ℕ) → limit ≤ 10 ^ 64 → IsField decimal (λ n. n < limit) (number_of limit)
 number_field limit most = record { takes = number_takes limit; again = λ n lt. number_again limit n most lt }
@@ -53,7 +56,10 @@ flag_again false = refl
 
 pub flag_field : IsField flag_word (λ b. Unit {0}) flag_of
 unfolding flag_of
-flag_field = record { takes = λ text b e. (named_takes flag_word flag_names (refl, (refl, tt)) text b e, tt); again = λ b h. flag_again b }
+flag_field = record {
+  takes = λ text b e. (named_takes flag_word flag_names (refl, (refl, tt)) text b e, tt);
+  again = λ b h. flag_again b;
+}
 
 pub space_again : (s : SpaceId) → space_of (space_word s) ≡ Some s
 unfolding space_of
@@ -63,7 +69,10 @@ space_again Data = refl
 
 pub space_field : IsField space_word (λ s. Unit {0}) space_of
 unfolding space_of
-space_field = record { takes = λ text s e. (named_takes space_word space_names (refl, (refl, (refl, tt))) text s e, tt); again = λ s h. space_again s }
+space_field = record {
+  takes = λ text s e. (named_takes space_word space_names (refl, (refl, (refl, tt))) text s e, tt);
+  again = λ s h. space_again s;
+}
 
 pub timer_again : (t : Timer) → timer_of (timer_word t) ≡ Some t
 unfolding timer_of
@@ -95,10 +104,14 @@ path_again Previous = refl
 
 pub path_field : IsField path_word (λ p. Unit {0}) path_of
 unfolding path_of
-path_field = record { takes = λ text p e. (named_takes path_word path_names (refl, (refl, tt)) text p e, tt); again = λ p h. path_again p }
+path_field = record {
+  takes = λ text p e. (named_takes path_word path_names (refl, (refl, tt)) text p e, tt);
+  again = λ p h. path_again p;
+}
 
 -- a number or none
-largest_takes : (text : List ℕ) (l : Option ℕ) → largest_of text ≡ Some l → (text ≡ largest_word l) × IfSome l (λ n. n < 2 ^ 64)
+largest_takes : (text : List ℕ) (l : Option ℕ) → largest_of text ≡ Some l → (text ≡ largest_word l)
+    × IfSome l (λ n. n < 2 ^ 64)
 unfolding largest_of
 largest_takes text l e = go (bytes_eq text (codes "-")) refl e
   where

@@ -123,7 +123,12 @@ tail_takes : {A : Type 0} (tail : Tail) (make : TailValue tail → A) (words : L
     → FieldsRead tail [] make words made rest
 tail_takes {A} no_tail make words made rest e =
     let same = some_is (make tt, words) (made, rest) e in
-    record { values = tt; is = ap (λ (r : A × List (List ℕ)). r.1) same; fit = tt; same = ap (λ (r : A × List (List ℕ)). r.0) same }
+    record {
+      values = tt;
+      is = ap (λ (r : A × List (List ℕ)). r.1) same;
+      fit = tt;
+      same = ap (λ (r : A × List (List ℕ)). r.0) same;
+    }
 tail_takes {A} an_item_tail make words made rest e =
     let b = bind_some (items_read words) (λ items. Some (make items, [])) (made, rest) e in
     let same = some_is (make b.0, []) (made, rest) b.2 in
@@ -142,31 +147,42 @@ tail_again : {A : Type 0} (tail : Tail) (make : TailValue tail → A) (x : TailV
     → tail_read tail make (tail_words tail x) ≡ Some (make x, [])
 tail_again no_tail make x h = refl
 tail_again {A} an_item_tail make x h =
-    ap (λ (o : Option (List ℕ)). let read : Option (A × List (List ℕ)) = (o >>= λ items. Some (make items, [])) in read) (items_again x h)
+    ap (λ (o : Option (List ℕ)). let read : Option (A × List (List ℕ)) = (o >>= λ items. Some (make items, [])) in read)
+    (items_again x h)
 
 -- ---- several fields
 
-fields_take : {A : Type 0} (tail : Tail) (fields : List Field) (make : Values tail fields → A) (words : List (List ℕ)) (made : A) (rest : List (List ℕ))
+fields_take : {A : Type 0} (tail : Tail) (fields : List Field) (make : Values tail fields → A) (words : List (List ℕ))
+    (made : A) (rest : List (List ℕ))
     → fields_read tail fields make words ≡ Some (made, rest) → FieldsRead tail fields make words made rest
 unfolding fields_read
 fields_take tail [] make words made rest e = tail_takes tail make words made rest e
 fields_take tail (f ∷ fields) make words made rest e =
-    let b = bind_some (field (value_of f) words) (λ x. fields_read tail fields (λ y. make (x.0, y)) x.1) (made, rest) e in
+    let b = bind_some (field (value_of f) words) (λ x. fields_read tail fields (λ y. make (x.0, y)) x.1) (made, rest)
+    e in
     let t = field_takes (is_field f) words b.0.0 b.0.1 b.1 in
     let r = fields_take tail fields (λ y. make (b.0.0, y)) b.0.1 made rest b.2 in
-    record { values = (b.0.0, r.values); is = t.0 ∙ ap (λ (ws : List (List ℕ)). word_for f b.0.0 ∷ ws) r.is; fit = (t.1, r.fit); same = r.same }
+    record {
+      values = (b.0.0, r.values);
+      is = t.0 ∙ ap (λ (ws : List (List ℕ)). word_for f b.0.0 ∷ ws) r.is;
+      fit = (t.1, r.fit);
+      same = r.same;
+    }
 
 -- at the end of the words, where items stand
-fields_again : {A : Type 0} (tail : Tail) (fields : List Field) (make : Values tail fields → A) (x : Values tail fields) → AllFit tail fields x
+fields_again : {A : Type 0} (tail : Tail) (fields : List Field) (make : Values tail fields → A) (x : Values tail fields)
+    → AllFit tail fields x
     → fields_read tail fields make (words_for tail fields x) ≡ Some (make x, [])
 unfolding fields_read
 fields_again tail [] make x h = tail_again tail make x h
 fields_again {A} tail (f ∷ fields) make x h =
-    ap (λ (o : Option (Value f × List (List ℕ))). let read : Option (A × List (List ℕ)) = (o >>= λ v. fields_read tail fields (λ y. make (v.0, y)) v.1) in read)
+    ap (λ (o : Option (Value f × List (List ℕ))).
+    let read : Option (A × List (List ℕ)) = (o >>= λ v. fields_read tail fields (λ y. make (v.0, y)) v.1) in read)
     (field_again (is_field f) x.0 (words_for tail fields x.1) h.0)
     ∙ fields_again tail fields (λ y. make (x.0, y)) x.1 h.1
 
-fields_plain : (tail : Tail) (fields : List Field) (x : Values tail fields) → AllFit tail fields x → AllByRecursion IsPlain (words_for tail fields x)
+fields_plain : (tail : Tail) (fields : List Field) (x : Values tail fields) → AllFit tail fields x
+    → AllByRecursion IsPlain (words_for tail fields x)
 fields_plain tail [] x h = tail_plain tail x h
 fields_plain tail (f ∷ fields) x h = (field_plain f x.0 h.0, fields_plain tail fields x.1 h.1)
 
@@ -183,7 +199,8 @@ Saying = (form : Form) × FormValues form
 
 -- What a form's line means is said by that form, which is the one of ids where it means ids; the form's name is plain.
 record IsForm (form : Form) : Type 0 where
-  own : (x : FormValues form) (event : ItemEvent) → Means (form.line x) event → (unkept : ℕ) × (saying unkept event ≡ (form, x))
+  own : (x : FormValues form) (event : ItemEvent) → Means (form.line x) event
+      → (unkept : ℕ) × (saying unkept event ≡ (form, x))
   ids : (x : FormValues form) (now first count : ℕ) → AllFit form.tail form.fields x → form.line x ≡ Ids now first count
       → (words_said (form, x) ≡ words_said (issue_ids, (now, (first, (count, tt))))) × (now < 2 ^ 64) × (count < 65)
   plain : is_plain form.name ≡ true
@@ -203,14 +220,17 @@ says {name} {tail} {fields} {event} same plain = record {
   not_ids : {A : Type 0} (said : ItemEvent) (now first count : ℕ) → Said said ≡ Ids now first count → A
   not_ids said now first count e = absurd cc
 
-ids_own : (x : FormValues issue_ids) (event : ItemEvent) → Means (issue_ids.line x) event → (unkept : ℕ) × (saying unkept event ≡ (issue_ids, x))
+ids_own : (x : FormValues issue_ids) (event : ItemEvent) → Means (issue_ids.line x) event
+    → (unkept : ℕ) × (saying unkept event ≡ (issue_ids, x))
 ids_own x event means =
     let ids : Vec IssuedCid = means.0 in
-    let are : AreZero x.1.0 x.1.1.0 ids.items = subst (AreZero x.1.0 x.1.1.0) (sym means.2) (zero_ids_are x.1.0 x.1.1.0) in
+    let are : AreZero x.1.0 x.1.1.0 ids.items =
+    subst (AreZero x.1.0 x.1.1.0) (sym means.2) (zero_ids_are x.1.0 x.1.1.0) in
     let says : ℕ → ℕ → Saying = λ first count. (issue_ids, (x.0, (first, (count, tt)))) in
     (x.1.0, ap (saying x.1.0) means.1 ∙ ap₂ says are.first-is are.count-is)
 
-ids_words : (x : FormValues issue_ids) (now first count : ℕ) → AllFit issue_ids.tail issue_ids.fields x → issue_ids.line x ≡ Ids now first count
+ids_words : (x : FormValues issue_ids) (now first count : ℕ) → AllFit issue_ids.tail issue_ids.fields x
+    → issue_ids.line x ≡ Ids now first count
     → (words_said (issue_ids, x) ≡ words_said (issue_ids, (now, (first, (count, tt))))) × (now < 2 ^ 64) × (count < 65)
 ids_words x now first count h e =
     let a : x.0 ≡ now = cc in
@@ -222,7 +242,8 @@ is_issue_ids : IsForm issue_ids
 unfolding is_plain
 is_issue_ids = record { own = ids_own; ids = ids_words; plain = refl }
 
-path_own : (x : FormValues new_path) (event : ItemEvent) → Means (new_path.line x) event → (unkept : ℕ) × (saying unkept event ≡ (new_path, x))
+path_own : (x : FormValues new_path) (event : ItemEvent) → Means (new_path.line x) event
+    → (unkept : ℕ) × (saying unkept event ≡ (new_path, x))
 path_own x event means =
     let says : ℕ → Saying = λ port. (new_path, (x.0, (port, (x.1.1.0, tt)))) in
     (0, ap (saying 0) means.1 ∙ ap says means.2.at)
@@ -252,7 +273,8 @@ are_forms =
     says (λ x. refl) refl ⨾ says (λ x. refl) refl ⨾ tt
 
 -- the form of an event's line is the one of its name
-is_listed : (unkept : ℕ) (event : ItemEvent) → form_named forms (saying unkept event).0.name ≡ Some (saying unkept event).0
+is_listed : (unkept : ℕ) (event : ItemEvent)
+    → form_named forms (saying unkept event).0.name ≡ Some (saying unkept event).0
 is_listed unkept (Received space now number ack_eliciting) = refl
 is_listed unkept (Send space now size ack_eliciting largest_acked items none) = refl
 is_listed unkept (Acked space now number app_limited) = refl
@@ -295,7 +317,9 @@ named_form [] h name form e = absurd cc
 named_form (first ∷ listed) h name form e = go (bytes_eq name first.name) refl e (named_form listed h.1 name form) where
   go : (b : Bool) → bytes_eq name first.name ≡ b → cond b (Some first) (form_named listed name) ≡ Some form
       → (form_named listed name ≡ Some form → (name ≡ form.name) × IsForm form) → (name ≡ form.name) × IsForm form
-  go true same f later = subst (λ (g : Form). (name ≡ g.name) × IsForm g) (some_is first form f) ((bytes_eq-Decides name first.name).0 same, h.0)
+  go true same f later =
+      subst (λ (g : Form). (name ≡ g.name) × IsForm g) (some_is first form f)
+      ((bytes_eq-Decides name first.name).0 same, h.0)
   go false other f later = later f
 
 -- ---- lines
@@ -309,14 +333,23 @@ record LineRead (words : List (List ℕ)) (said : Line) (rest : List (List ℕ))
   fit : AllFit form.tail form.fields values
   same : form.line values ≡ said
 
-line_read : (words : List (List ℕ)) (said : Line) (rest : List (List ℕ)) → line_at words ≡ Some (said, rest) → LineRead words said rest
+line_read : (words : List (List ℕ)) (said : Line) (rest : List (List ℕ)) → line_at words ≡ Some (said, rest)
+    → LineRead words said rest
 unfolding line_at line_behind
 line_read [] said rest e = absurd cc
 line_read (name ∷ words) said rest e =
     let b = bind_some (form_named forms name) (λ form. reading form words) (said, rest) e in
     let n = named_form forms are_forms name b.0 b.1 in
-    let r = fields_take b.0.tail b.0.fields b.0.line words said rest (sym (all_is b.0.tail b.0.fields b.0.line words) ∙ b.2) in
-    record { form = b.0; is_form = n.1; values = r.values; is = ap₂ (λ (first : List ℕ) (ws : List (List ℕ)). first ∷ ws) n.0 r.is; fit = r.fit; same = r.same }
+    let r = fields_take b.0.tail b.0.fields b.0.line words said rest (sym (all_is b.0.tail b.0.fields b.0.line words)
+    ∙ b.2) in
+    record {
+      form = b.0;
+      is_form = n.1;
+      values = r.values;
+      is = ap₂ (λ (first : List ℕ) (ws : List (List ℕ)). first ∷ ws) n.0 r.is;
+      fit = r.fit;
+      same = r.same;
+    }
 
 -- what is read is spelled so
 pub record Takes (words : List (List ℕ)) (event : ItemEvent) (rest : List (List ℕ)) : Type 0 where
@@ -334,7 +367,10 @@ line_takes words said rest e event means =
     record {
       unkept = own.0;
       is = r.is ∙ ap (λ (s : Saying). words_said s ++ rest) (sym own.1);
-      within = subst (λ (s : Saying). AllFit s.0.tail s.0.fields s.1 × Means (s.0.line s.1) event) (sym own.1) (r.fit, meant);
+      within = subst (λ (s : Saying). AllFit s.0.tail s.0.fields s.1 × Means (s.0.line s.1) event) (sym own.1) (
+        r.fit,
+        meant,
+      );
       plain = subst (λ (s : Saying). AllByRecursion IsPlain (words_said s)) (sym own.1)
           (tested_plain r.form.name r.is_form.plain, fields_plain r.form.tail r.form.fields r.values r.fit);
     }
@@ -353,7 +389,8 @@ pub record Again (read : Option (Line × List (List ℕ))) (event : ItemEvent) :
   pub is : read ≡ Some (said, [])
   pub means : Means said event
 
-pub line_again : (unkept : ℕ) (event : ItemEvent) → IsWithinTypes unkept event → Again (line_at (spelling unkept event)) event
+pub line_again : (unkept : ℕ) (event : ItemEvent) → IsWithinTypes unkept event
+    → Again (line_at (spelling unkept event)) event
 unfolding line_at line_behind
 line_again unkept event h =
     let form : Form = (saying unkept event).0 in

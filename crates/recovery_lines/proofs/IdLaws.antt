@@ -15,9 +15,16 @@ pub zero_ids_are : (first count : ℕ) → AreZero first count (zero_ids first c
 zero_ids_are first zero = record { first-is = refl; count-is = refl; own = refl; bound = λ le. omega arith }
 zero_ids_are first (suc n) =
     let len : length (zero_ids (first + 1) n) ≡ n = length-map-range_with_len zero_id (first + 1) n in
-    record { first-is = refl; count-is = ap suc len; own = ap (λ (k : ℕ). zero_ids first (suc k)) (sym len); bound = λ le. omega (arith, len, le) }
+    record {
+      first-is = refl;
+      count-is = ap suc len;
+      own = ap (λ (k : ℕ). zero_ids first (suc k)) (sym len);
+      bound = λ le. omega (arith, len, le);
+    }
 
 -- one id more
-pub one_more_id : (first count : ℕ) (ids : List IssuedCid) (id token : List ℕ) → ids ≡ zero_ids first count → id ≡ id_of 0 → token ≡ token_of 0
+pub one_more_id : (first count : ℕ) (ids : List IssuedCid) (id token : List ℕ) → ids ≡ zero_ids first count
+    → id ≡ id_of 0 → token ≡ token_of 0
     → ids ++ record { sequence = first + count; id = id; reset_token = token } ∷ [] ≡ zero_ids first (count + 1)
-one_more_id first count ids id token is id-is token-is = rw (is, id-is, token-is) (sym (map-range_with_len_more zero_id first count (first + count) refl))
+one_more_id first count ids id token is id-is token-is =
+    rw (is, id-is, token-is) (sym (map-range_with_len_more zero_id first count (first + count) refl))

@@ -26,9 +26,11 @@ items_take (word ∷ words) items e =
 pub items_again : (items : List ℕ) → AreItems items → items_read (map decimal items) ≡ Some items
 items_again [] h = refl
 items_again (item ∷ items) h =
-    ap (λ (o : Option ℕ). let read : Option (List ℕ) = (o >>= λ n. items_read (map decimal items) >>= λ more. Some (n ∷ more)) in read)
+    ap (λ (o : Option ℕ). let read : Option (List ℕ) = (o >>= λ n. items_read (map decimal items) >>= λ more.
+    Some (n ∷ more)) in read)
     (number_again (2 ^ 64) item (lit≤ tt) h.0)
-    ∙ ap (λ (o : Option (List ℕ)). let read : Option (List ℕ) = (o >>= λ more. Some (item ∷ more)) in read) (items_again items h.1)
+    ∙ ap (λ (o : Option (List ℕ)). let read : Option (List ℕ) = (o >>= λ more. Some (item ∷ more)) in read)
+    (items_again items h.1)
 
 pub items_plain : (items : List ℕ) → AreItems items → AllByRecursion IsPlain (map decimal items)
 items_plain [] h = tt
@@ -71,7 +73,8 @@ some_left words false is decides = λ none. true_is_false (decides.1 none) where
   true_is_false e = cc
 
 -- one item before them changes nothing of whether there are items
-pub still_some : (item : ℕ) (read : Option (List ℕ)) → is_some (let all : Option (List ℕ) = (read >>= λ more. Some (item ∷ more)) in all) ≡ is_some read
+pub still_some : (item : ℕ) (read : Option (List ℕ))
+    → is_some (let all : Option (List ℕ) = (read >>= λ more. Some (item ∷ more)) in all) ≡ is_some read
 still_some item (Some more) = refl
 still_some item None = refl
 
@@ -79,7 +82,8 @@ abbrev pub behind : List ℕ → Option (List ℕ) → Option (List ℕ)
 behind items read = read >>= λ more. Some (items ++ more)
 
 -- one item more was read
-pub item_behind : (items : List ℕ) (item : ℕ) (read : Option (List ℕ)) → behind items (read >>= λ more. Some (item ∷ more)) ≡ behind (items ++ item ∷ []) read
+pub item_behind : (items : List ℕ) (item : ℕ) (read : Option (List ℕ))
+    → behind items (read >>= λ more. Some (item ∷ more)) ≡ behind (items ++ item ∷ []) read
 item_behind items item (Some more) = ap (λ (xs : List ℕ). Some xs) (sym (append_assoc items (item ∷ []) more))
 item_behind items item None = refl
 

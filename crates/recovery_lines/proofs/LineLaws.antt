@@ -35,13 +35,15 @@ all_words line said e =
     b.1 ∙ ap₂ (λ (l : Line) (r : List (List ℕ)). Some (l, r)) w.1 (empty_is b.0.1 w.0)
 
 -- what a line that is not too long says, it spells
-line_found : (line : List ℕ) (said : Line) (event : ItemEvent) → line_of line ≡ Some said → length line ≤ 4096 → Means said event → Spells line event
+line_found : (line : List ℕ) (said : Line) (event : ItemEvent) → line_of line ≡ Some said → length line ≤ 4096
+    → Means said event → Spells line event
 line_found line said event e short means =
     let t = line_takes (words_of line) said [] (all_words line said e) event means in
     record { unkept = t.unkept; words = t.is ∙ append-nil (spelling t.unkept event); within = t.within; short = short }
 
 -- what a line spells, it says
-line_only : (line : List ℕ) (event : ItemEvent) → Spells line event → (said : Line) × (line_of line ≡ Some said) × Means said event
+line_only : (line : List ℕ) (event : ItemEvent) → Spells line event → (said : Line) × (line_of line ≡ Some said)
+    × Means said event
 unfolding line_of
 line_only line event spells =
     let again = line_again spells.unkept event spells.within in
@@ -51,7 +53,8 @@ line_only line event spells =
 one_meant : (said : Line) (first second : ItemEvent) → Means said first → Means said second → IsSame first second
 one_meant (Said event) first second m n = inl (m ∙ sym n)
 one_meant (Ids now number count) first second m n =
-    subst (λ (v : ItemEvent). IsSame v second) (sym m.1) (subst (λ (v : ItemEvent). IsSame (IssueIds now m.0) v) (sym n.1) (inr (refl, m.2 ∙ sym n.2)))
+    subst (λ (v : ItemEvent). IsSame v second) (sym m.1)
+    (subst (λ (v : ItemEvent). IsSame (IssueIds now m.0) v) (sym n.1) (inr (refl, m.2 ∙ sym n.2)))
 one_meant (Path now port fresh) first second m n =
     inl (m.1 ∙ ap (λ (remote : SocketAddr). NewPath now remote fresh) (one_address port m.0 n.0 m.2 n.2) ∙ sym n.1)
 
@@ -69,7 +72,8 @@ none_is_none e = absurd cc
 
 pub read_only : {E : Type 0} (line : List ℕ) (said : Line) (read : Result (Option ItemEvent) E)
     → line_of line ≡ Some said → IfOk read (λ r. IfSome r (λ event. Means said event))
-    → ((event : ItemEvent) → Means said event → IfOk read IsSome) → (event : ItemEvent) → Spells line event → IfOk read (λ r. IsSomeAnd r (IsSame event))
+    → ((event : ItemEvent) → Means said event → IfOk read IsSome) → (event : ItemEvent) → Spells line event
+    → IfOk read (λ r. IsSomeAnd r (IsSame event))
 read_only line said (Ok (Some first)) e found only event spells =
     let s = line_only line event spells in
     one_meant said event first (subst (λ (l : Line). Means l event) (some_is s.0 said (sym s.1 ∙ e)) s.2) found
@@ -103,7 +107,8 @@ pub read_refused : {E : Type 0} (line : List ℕ) (said : Line) (read : Result (
     → line_of line ≡ Some said → length line ≤ 4096 → OnErr read (TakesMemory said) → OnErr read (HoldsList line)
 read_refused line said read e short memory = refused line said read (all_words line said e) short memory
 
-sends : (line : List ℕ) (said : Line) → line_at (words_of line) ≡ Some (said, []) → length line ≤ 4096 → TookMemory said → SendsItems line
+sends : (line : List ℕ) (said : Line) → line_at (words_of line) ≡ Some (said, []) → length line ≤ 4096 → TookMemory said
+    → SendsItems line
 sends line (Said (Send space now size ack_eliciting largest items none)) e short some =
     let event : ItemEvent = Send space now size ack_eliciting largest items none in
     let t = line_takes (words_of line) (Said event) [] e event refl in
@@ -130,10 +135,12 @@ unfolding line_at line_behind
 other_line words rest name first other = rw (first, other) refl
 
 -- a line of which all words are read, and memory was taken for them
-pub took_line : (line : List ℕ) (words : List (List ℕ)) → words ≡ words_of line → IsSomeAnd (line_at words) TookAll → IsSomeAnd (line_of line) TookMemory
+pub took_line : (line : List ℕ) (words : List (List ℕ)) → words ≡ words_of line → IsSomeAnd (line_at words) TookAll
+    → IsSomeAnd (line_of line) TookMemory
 unfolding line_of
 took_line line words is took = rw (← is) (go (line_at words) took) where
-  go : (read : Option (Line × List (List ℕ))) → IsSomeAnd read TookAll → IsSomeAnd (read >>= λ said. cond (length said.1 == 0) (Some said.0) None) TookMemory
+  go : (read : Option (Line × List (List ℕ))) → IsSomeAnd read TookAll
+      → IsSomeAnd (read >>= λ said. cond (length said.1 == 0) (Some said.0) None) TookMemory
   go (Some (said, rest)) h = rw h.1 h.0
   go None h = absurd h
 
@@ -145,27 +152,31 @@ none_spelled line event none spells = let s = line_only line event spells in som
 -- ---- the words are plain
 
 -- the words that spell an event are plain
-spelling_plain : (unkept : ℕ) (event : ItemEvent) → IsWithinTypes unkept event → AllByRecursion IsPlain (spelling unkept event)
+spelling_plain : (unkept : ℕ) (event : ItemEvent) → IsWithinTypes unkept event
+    → AllByRecursion IsPlain (spelling unkept event)
 spelling_plain unkept event within =
     let again = line_again unkept event within in
     let t = line_takes (spelling unkept event) again.said [] again.is event again.means in
     subst (AllByRecursion IsPlain) (sym (t.is ∙ append-nil (spelling t.unkept event))) t.plain
 
 spelled_plain : (line : List ℕ) (event : ItemEvent) → Spells line event → AllByRecursion IsPlain (words_of line)
-spelled_plain line event spells = subst (AllByRecursion IsPlain) (sym spells.words) (spelling_plain spells.unkept event spells.within)
+spelled_plain line event spells =
+    subst (AllByRecursion IsPlain) (sym spells.words) (spelling_plain spells.unkept event spells.within)
 
 pub spelled_no_feed : (line : List ℕ) (event : ItemEvent) → Spells line event → All (λ byte. byte ≢ 10) line
 spelled_no_feed line event spells = plain_no_feed line (spelled_plain line event spells)
 
 -- ---- laws
 
-pub one_event : (line : List ℕ) (first second : ItemEvent) → Spells line first → Spells line second → IsSame first second
+pub one_event : (line : List ℕ) (first second : ItemEvent) → Spells line first → Spells line second
+    → IsSame first second
 one_event line first second s t =
     let a = line_only line first s in
     let b = line_only line second t in
     one_meant b.0 first second (subst (λ (l : Line). Means l first) (some_is a.0 b.0 (sym a.1 ∙ b.1)) a.2) b.2
 
-joined : (words : List (List ℕ)) → 0 < length words → AllByRecursion IsPlain words → words_of (join_with_byte 32 words) ≡ words
+joined : (words : List (List ℕ)) → 0 < length words → AllByRecursion IsPlain words
+    → words_of (join_with_byte 32 words) ≡ words
 joined [] some h = absurd (omega arith)
 joined (word ∷ words) some h = words_joined word words h
 
@@ -180,4 +191,9 @@ pub one_line : (unkept : ℕ) (event : ItemEvent) → IsWithinTypes unkept event
 one_line unkept event within short =
     let again = line_again unkept event within in
     let some = some_word (spelling unkept event) again.said again.is in
-    record { unkept = unkept; words = joined (spelling unkept event) some (spelling_plain unkept event within); within = within; short = short }
+    record {
+      unkept = unkept;
+      words = joined (spelling unkept event) some (spelling_plain unkept event within);
+      within = within;
+      short = short;
+    }

@@ -25,10 +25,13 @@ other_length name other ne = go (bytes_eq name other) refl where
 by_length : (fs : List Form) (name : List ℕ) → form_named fs name ≡ form_named (of_length (length name) fs) name
 by_length [] name = refl
 by_length (form ∷ others) name = go (length name == length form.name) refl (by_length others name) where
-  go : (b : Bool) → (length name == length form.name) ≡ b → form_named others name ≡ form_named (of_length (length name) others) name
-      → form_named (form ∷ others) name ≡ form_named (cond b (form ∷ of_length (length name) others) (of_length (length name) others)) name
+  go : (b : Bool) → (length name == length form.name) ≡ b
+      → form_named others name ≡ form_named (of_length (length name) others) name
+      → form_named (form ∷ others) name ≡ form_named
+      (cond b (form ∷ of_length (length name) others) (of_length (length name) others)) name
   go true same later = ap (λ (found : Option Form). cond (bytes_eq name form.name) (Some form) found) later
-  go false differ later = let t : bytes_eq name form.name ≡ false = other_length name form.name (eqb-false _ _ differ) in rw t later
+  go false differ later = let t : bytes_eq name form.name ≡ false =
+      other_length name form.name (eqb-false _ _ differ) in rw t later
 
 pub skip : {A : Type 0} (x : A) (found : Option A) (b : Bool) → false ≡ b → found ≡ None → cond b (Some x) found ≡ None
 skip x found false e none = none
@@ -36,7 +39,8 @@ skip x found true e none = absurd cc
 
 none_of : (n : ℕ) (fs : List Form) → AllByRecursion (λ form. n ≢ length form.name) fs → of_length n fs ≡ []
 none_of n [] h = refl
-none_of n (form ∷ others) h = let t : (n == length form.name) ≡ false = ne_eqb n (length form.name) h.0 in rw t (none_of n others h.1)
+none_of n (form ∷ others) h = let t : (n == length form.name) ≡ false =
+    ne_eqb n (length form.name) h.0 in rw t (none_of n others h.1)
 
 -- no form without items has a name of another length
 pub none_of_length : (n : ℕ)
@@ -48,7 +52,8 @@ none_of_length n h3 h4 h5 h6 h7 h8 h9 h10 h11 h12 h13 h17 =
     ⨾ h6 ⨾ h11 ⨾ h9 ⨾ h8 ⨾ h11 ⨾ h10 ⨾ h8 ⨾ h8 ⨾ h10 ⨾ h11 ⨾ h3 ⨾ h9 ⨾ h11 ⨾ h12 ⨾ h8 ⨾ h10 ⨾ h13 ⨾ tt)
 
 -- a name that none of its length is
-pub unnamed : (name : List ℕ) (words : List (List ℕ)) (n : ℕ) → length name ≡ n → form_named (of_length n forms_without_items) name ≡ None
+pub unnamed : (name : List ℕ) (words : List (List ℕ)) (n : ℕ) → length name ≡ n
+    → form_named (of_length n forms_without_items) name ≡ None
     → line_behind forms_without_items name words ≡ None
 unfolding line_behind
 unnamed name words n is none =

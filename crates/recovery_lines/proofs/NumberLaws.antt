@@ -20,16 +20,19 @@ use Rattle.std.proofs.lemmas.Slice.Eq.{bytes_eq-Decides}
 use Rattle.recovery_lines.specs.Reading.{AreDigits, number_of}
 use Rattle.recovery_lines.proofs.NumeralLaws.{digits_written, leads_above_zero}
 
-guarded : {A : Type 0} (b c : Bool) (x : A) (y : A) → cond (b && c) (Some x) None ≡ Some y → (b ≡ true) × (c ≡ true) × (x ≡ y)
+guarded : {A : Type 0} (b c : Bool) (x : A) (y : A) → cond (b && c) (Some x) None ≡ Some y → (b ≡ true) × (c ≡ true)
+    × (x ≡ y)
 guarded true true x y e = (refl, refl, cc)
 guarded true false x y e = absurd cc
 guarded false c x y e = absurd cc
 
 -- what is read is spelled so
-pub number_takes : (limit : ℕ) (word : List ℕ) (n : ℕ) → number_of limit word ≡ Some n → (word ≡ decimal n) × (n < limit)
+pub number_takes : (limit : ℕ) (word : List ℕ) (n : ℕ) → number_of limit word ≡ Some n
+    → (word ≡ decimal n) × (n < limit)
 unfolding number_of
 number_takes limit word n e =
-    let g = guarded (nat_lt (digits_value 10 word) limit) (bytes_eq (decimal (digits_value 10 word)) word) (digits_value 10 word) n e in
+    let g = guarded (nat_lt (digits_value 10 word) limit) (bytes_eq (decimal (digits_value 10 word)) word)
+    (digits_value 10 word) n e in
     let same : decimal (digits_value 10 word) ≡ word = (bytes_eq-Decides (decimal (digits_value 10 word)) word).0 g.1 in
     let below : digits_value 10 word < limit = ltb-true _ _ g.0 in
     (sym same ∙ ap decimal g.2, subst (λ (m : ℕ). m < limit) g.2 below)
@@ -45,7 +48,8 @@ number_again limit n most lt =
     rw (value, test, same) refl
 
 -- what is no number is not read
-number_none : (limit : ℕ) (word : List ℕ) → ((n : ℕ) → n < limit → word ≢ decimal n) → (r : Option ℕ) → number_of limit word ≡ r → r ≡ None
+number_none : (limit : ℕ) (word : List ℕ) → ((n : ℕ) → n < limit → word ≢ decimal n) → (r : Option ℕ)
+    → number_of limit word ≡ r → r ≡ None
 number_none limit word h None e = refl
 number_none limit word h (Some n) e = let t = number_takes limit word n e in absurd (h n t.1 t.0)
 
@@ -88,7 +92,8 @@ too_large limit most word i large = no_number limit word (λ n less same.
     omega arith)
 
 digit_is : (c : ℕ) → 48 ≤ c → c < 58 → digit_value c ≡ c - 48
-digit_is c low high = let t : nat_lt c 48 ≡ false = le-ltb c 48 low in let u : nat_lt c 58 ≡ true = lt-ltb c 58 high in rw (t, u) refl
+digit_is c low high = let t : nat_lt c 48 ≡ false = le-ltb c 48 low in let u : nat_lt c 58 ≡ true =
+    lt-ltb c 58 high in rw (t, u) refl
 
 -- one digit more
 pub one_digit : (word : List ℕ) (i value : ℕ) → i < length word → get_or word i 0 < 256
@@ -101,8 +106,10 @@ one_digit word i value lt byte near is =
     let same : (c + 208) % 256 ≡ c - 48 = omega arith in
     more ∙ rw (d, same, ← is) refl
 
-pub digits_more : (word : List ℕ) (i : ℕ) → get_or word i 0 < 256 → (get_or word i 0 + 208) % 256 ≤ 9 → AreDigits word i → AreDigits word (i + 1)
-digits_more word i byte near digits = below_more (λ k. IsInRange 48 57 (get_or word k 0)) i digits (omega arith, omega arith)
+pub digits_more : (word : List ℕ) (i : ℕ) → get_or word i 0 < 256 → (get_or word i 0 + 208) % 256 ≤ 9 → AreDigits word i
+    → AreDigits word (i + 1)
+digits_more word i byte near digits =
+    below_more (λ k. IsInRange 48 57 (get_or word k 0)) i digits (omega arith, omega arith)
 
 by_index : IsNumeralModel (λ ds. AreDigits ds (length ds)) (digits_value 10)
 by_index = numerals_by_value (λ ds. AreDigits ds (length ds)) tells_by_index
@@ -118,20 +125,24 @@ digits_read limit most word value digits is small some lead =
     let again = number_again limit (digits_value 10 word) most less in
     ap (λ (m : ℕ). Some m) is ∙ sym again ∙ ap (λ (w : List ℕ). number_of limit w) spelled
 
-taken_digits : (bytes : List ℕ) (n : ℕ) → AreDigits bytes n → n ≤ length bytes → AreDigits (take n bytes) (length (take n bytes))
+taken_digits : (bytes : List ℕ) (n : ℕ) → AreDigits bytes n → n ≤ length bytes
+    → AreDigits (take n bytes) (length (take n bytes))
 taken_digits bytes n digits le = λ i lt.
     let inside : i < n = omega (arith, length-take n bytes) in
     rw (get_or-take n bytes i 0 inside) (digits i inside)
 
 -- what is left to room for one digit more
-pub few_small : (bytes : List ℕ) (n : ℕ) → AreDigits bytes n → n ≤ length bytes → n < 19 → digits_value 10 (take n bytes) < 10 ^ 18
-few_small bytes n digits le few = digits_value_short by_index (take n bytes) 18 (taken_digits bytes n digits le) (omega (arith, length-take n bytes))
+pub few_small : (bytes : List ℕ) (n : ℕ) → AreDigits bytes n → n ≤ length bytes → n < 19
+    → digits_value 10 (take n bytes) < 10 ^ 18
+few_small bytes n digits le few =
+    digits_value_short by_index (take n bytes) 18 (taken_digits bytes n digits le) (omega (arith, length-take n bytes))
 
 -- digits up to a space or to the end
 pub first_read : (bytes : List ℕ) (value end : ℕ) → AreDigits bytes end → end ≤ length bytes → 0 < end
     → (get_or bytes 0 0 ≡ 48 → end ≤ 1) → (end < length bytes → get_or bytes end 0 ≡ 32)
     → value ≡ digits_value 10 (take end bytes) → value < 2 ^ 64
-    → (number_of (2 ^ 64) (before_first (λ b. b == 32) bytes) ≡ Some value) × (end ≡ position_or_len (λ b. b == 32) bytes)
+    → (number_of (2 ^ 64) (before_first (λ b. b == 32) bytes) ≡ Some value)
+    × (end ≡ position_or_len (λ b. b == 32) bytes)
 first_read bytes value end digits le some lead stops is small =
     let place : position_or_len (λ b. b == 32) bytes ≡ end =
     position_or_len_is (λ b. b == 32) bytes end 0 le (λ k lt. ne_eqb (get_or bytes k 0) 32

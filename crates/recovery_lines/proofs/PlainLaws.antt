@@ -36,7 +36,8 @@ tested_plain (b ∷ bytes) e =
 
 digits_plain : (digits : List ℕ) → AllDigits 10 digits → IsPlain digits
 digits_plain [] h = tt
-digits_plain (d ∷ digits) h = let r = digit_from_value d h.0 in ((omega (arith, r.0), omega (arith, r.1)), digits_plain digits h.1)
+digits_plain (d ∷ digits) h = let r =
+    digit_from_value d h.0 in ((omega (arith, r.0), omega (arith, r.1)), digits_plain digits h.1)
 
 pub decimal_plain : (n : ℕ) → n < 10 ^ 64 → IsPlain (decimal n)
 decimal_plain n lt = digits_plain (decimal n) (decimal_is_IsNumeral_wide n lt).0.1
@@ -44,11 +45,13 @@ decimal_plain n lt = digits_plain (decimal n) (decimal_is_IsNumeral_wide n lt).0
 feedless : (b : ℕ) → 32 < b → b ≢ 10
 feedless b low = λ e. omega (arith, low, e)
 
-feedless_then : (word rest : List ℕ) → IsPlain word → AllByRecursion (λ b. b ≢ 10) rest → AllByRecursion (λ b. b ≢ 10) (word ++ rest)
+feedless_then : (word rest : List ℕ) → IsPlain word → AllByRecursion (λ b. b ≢ 10) rest
+    → AllByRecursion (λ b. b ≢ 10) (word ++ rest)
 feedless_then [] rest h r = r
 feedless_then (b ∷ word) rest h r = (feedless b h.0.0, feedless_then word rest h.1 r)
 
-joined_feedless : (words : List (List ℕ)) → AllByRecursion IsPlain words → AllByRecursion (λ b. b ≢ 10) (join_with_byte 32 words)
+joined_feedless : (words : List (List ℕ)) → AllByRecursion IsPlain words
+    → AllByRecursion (λ b. b ≢ 10) (join_with_byte 32 words)
 joined_feedless [] h = tt
 joined_feedless (word ∷ []) h = subst (AllByRecursion (λ b. b ≢ 10)) (append-nil word) (feedless_then word [] h.0 tt)
 joined_feedless (word ∷ next ∷ words) h = feedless_then word (32 ∷ join_with_byte 32 (next ∷ words)) h.0
@@ -57,15 +60,19 @@ joined_feedless (word ∷ next ∷ words) h = feedless_then word (32 ∷ join_wi
 -- a line of plain words has no line feed
 pub plain_no_feed : (line : List ℕ) → AllByRecursion IsPlain (words_of line) → All (λ b. b ≢ 10) line
 plain_no_feed line h =
-    All-from_recursion (λ b. b ≢ 10) line (subst (AllByRecursion (λ b. b ≢ 10)) (join_with_byte-slice_split 32 line) (joined_feedless (words_of line) h))
+    All-from_recursion (λ b. b ≢ 10) line (subst (AllByRecursion (λ b. b ≢ 10)) (join_with_byte-slice_split 32 line)
+    (joined_feedless (words_of line) h))
 
 no_space : (word : List ℕ) → IsPlain word → AllByRecursion (λ b. (b == 32) ≡ false) word
 no_space [] h = tt
 no_space (b ∷ word) h = (ne_eqb b 32 (let low : 32 < b = h.0.0 in λ e. omega arith), no_space word h.1)
 
 -- plain words, with one space between two, are the words of that line
-pub words_joined : (word : List ℕ) (words : List (List ℕ)) → AllByRecursion IsPlain (word ∷ words) → words_of (join_with_byte 32 (word ∷ words)) ≡ word ∷ words
-words_joined word [] h = slice_split_none (λ b. b == 32) word (All-from_recursion (λ b. (b == 32) ≡ false) word (no_space word h.0))
+pub words_joined : (word : List ℕ) (words : List (List ℕ)) → AllByRecursion IsPlain (word ∷ words)
+    → words_of (join_with_byte 32 (word ∷ words)) ≡ word ∷ words
+words_joined word [] h =
+    slice_split_none (λ b. b == 32) word (All-from_recursion (λ b. (b == 32) ≡ false) word (no_space word h.0))
 words_joined word (next ∷ words) h =
-    slice_split_at (λ b. b == 32) word 32 (join_with_byte 32 (next ∷ words)) (All-from_recursion (λ b. (b == 32) ≡ false) word (no_space word h.0)) refl
+    slice_split_at (λ b. b == 32) word 32 (join_with_byte 32 (next ∷ words))
+    (All-from_recursion (λ b. (b == 32) ≡ false) word (no_space word h.0)) refl
     ∙ ap (λ (ws : List (List ℕ)). word ∷ ws) (words_joined next words h.1)

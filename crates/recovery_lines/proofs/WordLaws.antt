@@ -20,15 +20,19 @@ none_passes p xs e k d lt = fails_before_first p xs k d (omega arith)
 pub last_word : (bytes : List ℕ) (end : ℕ) → end ≡ position_or_len (λ b. b == 32) bytes → length bytes ≤ end
     → first_word (words_of bytes) ≡ Some (take end bytes, [])
 last_word bytes end is all =
-    let none : position_or_len (λ b. b == 32) bytes ≡ length bytes = omega (arith, prefix_len-le-length (λ b. not (b == 32)) bytes) in
-    rw (take_all end bytes all) (ap first_word (slice_split_none (λ b. b == 32) bytes (none_passes (λ b. b == 32) bytes none)))
+    let none : position_or_len (λ b. b == 32) bytes ≡ length bytes =
+    omega (arith, prefix_len-le-length (λ b. not (b == 32)) bytes) in
+    rw (take_all end bytes all)
+    (ap first_word (slice_split_none (λ b. b == 32) bytes (none_passes (λ b. b == 32) bytes none)))
 
 -- the first word ends at the first space
 pub next_word : (bytes : List ℕ) (end : ℕ) → end ≡ position_or_len (λ b. b == 32) bytes → end < length bytes
     → first_word (words_of bytes) ≡ Some (take end bytes, words_of (drop (end + 1) bytes))
-next_word bytes end is lt = rw is (ap first_word (slice_split_first (λ b. b == 32) bytes 0 (subst (λ (n : ℕ). n < length bytes) is lt)))
+next_word bytes end is lt =
+    rw is (ap first_word (slice_split_first (λ b. b == 32) bytes 0 (subst (λ (n : ℕ). n < length bytes) is lt)))
 
-some_first : (bytes : List ℕ) → (after : List (List ℕ)) × (first_word (words_of bytes) ≡ Some (before_first (λ b. b == 32) bytes, after))
+some_first : (bytes : List ℕ) → (after : List (List ℕ))
+    × (first_word (words_of bytes) ≡ Some (before_first (λ b. b == 32) bytes, after))
 some_first bytes = go (cases_lt (position_or_len (λ b. b == 32) bytes) (length bytes)) where
   go : (position_or_len (λ b. b == 32) bytes < length bytes) ⊎ (length bytes ≤ position_or_len (λ b. b == 32) bytes)
       → (after : List (List ℕ)) × (first_word (words_of bytes) ≡ Some (before_first (λ b. b == 32) bytes, after))
@@ -51,12 +55,15 @@ pub end_fits : (bytes : List ℕ) (end : ℕ) → end ≡ position_or_len (λ b.
 end_fits bytes end is = subst (λ (n : ℕ). n ≤ length bytes) (sym is) (prefix_len-le-length (λ b. not (b == 32)) bytes)
 
 no_words : (bytes : List ℕ) → words_of bytes ≡ [] → ⊥
-no_words bytes none = let f = some_first bytes in some_none _ _ (first_word (words_of bytes)) (sym f.1) (ap first_word none) where
-  some_none : (word : List ℕ) (words : List (List ℕ)) (first : Option (List ℕ × List (List ℕ))) → Some (word, words) ≡ first → first ≡ None → ⊥
-  some_none word words first some none = cc
+no_words bytes none = let f =
+    some_first bytes in some_none _ _ (first_word (words_of bytes)) (sym f.1) (ap first_word none) where
+      some_none : (word : List ℕ) (words : List (List ℕ)) (first : Option (List ℕ × List (List ℕ)))
+          → Some (word, words) ≡ first → first ≡ None → ⊥
+      some_none word words first some none = cc
 
 -- no word is left behind the last one alone
-pub none_left : {S : Type 0} (text : S → List ℕ) (rest : Option S) (b : Bool) → is_some rest ≡ not b → Decides b (left_of text rest ≡ [])
+pub none_left : {S : Type 0} (text : S → List ℕ) (rest : Option S) (b : Bool) → is_some rest ≡ not b
+    → Decides b (left_of text rest ≡ [])
 none_left text None true is = (λ yes. refl, λ empty. refl)
 none_left text None false is = absurd cc
 none_left text (Some bytes) true is = absurd cc
@@ -65,7 +72,8 @@ none_left text (Some bytes) false is = (λ yes. absurd cc, λ empty. absurd (no_
 -- ---- a number below a smaller limit
 
 -- what is made of the first word's number
-reads_first : (small : ℕ) (word : List ℕ) (words rest : List (List ℕ)) (made : Option ℕ) → words ≡ rest → made ≡ number_of small word
+reads_first : (small : ℕ) (word : List ℕ) (words rest : List (List ℕ)) (made : Option ℕ) → words ≡ rest
+    → made ≡ number_of small word
     → Reads (λ x. x) made rest (field (number_of small) (word ∷ words))
 unfolding field
 reads_first small word words rest (Some n) same is = rw (← is, same) refl
@@ -74,7 +82,8 @@ reads_first small word words rest None same is = rw (← is) refl
 abbrev read_number : List (List ℕ) → Option (ℕ × List (List ℕ))
 read_number words = field (number_of (2 ^ 64)) words
 
-pub smaller_read : {E : Type 0} (small : ℕ) (words rest : List (List ℕ)) (n : ℕ) (r : Result ℕ E) → small ≤ 2 ^ 64 → read_number words ≡ Some (n, rest)
+pub smaller_read : {E : Type 0} (small : ℕ) (words rest : List (List ℕ)) (n : ℕ) (r : Result ℕ E) → small ≤ 2 ^ 64
+    → read_number words ≡ Some (n, rest)
     → OkIff r (n < small) n → Reads (λ x. x) (result_ok r) rest (field (number_of small) words)
 unfolding field
 smaller_read small [] rest n r le e fits = absurd cc
@@ -85,11 +94,13 @@ smaller_read small (word ∷ words) rest n r le e fits =
     let left : words ≡ rest = ap (λ (p : ℕ × List (List ℕ)). p.1) is in
     reads_first small word words rest (result_ok r) left (narrowed (2 ^ 64) small word n r (lit≤ tt) le number fits)
 
-pub none_smaller : (small : ℕ) (words : List (List ℕ)) → small ≤ 2 ^ 64 → read_number words ≡ None → field (number_of small) words ≡ None
+pub none_smaller : (small : ℕ) (words : List (List ℕ)) → small ≤ 2 ^ 64 → read_number words ≡ None
+    → field (number_of small) words ≡ None
 unfolding field
 none_smaller small [] le none = refl
 none_smaller small (word ∷ words) le none = go (number_of (2 ^ 64) word) refl none where
-  go : (o : Option ℕ) → number_of (2 ^ 64) word ≡ o → (let read : Option (ℕ × List (List ℕ)) = (o >>= λ v. Some (v, words)) in read) ≡ None
+  go : (o : Option ℕ) → number_of (2 ^ 64) word ≡ o
+      → (let read : Option (ℕ × List (List ℕ)) = (o >>= λ v. Some (v, words)) in read) ≡ None
       → field (number_of small) (word ∷ words) ≡ None
   go None e f = let t = kept_none (2 ^ 64) small word (lit≤ tt) le e in rw (← t) refl
   go (Some n) e f = absurd cc

@@ -271,8 +271,13 @@ saying unkept (IssueIds now ids) =
     (issue_ids, (now, (first_number unkept ids.items, (length ids.items, tt))))
 saying unkept IdTimeout = (id_timeout, tt)
 saying unkept (PeerRetired sequence limit) = (peer_retired, (sequence, (limit, tt)))
-saying unkept (AckFrequencyIn frame) =
-    (ack_frequency, (frame.sequence, (frame.ack_eliciting_threshold, (frame.request_max_ack_delay, (frame.reordering_threshold, tt)))))
+saying unkept (AckFrequencyIn frame) = (
+  ack_frequency,
+  (
+    frame.sequence,
+    (frame.ack_eliciting_threshold, (frame.request_max_ack_delay, (frame.reordering_threshold, tt))),
+  ),
+)
 saying unkept (AcksSent space) = (acks_sent, (space, tt))
 saying unkept (AckDelayTimeout space) = (ack_delay_timeout, (space, tt))
 saying unkept (SetTimer timer time) = (set_timer, (timer, (time, tt)))
@@ -313,9 +318,9 @@ spelling unkept event = words_said (saying unkept event)
 set_timer-spelling : spelling 0 (SetTimer Idle 50) ≡ codes "set-timer" ∷ codes "idle" ∷ decimal 50 ∷ []
 set_timer-spelling = refl
 
--- The values of an event's line are within the types of their fields, and the line with these values means the event: one
--- byte fills an id and its token, ids that are issued are of zero bytes, with numbers that go on, and
--- a path is to 192.0.2.1.
+-- The values of an event's line are within the types of their fields, and the line with these values means the event:
+-- one byte fills an id and its token, ids that are issued are of zero bytes, with numbers that go on, and a path is to
+-- 192.0.2.1.
 abbrev pub IsWithinTypes : ℕ → ItemEvent → Type 0
 IsWithinTypes unkept event =
     let said = saying unkept event in

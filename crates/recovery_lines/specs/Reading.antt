@@ -48,8 +48,10 @@ unfoldable pub space_of : List ℕ → Option SpaceId
 space_of = named space_names
 
 abbrev pub timer_names : List (List ℕ × Timer)
-timer_names = (codes "loss-detection", LossDetection) ∷ (codes "idle", Idle) ∷ (codes "close", Close) ∷ (codes "key-discard", KeyDiscard) ∷ (codes "path-validation", PathValidation)
-    ∷ (codes "keep-alive", KeepAlive) ∷ (codes "pacing", Pacing) ∷ (codes "push-new-cid", PushNewCid) ∷ (codes "max-ack-delay", MaxAckDelay) ∷ []
+timer_names = (codes "loss-detection", LossDetection) ∷ (codes "idle", Idle) ∷ (codes "close", Close)
+    ∷ (codes "key-discard", KeyDiscard) ∷ (codes "path-validation", PathValidation)
+    ∷ (codes "keep-alive", KeepAlive) ∷ (codes "pacing", Pacing) ∷ (codes "push-new-cid", PushNewCid)
+    ∷ (codes "max-ack-delay", MaxAckDelay) ∷ []
 
 unfoldable pub timer_of : List ℕ → Option Timer
 timer_of = named timer_names
@@ -62,7 +64,8 @@ path_of = named path_names
 
 -- the number below a limit whose decimal digits the word is
 unfoldable pub number_of : ℕ → List ℕ → Option ℕ
-number_of limit word = let n = digits_value 10 word in if nat_lt n limit && bytes_eq (decimal n) word then Some n else None
+number_of limit word = let n =
+    digits_value 10 word in if nat_lt n limit && bytes_eq (decimal n) word then Some n else None
 
 -- bytes begin with so many digits
 abbrev pub AreDigits : List ℕ → ℕ → Type 0

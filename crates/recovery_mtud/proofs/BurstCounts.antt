@@ -30,11 +30,13 @@ length-filter test (x ∷ xs) = elim (test x) as (λ t. length (if t then x ∷ 
           (arith, length-filter test xs)
     ]
 
-pub tally-append : {X : Type 0} (test : X → Bool) (xs ys : List X) → tally test (xs ++ ys) ≡ tally test xs + tally test ys
+pub tally-append : {X : Type 0} (test : X → Bool) (xs ys : List X)
+    → tally test (xs ++ ys) ≡ tally test xs + tally test ys
 tally-append test [] ys = omega arith
 tally-append test (x ∷ xs) ys = omega (arith, tally-append test xs ys)
 
-pub tally-filter : {X : Type 0} (test keeps : X → Bool) (xs : List X) → tally test (filter keeps xs) ≡ tally (λ x. keeps x && test x) xs
+pub tally-filter : {X : Type 0} (test keeps : X → Bool) (xs : List X)
+    → tally test (filter keeps xs) ≡ tally (λ x. keeps x && test x) xs
 tally-filter test keeps [] = refl
 tally-filter test keeps (x ∷ xs) = elim (keeps x) as (λ t. tally test
     (if t then x ∷ filter keeps xs else filter keeps xs) ≡ one (t && test x) + tally (λ x. keeps x && test x) xs) [
@@ -42,7 +44,8 @@ tally-filter test keeps (x ∷ xs) = elim (keeps x) as (λ t. tally test
       | false ↦ omega (arith, tally-filter test keeps xs)
     ]
 
-pub tally-same : {X : Type 0} (test other : X → Bool) (xs : List X) → ((x : X) → test x ≡ other x) → tally test xs ≡ tally other xs
+pub tally-same : {X : Type 0} (test other : X → Bool) (xs : List X) → ((x : X) → test x ≡ other x)
+    → tally test xs ≡ tally other xs
 tally-same test other [] same = refl
 tally-same test other (x ∷ xs) same = omega (arith, ap one (same x), tally-same test other xs same)
 
@@ -63,7 +66,8 @@ length-in_place this that (size ∷ sizes) = elim (size == that) as
     (λ t. length (if t then this ∷ sizes else size ∷ in_place this that sizes) ≡ suc (length sizes))
     [ true ↦ refl | false ↦ ap suc (length-in_place this that sizes) ]
 
-all-in_place : (low this that : ℕ) (sizes : List ℕ) → low < this → AllAbove low sizes → AllAbove low (in_place this that sizes)
+all-in_place : (low this that : ℕ) (sizes : List ℕ) → low < this → AllAbove low sizes
+    → AllAbove low (in_place this that sizes)
 all-in_place low this that [] above all = tt
 all-in_place low this that (size ∷ sizes) above all = elim (size == that) as
     (λ t. AllAbove low (if t then this ∷ sizes else size ∷ in_place this that sizes))
@@ -93,9 +97,11 @@ lt_true : (a b : ℕ) → a < b → nat_lt a b ≡ true
 lt_true a b below = grind (arith, nat_tests)
 
 -- all pass
-pub tally-all : (low least : ℕ) (sizes : List ℕ) → low ≤ least → AllAbove least sizes → tally (λ size. nat_lt low size) sizes ≡ length sizes
+pub tally-all : (low least : ℕ) (sizes : List ℕ) → low ≤ least → AllAbove least sizes
+    → tally (λ size. nat_lt low size) sizes ≡ length sizes
 tally-all low least [] below all = refl
-tally-all low least (size ∷ sizes) below all = omega (arith, ap one (lt_true low size (omega (arith, all.0))), tally-all low least sizes below all.1)
+tally-all low least (size ∷ sizes) below all =
+    omega (arith, ap one (lt_true low size (omega (arith, all.0))), tally-all low least sizes below all.1)
 
 both_true : (low bytes size : ℕ) → bytes < size → nat_lt low size ≡ nat_lt (max low bytes) size
 both_true low bytes size above = grind (arith, nat_tests)
@@ -134,7 +140,8 @@ tally-with_burst low size sizes =
           (nat_lt low size)) [ true ↦ tally-in_place low size (least_of sizes) sizes | false ↦ omega arith ]
     ]
 
-pub all-with_burst : (low size : ℕ) (sizes : List ℕ) → low < size → AllAbove low sizes → AllAbove low (with_burst size sizes)
+pub all-with_burst : (low size : ℕ) (sizes : List ℕ) → low < size → AllAbove low sizes
+    → AllAbove low (with_burst size sizes)
 all-with_burst low size sizes above all =
     elim (nat_lt (length sizes) 4) as (λ t. AllAbove low (if t then sizes ++ size ∷ []
     else (if nat_lt (least_of sizes) size then in_place size (least_of sizes) sizes else sizes))) [
@@ -149,7 +156,8 @@ all-with_burst low size sizes above all =
 abbrev pub has : ℕ → List ℕ → Bool
 has number numbers = is_member nat_eq numbers number
 
-pub past_has : (last : ℕ) (numbers : List ℕ) (number : ℕ) → list_all (λ other. nat_lt other last) numbers ≡ true → has number numbers ≡ true → number < last
+pub past_has : (last : ℕ) (numbers : List ℕ) (number : ℕ) → list_all (λ other. nat_lt other last) numbers ≡ true
+    → has number numbers ≡ true → number < last
 past_has last [] number past is = absurd (cc)
 past_has last (other ∷ numbers) number past is =
     let parts = and_parts (nat_lt other last) (list_all (λ n. nat_lt n last) numbers) past in
@@ -161,7 +169,8 @@ past_has last (other ∷ numbers) number past is =
     there) (or_cases _ _ is)
 
 pub has_more : (number other : ℕ) (numbers : List ℕ) → has number numbers ≡ true → has number (other ∷ numbers) ≡ true
-has_more number other numbers is = elim (nat_eq number other) as (λ t. (t || has number numbers) ≡ true) [ true ↦ refl | false ↦ is ]
+has_more number other numbers is =
+    elim (nat_eq number other) as (λ t. (t || has number numbers) ≡ true) [ true ↦ refl | false ↦ is ]
 
 pub has_head : (number : ℕ) (numbers : List ℕ) → has number (number ∷ numbers) ≡ true
 has_head number numbers = grind (arith, nat_tests)

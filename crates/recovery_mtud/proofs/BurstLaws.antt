@@ -40,10 +40,12 @@ with_burst_few size sizes few = go (nat_lt (length sizes) 4) refl
     go true room = let longer = length-snoc sizes size in grind (arith, nat_tests, longer, room)
     go false room = full (nat_lt (least_of sizes) size)
 
-pub bursts_probed_sound : (number size : ℕ) (old : LossBursts) → AreBurstsSound old → AreBurstsSound (bursts_probed number size old)
+pub bursts_probed_sound : (number size : ℕ) (old : LossBursts) → AreBurstsSound old
+    → AreBurstsSound (bursts_probed number size old)
 bursts_probed_sound number size old sound = record { few = omega arith; min_mtu = sound.min_mtu }
 
-pub bursts_acked_sound : (number size : ℕ) (old : LossBursts) → AreBurstsSound old → AreBurstsSound (bursts_acked number size old)
+pub bursts_acked_sound : (number size : ℕ) (old : LossBursts) → AreBurstsSound old
+    → AreBurstsSound (bursts_acked number size old)
 bursts_acked_sound number size old sound = go (nat_lt size old.acked) (size == old.acked)
   where
     larger : ℕ → Bool
@@ -64,14 +66,16 @@ closing_sound : (burst : Option Burst) (old : LossBursts) → AreBurstsSound old
 closing_sound None old sound = sound
 closing_sound (Some burst) old sound = go (is_suspicious burst old)
   where
-    go : (is : Bool) → AreBurstsSound (if is then with_suspicious burst (record old { open_burst = None }) else record old { open_burst = None })
+    go : (is : Bool) → AreBurstsSound (if is then with_suspicious burst (record old { open_burst = None }) else record
+        old { open_burst = None })
     go true = record { few = with_burst_few burst.least old.kept sound.few; min_mtu = sound.min_mtu }
     go false = record { few = sound.few; min_mtu = sound.min_mtu }
 
 pub bursts_closed_sound : (old : LossBursts) → AreBurstsSound old → AreBurstsSound (bursts_closed old)
 bursts_closed_sound old sound = closing_sound old.open_burst old sound
 
-pub bursts_lost_sound : (number size : ℕ) (old : LossBursts) → AreBurstsSound old → AreBurstsSound (bursts_lost number size old)
+pub bursts_lost_sound : (number size : ℕ) (old : LossBursts) → AreBurstsSound old
+    → AreBurstsSound (bursts_lost number size old)
 bursts_lost_sound number size old sound = go (joins number old.open_burst)
   where
     closed : AreBurstsSound (bursts_closed old)

@@ -20,7 +20,8 @@ apart_before : (entry : MtuEntry) (entries : List MtuEntry) → AreFatesApart (e
 apart_before (probed now number size) entries apart = apart
 apart_before (unprobed now) entries apart = apart
 apart_before (limited limit) entries apart = apart
-apart_before (acked number bytes) entries apart = λ other is. apart other (has_more other number (acked_numbers entries) is)
+apart_before (acked number bytes) entries apart =
+    λ other is. apart other (has_more other number (acked_numbers entries) is)
 apart_before probe_lost entries apart = apart
 apart_before (lost number bytes) entries apart = λ other is. absent other (apart other is)
   where
@@ -41,7 +42,9 @@ never_both entries apart number good bad = let no : true ≡ false = sym bad ∙
 -- ---- one call
 
 abbrev NeedyAt : Discovery → List MtuEntry → Discovery → Type 0
-NeedyAt made entries new = Needy (min_mtu_in_use made entries) (open_run entries) (standing entries) (acked_numbers entries) (lost_numbers entries) new.bursts
+NeedyAt made entries new =
+    Needy (min_mtu_in_use made entries) (open_run entries) (standing entries) (acked_numbers entries)
+    (lost_numbers entries) new.bursts
 
 abbrev ComingAt : Discovery → List MtuEntry → Discovery → Type 0
 ComingAt made entries new =
@@ -49,23 +52,27 @@ ComingAt made entries new =
     Coming least (open_run entries) (unanswered least entries) (larger_acked least entries) new.bursts
 
 module _ (made : Discovery) (entries : List MtuEntry) where
-  polled_needs : (now next : ℕ) (answer : Option ℕ) (old : Discovery) → NeedyAt made entries old → NeedyAt made (poll_entry now next answer ∷ entries) old
+  polled_needs : (now next : ℕ) (answer : Option ℕ) (old : Discovery) → NeedyAt made entries old
+      → NeedyAt made (poll_entry now next answer ∷ entries) old
   polled_needs now next None old tie = tie
   polled_needs now next (Some size) old tie = tie
 
-  polled_comes : (now next : ℕ) (answer : Option ℕ) (old : Discovery) → ComingAt made entries old → ComingAt made (poll_entry now next answer ∷ entries) old
+  polled_comes : (now next : ℕ) (answer : Option ℕ) (old : Discovery) → ComingAt made entries old
+      → ComingAt made (poll_entry now next answer ∷ entries) old
   polled_comes now next None old tie = tie
   polled_comes now next (Some size) old tie = tie
 
   -- the probe in flight or another packet
-  size_is : (number : ℕ) (old : Discovery) → Holds made entries old → size_of_probe number old ≡ size_at number (probe_in_flight entries)
+  size_is : (number : ℕ) (old : Discovery) → Holds made entries old
+      → size_of_probe number old ≡ size_at number (probe_in_flight entries)
   size_is number old holds = size_in_held number old.search ∙ ap (size_at number) holds.probe
 
   acked_needs : (number bytes : ℕ) (old : Discovery) → Holds made entries old → NeedyAt made entries old
       → NeedyAt made (acked number bytes ∷ entries) (discovery_after (acks number bytes) old)
   acked_needs number bytes old holds tie = go (size_of_probe number old) (sym (size_is number old holds))
     where
-      go : (size : Option ℕ) → size_at number (probe_in_flight entries) ≡ size → NeedyAt made (acked number bytes ∷ entries) (taking size number bytes old)
+      go : (size : Option ℕ) → size_at number (probe_in_flight entries) ≡ size
+          → NeedyAt made (acked number bytes ∷ entries) (taking size number bytes old)
       go size is = subst (λ own. Needy (min_mtu_in_use made entries) (open_run entries)
           (if is_some own then [] else filter (is_above bytes) (standing entries)) (number ∷ acked_numbers entries)
           (lost_numbers entries) (taking size number bytes old).bursts) (sym is) (left size)
@@ -96,15 +103,18 @@ module _ (made : Discovery) (entries : List MtuEntry) where
       left None = packet (nat_lt least bytes) refl
       left (Some size) = coming_probed _ _ _ _ old.bursts number bytes tie
 
-      go : (size : Option ℕ) → size_at number (probe_in_flight entries) ≡ size → ComingAt made (acked number bytes ∷ entries) (taking size number bytes old)
-      go size is = subst (λ own. Left (is_some own || nat_lt least bytes) (taking size number bytes old).bursts) (sym is) (left size)
+      go : (size : Option ℕ) → size_at number (probe_in_flight entries) ≡ size
+          → ComingAt made (acked number bytes ∷ entries) (taking size number bytes old)
+      go size is = subst (λ own. Left (is_some own || nat_lt least bytes) (taking size number bytes old).bursts)
+          (sym is) (left size)
 
   module _ (now : ℕ) (old : Discovery) where
     abbrev over : Bool → Bool → Discovery
     over hole cleared =
         let closed = bursts_closed old.bursts in
         let rest : Discovery = record old { bursts = (if cleared then record closed { kept = [] } else closed) } in
-        if hole then record rest { mtu = old.bursts.min_mtu; search = option_map (search_reported now) old.search } else rest
+        if hole then record rest { mtu = old.bursts.min_mtu; search = option_map (search_reported now) old.search }
+        else rest
 
     ended_needs : AreFatesApart entries → NeedyAt made entries old
         → NeedyAt made (entry_of (losses_end now) old ∷ entries) (discovery_after (losses_end now) old)
@@ -114,14 +124,16 @@ module _ (made : Discovery) (entries : List MtuEntry) where
         go true = needy_ended _ _ _ _ _ old.bursts tie (never_both entries apart) true
         go false = needy_ended _ _ _ _ _ old.bursts tie (never_both entries apart) false
 
-    ended_comes : ComingAt made entries old → ComingAt made (entry_of (losses_end now) old ∷ entries) (discovery_after (losses_end now) old)
+    ended_comes : ComingAt made entries old
+        → ComingAt made (entry_of (losses_end now) old ∷ entries) (discovery_after (losses_end now) old)
     ended_comes tie = go (is_black_hole (bursts_closed old.bursts))
       where
         go : (hole : Bool) → ComingAt made ((if hole then reported now else losses_over) ∷ entries) (over hole hole)
         go true = coming_ended _ _ _ _ old.bursts tie true
         go false = coming_ended _ _ _ _ old.bursts tie false
 
-  reset_bursts : (mtu min_mtu : ℕ) (old : Discovery) → (discovery_after (resets mtu min_mtu) old).bursts ≡ bursts_made min_mtu
+  reset_bursts : (mtu min_mtu : ℕ) (old : Discovery)
+      → (discovery_after (resets mtu min_mtu) old).bursts ≡ bursts_made min_mtu
   reset_bursts mtu min_mtu old = go old.search
     where
       go : (search : _) → (reset_in mtu min_mtu search).bursts ≡ bursts_made min_mtu
@@ -134,7 +146,8 @@ module _ (made : Discovery) (entries : List MtuEntry) where
   needy_after (is_limited limit) old holds apart tie = tie
   needy_after (acks number bytes) old holds apart tie = acked_needs number bytes old holds tie
   needy_after loses_probe old holds apart tie = tie
-  needy_after (loses number bytes) old holds apart tie = needy_lost _ _ _ _ _ old.bursts number bytes tie (never_both entries apart)
+  needy_after (loses number bytes) old holds apart tie =
+      needy_lost _ _ _ _ _ old.bursts number bytes tie (never_both entries apart)
   needy_after (losses_end now) old holds apart tie = ended_needs now old apart tie
   needy_after (resets mtu min_mtu) old holds apart tie =
       subst (Needy min_mtu [] [] (acked_numbers entries) (lost_numbers entries)) (sym (reset_bursts mtu min_mtu old))
@@ -155,15 +168,20 @@ module _ (made : Discovery) (entries : List MtuEntry) where
 
 needy_by : (made : Discovery) → IsUntold made → (calls : List MtuCall) → AreFatesApart (entries_by made calls)
     → NeedyAt made (entries_by made calls) (discovery_by made calls)
-needy_by made new [] apart = subst (Needy made.bursts.min_mtu [] [] [] []) (sym new.bursts) (needy_made made.bursts.min_mtu [] [])
+needy_by made new [] apart =
+    subst (Needy made.bursts.min_mtu [] [] [] []) (sym new.bursts) (needy_made made.bursts.min_mtu [] [])
 needy_by made new (call ∷ earlier) apart =
     let before = apart_before (entry_of call (discovery_by made earlier)) (entries_by made earlier) apart in
-    needy_after made (entries_by made earlier) call (discovery_by made earlier) (holds_by made new earlier) before (needy_by made new earlier before)
+    needy_after made (entries_by made earlier) call (discovery_by made earlier) (holds_by made new earlier) before
+    (needy_by made new earlier before)
 
-coming_by : (made : Discovery) → IsUntold made → (calls : List MtuCall) → ComingAt made (entries_by made calls) (discovery_by made calls)
-coming_by made new [] = subst (Coming made.bursts.min_mtu [] [] []) (sym new.bursts) (coming_made made.bursts.min_mtu [])
+coming_by : (made : Discovery) → IsUntold made → (calls : List MtuCall)
+    → ComingAt made (entries_by made calls) (discovery_by made calls)
+coming_by made new [] =
+    subst (Coming made.bursts.min_mtu [] [] []) (sym new.bursts) (coming_made made.bursts.min_mtu [])
 coming_by made new (call ∷ earlier) =
-    coming_after made (entries_by made earlier) call (discovery_by made earlier) (holds_by made new earlier) (coming_by made new earlier)
+    coming_after made (entries_by made earlier) call (discovery_by made earlier) (holds_by made new earlier)
+    (coming_by made new earlier)
 
 -- where a black hole is reported, four bursts stand
 pub four_stand : (made : Discovery) → IsUntold made → (calls : List MtuCall) → AreFatesApart (entries_by made calls)
@@ -176,17 +194,21 @@ pub four_report : (made : Discovery) → IsUntold made → (calls : List MtuCall
     → AreFourUnanswered made (entries_by made calls) → reports (discovery_by made calls) ≡ true
 four_report made new calls many = coming_report _ _ _ _ (discovery_by made calls).bursts (coming_by made new calls) many
 
--- a report needs four bursts that closed since the last one or a reset, all their packets above the least MTU, and were not refuted
+-- a report needs four bursts that closed since the last one or a reset, all their packets above the least MTU, and were
+-- not refuted
 pub report_needs_four : (made : Discovery) → IsUntold made → (calls : List MtuCall)
     → AreFatesApart (entries_by made calls) → ReportNeedsFour made (entries_by made calls)
 report_needs_four made new [] apart = tt
-report_needs_four made new (call ∷ earlier) apart = go call (apart_before (entry_of call (discovery_by made earlier)) (entries_by made earlier) apart)
+report_needs_four made new (call ∷ earlier) apart =
+    go call (apart_before (entry_of call (discovery_by made earlier)) (entries_by made earlier) apart)
   where
-    polled : (now next : ℕ) (answer : Option ℕ) → ReportNeedsFour made (poll_entry now next answer ∷ entries_by made earlier)
+    polled : (now next : ℕ) (answer : Option ℕ)
+        → ReportNeedsFour made (poll_entry now next answer ∷ entries_by made earlier)
     polled now next None = tt
     polled now next (Some size) = tt
 
-    go : (call : MtuCall) → AreFatesApart (entries_by made earlier) → ReportNeedsFour made (entry_of call (discovery_by made earlier) ∷ entries_by made earlier)
+    go : (call : MtuCall) → AreFatesApart (entries_by made earlier)
+        → ReportNeedsFour made (entry_of call (discovery_by made earlier) ∷ entries_by made earlier)
     go (polls now next) apart = polled now next _
     go (is_limited limit) apart = tt
     go (acks number bytes) apart = tt
@@ -201,11 +223,13 @@ report_needs_four made new (call ∷ earlier) apart = go call (apart_before (ent
     go (resets mtu min_mtu) apart = tt
 
 -- a report comes where four have closed with no acknowledgement since, past every number that was acknowledged
-pub report_comes_at_four : (made : Discovery) → IsUntold made → (calls : List MtuCall) → ReportComesAtFour made (entries_by made calls)
+pub report_comes_at_four : (made : Discovery) → IsUntold made → (calls : List MtuCall)
+    → ReportComesAtFour made (entries_by made calls)
 report_comes_at_four made new [] = tt
 report_comes_at_four made new (call ∷ earlier) = go call
   where
-    polled : (now next : ℕ) (answer : Option ℕ) → ReportComesAtFour made (poll_entry now next answer ∷ entries_by made earlier)
+    polled : (now next : ℕ) (answer : Option ℕ)
+        → ReportComesAtFour made (poll_entry now next answer ∷ entries_by made earlier)
     polled now next None = tt
     polled now next (Some size) = tt
 
@@ -236,7 +260,8 @@ lost_in_calls (loses number bytes ∷ earlier) = number ∷ lost_in_calls earlie
 lost_in_calls (call ∷ earlier) = lost_in_calls earlier
 
 abbrev pub HaveNumbers : List MtuEntry → List MtuCall → Type 0
-HaveNumbers entries calls = (acked_numbers entries ≡ acked_in_calls calls) × (lost_numbers entries ≡ lost_in_calls calls)
+HaveNumbers entries calls = (acked_numbers entries ≡ acked_in_calls calls)
+    × (lost_numbers entries ≡ lost_in_calls calls)
 
 -- the numbers of the entries are those of the calls
 pub numbers_by : (made : Discovery) (calls : List MtuCall) → HaveNumbers (entries_by made calls) calls
@@ -272,7 +297,8 @@ fates_apart_by made calls apart number good =
     ap (has number) same.1 ∙ apart number (sym (ap (has number) same.0) ∙ good)
 
 -- the least packet of a burst is above a size exactly where all its packets are
-pub above_is_all : (size : ℕ) (loss : Loss) (losses : List Loss) → is_above size (loss ∷ losses) ≡ list_all (λ other. nat_lt size other.bytes) (loss ∷ losses)
+pub above_is_all : (size : ℕ) (loss : Loss) (losses : List Loss)
+    → is_above size (loss ∷ losses) ≡ list_all (λ other. nat_lt size other.bytes) (loss ∷ losses)
 above_is_all size loss [] = go (nat_lt size loss.bytes)
   where
     go : (above : Bool) → above ≡ (above && true)

@@ -43,7 +43,8 @@ AreApart acked lost = (number : ℕ) → has number acked ≡ true → has numbe
 abbrev pub both : ℕ → ℕ → List Loss → Bool
 both min_mtu low burst = is_above min_mtu burst && is_above low burst
 
-pub record Needy (min_mtu : ℕ) (run : List Loss) (standing : List (List Loss)) (acked_numbers lost_numbers : List ℕ) (s : LossBursts) : Type 0 where
+pub record Needy (min_mtu : ℕ) (run : List Loss) (standing : List (List Loss)) (acked_numbers lost_numbers : List ℕ)
+    (s : LossBursts) : Type 0 where
   pub open_is : s.open_burst ≡ summary run
   pub min_is : s.min_mtu ≡ min_mtu
   pub above : AllAbove s.acked s.kept
@@ -57,7 +58,8 @@ abbrev pub counted : ℕ → List ℕ → List (List Loss) → ℕ
 counted min_mtu numbers bursts = length (from_first (is_past numbers) (filter (is_above min_mtu) bursts))
 
 -- the numbers are those of larger packets; once a burst counts, the least MTU alone is known to get through
-pub record Coming (min_mtu : ℕ) (run : List Loss) (unanswered : List (List Loss)) (numbers : List ℕ) (s : LossBursts) : Type 0 where
+pub record Coming (min_mtu : ℕ) (run : List Loss) (unanswered : List (List Loss)) (numbers : List ℕ) (s : LossBursts) :
+    Type 0 where
   pub open_is : s.open_burst ≡ summary run
   pub min_is : s.min_mtu ≡ min_mtu
   pub large : AllAbove min_mtu s.kept
@@ -77,10 +79,12 @@ suspicious_false : (least min_mtu last newest acked : ℕ)
     → (acked ≤ min_mtu) ⊎ (newest < last) → ⊥
 suspicious_false least min_mtu last newest acked is large late = grind (arith, nat_tests)
 
-one_both : (min_mtu low least : ℕ) → min_mtu < least → one (nat_lt low least) ≡ one (nat_lt min_mtu least && nat_lt low least)
+one_both : (min_mtu low least : ℕ) → min_mtu < least
+    → one (nat_lt low least) ≡ one (nat_lt min_mtu least && nat_lt low least)
 one_both min_mtu low least large = grind (arith, nat_tests)
 
-module _ (min_mtu : ℕ) (loss : Loss) (losses : List Loss) (bursts : List (List Loss)) (acked lost : List ℕ) (s : LossBursts) where
+module _ (min_mtu : ℕ) (loss : Loss) (losses : List Loss) (bursts : List (List Loss)) (acked lost : List ℕ)
+    (s : LossBursts) where
   abbrev run : List Loss
   run = loss ∷ losses
 
@@ -90,18 +94,25 @@ module _ (min_mtu : ℕ) (loss : Loss) (losses : List Loss) (bursts : List (List
   -- a suspicious one is kept
   keep : (a : ℕ) → Needy min_mtu run bursts acked lost s → min_mtu < least_size run → a < least_size run
       → AllAbove a s.kept → ((has s.newest acked ≡ true) ⊎ ((s.newest ≡ 0) × (a ≡ min_mtu)))
-      → Needy min_mtu [] (run ∷ bursts) acked lost (record s { kept = with_burst (least_size run) s.kept; open_burst = None; acked = a })
+      → Needy min_mtu [] (run ∷ bursts) acked lost
+      (record s { kept = with_burst (least_size run) s.kept; open_burst = None; acked = a })
   keep a tie large over all newest = record {
     open_is = refl;
     min_is = tie.min_is;
     above = all-with_burst a (least_size run) s.kept over all;
     large = all-with_burst min_mtu (least_size run) s.kept large tie.large;
-    counts = λ low. omega (arith, tally-with_burst low (least_size run) s.kept, tie.counts low, one_both min_mtu low (least_size run) large);
+    counts = λ low. omega (
+      arith,
+      tally-with_burst low (least_size run) s.kept,
+      tie.counts low,
+      one_both min_mtu low (least_size run) large,
+    );
     newest = newest;
     fate = tt;
   }
 
-  apart_newest : Needy min_mtu run bursts acked lost s → AreApart acked lost → s.newest ≡ loss.number → s.acked ≡ min_mtu
+  apart_newest : Needy min_mtu run bursts acked lost s → AreApart acked lost → s.newest ≡ loss.number
+      → s.acked ≡ min_mtu
   apart_newest tie apart same =
       ⊎_elim (λ (known : has s.newest acked ≡ true). absurd (apart loss.number
       (subst (λ n. has n acked ≡ true) same known) tie.fate))
@@ -114,13 +125,20 @@ module _ (min_mtu : ℕ) (loss : Loss) (losses : List Loss) (bursts : List (List
       else record s { open_burst = None })
   close_some tie apart true is true newer =
       let parts = suspicious_true (least_size run) s.min_mtu loss.number s.newest s.acked is in
-      keep s.min_mtu tie (omega (arith, parts.0, tie.min_is)) parts.0 (subst (λ m. AllAbove m s.kept) (sym tie.min_is) tie.large)
-      (⊎_elim (λ (known : has s.newest acked ≡ true). inl known) (λ (start : (s.newest ≡ 0) × (s.acked ≡ min_mtu)). inr (start.0, tie.min_is)) tie.newest)
+      keep s.min_mtu tie (omega (arith, parts.0, tie.min_is)) parts.0
+      (subst (λ m. AllAbove m s.kept) (sym tie.min_is) tie.large)
+      (⊎_elim (λ (known : has s.newest acked ≡ true). inl known) (λ (start : (s.newest ≡ 0) × (s.acked ≡ min_mtu)).
+      inr (start.0, tie.min_is)) tie.newest)
   close_some tie apart true is false newer =
       let parts = suspicious_true (least_size run) s.min_mtu loss.number s.newest s.acked is in
       let late : loss.number ≤ s.newest = grind (arith, nat_tests) in
       let over : s.acked < least_size run = ⊎_elim
-      (λ (before : s.newest ≤ loss.number). let same : s.newest ≡ loss.number = omega arith in omega (arith, apart_newest tie apart same, parts.0, tie.min_is))
+      (λ (before : s.newest ≤ loss.number). let same : s.newest ≡ loss.number = omega arith in omega (
+        arith,
+        apart_newest tie apart same,
+        parts.0,
+        tie.min_is,
+      ))
       (λ (small : s.acked < least_size run). small)
       parts.1 in
       keep s.acked tie (omega (arith, parts.0, tie.min_is)) over tie.above tie.newest
@@ -183,7 +201,8 @@ filtered : (low bytes : ℕ) (sizes : List ℕ)
     ≡ tally (λ size. nat_lt (max low bytes) size) sizes
 filtered low bytes sizes =
     tally-filter (λ size. nat_lt low size) (λ size. nat_lt bytes size) sizes
-    ∙ tally-same (λ size. nat_lt bytes size && nat_lt low size) (λ size. nat_lt (max low bytes) size) sizes (λ size. max_test low bytes size)
+    ∙ tally-same (λ size. nat_lt bytes size && nat_lt low size) (λ size. nat_lt (max low bytes) size) sizes
+    (λ size. max_test low bytes size)
 
 -- a test of three, in another order
 turn : (m z y w : Bool) → (z && y) ≡ w → (m && w) ≡ (z && (m && y))
@@ -197,7 +216,8 @@ after_ack : (min_mtu : ℕ) (run : List Loss) (bursts : List (List Loss)) (acked
     (bytes : ℕ) → Needy min_mtu run bursts acked lost s
     → t.open_burst ≡ s.open_burst → t.min_mtu ≡ s.min_mtu → AllAbove t.acked t.kept → AllAbove min_mtu t.kept
     → ((low : ℕ) → tally (λ size. nat_lt low size) t.kept ≡ tally (λ size. nat_lt (max low bytes) size) s.kept)
-    → ((has t.newest numbers ≡ true) ⊎ ((t.newest ≡ 0) × (t.acked ≡ min_mtu))) → Needy min_mtu run (filter (is_above bytes) bursts) numbers lost t
+    → ((has t.newest numbers ≡ true) ⊎ ((t.newest ≡ 0) × (t.acked ≡ min_mtu)))
+    → Needy min_mtu run (filter (is_above bytes) bursts) numbers lost t
 after_ack min_mtu run bursts acked lost numbers s t bytes tie same_open same_min above large counts known = record {
   open_is = same_open ∙ tie.open_is;
   min_is = same_min ∙ tie.min_is;
@@ -205,7 +225,8 @@ after_ack min_mtu run bursts acked lost numbers s t bytes tie same_open same_min
   large = large;
   counts = λ low. (
       let filter_counts = tally-filter (both min_mtu low) (is_above bytes) bursts in
-      let turned = tally-same (both min_mtu (max low bytes)) (λ burst. is_above bytes burst && both min_mtu low burst) bursts
+      let turned = tally-same (both min_mtu (max low bytes)) (λ burst. is_above bytes burst && both min_mtu low burst)
+      bursts
       (λ burst. turn (is_above min_mtu burst) (is_above bytes burst) (is_above low burst)
       (is_above (max low bytes) burst) (max_test low bytes (least_size burst))) in
       omega (arith, counts low, tie.counts (max low bytes), filter_counts, turned)
@@ -225,8 +246,10 @@ module _ (min_mtu : ℕ) (run : List Loss) (bursts : List (List Loss)) (acked lo
 
       newer : (has (max s.newest number) (number ∷ acked) ≡ true) ⊎ ((max s.newest number ≡ 0) × (s.acked ≡ min_mtu))
       newer = ⊎_elim
-          (λ (is : max s.newest number ≡ s.newest). subst (λ n. (has n (number ∷ acked) ≡ true) ⊎ ((n ≡ 0) × (s.acked ≡ min_mtu))) (sym is) older)
-          (λ (is : max s.newest number ≡ number). inl (subst (λ n. has n (number ∷ acked) ≡ true) (sym is) (has_head number acked)))
+          (λ (is : max s.newest number ≡ s.newest).
+          subst (λ n. (has n (number ∷ acked) ≡ true) ⊎ ((n ≡ 0) × (s.acked ≡ min_mtu))) (sym is) older)
+          (λ (is : max s.newest number ≡ number).
+          inl (subst (λ n. has n (number ∷ acked) ≡ true) (sym is) (has_head number acked)))
           (max_cases s.newest number)
 
       raised : nat_lt bytes s.acked ≡ true ⊎ ((bytes == s.acked) ≡ true) → (low : ℕ)
@@ -237,15 +260,18 @@ module _ (min_mtu : ℕ) (run : List Loss) (bursts : List (List Loss)) (acked lo
       go : (below : Bool) → nat_lt bytes s.acked ≡ below → (same : Bool) → (bytes == s.acked) ≡ same
           → Needy min_mtu run (filter (is_above bytes) bursts) (number ∷ acked) lost
           (acked_with below same number bytes s)
-      go true below same is = after_ack min_mtu run bursts acked lost (number ∷ acked) s s bytes tie refl refl tie.above tie.large (raised (inl below)) older
+      go true below same is = after_ack min_mtu run bursts acked lost (number ∷ acked) s s bytes tie refl refl tie.above
+          tie.large (raised (inl below)) older
       go false below true same = after_ack min_mtu run bursts acked lost (number ∷ acked) s
           (acked_with false true number bytes s) bytes tie refl refl tie.above tie.large (raised (inr same)) newer
       go false below false same =
-          after_ack min_mtu run bursts acked lost (number ∷ acked) s (acked_with false false number bytes s) bytes tie refl refl
+          after_ack min_mtu run bursts acked lost (number ∷ acked) s (acked_with false false number bytes s) bytes tie
+          refl refl
           (all-kept bytes s.kept) (all-filter min_mtu (λ size. nat_lt bytes size) s.kept tie.large)
           (λ low. filtered low bytes s.kept) (inl (has_head number acked))
 
-  pub needy_probed : (number bytes : ℕ) → Needy min_mtu run bursts acked lost s → Needy min_mtu run [] (number ∷ acked) lost (bursts_probed number bytes s)
+  pub needy_probed : (number bytes : ℕ) → Needy min_mtu run bursts acked lost s
+      → Needy min_mtu run [] (number ∷ acked) lost (bursts_probed number bytes s)
   needy_probed number bytes tie = record {
     open_is = tie.open_is;
     min_is = tie.min_is;
@@ -261,8 +287,10 @@ module _ (min_mtu : ℕ) (run : List Loss) (bursts : List (List Loss)) (acked lo
   pub needy_lost : (number bytes : ℕ) → Needy min_mtu run bursts acked lost s → AreApart acked lost
       → (let this : Loss = record { number = number; bytes = bytes } in
       let joined = follows number run in
-      Needy min_mtu (run_with joined this run) (closed_with joined run bursts) acked (number ∷ lost) (bursts_lost number bytes s))
-  needy_lost number bytes tie apart = go (follows number run) refl (ap (joins number) tie.open_is ∙ joins_summary number run)
+      Needy min_mtu (run_with joined this run) (closed_with joined run bursts) acked (number ∷ lost)
+      (bursts_lost number bytes s))
+  needy_lost number bytes tie apart =
+      go (follows number run) refl (ap (joins number) tie.open_is ∙ joins_summary number run)
     where
       this : Loss
       this = record { number = number; bytes = bytes }
@@ -271,7 +299,8 @@ module _ (min_mtu : ℕ) (run : List Loss) (bursts : List (List Loss)) (acked lo
           → Needy min_mtu (run_with joined this run) (closed_with joined run bursts) acked (number ∷ lost)
           (lost_with joined number bytes s)
       left true is = record {
-        open_is = ap (λ burst. Some (burst_with number bytes burst)) tie.open_is ∙ ap Some (more_summary number bytes run is);
+        open_is = ap (λ burst. Some (burst_with number bytes burst)) tie.open_is
+            ∙ ap Some (more_summary number bytes run is);
         min_is = tie.min_is;
         above = tie.above;
         large = tie.large;
@@ -303,7 +332,15 @@ module _ (min_mtu : ℕ) (run : List Loss) (bursts : List (List Loss)) (acked lo
       → Needy min_mtu [] (if hole then [] else if_any run ++ bursts) acked lost (ended_with hole s)
   needy_ended tie apart true =
       let after = close_needs min_mtu run bursts acked lost s tie apart in
-      record { open_is = after.open_is; min_is = after.min_is; above = tt; large = tt; counts = λ low. omega arith; newest = after.newest; fate = tt }
+      record {
+        open_is = after.open_is;
+        min_is = after.min_is;
+        above = tt;
+        large = tt;
+        counts = λ low. omega arith;
+        newest = after.newest;
+        fate = tt;
+      }
   needy_ended tie apart false = close_needs min_mtu run bursts acked lost s tie apart
 
   and_self : (b : Bool) → (b && b) ≡ b
@@ -317,8 +354,16 @@ module _ (min_mtu : ℕ) (run : List Loss) (bursts : List (List Loss)) (acked lo
       let after = close_needs min_mtu run bursts acked lost s tie apart in
       let closed = if_any run ++ bursts in
       let kept = tally-all min_mtu min_mtu (bursts_closed s).kept (omega arith) after.large in
-      let once = tally-same (both min_mtu min_mtu) (is_above min_mtu) closed (λ burst. and_self (is_above min_mtu burst)) in
-      omega (arith, leb-true 4 (length (bursts_closed s).kept) is, kept, after.counts min_mtu, once, length-filter (is_above min_mtu) closed)
+      let once = tally-same (both min_mtu min_mtu) (is_above min_mtu) closed
+      (λ burst. and_self (is_above min_mtu burst)) in
+      omega (
+        arith,
+        leb-true 4 (length (bursts_closed s).kept) is,
+        kept,
+        after.counts min_mtu,
+        once,
+        length-filter (is_above min_mtu) closed,
+      )
 
 pub needy_made : (min_mtu : ℕ) (acked lost : List ℕ) → Needy min_mtu [] [] acked lost (bursts_made min_mtu)
 needy_made min_mtu acked lost = record {
@@ -333,15 +378,18 @@ needy_made min_mtu acked lost = record {
 
 -- ---- the same for what must come
 
--- how many count with one burst more, by whether it is above the least MTU, whether it is past the numbers, and whether one before is
+-- how many count with one burst more, by whether it is above the least MTU, whether it is past the numbers, and whether
+-- one before is
 abbrev count_with : Bool → Bool → Bool → ℕ → ℕ
 count_with above past any n = if above then (if past || any then suc n else 0) else n
 
 abbrev any_past : ℕ → List ℕ → List (List Loss) → Bool
 any_past min_mtu numbers bursts = list_any (is_past numbers) (filter (is_above min_mtu) bursts)
 
-count_more : (min_mtu : ℕ) (numbers : List ℕ) (burst : List Loss) (bursts : List (List Loss)) → counted min_mtu numbers (burst ∷ bursts)
-    ≡ count_with (is_above min_mtu burst) (is_past numbers burst) (any_past min_mtu numbers bursts) (counted min_mtu numbers bursts)
+count_more : (min_mtu : ℕ) (numbers : List ℕ) (burst : List Loss) (bursts : List (List Loss))
+    → counted min_mtu numbers (burst ∷ bursts)
+    ≡ count_with (is_above min_mtu burst) (is_past numbers burst) (any_past min_mtu numbers bursts)
+    (counted min_mtu numbers bursts)
 count_more min_mtu numbers burst bursts = go (is_above min_mtu burst)
   where
     rest : List (List Loss)
@@ -358,13 +406,17 @@ count_more min_mtu numbers burst bursts = go (is_above min_mtu burst)
     go false = refl
 
 -- some count exactly where one is past the numbers
-some_counted : (test : List Loss → Bool) (bursts : List (List Loss)) → list_any test bursts ≡ true → 0 < length (from_first test bursts)
+some_counted : (test : List Loss → Bool) (bursts : List (List Loss)) → list_any test bursts ≡ true
+    → 0 < length (from_first test bursts)
 some_counted test [] any = absurd (cc)
-some_counted test (burst ∷ bursts) any = subst (λ (b : Bool). 0 < length (if b then burst ∷ from_first test bursts else [])) (sym any) (omega arith)
+some_counted test (burst ∷ bursts) any =
+    subst (λ (b : Bool). 0 < length (if b then burst ∷ from_first test bursts else [])) (sym any) (omega arith)
 
-none_counted : (test : List Loss → Bool) (bursts : List (List Loss)) → list_any test bursts ≡ false → length (from_first test bursts) ≡ 0
+none_counted : (test : List Loss → Bool) (bursts : List (List Loss)) → list_any test bursts ≡ false
+    → length (from_first test bursts) ≡ 0
 none_counted test [] any = refl
-none_counted test (burst ∷ bursts) any = ap (λ (b : Bool). length (if b then burst ∷ from_first test bursts else [])) any
+none_counted test (burst ∷ bursts) any =
+    ap (λ (b : Bool). length (if b then burst ∷ from_first test bursts else [])) any
 
 count_at_most : (above past any : Bool) (n : ℕ) → count_with above past any n ≤ suc n
 count_at_most true true any n = omega arith
@@ -372,7 +424,8 @@ count_at_most true false true n = omega arith
 count_at_most true false false n = omega arith
 count_at_most false past any n = omega arith
 
-module _ (min_mtu : ℕ) (loss : Loss) (losses : List Loss) (bursts : List (List Loss)) (numbers : List ℕ) (s : LossBursts)
+module _ (min_mtu : ℕ) (loss : Loss) (losses : List Loss) (bursts : List (List Loss)) (numbers : List ℕ)
+    (s : LossBursts)
     (tie : Coming min_mtu (loss ∷ losses) bursts numbers s) where
   abbrev closing_run : List Loss
   closing_run = loss ∷ losses
@@ -384,9 +437,11 @@ module _ (min_mtu : ℕ) (loss : Loss) (losses : List Loss) (bursts : List (List
   past_test burst = is_past numbers burst
 
   -- where it counts, what was acknowledged of larger packets comes before it
-  comes_late : (past any : Bool) → is_past numbers closing_run ≡ past → any_past min_mtu numbers bursts ≡ any → (past || any) ≡ true
+  comes_late : (past any : Bool) → is_past numbers closing_run ≡ past → any_past min_mtu numbers bursts ≡ any
+      → (past || any) ≡ true
       → (s.acked ≤ min_mtu) ⊎ (s.newest < loss.number)
-  comes_late past true is_past is_any holds = inl (tie.small (some_counted past_test (filter (is_above min_mtu) bursts) is_any))
+  comes_late past true is_past is_any holds =
+      inl (tie.small (some_counted past_test (filter (is_above min_mtu) bursts) is_any))
   comes_late true false is_past is_any holds =
       ⊎_elim (λ (little : s.acked ≤ min_mtu). inl little)
       (λ (known : has s.newest numbers ≡ true). inr (past_has loss.number numbers s.newest is_past known)) tie.newest
@@ -396,36 +451,48 @@ module _ (min_mtu : ℕ) (loss : Loss) (losses : List Loss) (bursts : List (List
       → is_above min_mtu closing_run ≡ true → (s.acked ≤ min_mtu) ⊎ (s.newest < loss.number) → ⊥
   not_kept is is_above late =
       let large = ltb-true min_mtu (least_size closing_run) is_above in
-      suspicious_false (least_size closing_run) s.min_mtu loss.number s.newest s.acked is (omega (arith, large, tie.min_is))
-      (⊎_elim (λ (little : s.acked ≤ min_mtu). inl (omega (arith, little, tie.min_is))) (λ (before : s.newest < loss.number). inr before) late)
+      suspicious_false (least_size closing_run) s.min_mtu loss.number s.newest s.acked is
+      (omega (arith, large, tie.min_is))
+      (⊎_elim (λ (little : s.acked ≤ min_mtu). inl (omega (arith, little, tie.min_is)))
+      (λ (before : s.newest < loss.number). inr before) late)
 
   -- a burst that is not suspicious does not count
   kept_counts : is_suspicious (record { least = least_size closing_run; last = loss.number }) s ≡ false
-      → (above past any : Bool) → is_above min_mtu closing_run ≡ above → is_past numbers closing_run ≡ past → any_past min_mtu numbers bursts ≡ any
+      → (above past any : Bool) → is_above min_mtu closing_run ≡ above → is_past numbers closing_run ≡ past
+      → any_past min_mtu numbers bursts ≡ any
       → count_with above past any (counted min_mtu numbers bursts) ≤ counted min_mtu numbers bursts
   kept_counts is false past any is_above is_past is_any = omega arith
   kept_counts is true false false is_above is_past is_any = omega arith
-  kept_counts is true true any is_above is_past is_any = absurd (not_kept is is_above (comes_late true any is_past is_any refl))
-  kept_counts is true false true is_above is_past is_any = absurd (not_kept is is_above (comes_late false true is_past is_any refl))
+  kept_counts is true true any is_above is_past is_any =
+      absurd (not_kept is is_above (comes_late true any is_past is_any refl))
+  kept_counts is true false true is_above is_past is_any =
+      absurd (not_kept is is_above (comes_late false true is_past is_any refl))
 
   -- one that counts leaves the least MTU alone as known to get through
   left_small : (newer : Bool) → nat_lt s.newest loss.number ≡ newer
       → (above past any : Bool) → is_past numbers closing_run ≡ past → any_past min_mtu numbers bursts ≡ any
       → is_above min_mtu closing_run ≡ true → is_above min_mtu closing_run ≡ above
-      → 0 < count_with above past any (counted min_mtu numbers bursts) → (if newer then s.min_mtu else s.acked) ≤ min_mtu
+      → 0 < count_with above past any (counted min_mtu numbers bursts)
+      → (if newer then s.min_mtu else s.acked) ≤ min_mtu
   left_small true is above past any last any_is large over some = omega (arith, tie.min_is)
-  left_small false is false past any last any_is large over some = absurd (let no : true ≡ false = sym large ∙ over in cc)
+  left_small false is false past any last any_is large over some =
+      absurd (let no : true ≡ false = sym large ∙ over in cc)
   left_small false is true false false last any_is large over some = absurd (omega (arith, some))
   left_small false is true true any last any_is large over some =
       ⊎_elim (λ (little : s.acked ≤ min_mtu). little)
-      (λ (before : s.newest < loss.number). absurd (let late : loss.number ≤ s.newest = grind (arith, nat_tests) in omega (arith, before, late)))
+      (λ (before : s.newest < loss.number).
+      absurd (let late : loss.number ≤ s.newest = grind (arith, nat_tests) in omega (arith, before, late)))
       (comes_late true any last any_is refl)
-  left_small false is true false true last any_is large over some = tie.small (some_counted past_test (filter (is_above min_mtu) bursts) any_is)
+  left_small false is true false true last any_is large over some =
+      tie.small (some_counted past_test (filter (is_above min_mtu) bursts) any_is)
 
   come_some : (is : Bool) → is_suspicious (record { least = least_size closing_run; last = loss.number }) s ≡ is
       → (newer : Bool) → nat_lt s.newest loss.number ≡ newer
-      → Coming min_mtu [] (closing_run ∷ bursts) numbers (if is then record s
-      { kept = with_burst (least_size closing_run) s.kept; open_burst = None; acked = (if newer then s.min_mtu else s.acked) }
+      → Coming min_mtu [] (closing_run ∷ bursts) numbers (if is then record s {
+        kept = with_burst (least_size closing_run) s.kept;
+        open_burst = None;
+        acked = (if newer then s.min_mtu else s.acked);
+      }
       else record s { open_burst = None })
   come_some true is newer is_newer =
       let large = (suspicious_true (least_size closing_run) s.min_mtu loss.number s.newest s.acked is).0 in
@@ -436,14 +503,16 @@ module _ (min_mtu : ℕ) (loss : Loss) (losses : List Loss) (bursts : List (List
         min_is = tie.min_is;
         large = all-with_burst min_mtu (least_size closing_run) s.kept above tie.large;
         newest = newest newer;
-        small = λ some. left_small newer is_newer (is_above min_mtu closing_run) (is_past numbers closing_run) any refl refl
+        small = λ some. left_small newer is_newer (is_above min_mtu closing_run) (is_past numbers closing_run) any refl
+            refl
             (lt-ltb min_mtu (least_size closing_run) above) refl (omega (arith, some, count));
         many = omega (
           arith,
           tie.many,
           length-with_burst (least_size closing_run) s.kept,
           count,
-          count_at_most (is_above min_mtu closing_run) (is_past numbers closing_run) any (counted min_mtu numbers bursts),
+          count_at_most (is_above min_mtu closing_run) (is_past numbers closing_run) any
+              (counted min_mtu numbers bursts),
         );
       }
     where
@@ -467,18 +536,21 @@ come_with : (min_mtu : ℕ) (run : List Loss) (bursts : List (List Loss)) (numbe
 come_with min_mtu [] bursts numbers s tie = tie
 come_with min_mtu (loss ∷ losses) bursts numbers s tie =
     come_some min_mtu loss losses bursts numbers s tie
-    (is_suspicious (record { least = least_size (loss ∷ losses); last = loss.number }) s) refl (nat_lt s.newest loss.number) refl
+    (is_suspicious (record { least = least_size (loss ∷ losses); last = loss.number }) s) refl
+    (nat_lt s.newest loss.number) refl
 
 four : (count : ℕ) → 4 ≤ count → nat_le 4 count ≡ true
 four count many = grind (arith, nat_tests)
 
 module _ (min_mtu : ℕ) (run : List Loss) (bursts : List (List Loss)) (numbers : List ℕ) (s : LossBursts) where
   close_comes : Coming min_mtu run bursts numbers s → Coming min_mtu [] (if_any run ++ bursts) numbers (bursts_closed s)
-  close_comes tie = subst (λ burst. Coming min_mtu [] (if_any run ++ bursts) numbers (closing burst s)) (sym tie.open_is)
+  close_comes tie = subst (λ burst. Coming min_mtu [] (if_any run ++ bursts) numbers (closing burst s))
+      (sym tie.open_is)
       (come_with min_mtu run bursts numbers s tie)
 
   -- a larger packet is acknowledged: none counts
-  pub coming_acked : (number bytes : ℕ) → Coming min_mtu run bursts numbers s → Coming min_mtu run [] (number ∷ numbers) (bursts_acked number bytes s)
+  pub coming_acked : (number bytes : ℕ) → Coming min_mtu run bursts numbers s
+      → Coming min_mtu run [] (number ∷ numbers) (bursts_acked number bytes s)
   coming_acked number bytes tie = go (nat_lt bytes s.acked) (bytes == s.acked)
     where
       older : (s.acked ≤ min_mtu) ⊎ (has s.newest (number ∷ numbers) ≡ true)
@@ -487,8 +559,10 @@ module _ (min_mtu : ℕ) (run : List Loss) (bursts : List (List Loss)) (numbers 
 
       newer : (s.acked ≤ min_mtu) ⊎ (has (max s.newest number) (number ∷ numbers) ≡ true)
       newer = ⊎_elim
-          (λ (is : max s.newest number ≡ s.newest). subst (λ n. (s.acked ≤ min_mtu) ⊎ (has n (number ∷ numbers) ≡ true)) (sym is) older)
-          (λ (is : max s.newest number ≡ number). inr (subst (λ n. has n (number ∷ numbers) ≡ true) (sym is) (has_head number numbers)))
+          (λ (is : max s.newest number ≡ s.newest). subst (λ n. (s.acked ≤ min_mtu) ⊎ (has n (number ∷ numbers) ≡ true))
+          (sym is) older)
+          (λ (is : max s.newest number ≡ number).
+          inr (subst (λ n. has n (number ∷ numbers) ≡ true) (sym is) (has_head number numbers)))
           (max_cases s.newest number)
 
       go : (below same : Bool) → Coming min_mtu run [] (number ∷ numbers) (acked_with below same number bytes s)
@@ -545,7 +619,8 @@ module _ (min_mtu : ℕ) (run : List Loss) (bursts : List (List Loss)) (numbers 
         many = omega (arith, tie.many, all_kept);
       }
 
-  pub coming_probed : (number bytes : ℕ) → Coming min_mtu run bursts numbers s → Coming min_mtu run [] (number ∷ numbers) (bursts_probed number bytes s)
+  pub coming_probed : (number bytes : ℕ) → Coming min_mtu run bursts numbers s
+      → Coming min_mtu run [] (number ∷ numbers) (bursts_probed number bytes s)
   coming_probed number bytes tie = record {
     open_is = tie.open_is;
     min_is = tie.min_is;
@@ -555,7 +630,8 @@ module _ (min_mtu : ℕ) (run : List Loss) (bursts : List (List Loss)) (numbers 
     many = omega arith;
   }
 
-  pub coming_lost : (number bytes : ℕ) → Coming min_mtu run bursts numbers s → (let this : Loss = record { number = number; bytes = bytes } in
+  pub coming_lost : (number bytes : ℕ) → Coming min_mtu run bursts numbers s
+      → (let this : Loss = record { number = number; bytes = bytes } in
       let joined = follows number run in
       Coming min_mtu (run_with joined this run) (closed_with joined run bursts) numbers (bursts_lost number bytes s))
   coming_lost number bytes tie = go (follows number run) refl (ap (joins number) tie.open_is ∙ joins_summary number run)
@@ -567,7 +643,8 @@ module _ (min_mtu : ℕ) (run : List Loss) (bursts : List (List Loss)) (numbers 
           → Coming min_mtu (run_with joined this run) (closed_with joined run bursts) numbers
           (lost_with joined number bytes s)
       left true is = record {
-        open_is = ap (λ burst. Some (burst_with number bytes burst)) tie.open_is ∙ ap Some (more_summary number bytes run is);
+        open_is = ap (λ burst. Some (burst_with number bytes burst)) tie.open_is
+            ∙ ap Some (more_summary number bytes run is);
         min_is = tie.min_is;
         large = tie.large;
         newest = tie.newest;
@@ -576,10 +653,18 @@ module _ (min_mtu : ℕ) (run : List Loss) (bursts : List (List Loss)) (numbers 
       }
       left false is =
           let after = close_comes tie in
-          record { open_is = refl; min_is = after.min_is; large = after.large; newest = after.newest; small = after.small; many = after.many }
+          record {
+            open_is = refl;
+            min_is = after.min_is;
+            large = after.large;
+            newest = after.newest;
+            small = after.small;
+            many = after.many;
+          }
 
       go : (joined : Bool) → follows number run ≡ joined → joins number s.open_burst ≡ follows number run
-          → Coming min_mtu (run_with (follows number run) this run) (closed_with (follows number run) run bursts) numbers
+          → Coming min_mtu (run_with (follows number run) this run) (closed_with (follows number run) run bursts)
+          numbers
           (lost_with (joins number s.open_burst) number bytes s)
       go joined is same = subst (λ (b : Bool × Bool). Coming min_mtu (run_with b.0 this run)
           (closed_with b.0 run bursts) numbers (lost_with b.1 number bytes s)) (λ i. (sym is i, sym (same ∙ is) i))
@@ -601,7 +686,8 @@ module _ (min_mtu : ℕ) (run : List Loss) (bursts : List (List Loss)) (numbers 
 
   -- a report comes at four
   pub coming_report : Coming min_mtu run bursts numbers s
-      → 4 ≤ length (from_first (is_past numbers) (filter (is_above min_mtu) (if_any run ++ bursts))) → is_black_hole (bursts_closed s) ≡ true
+      → 4 ≤ length (from_first (is_past numbers) (filter (is_above min_mtu) (if_any run ++ bursts)))
+      → is_black_hole (bursts_closed s) ≡ true
   coming_report tie many = four (length (bursts_closed s).kept) (omega (arith, (close_comes tie).many, many))
 
 pub coming_made : (min_mtu : ℕ) (numbers : List ℕ) → Coming min_mtu [] [] numbers (bursts_made min_mtu)

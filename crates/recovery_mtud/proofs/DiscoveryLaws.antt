@@ -17,7 +17,8 @@ bursts_made_sound : (min_mtu : ℕ) → 0 < min_mtu → AreBurstsSound (bursts_m
 bursts_made_sound min_mtu some_mtu = record { few = omega arith; min_mtu = some_mtu }
 
 -- what a search keeps, it keeps where there is one
-carried : (change : MtuSearch → MtuSearch) → ((search : MtuSearch) → IsSearchSound search → IsSearchSound (change search))
+carried : (change : MtuSearch → MtuSearch)
+    → ((search : MtuSearch) → IsSearchSound search → IsSearchSound (change search))
     → (search : Option MtuSearch) → IfSome search IsSearchSound → IfSome (option_map change search) IsSearchSound
 carried change keeps None sound = tt
 carried change keeps (Some search) sound = keeps search sound
@@ -37,8 +38,10 @@ discovery_made_sound mtu min_mtu (Some limit) settings some_mtu some_min positiv
       bursts = bursts_made_sound min_mtu some_min;
     }
 
-pub discovery_disabled_sound : (mtu min_mtu : ℕ) → 0 < mtu → 0 < min_mtu → IsDiscoverySound (discovery_disabled mtu min_mtu)
-discovery_disabled_sound mtu min_mtu some_mtu some_min = record { mtu = some_mtu; search = tt; bursts = bursts_made_sound min_mtu some_min }
+pub discovery_disabled_sound : (mtu min_mtu : ℕ) → 0 < mtu → 0 < min_mtu
+    → IsDiscoverySound (discovery_disabled mtu min_mtu)
+discovery_disabled_sound mtu min_mtu some_mtu some_min =
+    record { mtu = some_mtu; search = tt; bursts = bursts_made_sound min_mtu some_min }
 
 pub discovery_reset_sound : (mtu min_mtu : ℕ) (old : Discovery) → 0 < mtu → 0 < min_mtu → IsDiscoverySound old
     → IsDiscoverySound (discovery_reset mtu min_mtu old)
@@ -46,9 +49,11 @@ discovery_reset_sound mtu min_mtu old some_mtu some_min sound = go old.search so
   where
     go : (search : Option MtuSearch) → IfSome search IsSearchSound → IsDiscoverySound (reset_in mtu min_mtu search)
     go None sound_search = discovery_disabled_sound mtu min_mtu some_mtu some_min
-    go (Some search) sound_search = discovery_made_sound mtu min_mtu (Some search.limit) search.settings some_mtu some_min sound_search.limit
+    go (Some search) sound_search =
+        discovery_made_sound mtu min_mtu (Some search.limit) search.settings some_mtu some_min sound_search.limit
 
-size_in_positive : (number : ℕ) (search : Option MtuSearch) → IfSome search IsSearchSound → IsPositive (size_in number search)
+size_in_positive : (number : ℕ) (search : Option MtuSearch) → IfSome search IsSearchSound
+    → IsPositive (size_in number search)
 size_in_positive number None sound = tt
 size_in_positive number (Some search) sound = probed_size_positive number search sound
 
@@ -75,21 +80,25 @@ ended_sound now old sound = go (reports old)
         { mtu = old.bursts.min_mtu; search = option_map (search_reported now) old.search } else rest)
     go true = record {
       mtu = sound.bursts.min_mtu;
-      search = carried (search_reported now) (λ search sound_search. record { limit = sound_search.limit; phase = tt }) old.search sound.search;
+      search = carried (search_reported now) (λ search sound_search. record { limit = sound_search.limit; phase = tt })
+          old.search sound.search;
       bursts = bursts_ended_sound old.bursts sound.bursts;
     }
     go false = record { mtu = sound.mtu; search = sound.search; bursts = bursts_ended_sound old.bursts sound.bursts }
 
 -- one call
-pub discovery_after_sound : (call : MtuCall) → IsPositiveMtuCall call → (old : Discovery) → IsDiscoverySound old → IsDiscoverySound (discovery_after call old)
+pub discovery_after_sound : (call : MtuCall) → IsPositiveMtuCall call → (old : Discovery) → IsDiscoverySound old
+    → IsDiscoverySound (discovery_after call old)
 discovery_after_sound (polls now next) positive old sound = record {
   mtu = sound.mtu;
-  search = carried (search_polled old.mtu now next) (λ search. search_polled_sound old.mtu now next search sound.mtu) old.search sound.search;
+  search = carried (search_polled old.mtu now next) (λ search. search_polled_sound old.mtu now next search sound.mtu)
+      old.search sound.search;
   bursts = sound.bursts;
 }
 discovery_after_sound (is_limited limit) positive old sound = record {
   mtu = omega (arith, positive, sound.mtu);
-  search = carried (search_limited limit) (λ search sound_search. record { limit = positive; phase = sound_search.phase }) old.search sound.search;
+  search = carried (search_limited limit)
+      (λ search sound_search. record { limit = positive; phase = sound_search.phase }) old.search sound.search;
   bursts = sound.bursts;
 }
 discovery_after_sound (acks number bytes) positive old sound =
@@ -102,7 +111,8 @@ discovery_after_sound loses_probe positive old sound = record {
 discovery_after_sound (loses number bytes) positive old sound =
     record { mtu = sound.mtu; search = sound.search; bursts = bursts_lost_sound number bytes old.bursts sound.bursts }
 discovery_after_sound (losses_end now) positive old sound = ended_sound now old sound
-discovery_after_sound (resets mtu min_mtu) positive old sound = discovery_reset_sound mtu min_mtu old positive.0 positive.1 sound
+discovery_after_sound (resets mtu min_mtu) positive old sound =
+    discovery_reset_sound mtu min_mtu old positive.0 positive.1 sound
 
 -- all calls, from a sound discovery
 pub discovery_by_sound : (calls : List MtuCall) → ArePositiveMtuCalls calls → (made : Discovery) → IsDiscoverySound made
@@ -136,6 +146,7 @@ discovery_after_mtu (losses_end now) old = go (reports old)
     go false = refl
 discovery_after_mtu (resets mtu min_mtu) old = go old.search
   where
-    go : (search : Option MtuSearch) → (reset_in mtu min_mtu search).mtu ≡ within mtu (option_map (λ kept. kept.limit) search)
+    go : (search : Option MtuSearch)
+        → (reset_in mtu min_mtu search).mtu ≡ within mtu (option_map (λ kept. kept.limit) search)
     go None = refl
     go (Some search) = refl

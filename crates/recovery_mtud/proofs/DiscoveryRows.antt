@@ -22,7 +22,8 @@ second_probe : poll_of 0 probed ≡ Some 1_389
 second_probe = refl
 
 -- after the third loss of a size the next one lies below it
-third_loss : poll_of 0 (discovery_by made (loses_probe ∷ polls 0 2 ∷ loses_probe ∷ polls 0 1 ∷ loses_probe ∷ polls 0 0 ∷ [])) ≡ Some 1_262
+third_loss : poll_of 0
+    (discovery_by made (loses_probe ∷ polls 0 2 ∷ loses_probe ∷ polls 0 1 ∷ loses_probe ∷ polls 0 0 ∷ [])) ≡ Some 1_262
 third_loss = refl
 
 -- with nothing above the limit to probe, a search ends as it begins, and the next one waits for the interval
@@ -46,5 +47,6 @@ after_report : poll_of 0 (discovery_by lost (losses_end 0 ∷ [])) ≡ None
 after_report = refl
 
 -- a packet as large as theirs that is acknowledged refutes those before it
-refuted : reports (discovery_by made (loses 6 1_300 ∷ acks 5 1_300 ∷ losses_end 0 ∷ loses 4 1_300 ∷ loses 2 1_300 ∷ loses 0 1_300 ∷ [])) ≡ false
+refuted : reports (discovery_by made (loses 6 1_300 ∷ acks 5 1_300 ∷ losses_end 0 ∷ loses 4 1_300 ∷ loses 2 1_300
+    ∷ loses 0 1_300 ∷ [])) ≡ false
 refuted = refl

@@ -54,7 +54,8 @@ some_if true a = refl
 some_if false a = refl
 
 -- a number is that of the state's probe exactly where it is that of the probe held
-is_number_held : (number : ℕ) (search : Option MtuSearch) → is_number number (flight_of search) ≡ is_some (size_at number (held search))
+is_number_held : (number : ℕ) (search : Option MtuSearch)
+    → is_number number (flight_of search) ≡ is_some (size_at number (held search))
 is_number_held number None = refl
 is_number_held number (Some search) = go search.phase
   where
@@ -64,7 +65,8 @@ is_number_held number (Some search) = go search.phase
     flying last None = refl
     flying last (Some own) = sym (some_if (number == own) last)
 
-    go : (phase : Phase) → is_number number (flight_of (Some (record search { phase = phase }))) ≡ is_some (size_at number (held_in phase))
+    go : (phase : Phase) → is_number number (flight_of (Some (record search { phase = phase })))
+        ≡ is_some (size_at number (held_in phase))
     go Initial = refl
     go (Searching p) = flying p.last p.in_flight
     go (Complete activation) = refl
@@ -73,7 +75,8 @@ is_number_held number (Some search) = go search.phase
 
 abbrev PollHolds : List MtuEntry → ℕ → ℕ → Option ℕ → Phase → Type 0
 PollHolds entries now next answer phase =
-    (held_in phase ≡ probe_in_flight (poll_entry now next answer ∷ entries)) × (is_running phase ≡ search_runs (poll_entry now next answer ∷ entries))
+    (held_in phase ≡ probe_in_flight (poll_entry now next answer ∷ entries))
+    × (is_running phase ≡ search_runs (poll_entry now next answer ∷ entries))
 
 module _ (entries : List MtuEntry) (mtu now next limit : ℕ) (settings : MtuDiscoveryConfig) where
   goes_on : (activation : ℕ) (p : Probing) → probe_in_flight entries ≡ None → (answer : Option ℕ)
@@ -93,9 +96,11 @@ module _ (entries : List MtuEntry) (mtu now next limit : ℕ) (settings : MtuDis
       go p = goes_on (later now settings.interval) p (sym probe) (size_to_probe settings.minimum_change p)
   poll_in_phase (Searching p) probe runs = go p.in_flight probe
     where
-      go : (flight : Option ℕ) → option_map (λ number. record { number = number; size = p.last }) flight ≡ probe_in_flight entries
+      go : (flight : Option ℕ) → option_map (λ number. record { number = number; size = p.last }) flight
+          ≡ probe_in_flight entries
           → PollHolds entries now next (if is_some flight then None else size_to_probe settings.minimum_change p)
-          (if is_some flight then Searching p else phase_with (later now settings.interval) next p (size_to_probe settings.minimum_change p))
+          (if is_some flight then Searching p else phase_with (later now settings.interval) next p
+          (size_to_probe settings.minimum_change p))
       go None flies = goes_on (later now settings.interval) p (sym flies) (size_to_probe settings.minimum_change p)
       go (Some number) flies = (probe, runs ∙ ap (λ other. not (is_none other) && search_runs entries) flies)
   poll_in_phase (Complete activation) probe runs = go (nat_lt now activation)
@@ -103,10 +108,12 @@ module _ (entries : List MtuEntry) (mtu now next limit : ℕ) (settings : MtuDis
       here : MtuSearch
       here = record { limit = limit; phase = Complete activation; settings = settings }
 
-      go : (early : Bool) → PollHolds entries now next (answer_in settings.minimum_change (if early then None else Some (begun mtu here)))
+      go : (early : Bool) → PollHolds entries now next
+          (answer_in settings.minimum_change (if early then None else Some (begun mtu here)))
           (phase_after now next here (if early then None else Some (begun mtu here)))
       go true = (probe, ap (λ flight. not (is_none flight) && search_runs entries) probe)
-      go false = goes_on (later now settings.interval) (begun mtu here) (sym probe) (size_to_probe settings.minimum_change (begun mtu here))
+      go false = goes_on (later now settings.interval) (begun mtu here) (sym probe)
+          (size_to_probe settings.minimum_change (begun mtu here))
 
 -- ---- the least MTU stays
 
@@ -114,7 +121,8 @@ closing_min_mtu : (burst : Option Burst) (old : LossBursts) → (closing burst o
 closing_min_mtu None old = refl
 closing_min_mtu (Some burst) old = go (is_suspicious burst old)
   where
-    go : (is : Bool) → (if is then with_suspicious burst (record old { open_burst = None }) else record old { open_burst = None }).min_mtu ≡ old.min_mtu
+    go : (is : Bool) → (if is then with_suspicious burst (record old { open_burst = None }) else record old
+        { open_burst = None }).min_mtu ≡ old.min_mtu
     go true = refl
     go false = refl
 
@@ -139,7 +147,8 @@ bursts_lost_min_mtu number size old = go (joins number old.open_burst)
 bursts_ended_min_mtu : (old : LossBursts) → (bursts_ended old).min_mtu ≡ old.min_mtu
 bursts_ended_min_mtu old = go (is_black_hole (bursts_closed old))
   where
-    go : (hole : Bool) → (if hole then record (bursts_closed old) { kept = [] } else bursts_closed old).min_mtu ≡ old.min_mtu
+    go : (hole : Bool) → (if hole then record (bursts_closed old) { kept = [] } else bursts_closed old).min_mtu
+        ≡ old.min_mtu
     go true = closing_min_mtu old.open_burst old
     go false = closing_min_mtu old.open_burst old
 
@@ -148,7 +157,8 @@ bursts_ended_min_mtu old = go (is_black_hole (bursts_closed old))
 module _ (made : Discovery) (entries : List MtuEntry) where
   polls_holds : (now next mtu : ℕ) (search : Option MtuSearch) (bursts : LossBursts)
       → (let old : Discovery = record { mtu = mtu; search = search; bursts = bursts } in
-      Holds made entries old → Holds made (entry_of (polls now next) old ∷ entries) (discovery_after (polls now next) old))
+      Holds made entries old
+      → Holds made (entry_of (polls now next) old ∷ entries) (discovery_after (polls now next) old))
   polls_holds now next mtu None bursts holds = record {
     mtu = holds.mtu;
     limit = holds.limit;
@@ -158,9 +168,17 @@ module _ (made : Discovery) (entries : List MtuEntry) where
   }
   polls_holds now next mtu (Some search) bursts holds =
       let old : Discovery = record { mtu = mtu; search = Some search; bursts = bursts } in
-      let polled = poll_in_phase entries mtu now next search.limit search.settings search.phase holds.probe holds.runs in
+      let polled = poll_in_phase entries mtu now next search.limit search.settings search.phase holds.probe
+      holds.runs in
       let same = sizes (poll_of now old) in
-      record { mtu = holds.mtu ∙ same.0; limit = holds.limit ∙ same.1; min_mtu = holds.min_mtu ∙ same.2; probe = polled.0; runs = polled.1 }
+      record {
+        mtu = holds.mtu ∙ same.0;
+        limit = holds.limit ∙ same.1;
+        min_mtu = holds.min_mtu
+            ∙ same.2;
+        probe = polled.0;
+        runs = polled.1;
+      }
     where
       sizes : (answer : Option ℕ) → (mtu_in_use made entries ≡ mtu_in_use made (poll_entry now next answer ∷ entries))
           × (limit_in_use made entries ≡ limit_in_use made (poll_entry now next answer ∷ entries))
@@ -170,7 +188,8 @@ module _ (made : Discovery) (entries : List MtuEntry) where
 
   limited_holds : (limit mtu : ℕ) (search : Option MtuSearch) (bursts : LossBursts)
       → (let old : Discovery = record { mtu = mtu; search = search; bursts = bursts } in
-      Holds made entries old → Holds made (entry_of (is_limited limit) old ∷ entries) (discovery_after (is_limited limit) old))
+      Holds made entries old
+      → Holds made (entry_of (is_limited limit) old ∷ entries) (discovery_after (is_limited limit) old))
   limited_holds limit mtu None bursts holds = record {
     mtu = ap (λ size. min size limit) holds.mtu;
     limit = ap (option_map (λ old. limit)) holds.limit;
@@ -197,13 +216,21 @@ module _ (made : Discovery) (entries : List MtuEntry) where
   acked_in : (number bytes mtu : ℕ) (search : Option MtuSearch) (bursts : LossBursts)
       → (let old : Discovery = record { mtu = mtu; search = search; bursts = bursts } in Acked number (held search) old
       (discovery_after (acks number bytes) old))
-  acked_in number bytes mtu None bursts = record { mtu = refl; limit = refl; min_mtu = bursts_acked_min_mtu number bytes bursts; probe = refl; runs = refl }
+  acked_in number bytes mtu None bursts =
+      record { mtu = refl; limit = refl; min_mtu = bursts_acked_min_mtu number bytes bursts; probe = refl; runs = refl }
   acked_in number bytes mtu (Some search) bursts = go search.phase
     where
       flying : (p : Probing) (flight : Option ℕ) → (let p' : Probing = record p { in_flight = flight } in
-          let old : Discovery = record { mtu = mtu; search = Some (record search { phase = Searching p' }); bursts = bursts } in
+          let old : Discovery =
+          record { mtu = mtu; search = Some (record search { phase = Searching p' }); bursts = bursts } in
           Acked number (held_in (Searching p')) old (discovery_after (acks number bytes) old))
-      flying p None = record { mtu = refl; limit = refl; min_mtu = bursts_acked_min_mtu number bytes bursts; probe = refl; runs = refl }
+      flying p None = record {
+        mtu = refl;
+        limit = refl;
+        min_mtu = bursts_acked_min_mtu number bytes bursts;
+        probe = refl;
+        runs = refl;
+      }
       flying p (Some own) = is_own (number == own) refl
         where
           p' : Probing
@@ -223,7 +250,8 @@ module _ (made : Discovery) (entries : List MtuEntry) where
                 probe = ap (λ b. held_in (if b then Searching (record p' { in_flight = None; losses = 0 })
                     else Searching p')) is ∙ ap (λ b. if b then None else Some (record { number = own; size = p.last }))
                     (sym is);
-                runs = ap (λ b. is_running (if b then Searching (record p' { in_flight = None; losses = 0 }) else Searching p')) is;
+                runs = ap (λ b. is_running (if b then Searching (record p' { in_flight = None; losses = 0 })
+                    else Searching p')) is;
               })
           is_own false is = subst (λ b. Acked number (Some (record { number = own; size = p.last })) old
               (taking (if b then Some p.last else None) number bytes old)) (sym is) (record {
@@ -234,11 +262,28 @@ module _ (made : Discovery) (entries : List MtuEntry) where
                 runs = refl;
               })
 
-      go : (phase : Phase) → (let old : Discovery = record { mtu = mtu; search = Some (record search { phase = phase }); bursts = bursts } in
+      go : (phase : Phase) → (let old : Discovery = record {
+        mtu = mtu;
+        search = Some (record search { phase = phase });
+        bursts = bursts;
+      } in
           Acked number (held_in phase) old (discovery_after (acks number bytes) old))
-      go Initial = record { mtu = refl; limit = refl; min_mtu = bursts_acked_min_mtu number bytes bursts; probe = refl; runs = refl }
+      go Initial = record {
+        mtu = refl;
+        limit = refl;
+        min_mtu = bursts_acked_min_mtu number bytes bursts;
+        probe = refl;
+        runs = refl;
+      }
       go (Searching p) = flying p p.in_flight
-      go (Complete activation) = record { mtu = refl; limit = refl; min_mtu = bursts_acked_min_mtu number bytes bursts; probe = refl; runs = refl }
+      go (Complete activation) =
+          record {
+            mtu = refl;
+            limit = refl;
+            min_mtu = bursts_acked_min_mtu number bytes bursts;
+            probe = refl;
+            runs = refl;
+          }
 
   acked_holds : (number bytes : ℕ) (old : Discovery) → Holds made entries old
       → Holds made (entry_of (acks number bytes) old ∷ entries) (discovery_after (acks number bytes) old)
@@ -253,7 +298,8 @@ module _ (made : Discovery) (entries : List MtuEntry) where
         runs = after.runs ∙ holds.runs;
       }
 
-  probe_lost_in : (phase : Phase) → (held_in (phase_lost phase) ≡ None) × (is_running (phase_lost phase) ≡ is_running phase)
+  probe_lost_in : (phase : Phase) → (held_in (phase_lost phase) ≡ None)
+      × (is_running (phase_lost phase) ≡ is_running phase)
   probe_lost_in Initial = (refl, refl)
   probe_lost_in (Searching p) = go p.in_flight
     where
@@ -267,14 +313,23 @@ module _ (made : Discovery) (entries : List MtuEntry) where
   probe_lost_holds : (mtu : ℕ) (search : Option MtuSearch) (bursts : LossBursts)
       → (let old : Discovery = record { mtu = mtu; search = search; bursts = bursts } in
       Holds made entries old → Holds made (entry_of loses_probe old ∷ entries) (discovery_after loses_probe old))
-  probe_lost_holds mtu None bursts holds = record { mtu = holds.mtu; limit = holds.limit; min_mtu = holds.min_mtu; probe = refl; runs = holds.runs }
+  probe_lost_holds mtu None bursts holds =
+      record { mtu = holds.mtu; limit = holds.limit; min_mtu = holds.min_mtu; probe = refl; runs = holds.runs }
   probe_lost_holds mtu (Some search) bursts holds =
       let after = probe_lost_in search.phase in
-      record { mtu = holds.mtu; limit = holds.limit; min_mtu = holds.min_mtu; probe = after.0; runs = after.1 ∙ holds.runs }
+      record {
+        mtu = holds.mtu;
+        limit = holds.limit;
+        min_mtu = holds.min_mtu;
+        probe = after.0;
+        runs = after.1
+            ∙ holds.runs;
+      }
 
   ended_holds : (now mtu : ℕ) (search : Option MtuSearch) (bursts : LossBursts)
       → (let old : Discovery = record { mtu = mtu; search = search; bursts = bursts } in
-      Holds made entries old → Holds made (entry_of (losses_end now) old ∷ entries) (discovery_after (losses_end now) old))
+      Holds made entries old
+      → Holds made (entry_of (losses_end now) old ∷ entries) (discovery_after (losses_end now) old))
   ended_holds now mtu search bursts holds = go (is_black_hole (bursts_closed bursts))
     where
       old : Discovery
@@ -295,7 +350,8 @@ module _ (made : Discovery) (entries : List MtuEntry) where
       }
 
       ended : (old_search : Option MtuSearch) → kept_limit (record old { search = old_search }) ≡ kept_limit old
-          → Holds made (reported now ∷ entries) (record rest { mtu = bursts.min_mtu; search = option_map (search_reported now) old_search })
+          → Holds made (reported now ∷ entries)
+          (record rest { mtu = bursts.min_mtu; search = option_map (search_reported now) old_search })
       ended None same = over None same refl refl
       ended (Some own) same = over (Some (search_reported now own)) same refl refl
 
@@ -303,11 +359,19 @@ module _ (made : Discovery) (entries : List MtuEntry) where
           (if hole then record rest { mtu = bursts.min_mtu; search = option_map (search_reported now) search }
           else rest)
       go true = ended search refl
-      go false = record { mtu = holds.mtu; limit = holds.limit; min_mtu = bursts_ended_min_mtu bursts ∙ holds.min_mtu; probe = holds.probe; runs = holds.runs }
+      go false = record {
+        mtu = holds.mtu;
+        limit = holds.limit;
+        min_mtu = bursts_ended_min_mtu bursts
+            ∙ holds.min_mtu;
+        probe = holds.probe;
+        runs = holds.runs;
+      }
 
   reset_holds : (mtu min_mtu old_mtu : ℕ) (search : Option MtuSearch) (bursts : LossBursts)
       → (let old : Discovery = record { mtu = old_mtu; search = search; bursts = bursts } in
-      Holds made entries old → Holds made (entry_of (resets mtu min_mtu) old ∷ entries) (discovery_after (resets mtu min_mtu) old))
+      Holds made entries old
+      → Holds made (entry_of (resets mtu min_mtu) old ∷ entries) (discovery_after (resets mtu min_mtu) old))
   reset_holds mtu min_mtu old_mtu None bursts holds = record {
     mtu = ap (within mtu) holds.limit;
     limit = holds.limit;
@@ -319,7 +383,8 @@ module _ (made : Discovery) (entries : List MtuEntry) where
       record { mtu = ap (within mtu) holds.limit; limit = holds.limit; min_mtu = refl; probe = refl; runs = refl }
 
   -- what a call leaves is what its entry says
-  pub holds_after : (call : MtuCall) (old : Discovery) → Holds made entries old → Holds made (entry_of call old ∷ entries) (discovery_after call old)
+  pub holds_after : (call : MtuCall) (old : Discovery) → Holds made entries old
+      → Holds made (entry_of call old ∷ entries) (discovery_after call old)
   holds_after (polls now next) old holds = polls_holds now next old.mtu old.search old.bursts holds
   holds_after (is_limited limit) old holds = limited_holds limit old.mtu old.search old.bursts holds
   holds_after (acks number bytes) old holds = acked_holds number bytes old holds
@@ -339,23 +404,36 @@ module _ (made : Discovery) (entries : List MtuEntry) where
 holds_made : (made : Discovery) → IsUntold made → Holds made [] made
 holds_made made new = go made.search new.search
   where
-    still : (search : MtuSearch) (phase : Phase) → search.phase ≡ phase → phase ≡ Initial → (held_in search.phase ≡ None) × (is_running search.phase ≡ false)
+    still : (search : MtuSearch) (phase : Phase) → search.phase ≡ phase → phase ≡ Initial
+        → (held_in search.phase ≡ None) × (is_running search.phase ≡ false)
     still search phase is none = (ap held_in (is ∙ none), ap is_running (is ∙ none))
 
-    go : (search : Option MtuSearch) → IfSome search (λ own. own.phase ≡ Initial) → Holds (record made { search = search }) [] (record made { search = search })
+    go : (search : Option MtuSearch) → IfSome search (λ own. own.phase ≡ Initial)
+        → Holds (record made { search = search }) [] (record made { search = search })
     go None initial = record { mtu = refl; limit = refl; min_mtu = refl; probe = refl; runs = refl }
-    go (Some own) initial = let quiet = still own own.phase refl initial in record { mtu = refl; limit = refl; min_mtu = refl; probe = quiet.0; runs = quiet.1 }
+    go (Some own) initial = let quiet =
+        still own own.phase refl initial in record {
+          mtu = refl;
+          limit = refl;
+          min_mtu = refl;
+          probe = quiet.0;
+          runs = quiet.1;
+        }
 
--- whatever is told, a discovery holds what the entries say: the MTU in use is theirs, and so are the probe in flight and whether a search runs
-pub holds_by : (made : Discovery) → IsUntold made → (calls : List MtuCall) → Holds made (entries_by made calls) (discovery_by made calls)
+-- whatever is told, a discovery holds what the entries say: the MTU in use is theirs, and so are the probe in flight
+-- and whether a search runs
+pub holds_by : (made : Discovery) → IsUntold made → (calls : List MtuCall)
+    → Holds made (entries_by made calls) (discovery_by made calls)
 holds_by made new [] = holds_made made new
-holds_by made new (call ∷ earlier) = holds_after made (entries_by made earlier) call (discovery_by made earlier) (holds_by made new earlier)
+holds_by made new (call ∷ earlier) =
+    holds_after made (entries_by made earlier) call (discovery_by made earlier) (holds_by made new earlier)
 
 -- a number is that of the probe in flight exactly where the entries say so
 pub is_probe_by : (made : Discovery) → IsUntold made → (calls : List MtuCall) (number : ℕ)
     → is_probe number (discovery_by made calls) ≡ is_some (size_at number (probe_in_flight (entries_by made calls)))
 is_probe_by made new calls number =
-    is_number_held number (discovery_by made calls).search ∙ ap (λ probe. is_some (size_at number probe)) (holds_by made new calls).probe
+    is_number_held number (discovery_by made calls).search
+    ∙ ap (λ probe. is_some (size_at number probe)) (holds_by made new calls).probe
 
 -- what holds whatever is told holds at each moment
 pub at_each : (made : Discovery) (P : List MtuEntry → Type 0) → ((calls : List MtuCall) → P (entries_by made calls))
@@ -364,7 +442,8 @@ at_each made P always [] = always []
 at_each made P always (call ∷ earlier) = (always (call ∷ earlier), at_each made P always earlier)
 
 -- a discovery that was made, enabled or not, was told nothing
-pub discovery_made_untold : (mtu min_mtu : ℕ) (limit : Option ℕ) (settings : MtuDiscoveryConfig) → IsUntold (discovery_made mtu min_mtu limit settings)
+pub discovery_made_untold : (mtu min_mtu : ℕ) (limit : Option ℕ) (settings : MtuDiscoveryConfig)
+    → IsUntold (discovery_made mtu min_mtu limit settings)
 discovery_made_untold mtu min_mtu limit settings = record { search = refl; bursts = refl }
 
 pub discovery_disabled_untold : (mtu min_mtu : ℕ) → IsUntold (discovery_disabled mtu min_mtu)

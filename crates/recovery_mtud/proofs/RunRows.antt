@@ -63,11 +63,13 @@ most_mtu = refl
 -- ---- bursts
 
 -- an acknowledgement as large as their packets refutes those that have closed
-refuted : standing (entries_by usual (acks 5 1_300 ∷ losses_end 0 ∷ loses 4 1_300 ∷ loses 2 1_300 ∷ loses 0 1_300 ∷ [])) ≡ []
+refuted : standing (entries_by usual (acks 5 1_300 ∷ losses_end 0 ∷ loses 4 1_300 ∷ loses 2 1_300 ∷ loses 0 1_300 ∷ []))
+    ≡ []
 refuted = refl
 
 -- around a lost probe there are two bursts
-apart : open_run (entries_by usual (loses 5 1_300 ∷ loses_probe ∷ loses 3 1_300 ∷ polls 0 4 ∷ [])) ≡ record { number = 5; bytes = 1_300 } ∷ []
+apart : open_run (entries_by usual (loses 5 1_300 ∷ loses_probe ∷ loses 3 1_300 ∷ polls 0 4 ∷ []))
+    ≡ record { number = 5; bytes = 1_300 } ∷ []
 apart = refl
 
 four : AreFourUnanswered usual (entries_by usual (loses 6 1_300 ∷ loses 4 1_300 ∷ loses 2 1_300 ∷ loses 0 1_300 ∷ []))

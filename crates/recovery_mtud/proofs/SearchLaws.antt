@@ -27,7 +27,8 @@ next_size_positive change p = near (nat_lt (distance (middle p) p.last) change) 
     halved false zero = grind (arith, nat_tests)
 
     near : (close : Bool) → nat_lt (distance (middle p) p.last) change ≡ close
-        → IsPositive (if close then (if nat_le change (p.upper - p.last) then Some p.upper else None) else (if middle p == 0 then None else Some (middle p)))
+        → IsPositive (if close then (if nat_le change (p.upper - p.last) then Some p.upper else None)
+        else (if middle p == 0 then None else Some (middle p)))
     near true close = upper (nat_le change (p.upper - p.last)) close refl
     near false close = halved (middle p == 0) refl
 
@@ -35,7 +36,10 @@ few_repeated : (p : Probing) → repeats p ≡ true → p.losses ≤ 2
 few_repeated p again = grind (arith, nat_tests)
 
 few_unless : (p : Probing) (none again : Bool) → (p.losses == 0) ≡ none → (again ≡ true → p.losses ≤ 2)
-    → (if again then p else (if none then record p { lower = p.last } else record p { upper = p.last - 1; losses = 0 })).losses ≤ 2
+    → (if again then p else (if none then record p { lower = p.last } else record p {
+      upper = p.last - 1;
+      losses = 0;
+    })).losses ≤ 2
 few_unless p none true zero few = few refl
 few_unless p true false zero few = grind (arith, nat_tests)
 few_unless p false false zero few = omega arith
@@ -43,19 +47,23 @@ few_unless p false false zero few = omega arith
 few_narrowed : (p : Probing) → (narrowed p).losses ≤ 2
 few_narrowed p = few_unless p (p.losses == 0) (repeats p) refl (few_repeated p)
 
-pub advanced_sound : (activation number change : ℕ) (p : Probing) → IsProbingSound p → IsPhaseSound (phase_with activation number p (size_to_probe change p))
+pub advanced_sound : (activation number change : ℕ) (p : Probing) → IsProbingSound p
+    → IsPhaseSound (phase_with activation number p (size_to_probe change p))
 advanced_sound activation number change p sound = go (repeats p)
   where
     next : (size : Option ℕ) → IsPositive size → IsPhaseSound (phase_with activation number p size)
     next None positive = tt
     next (Some size) positive = (positive, few_narrowed p)
 
-    go : (again : Bool) → IsPhaseSound (phase_with activation number p (if again then Some p.last else next_size change (narrowed p)))
+    go : (again : Bool) → IsPhaseSound
+        (phase_with activation number p (if again then Some p.last else next_size change (narrowed p)))
     go true = (sound.0, few_narrowed p)
     go false = next (next_size change (narrowed p)) (next_size_positive change (narrowed p))
 
-pub search_polled_sound : (mtu now number : ℕ) (search : MtuSearch) → 0 < mtu → IsSearchSound search → IsSearchSound (search_polled mtu now number search)
-search_polled_sound mtu now number search some_mtu sound = record { limit = sound.limit; phase = found search.phase refl }
+pub search_polled_sound : (mtu now number : ℕ) (search : MtuSearch) → 0 < mtu → IsSearchSound search
+    → IsSearchSound (search_polled mtu now number search)
+search_polled_sound mtu now number search some_mtu sound =
+    record { limit = sound.limit; phase = found search.phase refl }
   where
     fresh : Probing
     fresh = begun mtu search
@@ -72,7 +80,8 @@ search_polled_sound mtu now number search some_mtu sound = record { limit = soun
     begins : IsPhaseSound (phase_after now number search (Some fresh))
     begins = runs fresh (begun_sound mtu search some_mtu sound.limit)
 
-    found : (phase : Phase) → search.phase ≡ phase → IsPhaseSound (phase_after now number search (probing_in fresh now phase))
+    found : (phase : Phase) → search.phase ≡ phase
+        → IsPhaseSound (phase_after now number search (probing_in fresh now phase))
     found Initial is = begins
     found (Searching p) is = runs p (subst IsPhaseSound is sound.phase)
     found (Complete activation) is = go (nat_lt now activation)
@@ -90,8 +99,10 @@ phase_acked_sound number (Searching p) sound = go (is_number number p.in_flight)
     go false = sound
 phase_acked_sound number (Complete activation) sound = tt
 
-pub search_acked_sound : (number : ℕ) (search : MtuSearch) → IsSearchSound search → IsSearchSound (search_acked number search)
-search_acked_sound number search sound = record { limit = sound.limit; phase = phase_acked_sound number search.phase sound.phase }
+pub search_acked_sound : (number : ℕ) (search : MtuSearch) → IsSearchSound search
+    → IsSearchSound (search_acked number search)
+search_acked_sound number search sound =
+    record { limit = sound.limit; phase = phase_acked_sound number search.phase sound.phase }
 
 phase_lost_sound : (phase : Phase) → IsPhaseSound phase → IsPhaseSound (phase_lost phase)
 phase_lost_sound Initial sound = tt
@@ -115,5 +126,6 @@ probed_in_positive number (Searching p) sound = go (is_number number p.in_flight
     go false = tt
 probed_in_positive number (Complete activation) sound = tt
 
-pub probed_size_positive : (number : ℕ) (search : MtuSearch) → IsSearchSound search → IsPositive (probed_size number search)
+pub probed_size_positive : (number : ℕ) (search : MtuSearch) → IsSearchSound search
+    → IsPositive (probed_size number search)
 probed_size_positive number search sound = probed_in_positive number search.phase sound.phase

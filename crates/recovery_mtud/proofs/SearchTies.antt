@@ -55,7 +55,8 @@ pub record Tie (upper change start mtu : ℕ) (probed acked lost : List ℕ) (p 
 
 pub few : (upper change start mtu : ℕ) (probed acked lost : List ℕ) (p : Probing)
     → Tie upper change start mtu probed acked lost p → (distinct_count nat_eq probed ≤ 16) × (length probed ≤ 48)
-few upper change start mtu probed acked lost p tie = (omega (arith, tie.all, tie.distinct), omega (arith, tie.all, tie.count))
+few upper change start mtu probed acked lost p tie =
+    (omega (arith, tie.all, tie.distinct), omega (arith, tie.all, tie.count))
 
 -- a search begins with all 16 to come
 pub tie_begun : (mtu limit bound change : ℕ) → bound < 2 ^ 16
@@ -78,18 +79,24 @@ tie_begun mtu limit bound change small = record {
   lower_last = omega arith;
   up = inl (omega arith);
   stage = inl (record { empty = refl; clear = refl; good = omega arith });
-  fair = λ link carried _. record { carried = carried; best = omega arith; lost = λ some. absurd (omega (arith, some)) };
+  fair = λ link carried _. record {
+    carried = carried;
+    best = omega arith;
+    lost = λ some. absurd (omega (arith, some));
+  };
 }
 
 -- ---- lists
 
-has_again : (size : ℕ) (sizes : List ℕ) → is_member nat_eq sizes size ≡ true → distinct_count nat_eq (size ∷ sizes) ≡ distinct_count nat_eq sizes
+has_again : (size : ℕ) (sizes : List ℕ) → is_member nat_eq sizes size ≡ true
+    → distinct_count nat_eq (size ∷ sizes) ≡ distinct_count nat_eq sizes
 has_again size sizes has = rw has refl
 
 distinct_more : (size : ℕ) (sizes : List ℕ) → distinct_count nat_eq (size ∷ sizes) ≤ suc (distinct_count nat_eq sizes)
 distinct_more size sizes = go (is_member nat_eq sizes size) refl
   where
-    go : (has : Bool) → is_member nat_eq sizes size ≡ has → distinct_count nat_eq (size ∷ sizes) ≤ suc (distinct_count nat_eq sizes)
+    go : (has : Bool) → is_member nat_eq sizes size ≡ has
+        → distinct_count nat_eq (size ∷ sizes) ≤ suc (distinct_count nat_eq sizes)
     go true has = rw has omega arith
     go false has = rw has omega arith
 
@@ -100,13 +107,22 @@ has_head size sizes = grind (arith, nat_tests)
 
 narrowed_up : (p : Probing) → repeats p ≡ false → p.losses ≡ 0 → narrowed p ≡ record p { lower = p.last }
 narrowed_up p once none =
-    ap (λ b. if b then p else (if p.losses == 0 then record p { lower = p.last } else record p { upper = p.last - 1; losses = 0 })) once
-    ∙ ap (λ b. if b then record p { lower = p.last } else record p { upper = p.last - 1; losses = 0 }) (eq-eqb p.losses 0 none)
+    ap (λ b. if b then p else (if p.losses == 0 then record p { lower = p.last } else record p {
+      upper = p.last - 1;
+      losses = 0;
+    })) once
+    ∙ ap (λ b. if b then record p { lower = p.last } else record p { upper = p.last - 1; losses = 0 })
+    (eq-eqb p.losses 0 none)
 
-narrowed_down : (p : Probing) → repeats p ≡ false → p.losses ≢ 0 → narrowed p ≡ record p { upper = p.last - 1; losses = 0 }
+narrowed_down : (p : Probing) → repeats p ≡ false → p.losses ≢ 0
+    → narrowed p ≡ record p { upper = p.last - 1; losses = 0 }
 narrowed_down p once some =
-    ap (λ b. if b then p else (if p.losses == 0 then record p { lower = p.last } else record p { upper = p.last - 1; losses = 0 })) once
-    ∙ ap (λ b. if b then record p { lower = p.last } else record p { upper = p.last - 1; losses = 0 }) (ne_eqb p.losses 0 some)
+    ap (λ b. if b then p else (if p.losses == 0 then record p { lower = p.last } else record p {
+      upper = p.last - 1;
+      losses = 0;
+    })) once
+    ∙ ap (λ b. if b then record p { lower = p.last } else record p { upper = p.last - 1; losses = 0 })
+    (ne_eqb p.losses 0 some)
 
 repeats_true : (losses : ℕ) → (nat_lt 0 losses && nat_lt losses 3) ≡ true → (0 < losses) × (losses < 3)
 repeats_true losses again = grind (arith, nat_tests)
@@ -126,7 +142,8 @@ module _ (upper change start mtu number : ℕ) (probed acked lost : List ℕ) (p
   trying_of further sizes some (inr try) = try
 
   -- the last size is probed again
-  pub tie_again : Tied → p.in_flight ≡ None → repeats p ≡ true → Tie upper change start mtu (p.last ∷ probed) acked lost (record p { in_flight = Some number })
+  pub tie_again : Tied → p.in_flight ≡ None → repeats p ≡ true
+      → Tie upper change start mtu (p.last ∷ probed) acked lost (record p { in_flight = Some number })
   tie_again tie empty again =
       let few = repeats_true p.losses again in
       let none = ap flying empty in
@@ -150,7 +167,8 @@ module _ (upper change start mtu number : ℕ) (probed acked lost : List ℕ) (p
           among = has_head p.last probed;
           count = omega (arith, try.count, none);
         });
-        fair = λ link carried honest. let fair = tie.fair link carried honest in record { carried = fair.carried; best = fair.best; lost = fair.lost };
+        fair = λ link carried honest. let fair =
+            tie.fair link carried honest in record { carried = fair.carried; best = fair.best; lost = fair.lost };
       }
 
   next_up : (tie : Tied) → Resting mtu p → (size : ℕ) → Halves tie.further change p.last p.upper size
@@ -183,8 +201,10 @@ module _ (upper change start mtu number : ℕ) (probed acked lost : List ℕ) (p
             };
       }
 
-  next_down : (tie : Tied) → Trying tie.further tie.sizes change probed p → 3 ≤ p.losses → (size : ℕ) → Halves tie.further change p.lower (p.last - 1) size
-      → Tie upper change start mtu (size ∷ probed) acked lost (record p { upper = p.last - 1; losses = 0; in_flight = Some number; last = size })
+  next_down : (tie : Tied) → Trying tie.further tie.sizes change probed p → 3 ≤ p.losses → (size : ℕ)
+      → Halves tie.further change p.lower (p.last - 1) size
+      → Tie upper change start mtu (size ∷ probed) acked lost
+      (record p { upper = p.last - 1; losses = 0; in_flight = Some number; last = size })
   next_down tie try gone size halves =
       record {
         sizes = suc tie.sizes;
@@ -230,7 +250,8 @@ module _ (upper change start mtu number : ℕ) (probed acked lost : List ℕ) (p
       (middle_down tie.further change p.lower (p.last - 1) _ wide (omega (arith, try.above)) refl apart try.down)
 
   -- after three losses, where the last size is not probed again
-  gone : (further sizes : ℕ) → Trying further sizes change probed p → p.in_flight ≡ None → repeats p ≡ false → 3 ≤ p.losses
+  gone : (further sizes : ℕ) → Trying further sizes change probed p → p.in_flight ≡ None → repeats p ≡ false
+      → 3 ≤ p.losses
   gone further sizes try empty once = ⊎_elim (λ (zero : p.losses ≡ 0). absurd
       (omega (arith, try.some, ap flying empty, zero))) (λ (three : 3 ≤ p.losses). three) (repeats_false p.losses once)
 
@@ -253,7 +274,8 @@ module _ (upper change start mtu number : ℕ) (probed acked lost : List ℕ) (p
       go (inl rest) =
           let is = narrowed_up p once rest.clear in
           let found = subst (λ (x : Probing). next_size change x ≡ Some size) is next in
-          after (record p { lower = p.last }) is (next_up tie rest size (halves_up tie wide size (next_some change _ p.last p.upper size found)))
+          after (record p { lower = p.last }) is
+          (next_up tie rest size (halves_up tie wide size (next_some change _ p.last p.upper size found)))
       go (inr try) =
           let three = gone tie.further tie.sizes try empty once in
           let is = narrowed_down p once (λ zero. absurd (omega (arith, three, zero))) in
@@ -270,22 +292,26 @@ module _ (upper change start mtu number : ℕ) (probed acked lost : List ℕ) (p
       fair : Fair upper mtu link p
       fair = tie.fair link carried honest
 
-      go : Resting mtu p ⊎ Trying tie.further tie.sizes change probed p → (mtu ≤ link) × (min link upper < mtu + 2 * change)
+      go : Resting mtu p ⊎ Trying tie.further tie.sizes change probed p
+          → (mtu ≤ link) × (min link upper < mtu + 2 * change)
       go (inl rest) =
           let found = subst (λ (x : Probing). next_size change x ≡ None) (narrowed_up p once rest.clear) next in
           let near = end_up change p.last p.upper _ wide tie.order refl (next_none change _ p.last p.upper found) in
           (fair.carried, omega (arith, fair.best, near, rest.good, wide))
       go (inr try) =
           let three = gone tie.further tie.sizes try empty once in
-          let found = subst (λ (x : Probing). next_size change x ≡ None) (narrowed_down p once (λ zero. absurd (omega (arith, three, zero)))) next in
+          let found = subst (λ (x : Probing). next_size change x ≡ None)
+          (narrowed_down p once (λ zero. absurd (omega (arith, three, zero)))) next in
           let one : p.last ≡ p.last - 1 + 1 = omega (arith, try.above) in
-          let cases = subst (λ x. IsOver change ((p.lower + (p.last - 1)) / 2) x (p.last - 1)) one (next_none change _ p.last (p.last - 1) found) in
+          let cases = subst (λ x. IsOver change ((p.lower + (p.last - 1)) / 2) x (p.last - 1)) one
+          (next_none change _ p.last (p.last - 1) found) in
           let near = end_down change p.lower (p.last - 1) _ wide (omega (arith, try.above)) refl cases in
           let lost_above = fair.lost (omega (arith, three)) in
           (fair.carried, omega (arith, near, lost_above, tie.lower_in))
 
   -- the probe in flight is acknowledged
-  pub tie_acked : Tied → p.in_flight ≡ Some number → Tie upper change start p.last probed (p.last ∷ acked) lost (record p { in_flight = None; losses = 0 })
+  pub tie_acked : Tied → p.in_flight ≡ Some number
+      → Tie upper change start p.last probed (p.last ∷ acked) lost (record p { in_flight = None; losses = 0 })
   tie_acked tie flies =
       record {
         sizes = tie.sizes;
@@ -300,7 +326,10 @@ module _ (upper change start mtu number : ℕ) (probed acked lost : List ℕ) (p
         stage = inl (record { empty = refl; clear = refl; good = omega arith });
         fair = λ link carried honest. record {
           carried = All-head (λ size. size ≤ link) p.last acked honest.acked;
-          best = (tie.fair link carried (record { acked = All-tail (λ size. size ≤ link) p.last acked honest.acked; lost = honest.lost })).best;
+          best = (tie.fair link carried (record {
+            acked = All-tail (λ size. size ≤ link) p.last acked honest.acked;
+            lost = honest.lost;
+          })).best;
           lost = λ some. absurd (omega (arith, some));
         };
       }
@@ -330,7 +359,13 @@ module _ (upper change start mtu number : ℕ) (probed acked lost : List ℕ) (p
           count = omega (arith, try.count, try.few, one);
         });
         fair = λ link carried honest. (
-            let fair = tie.fair link carried (record { acked = honest.acked; lost = All-tail (λ size. link < size) p.last lost honest.lost }) in
-            record { carried = fair.carried; best = fair.best; lost = λ _. All-head (λ size. link < size) p.last lost honest.lost }
+            let fair = tie.fair link carried
+            (record { acked = honest.acked; lost = All-tail (λ size. link < size) p.last lost honest.lost }) in
+            record {
+              carried = fair.carried;
+              best = fair.best;
+              lost = λ _. All-head (λ size. link < size) p.last lost
+                  honest.lost;
+            }
             );
       }

@@ -10,7 +10,8 @@ use Rattle.recovery_mtud.specs.MtuEntries.{search_settings}
 abbrev disabled : ℕ → LossBursts → Discovery
 disabled mtu bursts = record { mtu = mtu; search = None; bursts = bursts }
 
-disabled_after : (call : MtuCall) (mtu : ℕ) (bursts : LossBursts) → (discovery_after call (disabled mtu bursts)).search ≡ None
+disabled_after : (call : MtuCall) (mtu : ℕ) (bursts : LossBursts)
+    → (discovery_after call (disabled mtu bursts)).search ≡ None
 disabled_after (polls now next) mtu bursts = refl
 disabled_after (is_limited limit) mtu bursts = refl
 disabled_after (acks number bytes) mtu bursts = refl
@@ -21,7 +22,10 @@ disabled_after (losses_end now) mtu bursts = go (reports (disabled mtu bursts))
     rest : Discovery
     rest = record (disabled mtu bursts) { bursts = bursts_ended bursts }
 
-    go : (hole : Bool) → (if hole then record rest { mtu = bursts.min_mtu; search = option_map (search_reported now) None } else rest).search ≡ None
+    go : (hole : Bool) → (if hole then record rest {
+      mtu = bursts.min_mtu;
+      search = option_map (search_reported now) None;
+    } else rest).search ≡ None
     go true = refl
     go false = refl
 disabled_after (resets mtu' min_mtu) mtu bursts = refl
@@ -40,5 +44,7 @@ no_search made none = go made.search none
     go None is = refl
     go (Some own) is = absurd (cc)
 
-pub unsearched : (made : Discovery) → search_settings made ≡ None → (now : ℕ) (calls : List MtuCall) → poll_of now (discovery_by made calls) ≡ None
-unsearched made none now calls = ap (λ search. poll_in (discovery_by made calls).mtu now search) (disabled_by made (no_search made none) calls)
+pub unsearched : (made : Discovery) → search_settings made ≡ None → (now : ℕ) (calls : List MtuCall)
+    → poll_of now (discovery_by made calls) ≡ None
+unsearched made none now calls =
+    ap (λ search. poll_in (discovery_by made calls).mtu now search) (disabled_by made (no_search made none) calls)

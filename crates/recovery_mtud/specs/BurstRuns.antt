@@ -1,5 +1,5 @@
--- Whole runs of the detection of black holes (RFC 8899, 4.3), over what a discovery was told and answered. Every list here has the
--- newest entry first.
+-- Whole runs of the detection of black holes (RFC 8899, 4.3), over what a discovery was told and answered. Every list
+-- here has the newest entry first.
 use Rattle.std.specs.Prelude.{◌≡◌, ℕ, ◌+◌, ◌≤◌, ◌==◌, nat_lt, nat_eq, min, ⊤, Bool, true, false, ◌||◌, if◌then◌else◌, Option, is_some, List, [], ◌∷◌, ◌++◌, length, filter}
 use Rattle.std.specs.List.{list_all, list_any}
 use Rattle.std.specs.Set.{is_member}
@@ -16,7 +16,8 @@ abbrev pub follows : ℕ → List Loss → Bool
 follows number [] = false
 follows number (last ∷ burst) = number == last.number + 1
 
--- the open burst: the longest run of numbers up to the one lost last, since all losses of a moment were told or all began anew
+-- the open burst: the longest run of numbers up to the one lost last, since all losses of a moment were told or all
+-- began anew
 abbrev pub open_run : List MtuEntry → List Loss
 open_run [] = []
 open_run (lost number bytes ∷ earlier) =
@@ -30,7 +31,8 @@ abbrev pub if_any : List Loss → List (List Loss)
 if_any [] = []
 if_any (last ∷ burst) = (last ∷ burst) ∷ []
 
--- the burst that an entry closes, if any: a lost number that does not follow closes it, and the end of a moment's losses
+-- the burst that an entry closes, if any: a lost number that does not follow closes it, and the end of a moment's
+-- losses
 abbrev pub closed_by : MtuEntry → List MtuEntry → List (List Loss)
 closed_by (lost number bytes) earlier = if follows number (open_run earlier) then [] else if_any (open_run earlier)
 closed_by losses_over earlier = if_any (open_run earlier)
@@ -52,7 +54,8 @@ is_above size burst = nat_lt size (least_size burst)
 
 -- ---- bursts that have closed
 
--- an acknowledged packet refutes the bursts before it whose least packet is at most as large, the probe in flight all of them
+-- an acknowledged packet refutes the bursts before it whose least packet is at most as large, the probe in flight all
+-- of them
 abbrev pub unrefuted : ℕ → ℕ → Option MtuProbe → List (List Loss) → List (List Loss)
 unrefuted number bytes probe bursts = if is_some (size_at number probe) then [] else filter (is_above bytes) bursts
 
@@ -80,7 +83,8 @@ lost_numbers (entry ∷ earlier) = lost_numbers earlier
 -- no number is told both as acknowledged and as lost
 abbrev pub AreFatesApart : List MtuEntry → Type 0
 AreFatesApart entries =
-    (number : ℕ) → is_member nat_eq (acked_numbers entries) number ≡ true → is_member nat_eq (lost_numbers entries) number ≡ false
+    (number : ℕ) → is_member nat_eq (acked_numbers entries) number ≡ true
+    → is_member nat_eq (lost_numbers entries) number ≡ false
 
 -- the last number of the burst exceeds all of these
 abbrev pub is_past : List ℕ → List Loss → Bool
@@ -96,7 +100,8 @@ module _ (size : ℕ) where
   abbrev pub larger_acked : List MtuEntry → List ℕ
   larger_acked [] = []
   larger_acked (acked number bytes ∷ earlier) =
-      if is_larger size number bytes (probe_in_flight earlier) then number ∷ larger_acked earlier else larger_acked earlier
+      if is_larger size number bytes (probe_in_flight earlier) then number ∷ larger_acked earlier else larger_acked
+      earlier
   larger_acked (entry ∷ earlier) = larger_acked earlier
 
   -- the bursts that closed since the last report, reset or acknowledgement of a larger packet
@@ -118,9 +123,11 @@ from_first test (burst ∷ earlier) = if list_any test (burst ∷ earlier) then 
 module _ (made : Discovery) where
   -- four bursts stand whose packets are all larger than the least MTU
   abbrev pub AreFourStanding : List MtuEntry → Type 0
-  AreFourStanding entries = 4 ≤ length (filter (is_above (min_mtu_in_use made entries)) (if_any (open_run entries) ++ standing entries))
+  AreFourStanding entries =
+      4 ≤ length (filter (is_above (min_mtu_in_use made entries)) (if_any (open_run entries) ++ standing entries))
 
-  -- four such bursts have closed, the first of them past every larger packet that was acknowledged, and none was since it closed
+  -- four such bursts have closed, the first of them past every larger packet that was acknowledged, and none was since
+  -- it closed
   abbrev pub AreFourUnanswered : List MtuEntry → Type 0
   AreFourUnanswered entries =
       let least = min_mtu_in_use made entries in

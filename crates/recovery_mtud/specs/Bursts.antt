@@ -1,5 +1,5 @@
--- The detection of black holes by bursts of losses (RFC 8899, 4.3): packets that were sent one after another and lost. A burst is
--- suspicious where all its packets were larger than what is known to get through. Sizes are in bytes.
+-- The detection of black holes by bursts of losses (RFC 8899, 4.3): packets that were sent one after another and lost.
+-- A burst is suspicious where all its packets were larger than what is known to get through. Sizes are in bytes.
 use Rattle.std.specs.Prelude.{ℕ, ◌+◌, ◌≤◌, ◌<◌, ◌==◌, nat_lt, nat_le, min, max, Bool, false, ◌&&◌, not, if◌then◌else◌, Option, Some, None, List, [], ◌∷◌, ◌++◌, length, filter}
 use Rattle.recovery_mtud.specs.declared.detector.Burst.{Burst}
 
@@ -49,7 +49,8 @@ with_burst size sizes =
 
 -- its packets were larger than the least MTU, and than a packet that was sent after it and acknowledged
 abbrev pub is_suspicious : Burst → LossBursts → Bool
-is_suspicious burst old = nat_lt old.min_mtu burst.least && not (nat_lt burst.last old.newest && nat_le burst.least old.acked)
+is_suspicious burst old =
+    nat_lt old.min_mtu burst.least && not (nat_lt burst.last old.newest && nat_le burst.least old.acked)
 
 -- a suspicious burst that is newer than what was acknowledged leaves the least MTU alone as known to get through
 abbrev pub with_suspicious : Burst → LossBursts → LossBursts

@@ -6,4 +6,5 @@ abbrev pub discovery_in : Inside → Discovery
 discovery_in discovery = record { mtu = discovery.current_mtu; search = discovery.search; bursts = discovery.detector }
 
 abbrev pub discovery_back : Discovery → Inside
-discovery_back discovery = record { current_mtu = discovery.mtu; search = discovery.search; detector = discovery.bursts }
+discovery_back discovery =
+    record { current_mtu = discovery.mtu; search = discovery.search; detector = discovery.bursts }

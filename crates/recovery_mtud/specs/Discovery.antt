@@ -1,4 +1,5 @@
--- MTU discovery of a path, call by call (RFC 8899, 4.3 and 5; RFC 9000, 14.3). Sizes are in bytes, moments in nanoseconds.
+-- MTU discovery of a path, call by call (RFC 8899, 4.3 and 5; RFC 9000, 14.3). Sizes are in bytes, moments in
+-- nanoseconds.
 use Rattle.std.specs.Prelude.{ℕ, ◌<◌, min, Bool, true, false, if◌then◌else◌, Option, Some, None, unwrap_or}
 use Rattle.std.specs.Option.{option_map, IfSome}
 use Rattle.recovery_base.specs.declared.below.SpaceId.{SpaceId}
@@ -77,7 +78,8 @@ abbrev pub discovery_polled : ℕ → ℕ → Discovery → Discovery
 discovery_polled now number old = record old { search = option_map (search_polled old.mtu now number) old.search }
 
 abbrev pub discovery_limited : ℕ → Discovery → Discovery
-discovery_limited limit old = record old { mtu = min old.mtu limit; search = option_map (search_limited limit) old.search }
+discovery_limited limit old =
+    record old { mtu = min old.mtu limit; search = option_map (search_limited limit) old.search }
 
 abbrev pub taking : Option ℕ → ℕ → ℕ → Discovery → Discovery
 taking None number bytes old = record old { bursts = bursts_acked number bytes old.bursts }

@@ -52,8 +52,8 @@ ArePositiveMtuCalls (call ∷ earlier) = IsPositiveMtuCall call × ArePositiveMt
 abbrev pub kept_limit : Discovery → Option ℕ
 kept_limit discovery = option_map (λ search. search.limit) discovery.search
 
--- the MTU in use after a call: the size of a probe that was acknowledged, at most a limit that was told, the least MTU after a
--- report, or what a reset begins with, at most the limit; else what it was
+-- the MTU in use after a call: the size of a probe that was acknowledged, at most a limit that was told, the least MTU
+-- after a report, or what a reset begins with, at most the limit; else what it was
 abbrev pub mtu_after : MtuCall → Discovery → ℕ
 mtu_after (polls now next) old = old.mtu
 mtu_after (is_limited limit) old = min old.mtu limit

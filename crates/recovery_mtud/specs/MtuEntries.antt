@@ -1,4 +1,5 @@
--- What a discovery was told, with what it answered (RFC 8899, 4.3 and 5; RFC 9000, 14.3). Every list here has the newest entry first.
+-- What a discovery was told, with what it answered (RFC 8899, 4.3 and 5; RFC 9000, 14.3). Every list here has the
+-- newest entry first.
 use Rattle.std.specs.Prelude.{◌≡◌, ℕ, ◌==◌, IfSome, min, if◌then◌else◌, Option, Some, None, List, [], ◌∷◌, unwrap_or}
 use Rattle.std.specs.Option.{option_map}
 use Rattle.recovery_mtud.specs.declared.config.MtuDiscoveryConfig.{MtuDiscoveryConfig}
@@ -100,7 +101,8 @@ module _ (made : Discovery) where
   min_mtu_in_use (reset mtu min_mtu ∷ earlier) = min_mtu
   min_mtu_in_use (entry ∷ earlier) = min_mtu_in_use earlier
 
-  -- the MTU: the size of the probe that was acknowledged last, where neither a limit nor a report nor a reset lowered it since
+  -- the MTU: the size of the probe that was acknowledged last, where neither a limit nor a report nor a reset lowered
+  -- it since
   abbrev pub mtu_in_use : List MtuEntry → ℕ
   mtu_in_use [] = made.mtu
   mtu_in_use (acked number bytes ∷ earlier) = unwrap_or (size_at number (probe_in_flight earlier)) (mtu_in_use earlier)

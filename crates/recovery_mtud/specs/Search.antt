@@ -1,5 +1,5 @@
--- The search for a path's MTU (RFC 8899, 5; RFC 9000, 14.3): it halves the distance between a size that gets through and the
--- largest that may. Sizes are in bytes, moments and spans in nanoseconds.
+-- The search for a path's MTU (RFC 8899, 5; RFC 9000, 14.3): it halves the distance between a size that gets through
+-- and the largest that may. Sizes are in bytes, moments and spans in nanoseconds.
 use Rattle.std.specs.Prelude.{ℕ, ◌+◌, ◌-◌, ◌/◌, ◌^◌, ◌≤◌, ◌<◌, ◌==◌, nat_lt, nat_le, min, max, ⊤, Bool, true, false, ◌&&◌, if◌then◌else◌, Option, Some, None, is_some}
 use Rattle.recovery_mtud.specs.declared.config.MtuDiscoveryConfig.{MtuDiscoveryConfig}
 use Rattle.recovery_mtud.specs.declared.search.Phase.{Phase}
@@ -92,7 +92,8 @@ phase_after now number search (Some p) =
 
 -- what a poll leaves; the probe, if any, gets this number
 abbrev pub search_polled : ℕ → ℕ → ℕ → MtuSearch → MtuSearch
-search_polled mtu now number search = record search { phase = phase_after now number search (probing_at mtu now search) }
+search_polled mtu now number search =
+    record search { phase = phase_after now number search (probing_at mtu now search) }
 
 -- ---- what becomes of a probe
 
@@ -121,7 +122,8 @@ probed_size number search = probed_in number search.phase
 
 abbrev pub phase_acked : ℕ → Phase → Phase
 phase_acked number Initial = Initial
-phase_acked number (Searching p) = if is_number number p.in_flight then Searching (record p { in_flight = None; losses = 0 }) else Searching p
+phase_acked number (Searching p) =
+    if is_number number p.in_flight then Searching (record p { in_flight = None; losses = 0 }) else Searching p
 phase_acked number (Complete activation) = Complete activation
 
 abbrev pub search_acked : ℕ → MtuSearch → MtuSearch
@@ -129,7 +131,8 @@ search_acked number search = record search { phase = phase_acked number search.p
 
 abbrev pub phase_lost : Phase → Phase
 phase_lost Initial = Initial
-phase_lost (Searching p) = if is_some p.in_flight then Searching (record p { in_flight = None; losses = p.losses + 1 }) else Searching p
+phase_lost (Searching p) = if is_some p.in_flight then Searching (record p { in_flight = None; losses = p.losses + 1 })
+    else Searching p
 phase_lost (Complete activation) = Complete activation
 
 -- with no probe in flight nothing changes

@@ -1,5 +1,5 @@
--- Whole searches for a path's MTU (RFC 8899, 5; RFC 9000, 14.3), over what a discovery was told and answered. Every list here has the
--- newest entry first.
+-- Whole searches for a path's MTU (RFC 8899, 5; RFC 9000, 14.3), over what a discovery was told and answered. Every
+-- list here has the newest entry first.
 use Rattle.std.specs.Prelude.{◌≡◌, ℕ, ◌+◌, ◌*◌, ◌≤◌, ◌<◌, nat_le, nat_eq, min, ⊤, Bool, true, false, ◌&&◌, ◌||◌, not, if◌then◌else◌, Option, Some, None, is_none, List, [], ◌∷◌, ◌++◌, length, option_to_list, All}
 use Rattle.std.specs.Option.{option_map}
 use Rattle.std.specs.Set.{distinct_count}
@@ -40,12 +40,14 @@ is_due None now = true
 is_due (Some activation) now = nat_le activation now
 
 module _ (settings : MtuDiscoveryConfig) where
-  -- the next activation: the interval after the poll that ended a search, or the cooldown after a report, whichever came last
+  -- the next activation: the interval after the poll that ended a search, or the cooldown after a report, whichever
+  -- came last
   abbrev pub next_activation : List MtuEntry → Option ℕ
   next_activation [] = None
   next_activation (unprobed now ∷ earlier) =
       let last = next_activation earlier in
-      if is_none (probe_in_flight earlier) && (search_runs earlier || is_due last now) then Some (later now settings.interval) else last
+      if is_none (probe_in_flight earlier) && (search_runs earlier || is_due last now) then Some
+      (later now settings.interval) else last
   next_activation (reported now ∷ earlier) = Some (later now settings.black_hole_cooldown)
   next_activation (reset mtu min_mtu ∷ earlier) = None
   next_activation (entry ∷ earlier) = next_activation earlier
@@ -57,7 +59,8 @@ module _ (settings : MtuDiscoveryConfig) where
   -- a probe comes in a search alone, while none is in flight
   abbrev pub ProbesInSearch : List MtuEntry → Type 0
   ProbesInSearch [] = ⊤
-  ProbesInSearch (probed now number size ∷ earlier) = (probe_in_flight earlier ≡ None) × (is_searched now earlier ≡ true)
+  ProbesInSearch (probed now number size ∷ earlier) =
+      (probe_in_flight earlier ≡ None) × (is_searched now earlier ≡ true)
   ProbesInSearch (entry ∷ earlier) = ⊤
 
 -- ---- the probes of a search, by its entries
@@ -70,13 +73,15 @@ probed_sizes (entry ∷ earlier) = probed_sizes earlier
 -- the sizes of those that were acknowledged
 abbrev pub acked_sizes : List MtuEntry → List ℕ
 acked_sizes [] = []
-acked_sizes (acked number bytes ∷ earlier) = option_to_list (size_at number (probe_in_flight earlier)) ++ acked_sizes earlier
+acked_sizes (acked number bytes ∷ earlier) =
+    option_to_list (size_at number (probe_in_flight earlier)) ++ acked_sizes earlier
 acked_sizes (entry ∷ earlier) = acked_sizes earlier
 
 -- the sizes of those that were lost
 abbrev pub lost_sizes : List MtuEntry → List ℕ
 lost_sizes [] = []
-lost_sizes (probe_lost ∷ earlier) = option_to_list (option_map (λ probe. probe.size) (probe_in_flight earlier)) ++ lost_sizes earlier
+lost_sizes (probe_lost ∷ earlier) =
+    option_to_list (option_map (λ probe. probe.size) (probe_in_flight earlier)) ++ lost_sizes earlier
 lost_sizes (entry ∷ earlier) = lost_sizes earlier
 
 -- the search that runs has taken at most 16 sizes and 48 probes
@@ -106,7 +111,8 @@ module _ (made : Discovery) where
   module _ (settings : MtuDiscoveryConfig) where
     -- the upper bound as the search began
     abbrev pub start_upper : List MtuEntry → ℕ
-    start_upper entries = upper_from (start_mtu entries) (limit_or_greatest (limit_in_use made (before_search entries))) settings.upper_bound
+    start_upper entries = upper_from (start_mtu entries) (limit_or_greatest (limit_in_use made (before_search entries)))
+        settings.upper_bound
 
     -- the MTU in use gets through, and lies near the best size
     pub record IsNearBest (link : ℕ) (entries : List MtuEntry) : Type 0 where
@@ -117,5 +123,6 @@ module _ (made : Discovery) where
     abbrev pub EndsNearBest : List MtuEntry → Type 0
     EndsNearBest [] = ⊤
     EndsNearBest (unprobed now ∷ earlier) =
-        probe_in_flight earlier ≡ None → is_searched settings now earlier ≡ true → (link : ℕ) → IsHonest link earlier → IsNearBest link earlier
+        probe_in_flight earlier ≡ None → is_searched settings now earlier ≡ true → (link : ℕ) → IsHonest link earlier
+        → IsNearBest link earlier
     EndsNearBest (entry ∷ earlier) = ⊤

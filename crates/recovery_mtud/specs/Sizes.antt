@@ -20,5 +20,6 @@ padded sizes = record { sizes = sizes ++ replicate (4 - length sizes) 0; count =
 -- they are told by the sizes alone
 pub padded-sizes_in : (bursts : Inside) → IsPadded bursts → padded (sizes_in bursts) ≡ bursts
 padded-sizes_in bursts sound =
-    let count : length (take bursts.count bursts.sizes) ≡ bursts.count = omega (arith, length-take bursts.count bursts.sizes, sound.few, sound.room) in
+    let count : length (take bursts.count bursts.sizes) ≡ bursts.count =
+    omega (arith, length-take bursts.count bursts.sizes, sound.few, sound.room) in
     rw (count, ← sound.zeros) refl

@@ -8,17 +8,23 @@ use Rattle.recovery_pacing.specs.PacerLog.{PacerMark, changed, credited, answere
 -- the calls have at most this window, at least this RTT and no later moment
 abbrev AreWithin : ℕ → ℕ → ℕ → List PacerCall → Type 0
 AreWithin window rtt latest [] = Unit {0}
-AreWithin window rtt latest (call ∷ calls) = ((call.window ≤ window) × (rtt ≤ call.rtt) × (call.now ≤ latest)) × AreWithin window rtt latest calls
+AreWithin window rtt latest (call ∷ calls) = ((call.window ≤ window) × (rtt ≤ call.rtt) × (call.now ≤ latest))
+    × AreWithin window rtt latest calls
 
-within_wider : (w w' r r' l l' : ℕ) (calls : List PacerCall) → w ≤ w' → r' ≤ r → l ≤ l' → AreWithin w r l calls → AreWithin w' r' l' calls
+within_wider : (w w' r r' l l' : ℕ) (calls : List PacerCall) → w ≤ w' → r' ≤ r → l ≤ l' → AreWithin w r l calls
+    → AreWithin w' r' l' calls
 within_wider w w' r r' l l' [] p q o h = tt
-within_wider w w' r r' l l' (call ∷ calls) p q o h = ((omega arith, omega arith, omega arith), within_wider w w' r r' l l' calls p q o h.1)
+within_wider w w' r r' l l' (call ∷ calls) p q o h =
+    ((omega arith, omega arith, omega arith), within_wider w w' r r' l l' calls p q o h.1)
 
 within_own : (calls : List PacerCall) → AreWithin (greatest_window calls) (least_rtt calls) (latest_moment calls) calls
 within_own [] = tt
 within_own (call ∷ []) = ((omega arith, omega arith, omega arith), tt)
-within_own (call ∷ other ∷ calls) =
-    ((omega arith, omega arith, omega arith), within_wider _ _ _ _ _ _ (other ∷ calls) (omega arith) (omega arith) (omega arith) (within_own (other ∷ calls)))
+within_own (call ∷ other ∷ calls) = (
+  (omega arith, omega arith, omega arith),
+  within_wider _ _ _ _ _ _ (other ∷ calls) (omega arith) (omega arith)
+      (omega arith) (within_own (other ∷ calls)),
+)
 
 swap_last : (a b c : ℕ) → a + b + c ≡ a + c + b
 swap_last a b c = omega arith
@@ -45,8 +51,10 @@ module _ (made : Bucket) where
   -- at no cap point was more transmitted afterwards than its capacity and the credits after it
   abbrev pub NoDebt : ℕ → ℕ → List PacerMark → Type 0
   NoDebt credits bytes [] = bytes ≤ made.capacity + credits
-  NoDebt credits bytes (changed call ∷ past) = (bytes ≤ capacity_of call.rtt call.window call.mtu + credits) × NoDebt credits bytes past
-  NoDebt credits bytes (credited call credit ∷ past) = (bytes ≤ capacity_in made past + credits) × NoDebt (credits + credit) bytes past
+  NoDebt credits bytes (changed call ∷ past) = (bytes ≤ capacity_of call.rtt call.window call.mtu + credits)
+      × NoDebt credits bytes past
+  NoDebt credits bytes (credited call credit ∷ past) = (bytes ≤ capacity_in made past + credits)
+      × NoDebt (credits + credit) bytes past
   NoDebt credits bytes (answered call ∷ past) = NoDebt credits bytes past
   NoDebt credits bytes (transmitted sent ∷ past) = NoDebt credits (bytes + sent) past
 
@@ -54,16 +62,21 @@ module _ (made : Bucket) where
   abbrev pub AreEarned : List PacerMark → Type 0
   AreEarned [] = Unit {0}
   AreEarned (changed call ∷ past) = AreEarned past
-  AreEarned (credited call credit ∷ past) = (4 * call.rtt * credit ≤ 5 * call.window * (call.now - greatest_moment made past)) × AreEarned past
+  AreEarned (credited call credit ∷ past) =
+      (4 * call.rtt * credit ≤ 5 * call.window * (call.now - greatest_moment made past)) × AreEarned past
   AreEarned (answered call ∷ past) = AreEarned past
   AreEarned (transmitted sent ∷ past) = AreEarned past
 
   -- credits and bytes that come after a history without debt move its balance by as much
-  pub no_debt_more : (credits bytes more : ℕ) (past : List PacerMark) → NoDebt credits bytes past → NoDebt (credits + more) bytes past
+  pub no_debt_more : (credits bytes more : ℕ) (past : List PacerMark) → NoDebt credits bytes past
+      → NoDebt (credits + more) bytes past
   no_debt_more credits bytes more [] h = omega arith
   no_debt_more credits bytes more (changed call ∷ past) h = (omega arith, no_debt_more credits bytes more past h.1)
-  no_debt_more credits bytes more (credited call credit ∷ past) h =
-      (omega arith, subst (λ n. NoDebt n bytes past) (swap_last credits credit more) (no_debt_more (credits + credit) bytes more past h.1))
+  no_debt_more credits bytes more (credited call credit ∷ past) h = (
+    omega arith,
+    subst (λ n. NoDebt n bytes past) (swap_last credits credit more)
+        (no_debt_more (credits + credit) bytes more past h.1),
+  )
   no_debt_more credits bytes more (answered call ∷ past) h = no_debt_more credits bytes more past h
   no_debt_more credits bytes more (transmitted sent ∷ past) h = no_debt_more credits (bytes + sent) more past h
 
@@ -72,7 +85,11 @@ module _ (made : Bucket) where
   balance_more credits bytes more [] h = omega arith
   balance_more credits bytes more (changed call ∷ past) h = omega (arith, balance_more credits bytes more past h.1)
   balance_more credits bytes more (credited call credit ∷ past) h =
-      omega (arith, balance_more (credits + credit) bytes more past h.1, ap (λ n. balance_from made n bytes past) (swap_last credits more credit))
+      omega (
+        arith,
+        balance_more (credits + credit) bytes more past h.1,
+        ap (λ n. balance_from made n bytes past) (swap_last credits more credit),
+      )
   balance_more credits bytes more (answered call ∷ past) h = balance_more credits bytes more past h
   balance_more credits bytes more (transmitted sent ∷ past) h = balance_more credits (bytes + sent) more past h
 
@@ -80,19 +97,24 @@ module _ (made : Bucket) where
       → balance_from made credits (bytes + taken) past ≡ balance_from made credits bytes past - taken
   balance_less credits bytes taken [] = omega arith
   balance_less credits bytes taken (changed call ∷ past) = omega (arith, balance_less credits bytes taken past)
-  balance_less credits bytes taken (credited call credit ∷ past) = omega (arith, balance_less (credits + credit) bytes taken past)
+  balance_less credits bytes taken (credited call credit ∷ past) =
+      omega (arith, balance_less (credits + credit) bytes taken past)
   balance_less credits bytes taken (answered call ∷ past) = balance_less credits bytes taken past
   balance_less credits bytes taken (transmitted sent ∷ past) =
-      ap (λ n. balance_from made credits n past) (swap_last bytes taken sent) ∙ balance_less credits (bytes + sent) taken past
+      ap (λ n. balance_from made credits n past) (swap_last bytes taken sent)
+      ∙ balance_less credits (bytes + sent) taken past
 
   pub no_debt_less : (credits bytes taken : ℕ) (past : List PacerMark) → NoDebt credits bytes past
       → taken ≤ balance_from made credits bytes past → NoDebt credits (bytes + taken) past
   no_debt_less credits bytes taken [] h low = omega arith
-  no_debt_less credits bytes taken (changed call ∷ past) h low = (omega arith, no_debt_less credits bytes taken past h.1 (omega arith))
-  no_debt_less credits bytes taken (credited call credit ∷ past) h low = (omega arith, no_debt_less (credits + credit) bytes taken past h.1 (omega arith))
+  no_debt_less credits bytes taken (changed call ∷ past) h low =
+      (omega arith, no_debt_less credits bytes taken past h.1 (omega arith))
+  no_debt_less credits bytes taken (credited call credit ∷ past) h low =
+      (omega arith, no_debt_less (credits + credit) bytes taken past h.1 (omega arith))
   no_debt_less credits bytes taken (answered call ∷ past) h low = no_debt_less credits bytes taken past h low
   no_debt_less credits bytes taken (transmitted sent ∷ past) h low =
-      subst (λ n. NoDebt credits n past) (swap_last bytes sent taken) (no_debt_less credits (bytes + sent) taken past h low)
+      subst (λ n. NoDebt credits n past) (swap_last bytes sent taken)
+      (no_debt_less credits (bytes + sent) taken past h low)
 
   -- what was transmitted after a cap point is within its capacity and the credits after it
   covered : (credits bytes : ℕ) (later past : List PacerMark) → IsCapPoint past → NoDebt credits bytes (later ++ past)
@@ -103,9 +125,11 @@ module _ (made : Bucket) where
   covered credits bytes [] (answered call ∷ past) p h = absurd p
   covered credits bytes [] (transmitted sent ∷ past) p h = absurd p
   covered credits bytes (changed call ∷ later) past p h = covered credits bytes later past p h.1
-  covered credits bytes (credited call credit ∷ later) past p h = omega (arith, covered (credits + credit) bytes later past p h.1)
+  covered credits bytes (credited call credit ∷ later) past p h =
+      omega (arith, covered (credits + credit) bytes later past p h.1)
   covered credits bytes (answered call ∷ later) past p h = covered credits bytes later past p h
-  covered credits bytes (transmitted sent ∷ later) past p h = omega (arith, covered credits (bytes + sent) later past p h)
+  covered credits bytes (transmitted sent ∷ later) past p h =
+      omega (arith, covered credits (bytes + sent) later past p h)
 
   -- the greatest moment rises, and is at most the latest of the calls
   greatest_rises : (later past : List PacerMark) → greatest_moment made past ≤ greatest_moment made (later ++ past)
@@ -119,7 +143,8 @@ module _ (made : Bucket) where
       → greatest_moment made (later ++ past) ≤ max latest (greatest_moment made past)
   greatest_below w r latest [] past h = omega arith
   greatest_below w r latest (changed call ∷ later) past h = greatest_below w r latest later past h.1
-  greatest_below w r latest (credited call credit ∷ later) past h = omega (arith, greatest_below w r latest later past h.1)
+  greatest_below w r latest (credited call credit ∷ later) past h =
+      omega (arith, greatest_below w r latest later past h.1)
   greatest_below w r latest (answered call ∷ later) past h = greatest_below w r latest later past h.1
   greatest_below w r latest (transmitted sent ∷ later) past h = greatest_below w r latest later past h
 
@@ -145,7 +170,8 @@ module _ (made : Bucket) where
       let debt' = subst (λ h. NoDebt 0 0 h) (sym is) debt in
       let earned' = subst (λ h. AreEarned h) (sym is) earned in
       let within = within_own (calls_in later) in
-      let all : bytes_in later ≤ capacity_in made past + credits_in later = omega (arith, covered 0 0 later past point debt') in
+      let all : bytes_in later ≤ capacity_in made past + credits_in later =
+      omega (arith, covered 0 0 later past point debt') in
       bound_at (least_rtt (calls_in later)) (greatest_window (calls_in later)) (bytes_in later) (capacity_in made past)
       (credits_in later) (greatest_moment made (later ++ past)) (latest_moment (calls_in later))
       (greatest_moment made past) all
@@ -163,9 +189,11 @@ module _ (made : Bucket) where
   below_each credits bytes [] (answered call ∷ past) p h = absurd p
   below_each credits bytes [] (transmitted sent ∷ past) p h = absurd p
   below_each credits bytes (changed call ∷ later) past p h = omega (arith, below_each credits bytes later past p h.1)
-  below_each credits bytes (credited call credit ∷ later) past p h = omega (arith, below_each (credits + credit) bytes later past p h.1)
+  below_each credits bytes (credited call credit ∷ later) past p h =
+      omega (arith, below_each (credits + credit) bytes later past p h.1)
   below_each credits bytes (answered call ∷ later) past p h = below_each credits bytes later past p h
-  below_each credits bytes (transmitted sent ∷ later) past p h = omega (arith, below_each credits (bytes + sent) later past p h)
+  below_each credits bytes (transmitted sent ∷ later) past p h =
+      omega (arith, below_each credits (bytes + sent) later past p h)
 
   abbrev Met : ℕ → ℕ → List PacerMark → Type 0
   Met credits bytes history =
@@ -177,7 +205,8 @@ module _ (made : Bucket) where
   met_at credits bytes [] h = ([], [], refl, tt, omega arith)
   met_at credits bytes (changed call ∷ past) h =
       let rest = met_at credits bytes past h.1 in
-      elim (cases_lt (capacity_of call.rtt call.window call.mtu + credits - bytes) (balance_from made credits bytes past)) [
+      elim (cases_lt (capacity_of call.rtt call.window call.mtu + credits - bytes)
+      (balance_from made credits bytes past)) [
         | inl low ↦ ([], changed call ∷ past, refl, tt, omega arith)
         | inr high ↦ (changed call ∷ rest.0, rest.1, ap (λ l. changed call ∷ l) rest.2, rest.3, omega (arith, rest.4))
       ]
@@ -185,10 +214,22 @@ module _ (made : Bucket) where
       let rest = met_at (credits + credit) bytes past h.1 in
       elim (cases_lt (capacity_in made past + credits - bytes) (balance_from made (credits + credit) bytes past)) [
         | inl low ↦ ([], credited call credit ∷ past, refl, tt, omega arith)
-        | inr high ↦ (credited call credit ∷ rest.0, rest.1, ap (λ l. credited call credit ∷ l) rest.2, rest.3, omega (arith, rest.4))
+        | inr high ↦ (
+          credited call credit ∷ rest.0,
+          rest.1,
+          ap (λ l. credited call credit ∷ l) rest.2,
+          rest.3,
+          omega (arith, rest.4),
+        )
       ]
   met_at credits bytes (answered call ∷ past) h =
-      let rest = met_at credits bytes past h in (answered call ∷ rest.0, rest.1, ap (λ l. answered call ∷ l) rest.2, rest.3, omega (arith, rest.4))
+      let rest = met_at credits bytes past h in (
+        answered call ∷ rest.0,
+        rest.1,
+        ap (λ l. answered call ∷ l) rest.2,
+        rest.3,
+        omega (arith, rest.4),
+      )
   met_at credits bytes (transmitted sent ∷ past) h =
       let rest = met_at credits (bytes + sent) past h in (
         transmitted sent ∷ rest.0,

@@ -10,7 +10,8 @@ use Rattle.recovery_pacing.proofs.PacerLogLaws.{paced-knows}
 use Rattle.recovery_pacing.proofs.ProgressLaws.{resized_alike, short_of}
 
 -- a credit is rounded down by less than one byte
-credit_comes : (rtt window elapsed : ℕ) → 0 < rtt → 5 * window * elapsed + 1 ≤ 4 * rtt * (credit_of rtt window elapsed + 1)
+credit_comes : (rtt window elapsed : ℕ) → 0 < rtt
+    → 5 * window * elapsed + 1 ≤ 4 * rtt * (credit_of rtt window elapsed + 1)
 credit_comes rtt window elapsed some =
     let e = div-add-mod (5 * window * elapsed) (4 * rtt) in
     let lt : 5 * window * elapsed % (4 * rtt) < 4 * rtt = mod-lt (5 * window * elapsed) (omega (arith, some)) in
@@ -27,13 +28,15 @@ wait_comes rtt window short some_window uncut =
     q = rtt * short / window
 
     whole : rtt * short + 1 ≤ (q + 1) * window
-    whole = let e = div-add-mod (rtt * short) window in let lt = mod-lt (rtt * short) some_window in omega (arith, e, lt)
+    whole = let e = div-add-mod (rtt * short) window in let lt =
+        mod-lt (rtt * short) some_window in omega (arith, e, lt)
 
     fifth : q + 1 ≤ 5 * (q / 5 + 1)
     fifth = let e = div-add-mod q 5 in let lt : q % 5 < 5 = mod-lt q (omega arith) in omega (arith, e, lt)
 
     same : 5 * window * wait_of rtt window short ≡ 5 * window * (4 * (q / 5))
-    same = let least : min (rtt * short) longest_span ≡ rtt * short = omega (arith, uncut) in ap (λ (n : ℕ). 5 * window * (4 * (n / window / 5))) least
+    same = let least : min (rtt * short) longest_span ≡ rtt * short =
+        omega (arith, uncut) in ap (λ (n : ℕ). 5 * window * (4 * (n / window / 5))) least
 
 -- a factor that is not zero keeps the order
 le_by_product : (k a b : ℕ) → 0 < k → k * a ≤ k * b → a ≤ b
@@ -44,14 +47,16 @@ le_by_product k a b some below = elim (cases_lt b a) [
 
 -- where tokens are wanting in spite of the time that passed, there was no room
 no_room : (r w bytes questions capacity before lacking elapsed tokens wait : ℕ)
-    → 4 * r * before + 5 * w * elapsed ≤ 4 * r * (tokens + suc questions) → 4 * (r * lacking) + 4 ≤ 5 * w * wait + 20 * w
+    → 4 * r * before + 5 * w * elapsed ≤ 4 * r * (tokens + suc questions)
+    → 4 * (r * lacking) + 4 ≤ 5 * w * wait + 20 * w
     → 5 * w * wait ≤ 5 * w * elapsed → 4 * r * (tokens + 1) ≤ 4 * r * bytes → r * (before + lacking) ≡ r * capacity
     → r * (bytes + questions) + 5 * w ≤ r * capacity → ⊥
 no_room r w bytes questions capacity before lacking elapsed tokens wait filled waits passed wants all room =
     omega (arith, filled, waits, passed, wants, all, room)
 
 module _ (call : PacerCall) (first : Bucket) where
-  -- so many questions alike behind a delayed call: so much time was counted, and where the bucket is not full, no more was lost than a byte each
+  -- so many questions alike behind a delayed call: so much time was counted, and where the bucket is not full, no more
+  -- was lost than a byte each
   record Fills (questions : ℕ) (bucket : Bucket) : Type 0 where
     capacity : bucket.capacity ≡ first.capacity
     window : bucket.window ≡ call.window
@@ -83,14 +88,17 @@ module _ (call : PacerCall) (first : Bucket) where
           ≤ 4 * call.rtt * (min (bucket.tokens + credit) bucket.capacity + suc questions)
       filled below =
           let capacity = fills.capacity in
-          let least : min (bucket.tokens + credit) bucket.capacity ≡ bucket.tokens + credit = omega (arith, below, capacity) in
+          let least : min (bucket.tokens + credit) bucket.capacity ≡ bucket.tokens + credit =
+          omega (arith, below, capacity) in
           let before = fills.filled (omega (arith, below, capacity)) in
           let comes = credit_comes call.rtt call.window (now - bucket.last) some in
-          subst (λ (n : ℕ). 4 * call.rtt * first.tokens + 5 * call.window * (fills.elapsed + (now - bucket.last)) ≤ 4 * call.rtt * (n + suc questions))
+          subst (λ (n : ℕ). 4 * call.rtt * first.tokens + 5 * call.window * (fills.elapsed + (now - bucket.last))
+          ≤ 4 * call.rtt * (n + suc questions))
           (sym least) (omega (arith, before, comes))
 
   -- one question more, whatever it asks
-  fills_asked : (other : PacerCall) (questions : ℕ) (bucket : Bucket) → 0 < call.rtt → IsAlike call other → Fills questions bucket
+  fills_asked : (other : PacerCall) (questions : ℕ) (bucket : Bucket) → 0 < call.rtt → IsAlike call other
+      → Fills questions bucket
       → Fills (suc questions) (paced other bucket)
   fills_asked other questions bucket some alike fills =
       subst (Fills (suc questions))
@@ -98,13 +106,16 @@ module _ (call : PacerCall) (first : Bucket) where
       (by_test (may_send other bucket))
     where
       same : resized other.rtt other.window other.mtu bucket ≡ bucket
-      same = resized_alike other.rtt other.window other.mtu bucket (alike.window ∙ sym fills.window) (alike.mtu ∙ sym fills.mtu)
+      same = resized_alike other.rtt other.window other.mtu bucket (alike.window ∙ sym fills.window) (alike.mtu
+          ∙ sym fills.mtu)
 
       again : Fills (suc questions) (refilled other.rtt other.window other.now bucket)
       again = subst (λ (b : Bucket). Fills (suc questions) b)
-          (ap₂ (λ (r w : ℕ). refilled r w other.now bucket) (sym alike.rtt) (sym alike.window)) (fills_refilled other.now questions bucket some fills)
+          (ap₂ (λ (r w : ℕ). refilled r w other.now bucket) (sym alike.rtt) (sym alike.window))
+          (fills_refilled other.now questions bucket some fills)
 
-      by_test : (pass : Bool) → Fills (suc questions) (cond pass bucket (refilled other.rtt other.window other.now bucket))
+      by_test : (pass : Bool)
+          → Fills (suc questions) (cond pass bucket (refilled other.rtt other.window other.now bucket))
       by_test true = record {
         capacity = fills.capacity;
         window = fills.window;
@@ -119,7 +130,8 @@ module _ (call : PacerCall) (first : Bucket) where
   -- what so many questions leave
   fills_by : (made : Bucket) (earlier : List PacerEntry) (between : List PacerCall) → 0 < call.rtt
       → first ≡ paced call (bucket_by made earlier) → first.tokens ≤ first.capacity
-      → AllByRecursion (IsAlike call) between → Fills (length between) (bucket_by made (map asked between ++ asked call ∷ earlier))
+      → AllByRecursion (IsAlike call) between
+      → Fills (length between) (bucket_by made (map asked between ++ asked call ∷ earlier))
   fills_by made earlier [] some is sound alike =
       subst (Fills 0) is (record {
         capacity = refl;
@@ -135,7 +147,8 @@ module _ (call : PacerCall) (first : Bucket) where
       (fills_by made earlier between some is sound alike.1)
 
   -- the bucket fills enough by the moment that was named
-  covers : (questions : ℕ) (bucket : Bucket) → 0 < call.rtt → Fills questions bucket → (now : ℕ) → HasRoom call questions first
+  covers : (questions : ℕ) (bucket : Bucket) → 0 < call.rtt → Fills questions bucket → (now : ℕ)
+      → HasRoom call questions first
       → first.last + wait_of call.rtt call.window (first.capacity - first.tokens) ≤ now → first.tokens ≤ first.capacity
       → call.bytes ≤ (refilled call.rtt call.window now bucket).tokens
   covers questions bucket some fills now room late sound = elim (cases_lt tokens call.bytes) [
@@ -165,14 +178,17 @@ module _ (call : PacerCall) (first : Bucket) where
       contradicts : tokens < call.bytes → call.bytes ≤ tokens
       contradicts below =
           let fits = room.room in
-          let whole : call.bytes ≤ first.capacity = le_by_product call.rtt call.bytes first.capacity some (omega (arith, fits)) in
+          let whole : call.bytes ≤ first.capacity =
+          le_by_product call.rtt call.bytes first.capacity some (omega (arith, fits)) in
           let filled = after.filled (omega (arith, below, whole)) in
           let wait = wait_comes call.rtt call.window lacking room.window within in
           let time = mul-le-mul_left (5 * call.window) waits in
           let one_less = mul-le-mul_left (4 * call.rtt) below in
           let all : first.tokens + lacking ≡ first.capacity = omega (arith, sound) in
-          let split : call.rtt * (first.tokens + lacking) ≡ call.rtt * first.capacity = ap (λ (n : ℕ). call.rtt * n) all in
-          absurd (no_room call.rtt call.window call.bytes questions first.capacity first.tokens lacking after.elapsed tokens
+          let split : call.rtt * (first.tokens + lacking) ≡ call.rtt * first.capacity =
+          ap (λ (n : ℕ). call.rtt * n) all in
+          absurd (no_room call.rtt call.window call.bytes questions first.capacity first.tokens lacking after.elapsed
+          tokens
           (wait_of call.rtt call.window lacking) filled wait time (omega (arith, one_less)) split fits)
 
 -- a moment that is not the last one was not cut
@@ -194,7 +210,8 @@ refilled_sound call old until delays = by_test (may_send call bucket) refl
         → (cond pass bucket (refilled call.rtt call.window call.now bucket)).tokens
         ≤ (cond pass bucket (refilled call.rtt call.window call.now bucket)).capacity
     by_test true is =
-        let left = ap (λ (c : Bool). delay_of call (cond c bucket (refilled call.rtt call.window call.now bucket))) is in
+        let left = ap (λ (c : Bool). delay_of call (cond c bucket (refilled call.rtt call.window call.now bucket)))
+        is in
         let passes = ap (λ (c : Bool). cond c None (Some (next_moment call bucket))) is in
         none_is_some (sym passes ∙ sym left ∙ delays)
     by_test false is = omega arith
@@ -217,7 +234,11 @@ passes_at_moment made entries later between call earlier until is alike like sam
     uncovered = or_parts (nat_le call.bytes first.tokens) (is_unpaced call) short.0
 
     some_rtt : 0 < call.rtt
-    some_rtt = let none = eqb-false call.rtt 0 (or_parts (nat_le (2 ^ 32) call.window) (call.rtt == 0) uncovered.1).1 in omega (arith, none)
+    some_rtt = let none =
+        eqb-false call.rtt 0 (or_parts (nat_le (2 ^ 32) call.window) (call.rtt == 0) uncovered.1).1 in omega (
+          arith,
+          none,
+        )
 
     sound : first.tokens ≤ first.capacity
     sound = refilled_sound call (bucket_by made earlier) until delays
@@ -242,20 +263,25 @@ passes_at_moment made entries later between call earlier until is alike like sam
     enough = covers call first (length between) bucket some_rtt fills later.now room waited sound
 
     passing : (b : Bucket) → later.bytes ≤ b.tokens → delay_of later b ≡ None
-    passing b enough = ap (λ (c : Bool). cond (c || is_unpaced later) None (Some (next_moment later b))) (le-leb later.bytes b.tokens enough)
+    passing b enough = ap (λ (c : Bool). cond (c || is_unpaced later) None (Some (next_moment later b)))
+        (le-leb later.bytes b.tokens enough)
 
     refills : later.bytes ≤ (refilled later.rtt later.window later.now bucket).tokens
     refills = subst (λ (n : ℕ). n ≤ (refilled later.rtt later.window later.now bucket).tokens) (sym same_bytes)
-        (subst (λ (b : Bucket). call.bytes ≤ b.tokens) (ap₂ (λ (r w : ℕ). refilled r w later.now bucket) (sym like.rtt) (sym like.window)) enough)
+        (subst (λ (b : Bucket). call.bytes ≤ b.tokens) (ap₂ (λ (r w : ℕ). refilled r w later.now bucket) (sym like.rtt)
+        (sym like.window)) enough)
 
     by_test : (pass : Bool) → may_send later bucket ≡ pass
         → delay_of later (cond (may_send later bucket) bucket (refilled later.rtt later.window later.now bucket)) ≡ None
-    by_test true is = ap (λ (c : Bool). delay_of later (cond c bucket (refilled later.rtt later.window later.now bucket))) is
+    by_test true is = ap (λ (c : Bool).
+        delay_of later (cond c bucket (refilled later.rtt later.window later.now bucket))) is
         ∙ ap (λ (c : Bool). cond c None (Some (next_moment later bucket))) is
-    by_test false is = ap (λ (c : Bool). delay_of later (cond c bucket (refilled later.rtt later.window later.now bucket))) is
+    by_test false is = ap
+        (λ (c : Bool). delay_of later (cond c bucket (refilled later.rtt later.window later.now bucket))) is
         ∙ passing (refilled later.rtt later.window later.now bucket) refills
 
     goes : delay_of later (paced later bucket) ≡ None
     goes = ap (λ (b : Bucket). delay_of later (cond (may_send later b) b (refilled later.rtt later.window later.now b)))
-        (resized_alike later.rtt later.window later.mtu bucket (like.window ∙ sym fills.window) (like.mtu ∙ sym fills.mtu))
+        (resized_alike later.rtt later.window later.mtu bucket (like.window ∙ sym fills.window) (like.mtu
+        ∙ sym fills.mtu))
         ∙ by_test (may_send later bucket) refl

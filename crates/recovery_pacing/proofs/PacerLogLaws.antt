@@ -24,7 +24,8 @@ HasPassed made bytes (took other checked ∷ earlier) = ⊥
 abbrev pub HavePassed : Bucket → List PacerEntry → Type 0
 HavePassed made [] = Unit {0}
 HavePassed made (asked call ∷ earlier) = HavePassed made earlier
-HavePassed made (took bytes checked ∷ earlier) = (checked ≡ true → HasPassed made bytes earlier) × HavePassed made earlier
+HavePassed made (took bytes checked ∷ earlier) = (checked ≡ true → HasPassed made bytes earlier)
+    × HavePassed made earlier
 
 -- ---- the ties
 
@@ -42,7 +43,15 @@ module _ (made : Bucket) where
   -- at first it is full
   tied_made : made.tokens ≡ made.capacity → Tied [] made
   unfolding balance_in
-  tied_made full = record { capacity = refl; window = refl; mtu = refl; tokens = omega (arith, full); last = refl; no_debt = omega arith; earned = tt }
+  tied_made full = record {
+    capacity = refl;
+    window = refl;
+    mtu = refl;
+    tokens = omega (arith, full);
+    last = refl;
+    no_debt = omega arith;
+    earned = tt;
+  }
 
   -- a call changes the capacity
   change_tied : (call : PacerCall) (past : List PacerMark) (bucket : Bucket) (same : Bool) → Tied past bucket →
@@ -81,7 +90,8 @@ module _ (made : Bucket) where
   unfolding balance_in
   tied_credit call past bucket window mtu t =
       let credit = credit_in made call past in
-      let same : credit_of call.rtt call.window (call.now - bucket.last) ≡ credit = ap (λ g. credit_of call.rtt call.window (call.now - g)) t.last in record {
+      let same : credit_of call.rtt call.window (call.now - bucket.last) ≡ credit =
+      ap (λ g. credit_of call.rtt call.window (call.now - g)) t.last in record {
         capacity = t.capacity;
         window = window;
         mtu = mtu;
@@ -93,12 +103,15 @@ module _ (made : Bucket) where
 
   refill_tied : (call : PacerCall) (past : List PacerMark) (bucket : Bucket) (pass : Bool) → bucket.window ≡ call.window
       → bucket.mtu ≡ call.mtu → Tied past bucket →
-      Tied (if pass then past else credited call (credit_in made call past) ∷ past) (if pass then bucket else refilled call.rtt call.window call.now bucket)
+      Tied (if pass then past else credited call (credit_in made call past) ∷ past)
+      (if pass then bucket else refilled call.rtt call.window call.now bucket)
   refill_tied call past bucket true window mtu t = t
   refill_tied call past bucket false window mtu t = tied_credit call past bucket window mtu t
 
-  tied_refill : (call : PacerCall) (past : List PacerMark) (bucket : Bucket) → bucket.window ≡ call.window → bucket.mtu ≡ call.mtu → Tied past bucket →
-      Tied (with_refill made call past) (if may_send call bucket then bucket else refilled call.rtt call.window call.now bucket)
+  tied_refill : (call : PacerCall) (past : List PacerMark) (bucket : Bucket) → bucket.window ≡ call.window
+      → bucket.mtu ≡ call.mtu → Tied past bucket →
+      Tied (with_refill made call past) (if may_send call bucket then bucket else refilled call.rtt call.window call.now
+      bucket)
   tied_refill call past bucket window mtu t =
       let test : may_send call bucket ≡ (nat_le call.bytes (balance_in made past) || is_unpaced call) = ap
       (λ n. nat_le call.bytes n || is_unpaced call) t.tokens in
@@ -111,7 +124,15 @@ module _ (made : Bucket) where
       → bucket.mtu ≡ call.mtu → Tied past bucket → Tied (answered call ∷ past) bucket
   unfolding balance_in
   tied_answered call past bucket window mtu t =
-      record { capacity = t.capacity; window = window; mtu = mtu; tokens = t.tokens; last = t.last; no_debt = t.no_debt; earned = t.earned }
+      record {
+        capacity = t.capacity;
+        window = window;
+        mtu = mtu;
+        tokens = t.tokens;
+        last = t.last;
+        no_debt = t.no_debt;
+        earned = t.earned;
+      }
 
   -- bytes are transmitted that the tokens cover
   tied_took : (bytes : ℕ) (past : List PacerMark) (bucket : Bucket) → bytes ≤ bucket.tokens → Tied past bucket
@@ -141,10 +162,12 @@ resized-knows call old = go ((call.window == old.window) && (call.mtu == old.mtu
           tokens = min (capacity_of call.rtt call.window call.mtu) old.tokens;
         } in
         (bucket.window ≡ call.window) × (bucket.mtu ≡ call.mtu)
-    go true is = let both = and_parts _ _ is in (sym (eqb-true call.window old.window both.0), sym (eqb-true call.mtu old.mtu both.1))
+    go true is = let both =
+        and_parts _ _ is in (sym (eqb-true call.window old.window both.0), sym (eqb-true call.mtu old.mtu both.1))
     go false is = (refl, refl)
 
-pub paced-knows : (call : PacerCall) (old : Bucket) → ((paced call old).window ≡ call.window) × ((paced call old).mtu ≡ call.mtu)
+pub paced-knows : (call : PacerCall) (old : Bucket) → ((paced call old).window ≡ call.window)
+    × ((paced call old).mtu ≡ call.mtu)
 paced-knows call old = go (may_send call bucket)
   where
     bucket : Bucket
@@ -157,16 +180,20 @@ paced-knows call old = go (may_send call bucket)
 
 -- a call within the bounds is paced
 is_bounded : (call : PacerCall) → IsPaced call → is_unpaced call ≡ false
-is_bounded call bounds = or_from _ _ (lt-leb (2 ^ 32) call.window bounds.0) (ne_eqb call.rtt 0 (λ none. omega (arith, none, bounds.1)))
+is_bounded call bounds =
+    or_from _ _ (lt-leb (2 ^ 32) call.window bounds.0) (ne_eqb call.rtt 0 (λ none. omega (arith, none, bounds.1)))
 
 some_is_not_none : {A : Type 0} (moment : ℕ) → (let some : Option ℕ = Some moment in some ≡ None) → A
 some_is_not_none moment e = cc
 
 -- what passes is covered, where the call is paced
-passed_is_covered : (call : PacerCall) (bucket : Bucket) → IsPaced call → delay_of call bucket ≡ None → call.bytes ≤ bucket.tokens
-passed_is_covered call bucket bounds passes = leb-true call.bytes bucket.tokens (go (nat_le call.bytes bucket.tokens) (is_unpaced call) refl passes)
+passed_is_covered : (call : PacerCall) (bucket : Bucket) → IsPaced call → delay_of call bucket ≡ None
+    → call.bytes ≤ bucket.tokens
+passed_is_covered call bucket bounds passes =
+    leb-true call.bytes bucket.tokens (go (nat_le call.bytes bucket.tokens) (is_unpaced call) refl passes)
   where
-    go : (covered free : Bool) → is_unpaced call ≡ free → (if covered || free then None else Some (next_moment call bucket)) ≡ None → covered ≡ true
+    go : (covered free : Bool) → is_unpaced call ≡ free
+        → (if covered || free then None else Some (next_moment call bucket)) ≡ None → covered ≡ true
     go true free is e = refl
     go false true is e = absurd (true≢false (sym is ∙ is_bounded call bounds))
     go false false is e = some_is_not_none _ e
@@ -177,26 +204,31 @@ module _ (made : Bucket) where
       → Tied made (with_refill made call (with_change made call past)) (paced call bucket)
   tied_asking call past bucket t =
       let known = resized-knows call bucket in
-      tied_refill made call (with_change made call past) (resized call.rtt call.window call.mtu bucket) known.0 known.1 (tied_change made call past bucket t)
+      tied_refill made call (with_change made call past) (resized call.rtt call.window call.mtu bucket) known.0 known.1
+      (tied_change made call past bucket t)
 
   tied_paced : (call : PacerCall) (past : List PacerMark) (bucket : Bucket) → Tied made past bucket
       → Tied made (answered call ∷ with_refill made call (with_change made call past)) (paced call bucket)
   tied_paced call past bucket t =
       let known = paced-knows call bucket in
-      tied_answered made call (with_refill made call (with_change made call past)) (paced call bucket) known.0 known.1 (tied_asking call past bucket t)
+      tied_answered made call (with_refill made call (with_change made call past)) (paced call bucket) known.0 known.1
+      (tied_asking call past bucket t)
 
   -- what the pacer holds is what the history says
   pub tied_by : (entries : List PacerEntry) → made.tokens ≡ made.capacity → AreChecked entries → HavePassed made entries
       → Tied made (marks_by made entries) (bucket_by made entries)
   tied_by [] full checked passed = tied_made made full
-  tied_by (asked call ∷ earlier) full checked passed = tied_paced call (marks_by made earlier) (bucket_by made earlier) (tied_by earlier full checked.1 passed)
+  tied_by (asked call ∷ earlier) full checked passed =
+      tied_paced call (marks_by made earlier) (bucket_by made earlier) (tied_by earlier full checked.1 passed)
   tied_by (took bytes flag ∷ []) full checked passed = absurd (passed.0 checked.0)
   tied_by (took bytes flag ∷ took other before ∷ earlier) full checked passed = absurd (passed.0 checked.0)
   tied_by (took bytes flag ∷ asked call ∷ earlier) full checked passed =
       let bucket = paced call (bucket_by made earlier) in
       let pass = passed.0 checked.0 in
-      let low : bytes ≤ bucket.tokens = subst (λ n. n ≤ bucket.tokens) pass.0 (passed_is_covered call bucket checked.1.0 pass.1) in
-      tied_took made bytes (marks_by made (asked call ∷ earlier)) bucket low (tied_by (asked call ∷ earlier) full checked.1 passed.1)
+      let low : bytes ≤ bucket.tokens =
+      subst (λ n. n ≤ bucket.tokens) pass.0 (passed_is_covered call bucket checked.1.0 pass.1) in
+      tied_took made bytes (marks_by made (asked call ∷ earlier)) bucket low
+      (tied_by (asked call ∷ earlier) full checked.1 passed.1)
 
   -- a call is delayed exactly by the balance
   pub delays_by : (earlier : List PacerEntry) (call : PacerCall) → made.tokens ≡ made.capacity
@@ -217,14 +249,18 @@ module _ (made : Bucket) where
           SomeIff (if covered || free then None else Some (next_moment call bucket))
           (balance_in made (marks_asking made call earlier) < call.bytes)
           (moment_by made call (marks_asking made call earlier))
-      go true free is bounds = λ short. let low = leb-true call.bytes bucket.tokens is in omega (arith, low, short, tied.tokens)
+      go true free is bounds = λ short. let low =
+          leb-true call.bytes bucket.tokens is in omega (arith, low, short, tied.tokens)
       go false true is bounds = absurd (true≢false bounds)
       go false false is bounds = (
         let low = leb-false call.bytes bucket.tokens is in omega (arith, low, tied.tokens),
-        λ i. min (tied.last i + wait_of call.rtt call.window (max call.bytes (tied.capacity i) - tied.tokens i)) (2 ^ 64 - 1),
+        λ i. min (tied.last i + wait_of call.rtt call.window (max call.bytes (tied.capacity i) - tied.tokens i))
+            (2 ^ 64 - 1),
       )
 
   -- the pacing bound
-  pub keeps_rate : (entries : List PacerEntry) → made.tokens ≡ made.capacity → AreChecked entries → HavePassed made entries → KeepsRate made entries
+  pub keeps_rate : (entries : List PacerEntry) → made.tokens ≡ made.capacity → AreChecked entries
+      → HavePassed made entries → KeepsRate made entries
   keeps_rate entries full checked passed later past is point =
-      let t = tied_by entries full checked passed in rate_bound made (marks_by made entries) later past t.no_debt t.earned is point
+      let t = tied_by entries full checked passed in rate_bound made (marks_by made entries) later past t.no_debt
+      t.earned is point

@@ -29,10 +29,15 @@ history = marks_by made (asked (asks 266_400_000) ∷ all_twenty)
 -- the row meets the premise
 sends_checked : (count now : ℕ) (earlier : List PacerEntry) → AreChecked earlier → AreChecked (sends count now earlier)
 sends_checked zero now earlier checked = checked
-sends_checked (suc count) now earlier checked = (refl, ((omega arith, omega arith), sends_checked count now earlier checked))
+sends_checked (suc count) now earlier checked =
+    (refl, ((omega arith, omega arith), sends_checked count now earlier checked))
 
 all_checked : AreChecked (asked (asks 266_400_000) ∷ all_twenty)
-all_checked = ((omega arith, omega arith), sends_checked 10 266_400_000 (asked (asks 0) ∷ first_ten) ((omega arith, omega arith), sends_checked 10 0 [] tt))
+all_checked = (
+  (omega arith, omega arith),
+  sends_checked 10 266_400_000 (asked (asks 0) ∷ first_ten)
+      ((omega arith, omega arith), sends_checked 10 0 [] tt),
+)
 
 first_moment : moment_by made (asks 0) (marks_asking made (asks 0) first_ten) ≡ 266_400_000
 unfolding balance_in

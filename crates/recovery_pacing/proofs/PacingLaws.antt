@@ -12,7 +12,8 @@ bucket_made-sound rtt window mtu now some_window some_mtu = record {
   mtu = some_mtu;
 }
 
-pub resized-sound : (rtt window mtu : ℕ) (old : Bucket) → 0 < window → 0 < mtu → IsBucketSound old → IsBucketSound (resized rtt window mtu old)
+pub resized-sound : (rtt window mtu : ℕ) (old : Bucket) → 0 < window → 0 < mtu → IsBucketSound old
+    → IsBucketSound (resized rtt window mtu old)
 resized-sound rtt window mtu old some_window some_mtu sound = go ((window == old.window) && (mtu == old.mtu))
   where
     go : (same : Bool) → IsBucketSound (if same then old else record old {
@@ -30,7 +31,8 @@ resized-sound rtt window mtu old some_window some_mtu sound = go ((window == old
       mtu = some_mtu;
     }
 
-pub refilled-sound : (rtt window now : ℕ) (old : Bucket) → IsBucketSound old → IsBucketSound (refilled rtt window now old)
+pub refilled-sound : (rtt window now : ℕ) (old : Bucket) → IsBucketSound old
+    → IsBucketSound (refilled rtt window now old)
 refilled-sound rtt window now old sound = record {
   tokens = omega arith;
   least = sound.least;
@@ -39,7 +41,8 @@ refilled-sound rtt window now old sound = record {
   mtu = sound.mtu;
 }
 
-pub paced-sound : (call : PacerCall) (old : Bucket) → 0 < call.window → 0 < call.mtu → IsBucketSound old → IsBucketSound (paced call old)
+pub paced-sound : (call : PacerCall) (old : Bucket) → 0 < call.window → 0 < call.mtu → IsBucketSound old
+    → IsBucketSound (paced call old)
 paced-sound call old some_window some_mtu sound = go (may_send call bucket)
   where
     bucket : Bucket

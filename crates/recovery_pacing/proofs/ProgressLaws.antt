@@ -11,19 +11,22 @@ use Rattle.recovery_pacing.specs.Progress.{AsksAgain, PassesInTime, PassesBehind
 -- in the time of the wait and the slack the bytes that were short have come
 waited : (rtt window short elapsed : ℕ) → 0 < rtt → 0 < window → rtt * short ≤ longest_span
     → wait_of rtt window short + 4 ≤ elapsed → short ≤ credit_of rtt window elapsed
-waited rtt window short elapsed some_rtt some_window uncut waits = le-div short (5 * window * elapsed) (4 * rtt) (omega (arith, some_rtt)) enough
+waited rtt window short elapsed some_rtt some_window uncut waits =
+    le-div short (5 * window * elapsed) (4 * rtt) (omega (arith, some_rtt)) enough
   where
     q : ℕ
     q = rtt * short / window
 
     whole : rtt * short + 1 ≤ (q + 1) * window
-    whole = let e = div-add-mod (rtt * short) window in let lt = mod-lt (rtt * short) some_window in omega (arith, e, lt)
+    whole = let e = div-add-mod (rtt * short) window in let lt =
+        mod-lt (rtt * short) some_window in omega (arith, e, lt)
 
     fifth : q + 1 ≤ 5 * (q / 5 + 1)
     fifth = let e = div-add-mod q 5 in let lt : q % 5 < 5 = mod-lt q (omega arith) in omega (arith, e, lt)
 
     same : wait_of rtt window short ≡ 4 * (q / 5)
-    same = let least : min (rtt * short) longest_span ≡ rtt * short = omega (arith, uncut) in ap (λ (n : ℕ). 4 * (n / window / 5)) least
+    same = let least : min (rtt * short) longest_span ≡ rtt * short =
+        omega (arith, uncut) in ap (λ (n : ℕ). 4 * (n / window / 5)) least
 
     longer : 4 * (q / 5) + 4 ≤ elapsed
     longer = omega (arith, waits, same)
@@ -64,7 +67,8 @@ short_of call bucket until delays = go (may_send call bucket) refl delays
     go true is delays = none_is_some delays
     go false is delays = (is, some_same (next_moment call bucket) delays)
 
-pub passes_in_time : (call later : PacerCall) (old : Bucket) → PassesInTime old call later (delay_of later (paced later (paced call old)))
+pub passes_in_time : (call later : PacerCall) (old : Bucket)
+    → PassesInTime old call later (delay_of later (paced later (paced call old)))
 passes_in_time call later old until delays again reach late before_end = goes (may_send later bucket) refl
   where
     bucket : Bucket
@@ -80,13 +84,18 @@ passes_in_time call later old until delays again reach late before_end = goes (m
     lacks = leb-false call.bytes bucket.tokens uncovered.0
 
     some_rtt : 0 < call.rtt
-    some_rtt = let none = eqb-false call.rtt 0 (or_parts (nat_le (2 ^ 32) call.window) (call.rtt == 0) uncovered.1).1 in omega (arith, none)
+    some_rtt = let none =
+        eqb-false call.rtt 0 (or_parts (nat_le (2 ^ 32) call.window) (call.rtt == 0) uncovered.1).1 in omega (
+          arith,
+          none,
+        )
 
     lacking : ℕ
     lacking = bucket.capacity - bucket.tokens
 
     moment : until ≡ min (bucket.last + wait_of call.rtt call.window lacking) (2 ^ 64 - 1)
-    moment = let most : max call.bytes bucket.capacity - bucket.tokens ≡ lacking = let fits = reach.fits in omega (arith, fits) in
+    moment = let most : max call.bytes bucket.capacity - bucket.tokens ≡ lacking = let fits =
+        reach.fits in omega (arith, fits) in
         short.1 ∙ ap (λ (n : ℕ). min (bucket.last + wait_of call.rtt call.window n) (2 ^ 64 - 1)) most
 
     elapsed : wait_of call.rtt call.window lacking + 4 ≤ later.now - bucket.last
@@ -114,7 +123,8 @@ passes_in_time call later old until delays again reach late before_end = goes (m
         ∙ by_test pass is
       where
         passing : (b : Bucket) → later.bytes ≤ b.tokens → delay_of later b ≡ None
-        passing b enough = ap (λ (c : Bool). cond (c || is_unpaced later) None (Some (next_moment later b))) (le-leb later.bytes b.tokens enough)
+        passing b enough = ap (λ (c : Bool). cond (c || is_unpaced later) None (Some (next_moment later b)))
+            (le-leb later.bytes b.tokens enough)
 
         by_test : (pass : Bool) → may_send later bucket ≡ pass
             → delay_of later (cond (may_send later bucket) bucket (refilled later.rtt later.window later.now bucket))
@@ -122,7 +132,8 @@ passes_in_time call later old until delays again reach late before_end = goes (m
         by_test true is = ap (λ (c : Bool). delay_of later (cond c bucket
             (refilled later.rtt later.window later.now bucket))) is
             ∙ ap (λ (c : Bool). cond c None (Some (next_moment later bucket))) is
-        by_test false is = ap (λ (c : Bool). delay_of later (cond c bucket (refilled later.rtt later.window later.now bucket))) is
+        by_test false is = ap
+            (λ (c : Bool). delay_of later (cond c bucket (refilled later.rtt later.window later.now bucket))) is
             ∙ passing (refilled later.rtt later.window later.now bucket)
             (let same = again.bytes in let credit = ap₂ (λ (r w : ℕ). credit_of r w (later.now - bucket.last))
             again.rtt again.window in omega (arith, covers, same, credit))

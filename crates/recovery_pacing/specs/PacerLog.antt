@@ -1,4 +1,5 @@
--- What happened to a pacer since it was made, and what it lets pass by that alone (RFC 9002, 7.7). Lists are newest first.
+-- What happened to a pacer since it was made, and what it lets pass by that alone (RFC 9002, 7.7). Lists are newest
+-- first.
 use Rattle.std.specs.Prelude.{◌≡◌, ℕ, ◌+◌, ◌-◌, ◌*◌, ◌^◌, ◌<◌, ◌≤◌, min, max, Bool, true, ◌&&◌, ◌||◌, ◌==◌, nat_le, if◌then◌else◌, List, [], ◌∷◌, ◌++◌, Option, SomeIff}
 use Rattle.recovery_pacing.specs.Pacing.{Bucket, PacerCall, capacity_of, credit_of, wait_of, is_unpaced, paced, less_tokens}
 
@@ -113,8 +114,8 @@ module _ (made : Bucket) where
 
   -- ---- the balance
 
-  -- the least, over all cap points, of the capacity there and the credits after it, less the bytes transmitted after it; so
-  -- many credits and bytes come after the marks that are still to be seen
+  -- the least, over all cap points, of the capacity there and the credits after it, less the bytes transmitted after
+  -- it; so many credits and bytes come after the marks that are still to be seen
   abbrev pub balance_from : ℕ → ℕ → List PacerMark → ℕ
   balance_from credits bytes [] = made.capacity + credits - bytes
   balance_from credits bytes (changed call ∷ past) =
@@ -148,7 +149,8 @@ module _ (made : Bucket) where
   -- it refills exactly where the balance is then below the bytes asked, if it is paced at all
   abbrev pub with_refill : PacerCall → List PacerMark → List PacerMark
   with_refill call past =
-      if nat_le call.bytes (balance_in past) || is_unpaced call then past else credited call (credit_in call past) ∷ past
+      if nat_le call.bytes (balance_in past) || is_unpaced call then past else credited call (credit_in call past)
+      ∷ past
 
   -- the history that these entries make, and with what one more call does before it is answered
   abbrev pub marks_by : List PacerEntry → List PacerMark
@@ -167,15 +169,16 @@ module _ (made : Bucket) where
       let short = max call.bytes (capacity_in history) - balance_in history in
       min (greatest_moment history + wait_of call.rtt call.window short) (2 ^ 64 - 1)
 
-  -- one more call is delayed exactly where the balance, after its own refill, is below the bytes asked, and until that moment
+  -- one more call is delayed exactly where the balance, after its own refill, is below the bytes asked, and until that
+  -- moment
   pub record DelaysBy (earlier : List PacerEntry) (call : PacerCall) (given : Option ℕ) : Type 0 where
     pub balance : IsBalance (marks_asking call earlier) (balance_in (marks_asking call earlier))
     pub delayed : SomeIff given (balance_in (marks_asking call earlier) < call.bytes)
         (moment_by call (marks_asking call earlier))
 
-  -- from each cap point on: the bytes transmitted beyond the capacity there are at most five fourths of a window for each RTT
-  -- in the time from the greatest moment there to the latest of the calls at or after the point (none if that is earlier); the
-  -- window is the greatest of these calls, and the RTT the least
+  -- from each cap point on: the bytes transmitted beyond the capacity there are at most five fourths of a window for
+  -- each RTT in the time from the greatest moment there to the latest of the calls at or after the point (none if that
+  -- is earlier); the window is the greatest of these calls, and the RTT the least
   abbrev pub KeepsRate : List PacerEntry → Type 0
   KeepsRate entries =
       (later past : List PacerMark) → later ++ past ≡ marks_by entries → IsCapPoint past

@@ -1,5 +1,5 @@
--- A token bucket that paces packets (RFC 9002, 7.7): its bytes fill up at five fourths of a window in each RTT, and what is
--- sent is taken off. Moments and spans are in nanoseconds.
+-- A token bucket that paces packets (RFC 9002, 7.7): its bytes fill up at five fourths of a window in each RTT, and
+-- what is sent is taken off. Moments and spans are in nanoseconds.
 use Rattle.std.specs.Prelude.{ℕ, ◌+◌, ◌-◌, ◌*◌, ◌/◌, ◌^◌, ◌<◌, ◌≤◌, min, max, Bool, ◌&&◌, ◌||◌, ◌==◌, nat_le, if◌then◌else◌, Option, None, Some}
 
 pub record Bucket : Type 0 where
@@ -45,14 +45,16 @@ bucket_made rtt window mtu now =
     let capacity = capacity_of rtt window mtu in
     record { capacity = capacity; window = window; mtu = mtu; tokens = capacity; last = now }
 
--- where window or MTU is another than at the call before, the capacity is computed anew; no more tokens stay than it takes
+-- where window or MTU is another than at the call before, the capacity is computed anew; no more tokens stay than it
+-- takes
 abbrev pub resized : ℕ → ℕ → ℕ → Bucket → Bucket
 resized rtt window mtu old =
     let capacity = capacity_of rtt window mtu in
     if (window == old.window) && (mtu == old.mtu) then old
     else record old { capacity = capacity; window = window; mtu = mtu; tokens = min capacity old.tokens }
 
--- the bytes that came since the last moment are added, up to the capacity, and the later moment is kept: no time counts twice
+-- the bytes that came since the last moment are added, up to the capacity, and the later moment is kept: no time counts
+-- twice
 abbrev pub refilled : ℕ → ℕ → ℕ → Bucket → Bucket
 refilled rtt window now old =
     let credit = credit_of rtt window (now - old.last) in
@@ -88,7 +90,8 @@ less_tokens bytes old = record old { tokens = old.tokens - bytes }
 
 -- ---- what holds of every bucket
 
--- no more tokens than it takes; and it takes ten to 256 packets of the MTU of the last call: bursts are limited, as 7.7 asks
+-- no more tokens than it takes; and it takes ten to 256 packets of the MTU of the last call: bursts are limited, as 7.7
+-- asks
 pub record IsBucketSound (bucket : Bucket) : Type 0 where
   pub tokens : bucket.tokens ≤ bucket.capacity
   pub least : 10 * bucket.mtu ≤ bucket.capacity

@@ -20,8 +20,8 @@ pub record IsInReach (call : PacerCall) (bucket : Bucket) : Type 0 where
   pub uncut : call.rtt * bucket.capacity ≤ longest_span
   pub window : 0 < call.window
 
--- a call that was delayed until a moment is not delayed again from the slack past that moment on, if the pacer is not asked
--- in between: each question in between rounds down once more
+-- a call that was delayed until a moment is not delayed again from the slack past that moment on, if the pacer is not
+-- asked in between: each question in between rounds down once more
 abbrev pub PassesInTime : Bucket → PacerCall → PacerCall → Option ℕ → Type 0
 PassesInTime old call later given =
     (until : ℕ) → delay_of call (paced call old) ≡ Some until → AsksAgain call later → IsInReach call (paced call old)

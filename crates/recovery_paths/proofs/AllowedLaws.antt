@@ -32,7 +32,8 @@ module _ {K : Type 0} (settings : PathSettings K) where
   pub record IsKept (Holds : PathPast K → Type 0) : Type 0 where
     pub by_entry : (entry : PathEntry) (past : PathPast K) → IsAllowed settings.words (state_of settings past) entry
         → Holds past → Holds (past_with settings entry past)
-    pub following : (following : Following) (past : PathPast K) → Holds past → Holds (past_following settings following past)
+    pub following : (following : Following) (past : PathPast K) → Holds past
+        → Holds (past_following settings following past)
 
   -- ---- the entries of one event, the newest first
 
@@ -46,10 +47,12 @@ module _ {K : Type 0} (settings : PathSettings K) where
   abbrev pub AreAllowed : OfPaths (PathKnown K) → List PathsEntry → Type 0
   AreAllowed paths [] = Unit {0}
   AreAllowed paths (entry ∷ earlier) =
-      IsAllowedOn (paths_after (known_with settings) (known_following settings) earlier paths) entry × AreAllowed paths earlier
+      IsAllowedOn (paths_after (known_with settings) (known_following settings) earlier paths) entry
+      × AreAllowed paths earlier
 
   -- where nothing passes and no search sees anything, all is allowed
-  allowed_anywhere : (entry : PathEntry) (state : PathState K) → PassesNothing entry → IsAllowed settings.words state entry
+  allowed_anywhere : (entry : PathEntry) (state : PathState K) → PassesNothing entry
+      → IsAllowed settings.words state entry
   allowed_anywhere (passes now bytes) state nothing = absurd nothing
   allowed_anywhere (receives bytes) state nothing = tt
   allowed_anywhere is_validated state nothing = tt
@@ -66,7 +69,8 @@ module _ {K : Type 0} (settings : PathSettings K) where
         → ForSome (option_map (past_with settings entry) path) Holds
     previous_kept entry None nothing holds = λ past is. none_is_some is
     previous_kept entry (Some path) nothing holds = λ past is.
-        subst Holds (some_same is) (kept.by_entry entry path (allowed_anywhere entry (state_of settings path) nothing) (holds path refl))
+        subst Holds (some_same is) (kept.by_entry entry path (allowed_anywhere entry (state_of settings path) nothing)
+        (holds path refl))
 
     -- an entry keeps it
     entry_kept : (entry : PathsEntry) (pasts : OfPaths (PathPast K))
@@ -74,12 +78,14 @@ module _ {K : Type 0} (settings : PathSettings K) where
         → OnEachPath Holds (paths_with (past_with settings) (past_following settings) entry pasts)
     entry_kept (on Current entry) pasts allowed holds = (kept.by_entry entry pasts.current allowed holds.0, holds.1)
     entry_kept (on Previous entry) pasts allowed holds = (holds.0, previous_kept entry pasts.previous allowed holds.1)
-    entry_kept (moves following) pasts allowed holds = (kept.following following pasts.current holds.0, λ past is. subst Holds (some_same is) holds.0)
+    entry_kept (moves following) pasts allowed holds =
+        (kept.following following pasts.current holds.0, λ past is. subst Holds (some_same is) holds.0)
     entry_kept drops_previous pasts allowed holds = (holds.0, λ past is. none_is_some is)
 
     -- an event's entries keep it
     pub kept_after : (first : PathMaking K) (entries log : List PathsEntry) → let pasts = pasts_by settings first log in
-        AreAllowed (each_path (known_of settings) pasts) entries → OnEachPath Holds pasts → OnEachPath Holds (pasts_by settings first (entries ++ log))
+        AreAllowed (each_path (known_of settings) pasts) entries → OnEachPath Holds pasts
+        → OnEachPath Holds (pasts_by settings first (entries ++ log))
     kept_after first [] log allowed holds = holds
     kept_after first (entry ∷ earlier) log allowed holds =
         let Q : OfPaths (PathKnown K) → Type 0 = λ paths. IsAllowedOn paths entry in

@@ -82,7 +82,8 @@ module _ {K P M : Type 0} (spaces : Spaces P M) (paths : OfPaths (Path K)) (bala
       }
 
   -- what is kept beside a path's ledger changes
-  pub on_state_kept : (name : PathName) (change : PathState K → PathState K) → AreBalanced spaces (on_path_of name (on_state change) paths)
+  pub on_state_kept : (name : PathName) (change : PathState K → PathState K)
+      → AreBalanced spaces (on_path_of name (on_state change) paths)
   on_state_kept Current change = record {
     current = balanced.current;
     previous = balanced.previous;
@@ -106,9 +107,11 @@ module _ {K P M : Type 0} (spaces : Spaces P M) (paths : OfPaths (Path K)) (bala
   }
 
   -- another path is used, of a new generation
-  pub moved : (path : Path K) → path.ledger ≡ fresh_ledger (generation_of paths.current.ledger + 1) → AreBalanced spaces (moved_to path paths)
+  pub moved : (path : Path K) → path.ledger ≡ fresh_ledger (generation_of paths.current.ledger + 1)
+      → AreBalanced spaces (moved_to path paths)
   moved path fresh =
-      let next : generation_of path.ledger ≡ generation_of paths.current.ledger + 1 = ap (λ (l : PathLedger). generation_of l) fresh in
+      let next : generation_of path.ledger ≡ generation_of paths.current.ledger + 1 =
+      ap (λ (l : PathLedger). generation_of l) fresh in
       let Balanced : Path K → Type 0 = λ old. IsBalancedOn spaces old.ledger in
       let Older : Path K → Type 0 = λ old. generation_of old.ledger < generation_of path.ledger in
       record {
@@ -116,7 +119,8 @@ module _ {K P M : Type 0} (spaces : Spaces P M) (paths : OfPaths (Path K)) (bala
             (omega (arith, next)) (ap (λ (l : PathLedger). counters_of l) fresh);
         previous = λ old is. subst Balanced (some_same is) balanced.current;
         older = λ old is. subst Older (some_same is) (omega (arith, next));
-        up_to = up_to_more (generation_of paths.current.ledger) (generation_of path.ledger) spaces (omega (arith, next)) balanced.up_to;
+        up_to = up_to_more (generation_of paths.current.ledger) (generation_of path.ledger) spaces (omega (arith, next))
+            balanced.up_to;
         coherent = balanced.coherent;
       }
 
@@ -129,8 +133,10 @@ module _ {K P M : Type 0} (spaces : Spaces P M) (paths : OfPaths (Path K)) (bala
       let coherent : IsCoherent (space_of space spaces) = balanced.coherent space in
       record {
         current = record {
-          above = λ n p found. let lt : n < next_number_of (space_of space spaces) = coherent.packets n p found in omega (arith, lt, above);
-          above_last = λ n is. let lt : n < next_number_of (space_of space spaces) = coherent.last n is in omega (arith, lt, above);
+          above = λ n p found. let lt : n < next_number_of (space_of space spaces) =
+              coherent.packets n p found in omega (arith, lt, above);
+          above_last = λ n is. let lt : n < next_number_of (space_of space spaces) =
+              coherent.last n is in omega (arith, lt, above);
           own = own;
           counted = forgotten_counted spaces paths.current.ledger balanced.current space packet;
         };
@@ -140,19 +146,24 @@ module _ {K P M : Type 0} (spaces : Spaces P M) (paths : OfPaths (Path K)) (bala
   pub sent : (space : SpaceId) (number : ℕ) (packet : Packet P M) (here : Space P M)
       → packet.path_generation ≡ generation_of paths.current.ledger → next_number_of (space_of space spaces) ≤ number
       → (¬ IsTooLarge packet.largest_acked)
-      → tracking_of here ≡ after_sending number packet (tracking_of (space_of space spaces)) → next_number_of here ≡ number + 1 → HasGreatestCome here
-      → AreBalanced (with_space spaces space here) (paths_after_sending packet (forgotten_entry packet (tracking_of (space_of space spaces))) paths)
+      → tracking_of here ≡ after_sending number packet (tracking_of (space_of space spaces))
+      → next_number_of here ≡ number + 1 → HasGreatestCome here
+      → AreBalanced (with_space spaces space here)
+      (paths_after_sending packet (forgotten_entry packet (tracking_of (space_of space spaces))) paths)
   sent space number packet here own above small tracking next received =
       let old : Tracking P M = tracking_of (space_of space spaces) in
       let forgotten : Option (ℕ × Packet P M) = forgotten_entry packet old in
       let Up : Packets P M → Type 0 = IsUpTo (generation_of paths.current.ledger) in
-      let packets : packets_of here ≡ sent_onto old.last_eliciting number packet old.packets = ap (λ (t : Tracking P M). t.packets) tracking in
+      let packets : packets_of here ≡ sent_onto old.last_eliciting number packet old.packets =
+      ap (λ (t : Tracking P M). t.packets) tracking in
       changed spaces (with_space spaces space here) paths balanced
-      (on_ledger (λ ledger. path_after_sending ledger packet forgotten) paths.current) (on_ledger (λ ledger. after_forgetting ledger forgotten))
+      (on_ledger (λ ledger. path_after_sending ledger packet forgotten) paths.current)
+      (on_ledger (λ ledger. after_forgetting ledger forgotten))
       (generation_after_sending paths.current.ledger packet forgotten)
       (balanced_sent spaces paths.current.ledger balanced.current space packet here number forgotten tracking refl own)
       (λ path is. generation_after_forgetting path.ledger forgotten)
-      (λ path is. balanced_sent_elsewhere spaces path.ledger (balanced.previous path is) space packet here number forgotten tracking refl
+      (λ path is. balanced_sent_elsewhere spaces path.ledger (balanced.previous path is) space packet here number
+      forgotten tracking refl
       (λ same. let lt = balanced.older path is in absurd (omega (arith, lt, same, own))))
       (up_to_here space here (subst Up (sym packets) (up_to_sent (generation_of paths.current.ledger) old.last_eliciting
       number packet old.packets (balanced.up_to space) (omega (arith, own)))))
@@ -162,7 +173,8 @@ module _ {K P M : Type 0} (spaces : Spaces P M) (paths : OfPaths (Path K)) (bala
   -- ---- a packet is acknowledged or lost
 
   -- a tracked packet is among those counted on its path, where that lives
-  pub counted : (space : SpaceId) (number : ℕ) (packet : Packet P M) → packet_at (tracked_by spaces space) number ≡ Some packet → IsCountedOnEach paths packet
+  pub counted : (space : SpaceId) (number : ℕ) (packet : Packet P M)
+      → packet_at (tracked_by spaces space) number ≡ Some packet → IsCountedOnEach paths packet
   counted space number packet found = (
     packet_counted spaces paths.current.ledger balanced.current space number packet
         found,
@@ -181,19 +193,23 @@ module _ {K P M : Type 0} (spaces : Spaces P M) (paths : OfPaths (Path K)) (bala
   )
 
   module _ (space : SpaceId) (number : ℕ) (packet : Packet P M) (here : Space P M) where
-    up_to_left : packets_of here ≡ without (tracked_by spaces space) number → AreUpTo (generation_of paths.current.ledger) (with_space spaces space here)
+    up_to_left : packets_of here ≡ without (tracked_by spaces space) number
+        → AreUpTo (generation_of paths.current.ledger) (with_space spaces space here)
     up_to_left packets =
         let Up : Packets P M → Type 0 = IsUpTo (generation_of paths.current.ledger) in
         up_to_here space here (subst Up (sym packets) (up_to_taken (generation_of paths.current.ledger)
         (tracked_by spaces space) number (balanced.up_to space)))
 
-    pub acked : packet_at (tracked_by spaces space) number ≡ Some packet → packets_of here ≡ without (tracked_by spaces space) number → IsCoherent here
+    pub acked : packet_at (tracked_by spaces space) number ≡ Some packet
+        → packets_of here ≡ without (tracked_by spaces space) number → IsCoherent here
         → (words : ControllerWords K) (now : ℕ) (app_limited : Bool)
         → AreBalanced (with_space spaces space here) (paths_acking words space number now app_limited packet paths)
     acked found packets coherent words now app_limited =
-        changed spaces (with_space spaces space here) paths balanced (path_acked words space number now app_limited packet paths.current) (left_by packet)
+        changed spaces (with_space spaces space here) paths balanced
+        (path_acked words space number now app_limited packet paths.current) (left_by packet)
         refl (balanced_taken spaces paths.current.ledger balanced.current space here number packet found packets)
-        (λ path is. refl) (λ path is. balanced_taken spaces path.ledger (balanced.previous path is) space here number packet found packets)
+        (λ path is. refl) (λ path is. balanced_taken spaces path.ledger (balanced.previous path is) space here number
+        packet found packets)
         (up_to_left packets) (coherent_with spaces space here balanced.coherent coherent)
 
     pub lost : (contents : P)
@@ -201,9 +217,12 @@ module _ {K P M : Type 0} (spaces : Spaces P M) (paths : OfPaths (Path K)) (bala
         → packets_of here ≡ without (tracked_by spaces space) number → IsCoherent here
         → AreBalanced (with_space spaces space here) (paths_losing space number packet paths)
     lost contents handed packets coherent =
-        changed spaces (with_space spaces space here) paths balanced (path_lost space number packet paths.current) (left_by packet)
-        refl (balanced_lost spaces paths.current.ledger balanced.current space here number contents packet handed packets)
-        (λ path is. refl) (λ path is. balanced_lost spaces path.ledger (balanced.previous path is) space here number contents packet handed packets)
+        changed spaces (with_space spaces space here) paths balanced (path_lost space number packet paths.current)
+        (left_by packet)
+        refl (balanced_lost spaces paths.current.ledger balanced.current space here number contents packet handed
+        packets)
+        (λ path is. refl) (λ path is. balanced_lost spaces path.ledger (balanced.previous path is) space here number
+        contents packet handed packets)
         (up_to_left packets) (coherent_with spaces space here balanced.coherent coherent)
 
   -- ---- a probe is asked for
@@ -215,10 +234,13 @@ module _ {K P M : Type 0} (spaces : Spaces P M) (paths : OfPaths (Path K)) (bala
       let here : Space P M = space_probes words immediate found (one_probe_more (space_of space spaces)) in
       record {
         current = balanced_probed spaces paths.current.ledger balanced.current words space immediate found;
-        previous = λ path is. balanced_probed spaces path.ledger (balanced.previous path is) words space immediate found;
+        previous = λ path is. balanced_probed spaces path.ledger (balanced.previous path is) words space immediate
+            found;
         older = balanced.older;
-        up_to = up_to_here space here (up_to_probed (generation_of paths.current.ledger) words immediate found (space_of space spaces) (balanced.up_to space));
-        coherent = coherent_with spaces space here balanced.coherent (coherent_probed words (space_of space spaces) (balanced.coherent space) immediate found);
+        up_to = up_to_here space here (up_to_probed (generation_of paths.current.ledger) words immediate found
+            (space_of space spaces) (balanced.up_to space));
+        coherent = coherent_with spaces space here balanced.coherent
+            (coherent_probed words (space_of space spaces) (balanced.coherent space) immediate found);
       }
 
   -- ---- a space is emptied
@@ -233,7 +255,8 @@ module _ {K P M : Type 0} (spaces : Spaces P M) (paths : OfPaths (Path K)) (bala
 left_all : {P M : Type 0} (then : PathLedger) (all rest : Packets P M) (ledger : PathLedger)
     → Leaving then all ledger rest → Leaving then all (ledger_without rest ledger) []
 left_all then all [] ledger leaving = leaving
-left_all then all (entry ∷ rest) ledger leaving = left_all then all rest (after_leaving ledger entry.1) (leaving_first then all ledger entry rest leaving).1
+left_all then all (entry ∷ rest) ledger leaving =
+    left_all then all rest (after_leaving ledger entry.1) (leaving_first then all ledger entry rest leaving).1
 
 module _ {K P M : Type 0} (spaces : Spaces P M) (paths : OfPaths (Path K)) (balanced : AreBalanced spaces paths) where
   module _ (space : SpaceId) (here : Space P M) (none : packets_of here ≡ []) where
@@ -245,25 +268,32 @@ module _ {K P M : Type 0} (spaces : Spaces P M) (paths : OfPaths (Path K)) (bala
     balanced_without : (ledger : PathLedger) → IsBalancedOn spaces ledger
         → IsBalancedOn (with_space spaces space here) (ledger_without (tracked_by spaces space) ledger)
     balanced_without ledger now =
-        let left : Leaving ledger (tracked_by spaces space) (ledger_without (tracked_by spaces space) ledger) [] = without_all ledger now in
-        balanced_emptied spaces ledger now space here (ledger_without (tracked_by spaces space) ledger) left.generation none
+        let left : Leaving ledger (tracked_by spaces space) (ledger_without (tracked_by spaces space) ledger) [] =
+        without_all ledger now in
+        balanced_emptied spaces ledger now space here (ledger_without (tracked_by spaces space) ledger) left.generation
+        none
         (leaving_all ledger (tracked_by spaces space) (ledger_without (tracked_by spaces space) ledger) left)
 
-    pub emptied : IsCoherent here → AreBalanced (with_space spaces space here) (paths_without (tracked_by spaces space) paths)
+    pub emptied : IsCoherent here
+        → AreBalanced (with_space spaces space here) (paths_without (tracked_by spaces space) paths)
     emptied coherent =
         let Up : Packets P M → Type 0 = IsUpTo (generation_of paths.current.ledger) in
         changed spaces (with_space spaces space here) paths balanced
-        (on_ledger (ledger_without (tracked_by spaces space)) paths.current) (on_ledger (ledger_without (tracked_by spaces space)))
-        (without_all paths.current.ledger balanced.current).generation (balanced_without paths.current.ledger balanced.current)
+        (on_ledger (ledger_without (tracked_by spaces space)) paths.current)
+        (on_ledger (ledger_without (tracked_by spaces space)))
+        (without_all paths.current.ledger balanced.current).generation
+        (balanced_without paths.current.ledger balanced.current)
         (λ path is. (without_all path.ledger (balanced.previous path is)).generation)
         (λ path is. balanced_without path.ledger (balanced.previous path is))
-        (up_to_here spaces paths balanced space here (subst Up (sym none) (up_to_none (generation_of paths.current.ledger))))
+        (up_to_here spaces paths balanced space here
+        (subst Up (sym none) (up_to_none (generation_of paths.current.ledger))))
         (coherent_with spaces space here balanced.coherent coherent)
 
 -- ---- a fresh start
 
 -- one path, on which nothing is in flight, and spaces that track nothing
-pub fresh : {K P M : Type 0} (spaces : Spaces P M) (path : Path K) → ((space : SpaceId) → tracking_of (space_of space spaces) ≡ no_packets) → AreCoherent spaces
+pub fresh : {K P M : Type 0} (spaces : Spaces P M) (path : Path K)
+    → ((space : SpaceId) → tracking_of (space_of space spaces) ≡ no_packets) → AreCoherent spaces
     → counters_of path.ledger ≡ record { bytes = 0; ack_eliciting = 0 }
     → AreBalanced spaces (let all : OfPaths (Path K) = record { current = path; previous = None } in all)
 fresh spaces path none coherent zero = record {

@@ -1,4 +1,5 @@
--- How often the search of the path in use is told that a number was acknowledged or lost: at most as often as that happened.
+-- How often the search of the path in use is told that a number was acknowledged or lost: at most as often as that
+-- happened.
 use Rattle.std.proofs.Common.{◌≡◌, ⊎_elim, ℕ, ◌+◌, ◌≤◌, Bool, true, false, List, [], ◌∷◌, ◌++◌, refl, arith}
 use Rattle.std.specs.Prelude.{nat_eq}
 use Rattle.std.specs.Set.{is_member}
@@ -37,7 +38,8 @@ abbrev has : ℕ → List ℕ → Bool
 has number numbers = is_member nat_eq numbers number
 
 -- the fates are those of the numbers acknowledged and of those lost
-fates_are : (number : ℕ) (calls : List MtuCall) → fates number calls ≡ times number (acked_in_calls calls) + times number (lost_in_calls calls)
+fates_are : (number : ℕ) (calls : List MtuCall)
+    → fates number calls ≡ times number (acked_in_calls calls) + times number (lost_in_calls calls)
 fates_are number [] = refl
 fates_are number (acks other bytes ∷ earlier) = omega (arith, fates_are number earlier)
 fates_are number (loses other bytes ∷ earlier) = omega (arith, fates_are number earlier)
@@ -59,8 +61,10 @@ stands number (other ∷ numbers) is =
     (λ (there : has number numbers ≡ true). omega (arith, stands number numbers there)) (or_cases _ _ is)
 
 -- where each number has one fate at most, none is both acknowledged and lost
-pub apart_once : (made : Discovery) (calls : List MtuCall) → ((number : ℕ) → fates number calls ≤ 1) → AreFatesApart (entries_by made calls)
-apart_once made calls once = fates_apart_by made calls (λ number good. go number good (has number (lost_in_calls calls)) refl)
+pub apart_once : (made : Discovery) (calls : List MtuCall) → ((number : ℕ) → fates number calls ≤ 1)
+    → AreFatesApart (entries_by made calls)
+apart_once made calls once =
+    fates_apart_by made calls (λ number good. go number good (has number (lost_in_calls calls)) refl)
   where
     go : (number : ℕ) → has number (acked_in_calls calls) ≡ true → (bad : Bool) → has number (lost_in_calls calls) ≡ bad
         → has number (lost_in_calls calls) ≡ false
@@ -92,7 +96,8 @@ told_in number [] = 0
 told_in number (entry ∷ earlier) = told_in number earlier + told_by number entry
 
 -- entries before others add what they tell
-pub told-append : (number : ℕ) (entries log : List PathsEntry) → told_in number (entries ++ log) ≡ told_in number log + told_in number entries
+pub told-append : (number : ℕ) (entries log : List PathsEntry)
+    → told_in number (entries ++ log) ≡ told_in number log + told_in number entries
 told-append number [] log = omega arith
 told-append number (entry ∷ entries) log = omega (arith, told-append number entries log)
 
@@ -101,7 +106,8 @@ module _ {K : Type 0} (settings : PathSettings K) (number : ℕ) where
   fates_on past = fates number past.searched
 
   -- an entry adds its own
-  fates_with : (entry : PathEntry) (past : PathPast K) → fates_on (past_with settings entry past) ≤ fates_on past + told_on_path number entry
+  fates_with : (entry : PathEntry) (past : PathPast K)
+      → fates_on (past_with settings entry past) ≤ fates_on past + told_on_path number entry
   fates_with (receives bytes) past = omega arith
   fates_with is_validated past = omega arith
   fates_with (samples delay rtt) past = omega arith
@@ -113,14 +119,18 @@ module _ {K : Type 0} (settings : PathSettings K) (number : ℕ) where
   fates_with (is_reset now) past = omega arith
 
   -- a path that follows begins with none, or with those of the path before it
-  fates_following : (following : Following) (past : PathPast K) → fates_on (past_following settings following past) ≤ fates_on past
+  fates_following : (following : Following) (past : PathPast K)
+      → fates_on (past_following settings following past) ≤ fates_on past
   fates_following (fresh remote limit now) past = omega arith
   fates_following (goes_on remote now) past = omega arith
 
   -- on the path in use a number has at most the fates that were told
-  pub fates_by : (first : PathMaking K) (log : List PathsEntry) → fates_on (pasts_by settings first log).current ≤ told_in number log
+  pub fates_by : (first : PathMaking K) (log : List PathsEntry)
+      → fates_on (pasts_by settings first log).current ≤ told_in number log
   fates_by first [] = omega arith
-  fates_by first (on Current entry ∷ log) = omega (arith, fates_by first log, fates_with entry (pasts_by settings first log).current)
+  fates_by first (on Current entry ∷ log) =
+      omega (arith, fates_by first log, fates_with entry (pasts_by settings first log).current)
   fates_by first (on Previous entry ∷ log) = omega (arith, fates_by first log)
-  fates_by first (moves following ∷ log) = omega (arith, fates_by first log, fates_following following (pasts_by settings first log).current)
+  fates_by first (moves following ∷ log) =
+      omega (arith, fates_by first log, fates_following following (pasts_by settings first log).current)
   fates_by first (drops_previous ∷ log) = omega (arith, fates_by first log)

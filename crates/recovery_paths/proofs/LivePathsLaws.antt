@@ -23,7 +23,8 @@ module _ {K P M : Type 0} (entry : ℕ × Packet P M) (rest : Packets P M) where
   twice (Some path) = refl
 
   -- the first leaves, and then the others
-  pub without_first : (paths : OfPaths (Path K)) → paths_without rest (each_path (left_by entry.1) paths) ≡ paths_without (entry ∷ rest) paths
+  pub without_first : (paths : OfPaths (Path K))
+      → paths_without rest (each_path (left_by entry.1) paths) ≡ paths_without (entry ∷ rest) paths
   without_first paths = ap (λ (previous : Option (Path K)). let all : OfPaths (Path K) =
       record { current = on_ledger (ledger_without (entry ∷ rest)) paths.current; previous = previous } in all)
       (twice paths.previous)
@@ -31,7 +32,8 @@ module _ {K P M : Type 0} (entry : ℕ × Packet P M) (rest : Packets P M) where
   abbrev AreCountedBy : Packets P M → Path K → Type 0
   AreCountedBy packets path = IsCountedIn (counters_of path.ledger) (generation_of path.ledger) packets
 
-  previous_counted : (path : Option (Path K)) → ForSome path (AreCountedBy (entry ∷ rest)) → ForSome (option_map (left_by entry.1) path) (AreCountedBy rest)
+  previous_counted : (path : Option (Path K)) → ForSome path (AreCountedBy (entry ∷ rest))
+      → ForSome (option_map (left_by entry.1) path) (AreCountedBy rest)
   previous_counted None counted = λ other is. none_is_some is
   previous_counted (Some path) counted = λ other is.
       let Q : Path K → Type 0 = AreCountedBy rest in
@@ -41,5 +43,7 @@ module _ {K P M : Type 0} (entry : ℕ × Packet P M) (rest : Packets P M) where
   pub counted_first : (paths : OfPaths (Path K)) → AreCountedOnEach paths (entry ∷ rest)
       → IsCountedOnEach paths entry.1 × AreCountedOnEach (each_path (left_by entry.1) paths) rest
   counted_first paths counted =
-      let first = first_leaves paths.current.ledger entry rest counted.0 in
-      ((first.0, λ path is. (first_leaves path.ledger entry rest (counted.1 path is)).0), (first.1, previous_counted paths.previous counted.1))
+      let first = first_leaves paths.current.ledger entry rest counted.0 in (
+        (first.0, λ path is. (first_leaves path.ledger entry rest (counted.1 path is)).0),
+        (first.1, previous_counted paths.previous counted.1),
+      )

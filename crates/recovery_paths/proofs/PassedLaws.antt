@@ -28,7 +28,8 @@ module _ {K : Type 0} (settings : PathSettings K) where
   passed_law (is_reset now) past allowed passed = tt
 
   -- a path that follows has a new pacer
-  follows_passed : (following : Following) (past : PathPast K) → HavePassedOn past → HavePassedOn (past_following settings following past)
+  follows_passed : (following : Following) (past : PathPast K) → HavePassedOn past
+      → HavePassedOn (past_following settings following past)
   follows_passed (fresh remote limit now) past passed = tt
   follows_passed (goes_on remote now) past passed = tt
 

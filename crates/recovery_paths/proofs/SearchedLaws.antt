@@ -1,4 +1,5 @@
--- How each path is searched: all of them by the same settings, each from a discovery to which nothing was told, and with each limit in turn.
+-- How each path is searched: all of them by the same settings, each from a discovery to which nothing was told, and
+-- with each limit in turn.
 use Rattle.std.proofs.Common.{ℕ, ◌≡◌, Bool, List, [], ◌∷◌, ◌++◌, Option, None, Some, if◌then◌else◌, refl}
 use Rattle.recovery_config.specs.declared.config.TransportConfig.{TransportConfig}
 use Rattle.recovery_config.specs.Settings.{initial_mtu_of}
@@ -40,8 +41,16 @@ pub first_searched : {F : Type 0} (allowed : Bool) (limit : Option ℕ) (config 
 first_searched allowed limit config = go (if allowed then config.mtu_discovery_config else None)
   where
     go : (by : Option MtuDiscoveryConfig) → IsSearchedBy by (discovery_with limit config by) []
-    go None = record { untold = discovery_disabled_untold (initial_mtu_of config) config.min_mtu; settings_are = refl; outside = tt }
-    go (Some own) = record { untold = discovery_made_untold (initial_mtu_of config) config.min_mtu limit own; settings_are = refl; outside = tt }
+    go None = record {
+      untold = discovery_disabled_untold (initial_mtu_of config) config.min_mtu;
+      settings_are = refl;
+      outside = tt;
+    }
+    go (Some own) = record {
+      untold = discovery_made_untold (initial_mtu_of config) config.min_mtu limit own;
+      settings_are = refl;
+      outside = tt;
+    }
 
 module _ {K : Type 0} (settings : PathSettings K) (by : Option MtuDiscoveryConfig)
     (fresh_is : (limit : Option ℕ) → IsSearchedBy by (settings.discovery limit) []) where
@@ -52,24 +61,30 @@ module _ {K : Type 0} (settings : PathSettings K) (by : Option MtuDiscoveryConfi
   searched_law is_validated past allowed searched = searched
   searched_law (samples delay rtt) past allowed searched = searched
   searched_law (tells call) past allowed searched = searched
-  searched_law (searches call) past allowed searched = searched_after by past.making.discovery call past.searched allowed searched
+  searched_law (searches call) past allowed searched =
+      searched_after by past.making.discovery call past.searched allowed searched
   searched_law (asks now bytes) past allowed searched = searched
   searched_law (transmits bytes) past allowed searched = searched
   searched_law (passes now bytes) past allowed searched = searched
-  searched_law (is_reset now) past allowed searched = searched_after by past.making.discovery (reset_call settings) past.searched tt searched
+  searched_law (is_reset now) past allowed searched =
+      searched_after by past.making.discovery (reset_call settings) past.searched tt searched
 
   -- a fresh path is searched from its making on, and one that goes on as the path before it
-  follows_searched : (following : Following) (past : PathPast K) → IsPathSearchedBy by past → IsPathSearchedBy by (past_following settings following past)
+  follows_searched : (following : Following) (past : PathPast K) → IsPathSearchedBy by past
+      → IsPathSearchedBy by (past_following settings following past)
   follows_searched (fresh remote limit now) past searched = fresh_is limit
   follows_searched (goes_on remote now) past searched = searched
 
   -- an event's entries keep that
-  pub searched_over : (first : PathMaking K) (entries log : List PathsEntry) → let pasts = pasts_by settings first log in
+  pub searched_over : (first : PathMaking K) (entries log : List PathsEntry) → let pasts =
+      pasts_by settings first log in
       AreAllowed settings (each_path (known_of settings) pasts) entries → OnEachPath (IsPathSearchedBy by) pasts
       → OnEachPath (IsPathSearchedBy by) (pasts_by settings first (entries ++ log))
   searched_over =
-      let kept : IsKept settings (IsPathSearchedBy by) = record { by_entry = searched_law; following = follows_searched } in
+      let kept : IsKept settings (IsPathSearchedBy by) =
+      record { by_entry = searched_law; following = follows_searched } in
       kept_after settings (IsPathSearchedBy by) kept
 
-  pub searched_at_first : (first : PathMaking K) → IsSearchedBy by first.discovery [] → OnEachPath (IsPathSearchedBy by) (pasts_by settings first [])
+  pub searched_at_first : (first : PathMaking K) → IsSearchedBy by first.discovery []
+      → OnEachPath (IsPathSearchedBy by) (pasts_by settings first [])
   searched_at_first first searched = (searched, λ past is. none_is_some is)

@@ -13,7 +13,8 @@ none_is_some : {A B : Type 0} {a : A} → None ≡ Some a → B
 none_is_some e = cc
 
 -- what is not blocked, though the address is not validated, is within the limit
-unblocked : (validated : Bool) (received sent : ℕ) → (not validated && nat_lt (3 * received) sent) ≡ false → validated ≡ false → sent ≤ 3 * received
+unblocked : (validated : Bool) (received sent : ℕ) → (not validated && nat_lt (3 * received) sent) ≡ false
+    → validated ≡ false → sent ≤ 3 * received
 unblocked true received sent free open_yet = true_is_not_false open_yet
 unblocked false received sent free open_yet = ltb-false (3 * received) sent free
 
@@ -21,7 +22,8 @@ module _ {K : Type 0} (settings : PathSettings K) where
   -- an entry keeps the bound
   threefold_law : (entry : PathEntry) (past : PathPast K) → IsAllowed settings.words (state_of settings past) entry
       → IsWithinThreefold past → IsWithinThreefold (past_with settings entry past)
-  threefold_law (receives bytes) past allowed within = λ unproved checked. let all = within unproved checked in omega (arith, all)
+  threefold_law (receives bytes) past allowed within = λ unproved checked. let all =
+      within unproved checked in omega (arith, all)
   threefold_law is_validated past allowed within = λ unproved checked. true_is_not_false unproved
   threefold_law (samples delay rtt) past allowed within = within
   threefold_law (tells call) past allowed within = within
@@ -29,16 +31,19 @@ module _ {K : Type 0} (settings : PathSettings K) where
   threefold_law (asks now bytes) past allowed within = within
   threefold_law (transmits bytes) past allowed within = λ unproved checked. true_is_not_false
       (sym (checked 0 (record { bytes = 0; checked = true }) (omega arith)))
-  threefold_law (passes now bytes) past allowed within = λ unproved checked. unblocked past.validated _ _ allowed.0 unproved
+  threefold_law (passes now bytes) past allowed within =
+      λ unproved checked. unblocked past.validated _ _ allowed.0 unproved
   threefold_law (is_reset now) past allowed within = within
 
   -- a path that follows begins within it
-  follows_within : (following : Following) (past : PathPast K) → IsWithinThreefold past → IsWithinThreefold (past_following settings following past)
+  follows_within : (following : Following) (past : PathPast K) → IsWithinThreefold past
+      → IsWithinThreefold (past_following settings following past)
   follows_within (fresh remote limit now) past within = λ unproved checked. omega arith
   follows_within (goes_on remote now) past within = λ unproved checked. omega arith
 
   -- an event's entries keep the bound
-  pub threefold_after : (first : PathMaking K) (entries log : List PathsEntry) → let pasts = pasts_by settings first log in
+  pub threefold_after : (first : PathMaking K) (entries log : List PathsEntry) → let pasts =
+      pasts_by settings first log in
       AreAllowed settings (each_path (known_of settings) pasts) entries → OnEachPath IsWithinThreefold pasts
       → OnEachPath IsWithinThreefold (pasts_by settings first (entries ++ log))
   threefold_after =

@@ -9,28 +9,33 @@ use Rattle.recovery_paths.specs.PathMaking.{PathMaking, PathSettings}
 abbrev pub WasUntold : {K : Type 0} → PathPast K → Type 0
 WasUntold past = IsUntold past.making.discovery
 
-module _ {K : Type 0} (settings : PathSettings K) (made : (limit : Option ℕ) → IsUntold (settings.discovery limit)) where
-  -- an entry leaves the search as it was made
-  untold_law : (entry : PathEntry) (past : PathPast K) → WasUntold past → WasUntold (past_with settings entry past)
-  untold_law (receives bytes) past untold = untold
-  untold_law is_validated past untold = untold
-  untold_law (samples delay rtt) past untold = untold
-  untold_law (tells call) past untold = untold
-  untold_law (searches call) past untold = untold
-  untold_law (asks now bytes) past untold = untold
-  untold_law (transmits bytes) past untold = untold
-  untold_law (passes now bytes) past untold = untold
-  untold_law (is_reset now) past untold = untold
+module _ {K : Type 0} (settings : PathSettings K) (made : (limit : Option ℕ) → IsUntold (settings.discovery limit))
+  where
+    -- an entry leaves the search as it was made
+    untold_law : (entry : PathEntry) (past : PathPast K) → WasUntold past → WasUntold (past_with settings entry past)
+    untold_law (receives bytes) past untold = untold
+    untold_law is_validated past untold = untold
+    untold_law (samples delay rtt) past untold = untold
+    untold_law (tells call) past untold = untold
+    untold_law (searches call) past untold = untold
+    untold_law (asks now bytes) past untold = untold
+    untold_law (transmits bytes) past untold = untold
+    untold_law (passes now bytes) past untold = untold
+    untold_law (is_reset now) past untold = untold
 
-  -- a path that follows has a new one, or goes on with that of the path before it
-  follows_untold : (following : Following) (past : PathPast K) → WasUntold past → WasUntold (past_following settings following past)
-  follows_untold (fresh remote limit now) past untold = made limit
-  follows_untold (goes_on remote now) past untold = untold
+    -- a path that follows has a new one, or goes on with that of the path before it
+    follows_untold : (following : Following) (past : PathPast K) → WasUntold past
+        → WasUntold (past_following settings following past)
+    follows_untold (fresh remote limit now) past untold = made limit
+    follows_untold (goes_on remote now) past untold = untold
 
-  -- whatever happens, the path in use has one that was made so
-  pub untold_by : (first : PathMaking K) → IsUntold first.discovery → (log : List PathsEntry) → WasUntold (pasts_by settings first log).current
-  untold_by first untold [] = untold
-  untold_by first untold (on Current entry ∷ log) = untold_law entry (pasts_by settings first log).current (untold_by first untold log)
-  untold_by first untold (on Previous entry ∷ log) = untold_by first untold log
-  untold_by first untold (moves following ∷ log) = follows_untold following (pasts_by settings first log).current (untold_by first untold log)
-  untold_by first untold (drops_previous ∷ log) = untold_by first untold log
+    -- whatever happens, the path in use has one that was made so
+    pub untold_by : (first : PathMaking K) → IsUntold first.discovery → (log : List PathsEntry)
+        → WasUntold (pasts_by settings first log).current
+    untold_by first untold [] = untold
+    untold_by first untold (on Current entry ∷ log) =
+        untold_law entry (pasts_by settings first log).current (untold_by first untold log)
+    untold_by first untold (on Previous entry ∷ log) = untold_by first untold log
+    untold_by first untold (moves following ∷ log) =
+        follows_untold following (pasts_by settings first log).current (untold_by first untold log)
+    untold_by first untold (drops_previous ∷ log) = untold_by first untold log

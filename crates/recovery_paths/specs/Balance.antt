@@ -7,8 +7,8 @@ use Rattle.recovery_ledger.specs.Spaces.{Spaces}
 use Rattle.recovery_paths.specs.PathLog.{OfPaths}
 use Rattle.recovery_paths.specs.PathStates.{Path}
 
--- Each path's counters are sums over the packets that the spaces track, the previous path is older than the one in use, no
--- tracked packet is of a younger one, and the parts of each space go together.
+-- Each path's counters are sums over the packets that the spaces track, the previous path is older than the one in use,
+-- no tracked packet is of a younger one, and the parts of each space go together.
 pub record AreBalanced {K P M : Type 0} (spaces : Spaces P M) (paths : OfPaths (Path K)) : Type 0 where
   pub current : IsBalancedOn spaces paths.current.ledger
   pub previous : ForSome paths.previous (λ path. IsBalancedOn spaces path.ledger)

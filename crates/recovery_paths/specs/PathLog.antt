@@ -60,8 +60,8 @@ pub data PathEntry : Type 0 where
   -- RTT, controller, search and pacer begin anew
   is_reset : (now : ℕ) → PathEntry
 
--- how a path follows on another one: fresh, where the peer takes datagrams of at most so many bytes, or going on with RTT,
--- controller and search
+-- how a path follows on another one: fresh, where the peer takes datagrams of at most so many bytes, or going on with
+-- RTT, controller and search
 pub data Following : Type 0 where
   fresh : (remote : SocketAddr) (limit : Option ℕ) (now : ℕ) → Following
   goes_on : (remote : SocketAddr) (now : ℕ) → Following
@@ -84,12 +84,14 @@ paths_with change follow (moves following) old = moved_to (follow following old.
 paths_with change follow drops_previous old = record old { previous = None }
 
 -- entries, the newest first, change the paths one after another
-abbrev pub paths_after : {P : Type 0} → (PathEntry → P → P) → (Following → P → P) → List PathsEntry → OfPaths P → OfPaths P
+abbrev pub paths_after : {P : Type 0} → (PathEntry → P → P) → (Following → P → P) → List PathsEntry → OfPaths P
+    → OfPaths P
 paths_after change follow [] old = old
 paths_after change follow (entry ∷ earlier) old =
     paths_with change follow entry (paths_after change follow earlier old)
 
--- ---- all that happened on one path since it was made, each kind of it the newest first; a path that goes on from another one
+-- ---- all that happened on one path since it was made, each kind of it the newest first; a path that goes on from
+-- another one
 -- has what was sampled, told and seen there
 
 pub record Transmission : Type 0 where
@@ -243,7 +245,8 @@ module _ {K : Type 0} (settings : PathSettings K) where
   -- the past of each path, where the first is made so
   abbrev pub pasts_by : PathMaking K → List PathsEntry → OfPaths (PathPast K)
   pasts_by first log =
-      paths_after (past_with settings) (past_following settings) log (record { current = past_made 0 first; previous = None })
+      paths_after (past_with settings) (past_following settings) log
+      (record { current = past_made 0 first; previous = None })
 
   abbrev pub paths_known_by : PathMaking K → List PathsEntry → OfPaths (PathKnown K)
   paths_known_by first log = each_path known_of (pasts_by first log)

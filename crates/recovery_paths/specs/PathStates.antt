@@ -93,7 +93,8 @@ module _ {K : Type 0} where
   abbrev pub path_lost : {P M : Type 0} → SpaceId → ℕ → Packet P M → Path K → Path K
   path_lost space number packet path = record path {
     ledger = after_leaving path.ledger packet;
-    state = (if is_data space then after_searching (loss_call number packet.size path.state.discovery) path.state else path.state);
+    state = (if is_data space then after_searching (loss_call number packet.size path.state.discovery) path.state
+        else path.state);
   }
 
 module _ {K : Type 0} (words : ControllerWords K) where
@@ -121,7 +122,8 @@ module _ {K : Type 0} (words : ControllerWords K) where
   abbrev pub path_acked : {P M : Type 0} → SpaceId → ℕ → ℕ → Bool → Packet P M → Path K → Path K
   path_acked space number now app_limited packet path = record path {
     ledger = after_leaving path.ledger packet;
-    state = acked_by_controller now app_limited packet path.ledger (acked_by_search space number packet.size path.state);
+    state = acked_by_controller now app_limited packet path.ledger
+        (acked_by_search space number packet.size path.state);
   }
 
   -- ---- pacing (RFC 9002, 7.7)

@@ -16,7 +16,8 @@ use Rattle.recovery_lines.specs.Lines.{ItemEvent, IsAt}
 use Rattle.recovery_replay.specs.Replay.{RunsOver, Session, settings, skips_with, words_with}
 
 -- the generator of a seed gives its words
-pub words_of_seed : (seed : Option ℕ) → stream_of (steps_u32 pcg32) (pcg32_of_seed (pcg32_seed 16 (unwrap_or seed 0))) ≡ words_with seed
+pub words_of_seed : (seed : Option ℕ) → stream_of (steps_u32 pcg32) (pcg32_of_seed (pcg32_seed 16 (unwrap_or seed 0)))
+    ≡ words_with seed
 words_of_seed None = refl
 words_of_seed (Some seed) = refl
 
@@ -25,13 +26,16 @@ pub session : {Z E F K : Type 0} (built : F → ℕ → ℕ → K) (words : Cont
     (said : List ItemEvent) (replies : List Reply) (remote : SocketAddr) (config : RecoveryConfig F) (start : ℕ)
     (random : Stream)
     → IsAt 4433 remote → config ≡ settings factory remote (skips_with seed) → start ≡ 0 → random ≡ words_with seed
-    → Throughout (Told (begins built words (queue_meaning (λ items. items) item_words tt) config start random)) said replies
+    → Throughout (Told (begins built words (queue_meaning (λ items. items) item_words tt) config start random)) said
+    replies
     → (result : Result (String Z) E) → IfOk result (λ text. string_bytes text ≡ answer_lines replies)
     → IfOk result (λ text. Session (RunsOver built words factory seed) (λ events. events ≡ said)
     (λ lines. string_bytes text ≡ lines))
-session built words factory seed said replies remote config start random at is_config is_start is_random told (Ok text) written =
+session built words factory seed said replies remote config start random at is_config is_start is_random told (Ok text)
+    written =
     let queues = queue_meaning (λ (items : List ℕ). items) item_words tt in
-    let Begun : RecoveryConfig _ → Type 0 = λ c. Throughout (Told (begins built words queues c start random)) said replies in
+    let Begun : RecoveryConfig _ → Type 0 =
+    λ c. Throughout (Told (begins built words queues c start random)) said replies in
     let chosen = settings factory remote (skips_with seed) in
     let Started : ℕ → Type 0 = λ s. Throughout (Told (begins built words queues chosen s random)) said replies in
     let Drawn : Stream → Type 0 = λ r. Throughout (Told (begins built words queues chosen 0 r)) said replies in

@@ -13,9 +13,11 @@ pub appends_more : (before mid after : Option (List ℕ)) (front bytes : List �
 appends_more None mid after front bytes a b = tt
 appends_more (Some old) None after front bytes a b = absurd a
 appends_more (Some old) (Some now) None front bytes a b = absurd b
-appends_more (Some old) (Some now) (Some new) front bytes a b = b ∙ ap (λ (bs : List ℕ). bs ++ bytes) a ∙ append_assoc old front bytes
+appends_more (Some old) (Some now) (Some new) front bytes a b = b ∙ ap (λ (bs : List ℕ). bs ++ bytes) a
+    ∙ append_assoc old front bytes
 
-pub appends_kept : (before mid after : Option (List ℕ)) (bytes : List ℕ) → Appends before mid bytes → Keeps mid after → Appends before after bytes
+pub appends_kept : (before mid after : Option (List ℕ)) (bytes : List ℕ) → Appends before mid bytes → Keeps mid after
+    → Appends before after bytes
 appends_kept None mid after bytes a k = tt
 appends_kept (Some old) None after bytes a k = absurd a
 appends_kept (Some old) (Some now) None bytes a k = absurd k
@@ -32,7 +34,8 @@ none_front None after f = tt
 none_front (Some old) None f = absurd f.1
 none_front (Some old) (Some new) f = f.1 ∙ ap (λ (bs : List ℕ). old ++ bs) (take-nil f.0) ∙ append-nil old
 
-pub tells : (outcome : Outcome) (before after : Option (List ℕ)) → AppendsFront before after (error_text outcome) → Tells outcome before after
+pub tells : (outcome : Outcome) (before after : Option (List ℕ)) → AppendsFront before after (error_text outcome)
+    → Tells outcome before after
 tells (Ended Whole) before after f = none_front before after f
 tells (Ended (BadLine n)) before after f = f
 tells (Ended ReadFailed) before after f = f
@@ -49,10 +52,13 @@ pub went_on : (before mid after : Option (List ℕ)) (bytes rest : List ℕ) (w 
     → Written before mid bytes w → m ≡ w + n → n ≤ length rest → Appends mid after (take n rest)
     → Written before after bytes m
 went_on before mid after bytes rest w n m is written e within appended = record {
-  within = let count : length rest ≡ length bytes - w = ap length is ∙ length-drop w bytes in omega (arith, e, within, written.within, count);
+  within = let count : length rest ≡ length bytes - w =
+      ap length is ∙ length-drop w bytes in omega (arith, e, within, written.within, count);
   appended =
-      let more : Appends mid after (take n (drop w bytes)) = subst (λ (bs : List ℕ). Appends mid after (take n bs)) is appended in
-      subst (λ (k : ℕ). Appends before after (take k bytes)) (sym e) (written_more before mid after bytes w n written.appended more);
+      let more : Appends mid after (take n (drop w bytes)) =
+      subst (λ (bs : List ℕ). Appends mid after (take n bs)) is appended in
+      subst (λ (k : ℕ). Appends before after (take k bytes)) (sym e)
+      (written_more before mid after bytes w n written.appended more);
 }
 
 -- the bytes from w on
@@ -63,5 +69,6 @@ pub stayed : (before mid after : Option (List ℕ)) (bytes : List ℕ) (w m : �
     → Keeps mid after → Written before after bytes m
 stayed before mid after bytes w m written e kept = record {
   within = omega (arith, e, written.within);
-  appended = subst (λ (k : ℕ). Appends before after (take k bytes)) (sym e) (appends_kept before mid after (take w bytes) written.appended kept);
+  appended = subst (λ (k : ℕ). Appends before after (take k bytes)) (sym e)
+      (appends_kept before mid after (take w bytes) written.appended kept);
 }

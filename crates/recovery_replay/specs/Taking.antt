@@ -21,7 +21,8 @@ EndsLine line old false new =
 -- all bytes are held, or the next line spells no event, whatever follows
 abbrev pub Took : List ℕ → Bool → Script → Type 0
 Took taken true script = Holds taken script
-Took taken false script = (rest : List ℕ) → Says (taken ++ rest) script.events.items (BadLine (length script.events.items + 1))
+Took taken false script =
+    (rest : List ℕ) → Says (taken ++ rest) script.events.items (BadLine (length script.events.items + 1))
 
 -- these bytes were taken, behind whatever the script held
 abbrev pub TakesBytes : Script → List ℕ → Bool → Script → Type 0

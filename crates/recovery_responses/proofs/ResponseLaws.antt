@@ -34,12 +34,14 @@ take_sound n responses sound = record {
       (distinct_take same_address n (remotes responses) sound.apart);
 }
 
-all_push : {X : Type 0} (P : X → Type 0) (xs : List X) (x : X) → AllByRecursion P xs → P x → AllByRecursion P (xs ++ x ∷ [])
+all_push : {X : Type 0} (P : X → Type 0) (xs : List X) (x : X) → AllByRecursion P xs → P x
+    → AllByRecursion P (xs ++ x ∷ [])
 all_push P [] x all last = search rules
 all_push P (y ∷ xs) x all last = (all.0, all_push P xs x all.1 last)
 
 -- one more key, which none is equal to
-distinct_push : {K : Type 0} (e : K → K → Bool) (ks : List K) (k : K) → IsDistinct e ks → list_any (λ x. e x k) ks ≡ false → IsDistinct e (ks ++ k ∷ [])
+distinct_push : {K : Type 0} (e : K → K → Bool) (ks : List K) (k : K) → IsDistinct e ks
+    → list_any (λ x. e x k) ks ≡ false → IsDistinct e (ks ++ k ∷ [])
 unfolding IsDistinct
 distinct_push e [] k apart none = search rules
 distinct_push e (x ∷ ks) k apart none =
@@ -56,8 +58,10 @@ push_sound : (new : PathResponse) (responses : List PathResponse) → AreSound r
     → list_any (goes_to new.remote) responses ≡ false → length responses < 16 → AreSound (responses ++ new ∷ [])
 push_sound new responses sound unknown room = record {
   few = let longer = length-append responses (new ∷ []) in omega (arith, longer, room);
-  apart = subst (IsDistinct same_address) (sym (map-append (λ (response : PathResponse). response.remote) responses (new ∷ [])))
-      (distinct_push same_address (remotes responses) new.remote sound.apart (any_remote new.remote responses ∙ unknown));
+  apart = subst (IsDistinct same_address)
+      (sym (map-append (λ (response : PathResponse). response.remote) responses (new ∷ [])))
+      (distinct_push same_address (remotes responses) new.remote sound.apart (any_remote new.remote responses
+      ∙ unknown));
 }
 
 remote_renewed : (new kept : PathResponse) → (renewed new kept).remote ≡ kept.remote
@@ -68,18 +72,22 @@ remote_renewed new kept = go (goes_to new.remote kept && nat_le kept.packet new.
     go false = refl
 
 -- responses keep their addresses
-remotes_renewed : (new : PathResponse) (responses : List PathResponse) → remotes (map (renewed new) responses) ≡ remotes responses
+remotes_renewed : (new : PathResponse) (responses : List PathResponse)
+    → remotes (map (renewed new) responses) ≡ remotes responses
 remotes_renewed new [] = refl
 remotes_renewed new (kept ∷ others) = λ i. remote_renewed new kept i ∷ remotes_renewed new others i
 
-renewed_sound : (new : PathResponse) (responses : List PathResponse) → AreSound responses → AreSound (map (renewed new) responses)
+renewed_sound : (new : PathResponse) (responses : List PathResponse) → AreSound responses
+    → AreSound (map (renewed new) responses)
 renewed_sound new responses sound = record {
   few = let same = length-map responses (renewed new) in omega (arith, same, sound.few);
   apart = subst (IsDistinct same_address) (sym (remotes_renewed new responses)) sound.apart;
 }
 
-pub with_response_sound : (new : PathResponse) (responses : List PathResponse) → AreSound responses → AreSound (with_response new responses)
-with_response_sound new responses sound = go (list_any (goes_to new.remote) responses) (nat_lt (length responses) 16) refl refl
+pub with_response_sound : (new : PathResponse) (responses : List PathResponse) → AreSound responses
+    → AreSound (with_response new responses)
+with_response_sound new responses sound =
+    go (list_any (goes_to new.remote) responses) (nat_lt (length responses) 16) refl refl
   where
     go : (known room : Bool) → list_any (goes_to new.remote) responses ≡ known → nat_lt (length responses) 16 ≡ room
         → AreSound (if known then map (renewed new) responses else if room then responses ++ new ∷ [] else responses)

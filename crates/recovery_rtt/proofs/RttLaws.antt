@@ -4,7 +4,8 @@ use Rattle.std.proofs.Common.{ap, sym, subst, ◌∙◌}
 use Rattle.recovery_rtt.specs.Rtt.{Rtt, KeepsLeast, least_of, rtt_by, rtt_sampled, rtt_updated}
 
 -- after a sample there is a smoothed value
-smoothed-sampled : (delay sample : ℕ) (smoothed : Option ℕ) (old : Rtt) → (s : ℕ) × ((rtt_sampled delay sample smoothed old).smoothed ≡ Some s)
+smoothed-sampled : (delay sample : ℕ) (smoothed : Option ℕ) (old : Rtt)
+    → (s : ℕ) × ((rtt_sampled delay sample smoothed old).smoothed ≡ Some s)
 smoothed-sampled delay sample None old = (_, refl)
 smoothed-sampled delay sample (Some smoothed) old = (_, refl)
 

@@ -34,8 +34,10 @@ rtt_moved adjusted sample smoothed old = record {
 
 -- the first sample is taken as it is; a later one without the delay of its ACK
 abbrev pub rtt_sampled : ℕ → ℕ → Option ℕ → Rtt → Rtt
-rtt_sampled delay sample None old = record { latest = sample; smoothed = Some sample; variance = sample / 2; least = sample }
-rtt_sampled delay sample (Some smoothed) old = rtt_moved (adjusted_rtt (min old.least sample) delay sample) sample smoothed old
+rtt_sampled delay sample None old =
+    record { latest = sample; smoothed = Some sample; variance = sample / 2; least = sample }
+rtt_sampled delay sample (Some smoothed) old =
+    rtt_moved (adjusted_rtt (min old.least sample) delay sample) sample smoothed old
 
 -- after a sample, whose ACK was delayed (RFC 9002, 5.3)
 abbrev pub rtt_updated : ℕ → ℕ → Rtt → Rtt
@@ -72,7 +74,8 @@ granularity = 10 ^ 6
 abbrev pub pto_base_of : Rtt → ℕ
 pto_base_of rtt = min (rtt_get rtt + max (4 * rtt.variance) granularity) longest
 
--- what holds of every estimate: it is never below the least sample (RFC 9002, 5.3), or the initial RTT before the first one
+-- what holds of every estimate: it is never below the least sample (RFC 9002, 5.3), or the initial RTT before the first
+-- one
 abbrev pub IsAboveLeast : Rtt → Type 0
 IsAboveLeast rtt = rtt.least ≤ rtt_get rtt
 

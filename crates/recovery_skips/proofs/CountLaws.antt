@@ -13,7 +13,8 @@ false_true is = cc
 
 module _ (skips : Skips) (words : Stream) where
   -- the skips before one are there, and lie below it
-  lower : (j k t : ℕ) → j < k → (skip_at skips words k).number ≡ Some t → (s : ℕ) × ((skip_at skips words j).number ≡ Some s) × (s < t)
+  lower : (j k t : ℕ) → j < k → (skip_at skips words k).number ≡ Some t
+      → (s : ℕ) × ((skip_at skips words j).number ≡ Some s) × (s < t)
   lower j zero t less is = absurd (omega (arith, less))
   lower j (suc k) t less is =
       let before = skip_above skips words k t is in
@@ -22,8 +23,11 @@ module _ (skips : Skips) (words : Stream) where
             let found = lower j k before.0 further before.1 in
             (found.0, found.1, omega (arith, found.2, before.2))
         | inr near ↦
-            let same : k ≡ j = omega (arith, near, less) in
-            (before.0, subst (λ i. (skip_at skips words i).number ≡ Some before.0) same before.1, omega (arith, before.2))
+            let same : k ≡ j = omega (arith, near, less) in (
+              before.0,
+              subst (λ i. (skip_at skips words i).number ≡ Some before.0) same before.1,
+              omega (arith, before.2),
+            )
       ]
 
   -- just so many skips lie below n
@@ -65,7 +69,8 @@ module _ (skips : Skips) (words : Stream) where
             omega (arith, same)
       ]
 
-  without_skip : (n count : ℕ) → Counts n count → is_at n (skip_at skips words count).number ≡ false → Counts (suc n) count
+  without_skip : (n count : ℕ) → Counts n count → is_at n (skip_at skips words count).number ≡ false
+      → Counts (suc n) count
   without_skip n count counts free k s is = (to, from)
     where
       to : s < suc n → k < count
@@ -82,7 +87,8 @@ module _ (skips : Skips) (words : Stream) where
       from less = let under : s < n = (counts k s is).1 less in omega (arith, under)
 
   -- a skip lies below n just where its place is below their count
-  pub skips_below_counts : (n k s : ℕ) → (skip_at skips words k).number ≡ Some s → (s < n) ↔ (k < skips_below skips words n)
+  pub skips_below_counts : (n k s : ℕ) → (skip_at skips words k).number ≡ Some s
+      → (s < n) ↔ (k < skips_below skips words n)
   skips_below_counts zero = λ k s is. (λ less. absurd (omega (arith, less)), λ less. absurd (omega (arith, less)))
   skips_below_counts (suc n) = go (skips_below_counts n) (is_skipped skips words n) refl
     where
@@ -92,7 +98,8 @@ module _ (skips : Skips) (words : Stream) where
       go counts false here = without_skip n (skips_below skips words n) counts here
 
   -- a number is skipped just where it stands in the sequence
-  pub skipped_in_sequence : (n : ℕ) → (is_skipped skips words n ≡ true) ↔ ((k : ℕ) × ((skip_at skips words k).number ≡ Some n))
+  pub skipped_in_sequence : (n : ℕ) → (is_skipped skips words n ≡ true)
+      ↔ ((k : ℕ) × ((skip_at skips words k).number ≡ Some n))
   skipped_in_sequence n = (
     λ here. (skips_below skips words n, is_at-some n _ here),
     λ found.
@@ -104,7 +111,8 @@ module _ (skips : Skips) (words : Stream) where
   skip_before_greatest zero = λ m less. absurd (omega (arith, less))
   skip_before_greatest (suc n) = go (skip_before_greatest n) (is_skipped skips words n) refl
     where
-      more : (last : Option ℕ) → is_skipped skips words n ≡ false → IsGreatestBelow skips words n last → IsGreatestBelow skips words (suc n) last
+      more : (last : Option ℕ) → is_skipped skips words n ≡ false → IsGreatestBelow skips words n last
+          → IsGreatestBelow skips words (suc n) last
       more None free none = λ m less. elim (cases_lt m n) [
         | inl below ↦ none m below
         | inr near ↦ ap (λ i. is_skipped skips words i) (let same : m ≡ n = omega (arith, near, less) in same) ∙ free

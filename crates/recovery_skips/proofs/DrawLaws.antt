@@ -42,12 +42,16 @@ either_below : (carries : Bool) (hi range : ℕ) → hi + 1 < range → (if carr
 either_below true hi range room = room
 either_below false hi range room = omega (arith, room)
 
-settled_below : (m range hi lo : ℕ) (next : Stream → ℕ × Stream) (rest : Stream) (opens : Bool) → hi < range → (opens ≡ true → hi + 1 < range)
-    → (if opens then draw_map (λ w. if nat_le m (lo + w * range / m) then hi + 1 else hi) next rest else (hi, rest)).0 < range
-settled_below m range hi lo next rest true below room = either_below (nat_le m (lo + (next rest).0 * range / m)) hi range (room refl)
+settled_below : (m range hi lo : ℕ) (next : Stream → ℕ × Stream) (rest : Stream) (opens : Bool) → hi < range
+    → (opens ≡ true → hi + 1 < range)
+    → (if opens then draw_map (λ w. if nat_le m (lo + w * range / m) then hi + 1 else hi) next rest else (hi, rest)).0
+    < range
+settled_below m range hi lo next rest true below room =
+    either_below (nat_le m (lo + (next rest).0 * range / m)) hi range (room refl)
 settled_below m range hi lo next rest false below room = below
 
-canon_below : (m range : ℕ) (next : Stream → ℕ × Stream) (words : Stream) → (next words).0 < m → 0 < range → range ≤ m → (canon m next range words).0 < range
+canon_below : (m range : ℕ) (next : Stream → ℕ × Stream) (words : Stream) → (next words).0 < m → 0 < range → range ≤ m
+    → (canon m next range words).0 < range
 unfolding canon
 canon_below m range next words fits some within =
     let w = (next words).0 in
@@ -78,11 +82,13 @@ unfolding canon
 canon_fits m range words fit =
     let hi = (next_u64 words).0 * range / m in
     let lo = (next_u64 words).0 * range % m in
-    settled_fits (λ w. if nat_le m (lo + w * range / m) then hi + 1 else hi) hi (next_u64 words).1 (nat_lt (m - range) lo) (rest_fits words fit)
+    settled_fits (λ w. if nat_le m (lo + w * range / m) then hi + 1 else hi) hi (next_u64 words).1
+    (nat_lt (m - range) lo) (rest_fits words fit)
 
 draw_below : (low end : ℕ) (words : Stream) → AreWords words → low < end → end ≤ 2 ^ 64 → (draw low end words).0 < end
 draw_below low end words fit some within =
-    let below = canon_below (2 ^ 64) (end - low) next_u64 words (first_fits words fit) (omega (arith, some)) (omega (arith, within)) in
+    let below = canon_below (2 ^ 64) (end - low) next_u64 words (first_fits words fit) (omega (arith, some))
+    (omega (arith, within)) in
     omega (arith, below, some)
 
 -- ---- skips
@@ -93,7 +99,8 @@ module _ (skips : Skips) (words : Stream) (is_skips : IsSkips skips) (fit : AreW
   first_skip_fits (Starting n) = fit
   first_skip_fits Disabled = fit
 
-  next_skip_fits : (exponent : ℕ) (skip : Option ℕ) (rest : Stream) → AreWords rest → AreWords (next_skip exponent skip rest).words
+  next_skip_fits : (exponent : ℕ) (skip : Option ℕ) (rest : Stream) → AreWords rest
+      → AreWords (next_skip exponent skip rest).words
   next_skip_fits exponent None rest fits = fits
   next_skip_fits exponent (Some s) rest fits = canon_fits (2 ^ 64) _ rest fits
 
@@ -112,11 +119,13 @@ module _ (skips : Skips) (words : Stream) (is_skips : IsSkips skips) (fit : AreW
   first_below Disabled sound t is = absurd (none-some t is)
 
   next_below : (exponent t : ℕ) (skip : Option ℕ) (rest : Stream) → AreWords rest → 6 ≤ exponent → exponent ≤ 62
-      → ((s : ℕ) → skip ≡ Some s → s < 2 ^ exponent) → (next_skip exponent skip rest).number ≡ Some t → t < 2 ^ (exponent + 1)
+      → ((s : ℕ) → skip ≡ Some s → s < 2 ^ exponent) → (next_skip exponent skip rest).number ≡ Some t
+      → t < 2 ^ (exponent + 1)
   next_below exponent t None rest fits least most below is = absurd (none-some t is)
   next_below exponent t (Some s) rest fits least most below is =
       let wide = range_wide exponent s least (below s refl) in
-      let power : 2 ^ (exponent + 1) ≤ 2 ^ 64 = pow_mono (let small : exponent + 1 ≤ 64 = omega (arith, most) in small) in
+      let power : 2 ^ (exponent + 1) ≤ 2 ^ 64 =
+      pow_mono (let small : exponent + 1 ≤ 64 = omega (arith, most) in small) in
       let drawn = same_Some _ t is in
       let under = draw_below (max (2 ^ exponent) (s + 2)) (2 ^ (exponent + 1)) rest fits wide power in
       omega (arith, drawn, under)
@@ -125,6 +134,7 @@ module _ (skips : Skips) (words : Stream) (is_skips : IsSkips skips) (fit : AreW
   pub skip_below_power : (k t : ℕ) → k ≤ 57 → (skip_at skips words k).number ≡ Some t → t < 2 ^ (6 + k)
   skip_below_power zero t small is = first_below skips is_skips t is
   skip_below_power (suc k) t small is =
-      let next = next_below (6 + k) t (skip_at skips words k).number (skip_at skips words k).words (skip_fits k) (omega arith) (omega (arith, small))
+      let next = next_below (6 + k) t (skip_at skips words k).number (skip_at skips words k).words (skip_fits k)
+      (omega arith) (omega (arith, small))
       (λ s here. skip_below_power k s (omega (arith, small)) here) is in
       subst (λ e. t < 2 ^ e) (let same : 6 + k + 1 ≡ 6 + suc k = omega arith in same) next

@@ -21,18 +21,22 @@ exponent_small exponent skip above small =
 twice : (exponent : ℕ) → 2 ^ (exponent + 1) ≡ 2 ^ exponent * 2
 twice exponent = rw (add-one, pow-suc)
 
--- a number that is not the next one follows a skip, and where it is no number too many, the skip behind that can be drawn
-pub can_draw : (filter : Filter) → IsSound filter → (n number : ℕ) → number ≡ number_by filter n → number ≢ n → number < 2 ^ 62
+-- a number that is not the next one follows a skip, and where it is no number too many, the skip behind that can be
+-- drawn
+pub can_draw : (filter : Filter) → IsSound filter → (n number : ℕ) → number ≡ number_by filter n → number ≢ n
+    → number < 2 ^ 62
     → (filter.exponent ≤ 62) × (n < 2 ^ filter.exponent)
 can_draw filter sound n number is other small = go (is_at n filter.skip) refl is
   where
-    go : (here : Bool) → is_at n filter.skip ≡ here → number ≡ (if here then n + 1 else n) → (filter.exponent ≤ 62) × (n < 2 ^ filter.exponent)
+    go : (here : Bool) → is_at n filter.skip ≡ here → number ≡ (if here then n + 1 else n) → (filter.exponent ≤ 62)
+        × (n < 2 ^ filter.exponent)
     go true here more =
         let skip = is_at-some n filter.skip here in
         (exponent_small filter.exponent n (sound.above n skip) (omega (arith, more, small)), sound.below n skip)
     go false here same = absurd (other same)
 
-pub range_wide : (exponent skip : ℕ) → 6 ≤ exponent → skip < 2 ^ exponent → max (2 ^ exponent) (skip + 2) < 2 ^ (exponent + 1)
+pub range_wide : (exponent skip : ℕ) → 6 ≤ exponent → skip < 2 ^ exponent
+    → max (2 ^ exponent) (skip + 2) < 2 ^ (exponent + 1)
 range_wide exponent skip first below =
     let power : 2 ^ 6 ≤ 2 ^ exponent = pow_mono first in
     rw twice (omega (arith, power, below))

@@ -20,7 +20,8 @@ is_at-other n s below = grind (arith, below)
 
 -- ---- skips ascend
 
-behind_above : (exponent s t : ℕ) (words : Stream) → (skip_behind exponent s words).number ≡ Some t → (s + 2 ≤ t) × (2 ^ exponent ≤ t)
+behind_above : (exponent s t : ℕ) (words : Stream) → (skip_behind exponent s words).number ≡ Some t
+    → (s + 2 ≤ t) × (2 ^ exponent ≤ t)
 behind_above exponent s t words is =
     let drawn = same_Some _ t is in
     (omega (arith, drawn), omega (arith, drawn))
@@ -38,7 +39,8 @@ module _ (skips : Skips) (words : Stream) where
       → (s : ℕ) × ((skip_at skips words k).number ≡ Some s) × (s + 2 ≤ t) × (2 ^ (6 + k) ≤ t)
   skip_above k t is = next_above (6 + k) t (skip_at skips words k).number (skip_at skips words k).words is
 
-  pub skips_ascend : (k s t : ℕ) → (skip_at skips words k).number ≡ Some s → (skip_at skips words (suc k)).number ≡ Some t → s + 2 ≤ t
+  pub skips_ascend : (k s t : ℕ) → (skip_at skips words k).number ≡ Some s
+      → (skip_at skips words (suc k)).number ≡ Some t → s + 2 ≤ t
   skips_ascend k s t here next =
       let above = skip_above k t next in
       let same = same_Some _ s (sym above.1 ∙ here) in
@@ -49,7 +51,8 @@ module _ (skips : Skips) (words : Stream) where
 
   -- ---- one step
 
-  free_behind : (n count : ℕ) → is_at n (skip_at skips words count).number ≡ true → is_at (suc n) (skip_at skips words (suc count)).number ≡ false
+  free_behind : (n count : ℕ) → is_at n (skip_at skips words count).number ≡ true
+      → is_at (suc n) (skip_at skips words (suc count)).number ≡ false
   free_behind n count here = go (skip_at skips words (suc count)).number refl
     where
       go : (skip : Option ℕ) → (skip_at skips words (suc count)).number ≡ skip → is_at (suc n) skip ≡ false
@@ -60,15 +63,18 @@ module _ (skips : Skips) (words : Stream) where
 
   below_more : (n : ℕ) (is : Bool) → is_skipped skips words n ≡ is
       → skips_below skips words (suc n) ≡ (if is then suc (skips_below skips words n) else skips_below skips words n)
-  below_more n is here = ap (λ (b : Bool). if b then suc (skips_below skips words n) else skips_below skips words n) here
+  below_more n is here = ap (λ (b : Bool). if b then suc (skips_below skips words n) else skips_below skips words n)
+      here
 
-  before_more : (n : ℕ) (is : Bool) → is_skipped skips words n ≡ is → skip_before skips words (suc n) ≡ (if is then Some n else skip_before skips words n)
+  before_more : (n : ℕ) (is : Bool) → is_skipped skips words n ≡ is
+      → skip_before skips words (suc n) ≡ (if is then Some n else skip_before skips words n)
   before_more n is here = ap (λ (b : Bool). if b then Some n else skip_before skips words n) here
 
   -- no number behind a skip is one
   pub behind_not_skipped : (n : ℕ) → is_skipped skips words n ≡ true → is_skipped skips words (suc n) ≡ false
   behind_not_skipped n here =
-      ap (λ count. is_at (suc n) (skip_at skips words count).number) (below_more n true here) ∙ free_behind n (skips_below skips words n) here
+      ap (λ count. is_at (suc n) (skip_at skips words count).number) (below_more n true here)
+      ∙ free_behind n (skips_below skips words n) here
 
   -- a number that is given out is no skip
   pub number_not_skipped : (n : ℕ) → is_skipped skips words (number_from skips words n) ≡ false
@@ -92,7 +98,8 @@ module _ (skips : Skips) (words : Stream) where
     words = skip.words;
   }
 
-  holding_same : (skip skip' : Skip) (last last' : Option ℕ) (exponent exponent' : ℕ) → skip ≡ skip' → last ≡ last' → exponent ≡ exponent'
+  holding_same : (skip skip' : Skip) (last last' : Option ℕ) (exponent exponent' : ℕ) → skip ≡ skip' → last ≡ last'
+      → exponent ≡ exponent'
       → holding skip last exponent ≡ holding skip' last' exponent'
   holding_same skip skip' last last' exponent exponent' same_skip same_last same_exponent =
       ap (λ s. holding s last exponent) same_skip
@@ -100,7 +107,8 @@ module _ (skips : Skips) (words : Stream) where
       ∙ ap (λ e. holding skip' last' e) same_exponent
 
   -- the filter and the words follow the numbers: whatever comes next, they stay those of the next number
-  pub passed_step : (n : ℕ) → passed n (skipping_at skips words n) ≡ skipping_at skips words (number_from skips words n + 1)
+  pub passed_step : (n : ℕ)
+      → passed n (skipping_at skips words n) ≡ skipping_at skips words (number_from skips words n + 1)
   passed_step n = go (is_skipped skips words n) refl
     where
       count : ℕ
@@ -112,26 +120,32 @@ module _ (skips : Skips) (words : Stream) where
       over : is_skipped skips words n ≡ true → skipped n old ≡ skipping_at skips words (suc (suc n))
       over here =
           let free = behind_not_skipped n here in
-          let below : skips_below skips words (suc (suc n)) ≡ suc count = below_more (suc n) false free ∙ below_more n true here in
-          let before : skip_before skips words (suc (suc n)) ≡ Some n = before_more (suc n) false free ∙ before_more n true here in
+          let below : skips_below skips words (suc (suc n)) ≡ suc count = below_more (suc n) false free
+          ∙ below_more n true here in
+          let before : skip_before skips words (suc (suc n)) ≡ Some n = before_more (suc n) false free
+          ∙ before_more n true here in
           let next : skip_behind (6 + count) n (skip_at skips words count).words ≡ skip_at skips words (suc count) =
           ap (λ s. next_skip (6 + count) s (skip_at skips words count).words) (sym (is_at-some n _ here)) in
-          holding_same _ _ (Some n) _ (6 + count + 1) _ (next ∙ ap (λ k. skip_at skips words k) (sym below)) (sym before) (omega (arith, below))
+          holding_same _ _ (Some n) _ (6 + count + 1) _ (next ∙ ap (λ k. skip_at skips words k) (sym below))
+          (sym before) (omega (arith, below))
 
       at : is_skipped skips words n ≡ false → old ≡ skipping_at skips words (suc n)
       at here =
           let below : skips_below skips words (suc n) ≡ count = below_more n false here in
           let before = before_more n false here in
-          holding_same _ _ (skip_before skips words n) _ (6 + count) _ (ap (λ k. skip_at skips words k) (sym below)) (sym before) (omega (arith, below))
+          holding_same _ _ (skip_before skips words n) _ (6 + count) _ (ap (λ k. skip_at skips words k) (sym below))
+          (sym before) (omega (arith, below))
 
       go : (is : Bool) → is_skipped skips words n ≡ is
           → (if is then skipped n old else old) ≡ skipping_at skips words ((if is then n + 1 else n) + 1)
-      go true here = over here ∙ ap (λ m. skipping_at skips words m) (let more : suc (suc n) ≡ n + 1 + 1 = omega arith in more)
+      go true here = over here
+          ∙ ap (λ m. skipping_at skips words m) (let more : suc (suc n) ≡ n + 1 + 1 = omega arith in more)
       go false here = at here ∙ ap (λ m. skipping_at skips words m) (let more : suc n ≡ n + 1 = omega arith in more)
 
   -- ---- for a filter that is the one where the next number is n
 
-  pub number_at : (n : ℕ) (old : Skipping) → old ≡ skipping_at skips words n → number_by old.filter n ≡ number_from skips words n
+  pub number_at : (n : ℕ) (old : Skipping) → old ≡ skipping_at skips words n
+      → number_by old.filter n ≡ number_from skips words n
   number_at n old is = ap (λ (s : Skipping). number_by s.filter n) is
 
   pub last_at : (n : ℕ) (old : Skipping) → old ≡ skipping_at skips words n → old.filter.last ≡ skip_before skips words n
@@ -142,7 +156,8 @@ module _ (skips : Skips) (words : Stream) where
   step_at n old new is after = after ∙ ap (λ (s : Skipping). passed n s) is ∙ passed_step n
 
   -- a number was given out
-  pub allocated : (n number : ℕ) (old new : Skipping) → old ≡ skipping_at skips words n → number ≡ number_by old.filter n → new ≡ passed n old
+  pub allocated : (n number : ℕ) (old new : Skipping) → old ≡ skipping_at skips words n
+      → number ≡ number_by old.filter n → new ≡ passed n old
       → (number ≡ number_from skips words n) × (new ≡ skipping_at skips words (number + 1))
   allocated n number old new is given after =
       let from : number ≡ number_from skips words n = given ∙ number_at n old is in

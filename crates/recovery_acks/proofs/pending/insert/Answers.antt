@@ -34,4 +34,5 @@ returns-then-len-gt-MAX_ACK_BLOCKS-clause-some c =
     some_after_cut mid c.pop_min.new.self c.pop_min.result many c.pop_min.ensures.lowest done.2
 
 pub returns-else-len-gt-MAX_ACK_BLOCKS-clause-some : goal.returns-else-len-gt-MAX_ACK_BLOCKS-clause-some
-returns-else-len-gt-MAX_ACK_BLOCKS-clause-some c = (c.args.packet, (c.in_ok-insert_one.ensures.inserts.numbers c.args.packet).1 (inl refl))
+returns-else-len-gt-MAX_ACK_BLOCKS-clause-some c =
+    (c.args.packet, (c.in_ok-insert_one.ensures.inserts.numbers c.args.packet).1 (inl refl))

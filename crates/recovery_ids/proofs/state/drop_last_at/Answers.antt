@@ -7,7 +7,8 @@ returns-then-eq-clause-items c =
     let old = c.args.deadlines.now in
     let len : length old.items ≡ old.len = sym old.ok.0 in
     let some : 0 < old.len = c.in-Some.ensures.variant.0 refl in
-    let whole = last_at c.args.timestamp old.items (old.len - 1) c.in-Some.last.now (omega arith) c.in-Some.ensures.lookup in
+    let whole = last_at c.args.timestamp old.items (old.len - 1) c.in-Some.last.now (omega arith)
+    c.in-Some.ensures.lookup in
     c.pop_back-replaced.ensures.rest ∙ sym (rw (sym (c.eq.ensures) ∙ c.if-eq.true) at whole)
 
 pub returns-else-eq-clause-items : goal.returns-else-eq-clause-items
@@ -15,5 +16,6 @@ returns-else-eq-clause-items c =
     let old = c.args.deadlines.now in
     let len : length old.items ≡ old.len = sym old.ok.0 in
     let some : 0 < old.len = c.in-Some.ensures.variant.0 refl in
-    let whole = last_at c.args.timestamp old.items (old.len - 1) c.in-Some.last.now (omega arith) c.in-Some.ensures.lookup in
+    let whole = last_at c.args.timestamp old.items (old.len - 1) c.in-Some.last.now (omega arith)
+    c.in-Some.ensures.lookup in
     sym (rw (sym (c.eq.ensures) ∙ c.if-eq.false) at whole)

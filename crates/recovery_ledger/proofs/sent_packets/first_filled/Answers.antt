@@ -15,7 +15,8 @@ loop-place-init g c =
       left = ap (first_filled words c.args.streams.now) c.place_from-place.ensures.entries
           ∙ filled_from_here words c.args.streams.now (entries_of c.args.packets.now) c.args.from c.requires;
       below = c.requires;
-      before = λ e. void_before words c.args.packets.now c.args.from c.place_from-place.result c.place_from-place.ensures.divides c.requires;
+      before = λ e. void_before words c.args.packets.now c.args.from c.place_from-place.result
+          c.place_from-place.ensures.divides c.requires;
     }
 
 pub loop-place-preserved-in_default : goal.loop-place-preserved-in_default
@@ -23,16 +24,20 @@ loop-place-preserved-in_default g c =
     let words = g.Q.RetransmitQueue.words in
     let empty = c.in_default.ensures.slot in
     record {
-      left = left_empty words c.args.streams.now c.args.packets.now c.loop-place.place empty.0 empty.1 empty.2 c.loop-place.invariant.left;
+      left = left_empty words c.args.streams.now c.args.packets.now c.loop-place.place empty.0 empty.1 empty.2
+          c.loop-place.invariant.left;
       below = c.loop-place.invariant.below;
-      before = λ e. void_empty words c.args.streams.now c.args.packets.now c.loop-place.place empty.0 empty.1 empty.2 (c.loop-place.invariant.before e);
+      before = λ e. void_empty words c.args.streams.now c.args.packets.now c.loop-place.place empty.0 empty.1 empty.2
+          (c.loop-place.invariant.before e);
     }
 
 pub returns-then-not-is_empty-clause-number : goal.returns-then-not-is_empty-clause-number
 returns-then-not-is_empty-clause-number g c =
     let words = g.Q.RetransmitQueue.words in
-    found_here words c.args.streams.now c.args.packets.now c.loop-place.place c.in-Some.number c.in-Some.packet.now c.in-Some.ensures.slot
-    (ap (λ (p : Packet _ _). words.is_empty p.retransmits c.args.streams.now) (sym c.packet.view_is) ∙ sym c.is_empty.ensures ∙ c.if-not-is_empty.true)
+    found_here words c.args.streams.now c.args.packets.now c.loop-place.place c.in-Some.number c.in-Some.packet.now
+    c.in-Some.ensures.slot
+    (ap (λ (p : Packet _ _). words.is_empty p.retransmits c.args.streams.now) (sym c.packet.view_is)
+    ∙ sym c.is_empty.ensures ∙ c.if-not-is_empty.true)
     c.loop-place.invariant.left
 
 pub returns-then-not-is_empty-clause-void : goal.returns-then-not-is_empty-clause-void
@@ -48,8 +53,10 @@ pub loop-place-preserved : goal.loop-place-preserved
 loop-place-preserved g c =
     let words = g.Q.RetransmitQueue.words in
     record {
-      left = left_nothing words c.args.streams.now c.args.packets.now c.loop-place.place c.in-Some.number c.in-Some.packet.now c.in-Some.ensures.slot
-          (ap (λ (p : Packet _ _). words.is_empty p.retransmits c.args.streams.now) (sym c.packet.view_is) ∙ sym c.is_empty.ensures ∙ c.if-not-is_empty.false)
+      left = left_nothing words c.args.streams.now c.args.packets.now c.loop-place.place c.in-Some.number
+          c.in-Some.packet.now c.in-Some.ensures.slot
+          (ap (λ (p : Packet _ _). words.is_empty p.retransmits c.args.streams.now) (sym c.packet.view_is)
+          ∙ sym c.is_empty.ensures ∙ c.if-not-is_empty.false)
           c.loop-place.invariant.left;
       below = elim c.if-are_void.branch [
         | then-are_void w ↦ rw w.from-is (void_below words c.args.packets.now c.in-Some.number c.loop-place.place
@@ -58,8 +65,10 @@ loop-place-preserved g c =
       ];
       before = λ yes. elim c.if-are_void.branch [
         | then-are_void w ↦
-            void_nothing words c.args.streams.now c.args.packets.now c.loop-place.place c.in-Some.number c.in-Some.packet.now c.in-Some.ensures.slot
-            (subst (λ (p : Packet _ _). IsVoid words p.retransmits) c.packet.view_is (w.is_void-are_void.ensures (sym w.are_void-is ∙ yes)))
+            void_nothing words c.args.streams.now c.args.packets.now c.loop-place.place c.in-Some.number
+            c.in-Some.packet.now c.in-Some.ensures.slot
+            (subst (λ (p : Packet _ _). IsVoid words p.retransmits) c.packet.view_is
+            (w.is_void-are_void.ensures (sym w.are_void-is ∙ yes)))
             (c.loop-place.invariant.before w.if-are_void.true)
         | else-are_void w ↦ absurd (not_both (sym w.are_void-is ∙ yes) w.if-are_void.false)
       ];

@@ -5,7 +5,9 @@ use Rattle.recovery_ledger.proofs.sent_packets.first_silent.Goals as goal
 
 pub returns-in_err-checked_add-in-Some-clause-first : goal.returns-in_err-checked_add-in-Some-clause-first
 returns-in_err-checked_add-in-Some-clause-first g c =
-    rw (c.in-Some.is, c.from_residual.ensures) (none_above (entries_of c.args.packets.now) c.in-Some.last c.requires.small c.in_err-checked_add-in-Some.ensures)
+    rw (c.in-Some.is, c.from_residual.ensures)
+    (none_above (entries_of c.args.packets.now) c.in-Some.last c.requires.small
+    c.in_err-checked_add-in-Some.ensures)
 
 pub returns-in_ok-checked_add-in-Some-clause-first : goal.returns-in_ok-checked_add-in-Some-clause-first
 returns-in_ok-checked_add-in-Some-clause-first g c =
@@ -15,7 +17,8 @@ returns-in_ok-checked_add-in-Some-clause-first g c =
 pub returns-in_ok-checked_add-in-Some-clause-least : goal.returns-in_ok-checked_add-in-Some-clause-least
 returns-in_ok-checked_add-in-Some-clause-least g c =
     rw c.in-Some.is
-    (least_above_some (entries_of c.args.packets.now) c.in-Some.last c.args.from c.first_from.result (rw c.in-Some.is at c.requires.found)
+    (least_above_some (entries_of c.args.packets.now) c.in-Some.last c.args.from c.first_from.result
+    (rw c.in-Some.is at c.requires.found)
     (rw (c.max.ensures, c.in_ok-checked_add-in-Some.ensures.1) at c.first_from.ensures.lowest))
 
 pub returns-in-None-clause-first : goal.returns-in-None-clause-first

@@ -23,10 +23,14 @@ returns-in_default c =
     let words = words_left c.args.words.now in
     elim c.in_default.branch [
       | in_default-via-in-3+else-is_name w ↦ unnamed name words 3 (omega arith) (skip _ _ _ w.if-is_name.ensures refl)
-      | in_default-via-in-4+else-is_name-2 w ↦ unnamed name words 4 (omega arith) (skip _ _ _ w.if-is_name-2.ensures refl)
-      | in_default-via-in-5+else-is_name-3 w ↦ unnamed name words 5 (omega arith) (skip _ _ _ w.if-is_name-3.ensures refl)
-      | in_default-via-in-6-2+else-is_name-5 w ↦ unnamed name words 6 (omega arith) (skip _ _ _ w.if-is_name-4.ensures (skip _ _ _ w.if-is_name-5.ensures refl))
-      | in_default-via-in-7-2+else-is_name-7 w ↦ unnamed name words 7 (omega arith) (skip _ _ _ w.if-is_name-6.ensures (skip _ _ _ w.if-is_name-7.ensures refl))
+      | in_default-via-in-4+else-is_name-2 w ↦ unnamed name words 4 (omega arith)
+          (skip _ _ _ w.if-is_name-2.ensures refl)
+      | in_default-via-in-5+else-is_name-3 w ↦ unnamed name words 5 (omega arith)
+          (skip _ _ _ w.if-is_name-3.ensures refl)
+      | in_default-via-in-6-2+else-is_name-5 w ↦ unnamed name words 6 (omega arith)
+          (skip _ _ _ w.if-is_name-4.ensures (skip _ _ _ w.if-is_name-5.ensures refl))
+      | in_default-via-in-7-2+else-is_name-7 w ↦ unnamed name words 7 (omega arith)
+          (skip _ _ _ w.if-is_name-6.ensures (skip _ _ _ w.if-is_name-7.ensures refl))
       | in_default-via-in-8-5+else-is_name-12 w ↦ unnamed name words 8 (omega arith)
           (skip _ _ _ w.if-is_name-8.ensures (skip _ _ _ w.if-is_name-9.ensures
           (skip _ _ _ w.if-is_name-10.ensures (skip _ _ _ w.if-is_name-11.ensures
@@ -47,7 +51,8 @@ returns-in_default c =
           (skip _ _ _ w.if-is_name-31.ensures refl)))
       | in_default-via-in-13-2+else-is_name-33 w ↦ unnamed name words 13 (omega arith)
           (skip _ _ _ w.if-is_name-32.ensures (skip _ _ _ w.if-is_name-33.ensures refl))
-      | in_default-via-in-17+else-is_name-34 w ↦ unnamed name words 17 (omega arith) (skip _ _ _ w.if-is_name-34.ensures refl)
+      | in_default-via-in-17+else-is_name-34 w ↦ unnamed name words 17 (omega arith)
+          (skip _ _ _ w.if-is_name-34.ensures refl)
       | in_default-via-in_default-1 w ↦
           unnamed name words (length name) refl
           (ap (λ (forms : List Form). form_named forms name)

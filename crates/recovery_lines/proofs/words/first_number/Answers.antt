@@ -22,4 +22,5 @@ returns c =
     ]
     in
     let some : 0 < end = omega (arith, c.if-end-eq0.false) in
-    first_read bytes c.leading_digits-value.result.0 end found.digits found.within some lead stops found.value found.fits
+    first_read bytes c.leading_digits-value.result.0 end found.digits found.within some lead stops found.value
+    found.fits

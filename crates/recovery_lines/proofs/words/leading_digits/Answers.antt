@@ -23,5 +23,10 @@ loop-count-preserved c =
     let i = c.loop-count.count in
     let inv = c.loop-count.invariant in
     let more : digits_value 10 (take (i + 1) bytes) ≡ c.loop-count.value * 10 + (get_or bytes i 0 + 208) % 256 =
-    one_digit bytes i c.loop-count.value c.loop-count-test.true (omega (arith, c.type_inv.bytes i)) c.if-digit-gt9.false inv.1 in
-    (digits_more bytes i (omega (arith, c.type_inv.bytes i)) c.if-digit-gt9.false inv.0, omega arith, omega arith, omega arith)
+    one_digit bytes i c.loop-count.value c.loop-count-test.true (omega (arith, c.type_inv.bytes i)) c.if-digit-gt9.false
+    inv.1 in (
+      digits_more bytes i (omega (arith, c.type_inv.bytes i)) c.if-digit-gt9.false inv.0,
+      omega arith,
+      omega arith,
+      omega arith,
+    )

@@ -12,4 +12,5 @@ loop-kept-preserved c =
     let at = c.loop-kept.kept-index in
     let same : length now ≡ length seen = c.loop-kept.auto.responses in
     let inside : at < length seen = c.loop-kept-test.true in
-    rw c.renew.ensures (map_over_more (renewed new) seen now at _ inside c.loop-kept.invariant (get_or_default now at _ _ (omega arith)))
+    rw c.renew.ensures (map_over_more (renewed new) seen now at _ inside c.loop-kept.invariant
+    (get_or_default now at _ _ (omega arith)))

@@ -9,7 +9,8 @@ pub is_out_of_order-out_of_order-requires-clause-reached : goal.is_out_of_order-
 is_out_of_order-out_of_order-requires-clause-reached c =
     let Known = Has c.args.dedup.now in
     let before = c.self.inside.largest_ack_eliciting_packet in
-    let earlier : IfSome before (HasReached Known) = subst (λ (v : Acks). IfSome v.greatest (HasReached Known)) (sym c.self.view_is) c.requires.earlier in
+    let earlier : IfSome before (HasReached Known) =
+    subst (λ (v : Acks). IfSome v.greatest (HasReached Known)) (sym c.self.view_is) c.requires.earlier in
     subst (λ (k : ℕ). HasReached Known k) (sym (c.max-greatest.ensures
     ∙ ap (λ k. max k c.args.packet_number) c.unwrap_or-before.ensures))
     (reaches Known before c.args.packet_number c.requires.number earlier)

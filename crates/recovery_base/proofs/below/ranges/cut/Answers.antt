@@ -32,7 +32,8 @@ returns c =
     let same : length now ≡ length seen = c.loop-range.auto.range-items in
     let length_is : length seen ≡ vec_len c.args.ranges.now = c.deref_mut-range-items.ensures.len in
     let size : length seen ≡ length items = ap length c.deref_mut-range-items.ensures.value in
-    let kept = filter_same _ (λ (r : Range ℕ). nat_lt r.start r.end) _ (λ x b f h. search rules) _ _ c.retain.ensures.filtered in
+    let kept = filter_same _ (λ (r : Range ℕ). nat_lt r.start r.end) _ (λ x b f h. search rules) _ _
+    c.retain.ensures.filtered in
     let whole : take (vec_len c.args.ranges.now) (now ++ drop (length now) items)
     ≡ now = ap (λ (rs : Ranges). take (vec_len c.args.ranges.now) (now ++ rs))
     (drop_all (length now) items (omega arith)) ∙ ap (λ (rs : Ranges). take (vec_len c.args.ranges.now) rs)
@@ -41,4 +42,5 @@ returns c =
     (λ (rs : Ranges). map cut (take c.loop-range.range-index seen) ++ rs)
     (drop_all c.loop-range.range-index seen past) ∙ append-nil (map cut (take c.loop-range.range-index seen))
     ∙ ap (λ (rs : Ranges). map cut rs) (take_all c.loop-range.range-index seen past) in
-    kept ∙ ap (λ (rs : Ranges). filter is_some_range rs) (whole ∙ all ∙ ap (λ (rs : Ranges). map cut rs) c.deref_mut-range-items.ensures.value)
+    kept ∙ ap (λ (rs : Ranges). filter is_some_range rs) (whole ∙ all
+    ∙ ap (λ (rs : Ranges). map cut rs) c.deref_mut-range-items.ensures.value)

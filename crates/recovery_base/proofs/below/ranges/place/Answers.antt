@@ -12,10 +12,12 @@ returns c = place_is c.args.ranges.now c.args.x c.partition_point.result c.parti
     (λ a r f' called. search rules))
 
 pub returns-in_default : goal.returns-in_default
-returns-in_default c = place_of_none c.args.ranges.now c.args.x (sym c.last.ensures.value ∙ ap option_copied c.in_default.is)
+returns-in_default c =
+    place_of_none c.args.ranges.now c.args.x (sym c.last.ensures.value ∙ ap option_copied c.in_default.is)
 
 pub returns-then-last-x : goal.returns-then-last-x
-returns-then-last-x c = place_behind c.args.ranges.now c.args.x c.in-Some.last.now c.requires (sym c.in-Some.ensures.value) c.if-last-x.true
+returns-then-last-x c =
+    place_behind c.args.ranges.now c.args.x c.in-Some.last.now c.requires (sym c.in-Some.ensures.value) c.if-last-x.true
 
 pub returns-then-last-x-2 : goal.returns-then-last-x-2
 returns-then-last-x-2 c = place_in_last c.args.ranges.now c.args.x c.in-Some.last.now c.requires

@@ -5,7 +5,11 @@ use Rattle.recovery_ids.proofs.queue.CidQueue.next.Goals as goal
 
 pub returns-in_err-token-clause-step : goal.returns-in_err-token-clause-step
 returns-in_err-token-clause-step c =
-    record { same = uses_none (remote_ids c.args.self.now) (remote_ids c.advance.new.window) (search rules) (search rules); window = search rules }
+    record {
+      same = uses_none (remote_ids c.args.self.now) (remote_ids c.advance.new.window) (search rules)
+          (search rules);
+      window = search rules;
+    }
 
 pub returns-clause-step : goal.returns-clause-step
 returns-clause-step c =

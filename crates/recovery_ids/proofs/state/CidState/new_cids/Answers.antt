@@ -28,7 +28,8 @@ invariant_of-self-2 c =
     let numbers = numbers_after at.active_seq.keys c.issue.new.numbers.keys at.issued count c.in_ok-issue.ensures.ok in
     let deadlines = rw c.in_ok-reserve.ensures.items at c.track_lifetime.ensures in
     let some = positive count (sym c.is_empty.ensures ∙ c.if-is_empty.false) in
-    rw (numbers, deadlines) (issued_sound (local_ids at) c.self.invariant count c.args.now some (rw (← c.self.view_is) at c.requires.small))
+    rw (numbers, deadlines) (issued_sound (local_ids at) c.self.invariant count c.args.now some
+    (rw (← c.self.view_is) at c.requires.small))
 
 pub returns-clause-ok : goal.returns-clause-ok
 returns-clause-ok c =
@@ -46,4 +47,5 @@ returns-clause-sound c =
     let numbers = numbers_after at.active_seq.keys c.issue.new.numbers.keys at.issued count c.in_ok-issue.ensures.ok in
     let deadlines = rw c.in_ok-reserve.ensures.items at c.track_lifetime.ensures in
     let some = positive count (sym c.is_empty.ensures ∙ c.if-is_empty.false) in
-    rw (numbers, deadlines) (issued_sound (local_ids at) c.self.invariant count c.args.now some (rw (← c.self.view_is) at c.requires.small))
+    rw (numbers, deadlines) (issued_sound (local_ids at) c.self.invariant count c.args.now some
+    (rw (← c.self.view_is) at c.requires.small))

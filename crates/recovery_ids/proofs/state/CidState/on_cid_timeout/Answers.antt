@@ -23,10 +23,12 @@ returns-then-is_any_below-clause-after c =
     rw (c.pop_mark-next.ensures.items, ← c.self.view_is) (waits (local_ids c.self.inside) c.self.invariant here)
 
 pub returns-then-is_any_below-clause-answer : goal.returns-then-is_any_below-clause-answer
-returns-then-is_any_below-clause-answer c = rw (← c.self.view_is) (sym (waits_answer (local_ids c.self.inside) c.self.invariant))
+returns-then-is_any_below-clause-answer c =
+    rw (← c.self.view_is) (sym (waits_answer (local_ids c.self.inside) c.self.invariant))
 
 pub returns-then-is_any_below-clause-sound : goal.returns-then-is_any_below-clause-sound
-returns-then-is_any_below-clause-sound c = rw c.pop_mark-next.ensures.items (waits_sound (local_ids c.self.inside) c.self.invariant)
+returns-then-is_any_below-clause-sound c =
+    rw c.pop_mark-next.ensures.items (waits_sound (local_ids c.self.inside) c.self.invariant)
 
 pub is_any_below-requires-2 : goal.is_any_below-requires-2
 is_any_below-requires-2 c =
@@ -36,17 +38,20 @@ is_any_below-requires-2 c =
 pub invariant_of-self-2 : goal.invariant_of-self-2
 invariant_of-self-2 c =
     let none = sym c.is_any_below.ensures ∙ c.if-is_any_below.false in
-    rw (c.pop_mark-next.ensures.items, c.pop_mark-next.ensures.mark) (moves_sound (local_ids c.self.inside) c.self.invariant none)
+    rw (c.pop_mark-next.ensures.items, c.pop_mark-next.ensures.mark)
+    (moves_sound (local_ids c.self.inside) c.self.invariant none)
 
 pub returns-clause-after : goal.returns-clause-after
 returns-clause-after c =
     let none = sym c.is_any_below.ensures ∙ c.if-is_any_below.false in
-    rw (c.pop_mark-next.ensures.items, c.pop_mark-next.ensures.mark, ← c.self.view_is) (moves (local_ids c.self.inside) c.self.invariant none)
+    rw (c.pop_mark-next.ensures.items, c.pop_mark-next.ensures.mark, ← c.self.view_is)
+    (moves (local_ids c.self.inside) c.self.invariant none)
 
 pub returns-clause-answer : goal.returns-clause-answer
 returns-clause-answer c =
     let none = sym c.is_any_below.ensures ∙ c.if-is_any_below.false in
-    rw (← c.self.view_is) (c.is_any_below-2.ensures ∙ moves_answer (local_ids c.self.inside) c.self.invariant c.pop_mark-next.result none)
+    rw (← c.self.view_is) (c.is_any_below-2.ensures
+    ∙ moves_answer (local_ids c.self.inside) c.self.invariant c.pop_mark-next.result none)
 
 pub returns-clause-never_falls : goal.returns-clause-never_falls
 returns-clause-never_falls c =
@@ -56,4 +61,5 @@ returns-clause-never_falls c =
 pub returns-clause-sound : goal.returns-clause-sound
 returns-clause-sound c =
     let none = sym c.is_any_below.ensures ∙ c.if-is_any_below.false in
-    rw (c.pop_mark-next.ensures.items, c.pop_mark-next.ensures.mark) (moves_sound (local_ids c.self.inside) c.self.invariant none)
+    rw (c.pop_mark-next.ensures.items, c.pop_mark-next.ensures.mark)
+    (moves_sound (local_ids c.self.inside) c.self.invariant none)

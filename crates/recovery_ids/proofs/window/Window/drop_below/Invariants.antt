@@ -6,5 +6,6 @@ abbrev pub invariant-loop-number : goal.invariant-loop-number
 invariant-loop-number l = record {
   start : l.self.start ≡ l.fn.self.start;
   fresh : (n : ℕ) → max (l.fn.self.start + LEN) l.low ≤ n → n < l.number → get_or l.self.entries (n % LEN) None ≡ None;
-  kept : (n : ℕ) → l.low ≤ n → n < l.fn.self.start + LEN → get_or l.self.entries (n % LEN) None ≡ get_or l.fn.self.entries (n % LEN) None;
+  kept : (n : ℕ) → l.low ≤ n → n < l.fn.self.start + LEN
+      → get_or l.self.entries (n % LEN) None ≡ get_or l.fn.self.entries (n % LEN) None;
 }

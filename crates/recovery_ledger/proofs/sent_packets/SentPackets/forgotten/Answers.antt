@@ -6,7 +6,8 @@ use Rattle.recovery_ledger.proofs.sent_packets.SentPackets.forgotten.Goals as go
 use Rattle.recovery_ledger.proofs.sent_packets.SentPackets.forgotten.Goals.{then-packet-via-then-packet, then-packet-via-else-packet+then-self-lt-MAX_SILENT}
 
 -- what is read of the fields is so of the packet
-flag_of : {P M : Type 0} {inside packet : Packet P M} {flag : Bool} → inside ≡ packet → inside.ack_eliciting ≡ flag → packet.ack_eliciting ≡ flag
+flag_of : {P M : Type 0} {inside packet : Packet P M} {flag : Bool} → inside ≡ packet → inside.ack_eliciting ≡ flag
+    → packet.ack_eliciting ≡ flag
 flag_of {P} {M} view is = sym (ap (λ (p : Packet P M). p.ack_eliciting) view) ∙ is
 
 pub returns-clause-number : goal.returns-clause-number

@@ -9,30 +9,35 @@ use Rattle.recovery_ledger.proofs.TrackedLaws.{tracked_eliciting, tracked_silent
 use Rattle.recovery_ledger.proofs.sent_packets.SentPackets.insert.Goals as goal
 
 -- what is read of the fields is so of the packet
-flag_of : {P M : Type 0} {inside packet : Packet P M} {flag : Bool} → inside ≡ packet → inside.ack_eliciting ≡ flag → packet.ack_eliciting ≡ flag
+flag_of : {P M : Type 0} {inside packet : Packet P M} {flag : Bool} → inside ≡ packet → inside.ack_eliciting ≡ flag
+    → packet.ack_eliciting ≡ flag
 flag_of {P} {M} view is = sym (ap (λ (p : Packet P M). p.ack_eliciting) view) ∙ is
 
 -- what is asked of the packets, of the fields
 below_inside : {P M : Type 0} → (entries : Packets P M) (last : Option ℕ) (old : Tracking P M) (number : ℕ)
     → record { packets = entries; last_eliciting = last } ≡ old → AreBelow old.packets number → AreBelow entries number
-below_inside {P} {M} entries last old number view below = subst (λ (t : Tracking P M). AreBelow t.packets number) (sym view) below
+below_inside {P} {M} entries last old number view below =
+    subst (λ (t : Tracking P M). AreBelow t.packets number) (sym view) below
 
 above_inside : {P M : Type 0} → (entries : Packets P M) (last : Option ℕ) (old : Tracking P M) (number : ℕ)
     → record { packets = entries; last_eliciting = last } ≡ old → IsAboveLast old.last_eliciting number
     → IsAboveLast last number
-above_inside {P} {M} entries last old number view above = subst (λ (t : Tracking P M). IsAboveLast t.last_eliciting number) (sym view) above
+above_inside {P} {M} entries last old number view above =
+    subst (λ (t : Tracking P M). IsAboveLast t.last_eliciting number) (sym view) above
 
 from_inside : {P M : Type 0} → (entries : Packets P M) (last : Option ℕ) (old : Tracking P M) (least : ℕ)
     → record { packets = entries; last_eliciting = last } ≡ old → AreAboveFrom old.last_eliciting least old.packets
     → AreAboveFrom last least entries
-from_inside {P} {M} entries last old least view from = subst (λ (t : Tracking P M). AreAboveFrom t.last_eliciting least t.packets) (sym view) from
+from_inside {P} {M} entries last old least view from =
+    subst (λ (t : Tracking P M). AreAboveFrom t.last_eliciting least t.packets) (sym view) from
 
 -- what is forgotten, of the fields
 forgotten_inside : {P M : Type 0} → (entries : Packets P M) (last : Option ℕ) (old : Tracking P M) (packet : Packet P M)
     (forgotten : Option ℕ) → record { packets = entries; last_eliciting = last } ≡ old → packet.ack_eliciting ≡ false
     → forgotten ≡ forgotten_number old.last_eliciting packet old.packets → forgotten_silent last entries ≡ forgotten
 forgotten_inside {P} {M} entries last old packet forgotten view is_silent is =
-    sym (forgotten_of_silent entries last 0 packet is_silent) ∙ ap (λ (t : Tracking P M). forgotten_number t.last_eliciting packet t.packets) view ∙ sym is
+    sym (forgotten_of_silent entries last 0 packet is_silent)
+    ∙ ap (λ (t : Tracking P M). forgotten_number t.last_eliciting packet t.packets) view ∙ sym is
 
 pub overflow_add-self : goal.overflow_add-self
 overflow_add-self g c =
@@ -50,7 +55,8 @@ invariant_of-self-then-is_eliciting g c =
 
 pub returns-then-is_eliciting-clause-ok : goal.returns-then-is_eliciting-clause-ok
 returns-then-is_eliciting-clause-ok g c =
-    ap (λ (es : Packets _ _). let t : Tracking _ _ = record { packets = es; last_eliciting = Some c.args.number } in t) c.in_ok-push.ensures.ok
+    ap (λ (es : Packets _ _). let t : Tracking _ _ = record { packets = es; last_eliciting = Some c.args.number } in t)
+    c.in_ok-push.ensures.ok
     ∙ sent_eliciting (entries_of c.self.inside.packets) c.self.inside.last_eliciting c.args.number c.args.packet
     (flag_of c.packet.view_is c.if-is_eliciting.true)
     ∙ ap (after_sending c.args.number c.args.packet) c.self.view_is
@@ -69,7 +75,8 @@ invariant_of-self-in_default g c =
     c.args.number c.args.packet c.ranges.number.fits
     (below_inside (entries_of c.self.inside.packets) c.self.inside.last_eliciting c.args.self.now c.args.number
     c.self.view_is c.requires.above) c.in_ok-push.ensures.ok c.in_ok-push.ensures.one_more
-    (above_inside (entries_of c.self.inside.packets) c.self.inside.last_eliciting c.args.self.now c.args.number c.self.view_is c.requires.above_last) is_silent
+    (above_inside (entries_of c.self.inside.packets) c.self.inside.last_eliciting c.args.self.now c.args.number
+    c.self.view_is c.requires.above_last) is_silent
     (silent_few _ _ _ _ c.self.invariant.counted none))
 
 pub returns-in_default-clause-ok : goal.returns-in_default-clause-ok
@@ -77,8 +84,12 @@ returns-in_default-clause-ok g c =
     let is_silent = flag_of c.packet.view_is c.if-is_eliciting.false in
     let none = forgotten_inside (entries_of c.self.inside.packets) c.self.inside.last_eliciting c.args.self.now
     c.args.packet None c.self.view_is is_silent c.in_default.ensures.number in
-    ap (λ (es : Packets _ _). let t : Tracking _ _ = record { packets = es; last_eliciting = c.self.inside.last_eliciting } in t) c.in_ok-push.ensures.ok
-    ∙ sent_silent (entries_of c.self.inside.packets) c.self.inside.last_eliciting c.args.number c.args.packet None is_silent none
+    ap (λ (es : Packets _ _). let t : Tracking _ _ = record {
+      packets = es;
+      last_eliciting = c.self.inside.last_eliciting;
+    } in t) c.in_ok-push.ensures.ok
+    ∙ sent_silent (entries_of c.self.inside.packets) c.self.inside.last_eliciting c.args.number c.args.packet None
+    is_silent none
     ∙ ap (after_sending c.args.number c.args.packet) c.self.view_is
 
 pub returns-in_default-clause-forgotten : goal.returns-in_default-clause-forgotten
@@ -91,12 +102,19 @@ returns-in_default-clause-bound g c = silent_bound _ _ _ _ (invariant_of-self-in
 found_after : {P M : Type 0} → (entries mid : Packets P M) (last : Option ℕ) (silent sized : ℕ)
     → AreCounted entries last silent sized → (number : ℕ) (packet : Packet P M) (least : ℕ)
     → mid ≡ entries ++ (number, packet) ∷ [] → forgotten_silent last entries ≡ Some least
-    → (gone : Packet P M) × (packet_at entries least ≡ Some gone) × (packet_at mid least ≡ Some gone) × (is_above last least ≡ true)
+    → (gone : Packet P M) × (packet_at entries least ≡ Some gone) × (packet_at mid least ≡ Some gone)
+    × (is_above last least ≡ true)
 found_after {P} {M} entries mid last silent sized counted number packet least is some =
-    let found = forgotten_found entries last silent sized counted least some in
-    (found.0, found.1, ap (λ (es : Packets P M). packet_at es least) is ∙ packet_at-append entries ((number, packet) ∷ []) least found.0 found.1, found.2)
+    let found = forgotten_found entries last silent sized counted least some in (
+      found.0,
+      found.1,
+      ap (λ (es : Packets P M). packet_at es least) is
+          ∙ packet_at-append entries ((number, packet) ∷ []) least found.0 found.1,
+      found.2,
+    )
 
-one_found : {P M : Type 0} → (first second : Packet P M) (found : Option (Packet P M)) → found ≡ Some first → found ≡ Some second → first ≡ second
+one_found : {P M : Type 0} → (first second : Packet P M) (found : Option (Packet P M)) → found ≡ Some first
+    → found ≡ Some second → first ≡ second
 one_found {P} {M} first second found p q = cc
 
 none_found : {P M : Type 0} → (packet : Packet P M) (found : Option (Packet P M))
@@ -108,7 +126,8 @@ unreachable-requires g c =
     let some = forgotten_inside (entries_of c.self.inside.packets) c.self.inside.last_eliciting c.args.self.now
     c.args.packet (Some c.in-Some.least) c.self.view_is (flag_of c.packet.view_is c.if-is_eliciting.false)
     c.in-Some.ensures.number in
-    let found = found_after _ _ _ _ _ c.self.invariant.counted c.args.number c.args.packet c.in-Some.least c.in_ok-push.ensures.ok some in
+    let found = found_after _ _ _ _ _ c.self.invariant.counted c.args.number c.args.packet c.in-Some.least
+    c.in_ok-push.ensures.ok some in
     none_found found.0 _ (c.take.ensures.value ∙ found.2) c.in_default-take.is
 
 pub overflow_sub-self : goal.overflow_sub-self
@@ -116,7 +135,8 @@ overflow_sub-self g c =
     let some = forgotten_inside (entries_of c.self.inside.packets) c.self.inside.last_eliciting c.args.self.now
     c.args.packet (Some c.in-Some.least) c.self.view_is (flag_of c.packet.view_is c.if-is_eliciting.false)
     c.in-Some.ensures.number in
-    let found = found_after _ _ _ _ _ c.self.invariant.counted c.args.number c.args.packet c.in-Some.least c.in_ok-push.ensures.ok some in
+    let found = found_after _ _ _ _ _ c.self.invariant.counted c.args.number c.args.packet c.in-Some.least
+    c.in_ok-push.ensures.ok some in
     let same = one_found found.0 c.in-Some-take.gone _ (c.take.ensures.value ∙ found.2) c.in-Some-take.is in
     let enough = counted_enough _ _ _ _ c.self.invariant.counted c.in-Some.least found.0 found.1 in
     let count : size_count found.0 ≡ size_count c.in-Some-take.gone = ap size_count same in
@@ -127,7 +147,8 @@ invariant_of-self-2 g c =
     let is_silent = flag_of c.packet.view_is c.if-is_eliciting.false in
     let some = forgotten_inside (entries_of c.self.inside.packets) c.self.inside.last_eliciting c.args.self.now
     c.args.packet (Some c.in-Some.least) c.self.view_is is_silent c.in-Some.ensures.number in
-    let found = found_after _ _ _ _ _ c.self.invariant.counted c.args.number c.args.packet c.in-Some.least c.in_ok-push.ensures.ok some in
+    let found = found_after _ _ _ _ _ c.self.invariant.counted c.args.number c.args.packet c.in-Some.least
+    c.in_ok-push.ensures.ok some in
     let same = one_found found.0 c.in-Some-take.gone _ (c.take.ensures.value ∙ found.2) c.in-Some-take.is in
     rw (c.size_count-count.ensures, c.min-self-inside.ensures, c.size_count.ensures, ← same)
     (tracked_forgetting g.Q.RetransmitQueue.words c.self.inside.packets c.push.new.self c.self.inside.last_eliciting
@@ -145,11 +166,15 @@ returns-clause-ok g c =
     let some = forgotten_inside (entries_of c.self.inside.packets) c.self.inside.last_eliciting c.args.self.now
     c.args.packet (Some c.in-Some.least) c.self.view_is (flag_of c.packet.view_is c.if-is_eliciting.false)
     c.in-Some.ensures.number in
-    let found = found_after _ _ _ _ _ c.self.invariant.counted c.args.number c.args.packet c.in-Some.least c.in_ok-push.ensures.ok some in
+    let found = found_after _ _ _ _ _ c.self.invariant.counted c.args.number c.args.packet c.in-Some.least
+    c.in_ok-push.ensures.ok some in
     let left = c.take.ensures.entries ∙ ap (λ (es : Packets _ _). without es c.in-Some.least) c.in_ok-push.ensures.ok
     ∙ without-append (entries_of c.self.inside.packets) ((c.args.number, c.args.packet) ∷ []) c.in-Some.least
     found.0 found.1 in
-    ap (λ (es : Packets _ _). let t : Tracking _ _ = record { packets = es; last_eliciting = c.self.inside.last_eliciting } in t) left
+    ap (λ (es : Packets _ _). let t : Tracking _ _ = record {
+      packets = es;
+      last_eliciting = c.self.inside.last_eliciting;
+    } in t) left
     ∙ sent_silent (entries_of c.self.inside.packets) c.self.inside.last_eliciting c.args.number c.args.packet
     (Some c.in-Some.least) (flag_of c.packet.view_is c.if-is_eliciting.false) some
     ∙ ap (after_sending c.args.number c.args.packet) c.self.view_is
@@ -159,9 +184,11 @@ returns-clause-forgotten g c =
     let some = forgotten_inside (entries_of c.self.inside.packets) c.self.inside.last_eliciting c.args.self.now
     c.args.packet (Some c.in-Some.least) c.self.view_is (flag_of c.packet.view_is c.if-is_eliciting.false)
     c.in-Some.ensures.number in
-    let found = found_after _ _ _ _ _ c.self.invariant.counted c.args.number c.args.packet c.in-Some.least c.in_ok-push.ensures.ok some in
+    let found = found_after _ _ _ _ _ c.self.invariant.counted c.args.number c.args.packet c.in-Some.least
+    c.in_ok-push.ensures.ok some in
     let same = one_found found.0 c.in-Some-take.gone _ (c.take.ensures.value ∙ found.2) c.in-Some-take.is in
-    let here = ap (λ (t : Tracking _ _). packet_at t.packets c.in-Some.least) (sym c.self.view_is) ∙ found.1 ∙ ap (λ (p : Packet _ _). Some p) same in
+    let here = ap (λ (t : Tracking _ _). packet_at t.packets c.in-Some.least) (sym c.self.view_is) ∙ found.1
+    ∙ ap (λ (p : Packet _ _). Some p) same in
     sym (ap (numbered c.in-Some.least) here) ∙ ap (entry_at c.args.self.now.packets) c.in-Some.ensures.number
 
 pub returns-clause-bound : goal.returns-clause-bound

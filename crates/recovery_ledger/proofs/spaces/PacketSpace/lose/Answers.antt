@@ -4,11 +4,15 @@ use Rattle.recovery_ledger.proofs.spaces.PacketSpace.lose.Goals as goal
 
 pub returns-clause-packet : goal.returns-clause-packet
 returns-clause-packet g c =
-    rw (c.take.ensures.packet, c.in_ok-queue_lost.ensures.after) (carrying_found (packets_of c.args.self.now) c.args.number g.Q.RetransmitQueue.words.empty)
+    rw (c.take.ensures.packet, c.in_ok-queue_lost.ensures.after)
+    (carrying_found (packets_of c.args.self.now) c.args.number g.Q.RetransmitQueue.words.empty)
 
 pub returns-clause-step : goal.returns-clause-step
 returns-clause-step g c =
-    rw (c.take.ensures.after, c.in_ok-queue_lost.ensures.after) (moved_taken g.Q.RetransmitQueue.words c.args.number c.args.self.now)
+    rw (c.take.ensures.after, c.in_ok-queue_lost.ensures.after)
+    (moved_taken g.Q.RetransmitQueue.words c.args.number c.args.self.now)
 
 pub returns-clause-none : goal.returns-clause-none
-returns-clause-none g c = lost_none g.Q.RetransmitQueue.words c.args.number c.args.self.now _ _ (returns-clause-packet g c) (returns-clause-step g c)
+returns-clause-none g c =
+    lost_none g.Q.RetransmitQueue.words c.args.number c.args.self.now _ _ (returns-clause-packet g c)
+    (returns-clause-step g c)

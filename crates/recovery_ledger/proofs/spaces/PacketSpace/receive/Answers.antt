@@ -26,14 +26,19 @@ returns-clause-reply g c = rw (← c.self.view_is) (
   (
     c.if-insert.ensures.inserts.answer,
     arms (Has c.self.inside.dedup) (Has c.insert.new.self) c.args.number
-        (has_greatest c.self.inside.dedup) c.insert.ensures.inserts.numbers _ _ _ c.args.now c.packet_received-arm.result
+        (has_greatest c.self.inside.dedup) c.insert.ensures.inserts.numbers _ _ _ c.args.now
+        c.packet_received-arm.result
         c.in-Ok.ensures.inserts c.args.ack_eliciting c.packet_received-arm.ensures.receives,
   ),
 )
 
 pub returns-then-insert-clause-reply : goal.returns-then-insert-clause-reply
-returns-then-insert-clause-reply g c = rw (← c.self.view_is) (c.if-number-ge-NUMBER_LIMIT.false, c.if-insert.ensures.inserts.answer)
+returns-then-insert-clause-reply g c =
+    rw (← c.self.view_is) (c.if-number-ge-NUMBER_LIMIT.false, c.if-insert.ensures.inserts.answer)
 
 pub returns-then-insert-clause-step : goal.returns-then-insert-clause-step
 returns-then-insert-clause-step g c =
-    rw (← c.self.view_is) (c.insert.ensures.inserts.numbers, rw (c.insert.ensures.duplicate_changes_nothing c.if-insert.true) refl)
+    rw (← c.self.view_is) (
+      c.insert.ensures.inserts.numbers,
+      rw (c.insert.ensures.duplicate_changes_nothing c.if-insert.true) refl,
+    )

@@ -1,4 +1,5 @@
--- What is said of each space. That of the third is searched for, so that where it is made otherwise one clause alone fails.
+-- What is said of each space. That of the third is searched for, so that where it is made otherwise one clause alone
+-- fails.
 use Rattle.std.proofs.Common.{◌≡◌, ℕ, [], None, rules, subst}
 use Rattle.recovery_base.specs.declared.dedup.Dedup.{Dedup}
 use Rattle.recovery_base.specs.Received.{Has}

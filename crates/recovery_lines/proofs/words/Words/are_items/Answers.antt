@@ -12,11 +12,13 @@ returns-in_default c =
 
 pub loop-words-smaller : goal.loop-words-smaller
 loop-words-smaller c =
-    let first = item_first (words_left c.loop-words.words) (words_left c.number.new.self) c.in-Some.field-0 c.in-Some.ensures in
+    let first = item_first (words_left c.loop-words.words) (words_left c.number.new.self) c.in-Some.field-0
+    c.in-Some.ensures in
     omega (arith, first.1)
 
 pub loop-words-preserved : goal.loop-words-preserved
 loop-words-preserved c =
     let rest : List (List ℕ) = words_left c.number.new.self in
     let first = item_first (words_left c.loop-words.words) rest c.in-Some.field-0 c.in-Some.ensures in
-    c.loop-words.invariant ∙ ap (λ (o : Option (List ℕ)). is_some o) first.0 ∙ still_some c.in-Some.field-0 (items_read rest)
+    c.loop-words.invariant ∙ ap (λ (o : Option (List ℕ)). is_some o) first.0
+    ∙ still_some c.in-Some.field-0 (items_read rest)

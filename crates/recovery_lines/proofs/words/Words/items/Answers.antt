@@ -14,7 +14,8 @@ returns-in_default-clause-found c =
 
 pub loop-self-smaller : goal.loop-self-smaller
 loop-self-smaller c =
-    let first = item_first (words_left c.loop-self.self) (words_left c.number.new.self) c.in-Some.item c.in-Some.ensures in
+    let first = item_first (words_left c.loop-self.self) (words_left c.number.new.self) c.in-Some.item
+    c.in-Some.ensures in
     omega (arith, first.1)
 
 pub loop-self-preserved : goal.loop-self-preserved

@@ -6,7 +6,8 @@ pub returns-then-end-rest : goal.returns-then-end-rest
 returns-then-end-rest c =
     let rest = c.args.rest.now in
     let end = c.args.end in
-    let after : take (length rest - (end + 1)) (drop (end + 1) rest) ≡ drop (end + 1) rest = take_all _ _ (omega (arith, length-drop (end + 1) rest)) in
+    let after : take (length rest - (end + 1)) (drop (end + 1) rest) ≡ drop (end + 1) rest =
+    take_all _ _ (omega (arith, length-drop (end + 1) rest)) in
     rw after (next_word rest end c.requires c.if-end-rest.true)
 
 pub returns-else-end-rest : goal.returns-else-end-rest

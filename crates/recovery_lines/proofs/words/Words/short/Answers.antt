@@ -7,7 +7,8 @@ pub returns : goal.returns
 returns c =
     subst (λ (read : Option ℕ). ReadsBy (field (number_of (2 ^ 16))) c.args.self.now c.number.new.self read)
     (sym c.ok.ensures.value)
-    (smaller_read (2 ^ 16) (words_left c.args.self.now) (words_left c.number.new.self) c.in_ok-number.number c.try_from.result
+    (smaller_read (2 ^ 16) (words_left c.args.self.now) (words_left c.number.new.self) c.in_ok-number.number
+    c.try_from.result
     (lit≤ tt) c.in_ok-number.ensures c.try_from.ensures)
 
 pub returns-in_err-number : goal.returns-in_err-number

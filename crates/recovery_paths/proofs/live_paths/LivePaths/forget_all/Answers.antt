@@ -18,10 +18,12 @@ loop-packet-preserved g c =
     let i = c.loop-packet.invariant in
     let rest = packets_of c.take_first.new.self in
     let P : Packets _ _ → Type 0 = λ packets. AreCountedOnEach c.loop-packet.self packets in
-    let both = counted_first (c.in-Some.field-0-0, c.in-Some.packet) rest c.loop-packet.self (subst P c.in-Some.ensures.first i.counted) in
+    let both = counted_first (c.in-Some.field-0-0, c.in-Some.packet) rest c.loop-packet.self
+    (subst P c.in-Some.ensures.first i.counted) in
     let Q : OfPaths (Path _) → Type 0 = λ paths. AreCountedOnEach paths rest in
     record {
-      others = c.in-Some.ensures.others ∙ ap (λ (s : Space _ _). with_tracking (tracking_of c.take_first.new.self) s) i.others;
+      others = c.in-Some.ensures.others ∙ ap (λ (s : Space _ _). with_tracking (tracking_of c.take_first.new.self) s)
+          i.others;
       last = c.in-Some.ensures.last ∙ i.last;
       counted = subst Q (sym c.remove_in_flight.ensures) both.1;
       paths = ap (λ (p : OfPaths (Path _)). paths_without rest p) c.remove_in_flight.ensures

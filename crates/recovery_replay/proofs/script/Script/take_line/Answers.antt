@@ -15,9 +15,11 @@ returns-then-is_empty c = whole_ok c.args.end.now c.args.self.now c.end_whole.ne
 pub returns-then-not-branch : goal.returns-then-not-branch
 returns-then-not-branch c =
     bad_whatever_follows c.args.self.now c.keep.new.self c.args.end.now (10 ∷ [])
-    (subst (λ (g : Bool). TakesBytes c.args.self.now c.args.end.now g c.keep.new.self) c.if-not-branch.true c.in_ok-keep.ensures)
+    (subst (λ (g : Bool). TakesBytes c.args.self.now c.args.end.now g c.keep.new.self) c.if-not-branch.true
+    c.in_ok-keep.ensures)
 
 pub returns : goal.returns
 returns c =
     kept_ok c.args.end.now c.args.self.now c.keep.new.self c.end_line.new.self c.end_line.result
-    (subst (λ (g : Bool). TakesBytes c.args.self.now c.args.end.now g c.keep.new.self) c.if-not-branch.false c.in_ok-keep.ensures) c.end_line.ensures
+    (subst (λ (g : Bool). TakesBytes c.args.self.now c.args.end.now g c.keep.new.self) c.if-not-branch.false
+    c.in_ok-keep.ensures) c.end_line.ensures
