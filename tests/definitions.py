@@ -10,6 +10,7 @@ DRIVER = ROOT / "crates" / "quic_recovery" / "src" / "driver.rt"
 PROMISES = ROOT / "crates" / "quic_recovery" / "specs" / "Promises"
 LONGEST = 50
 DEFINITION = re.compile(r" *(?:(?:unfoldable )?(?:abbrev )?pub |abbrev |pub )(?:record |data )?([^\s(:{]+)")
+RECORD = re.compile(r" *pub (?:record|data) ")
 USE = re.compile(r"\s*(?:ghost )?use ([\w.]+)\.\{(.*)\};?$")
 WORD = re.compile(r"[^\s(){}\[\],;.λ→×≡]+")
 
@@ -26,16 +27,20 @@ def imports(lines):
 
 
 def module(path):
-    """The lines of each definition, and what its words stand for."""
+    """The lines of each definition, and what its words stand for. A field belongs to its record."""
     lines = path.read_text().split("\n")
-    bodies, name = {}, None
+    bodies, name, record = {}, None, None
     for line in lines:
+        depth = len(line) - len(line.lstrip())
         begins = DEFINITION.match(line)
-        if begins and len(line) - len(line.lstrip()) <= 4:
+        if line.strip() and record is not None and depth <= record:
+            record = None
+        if begins and record is None:
             name = begins.group(1)
-        elif not line.strip() or line.startswith("use ") or line.lstrip().startswith("module "):
+            record = depth if RECORD.match(line) else None
+        elif record is None and (not line.strip() or line.startswith("use ") or line.lstrip().startswith("module ")):
             name = None
-        if name and not line.lstrip().startswith("--"):
+        if name and line.strip() and not line.lstrip().startswith("--"):
             bodies.setdefault(name, []).append(line.split(" -- ")[0])
     return bodies, imports(lines)
 
