@@ -18,11 +18,11 @@ use Rattle.quic_recovery.specs.declared.event.Answer.{Answer}
 use Rattle.quic_recovery.specs.declared.event.Answer.TheVariants.{BlackHole}
 use Rattle.quic_recovery.specs.declared.event.Refusal.TheVariants.{NoMemory}
 use Rattle.quic_recovery.specs.Amplification.{pasts_of}
-use Rattle.quic_recovery.specs.Bursts.{ComesAtFourBursts, NeedsFourBursts}
 use Rattle.quic_recovery.specs.Entries.{logs_of}
 use Rattle.quic_recovery.specs.History.{Beginning, History, Reply, ThroughoutFrom, Throughout, history_from}
 use Rattle.quic_recovery.specs.Known.{first_path, settings_of}
 use Rattle.quic_recovery.specs.Told.{Told}
+use Rattle.quic_recovery.proofs.SearchSaid.{ComesAtFourBursts, NeedsFourBursts}
 use Rattle.quic_recovery.proofs.DepartureLaws.{leave_once_in}
 use Rattle.quic_recovery.proofs.FateLaws.{log_of_data, fates_depart, once_before}
 

@@ -12,9 +12,10 @@ use Rattle.quic_recovery.specs.declared.event.Answer.{Answer}
 use Rattle.quic_recovery.specs.declared.event.Answer.TheVariants as answer
 use Rattle.quic_recovery.specs.declared.event.Refusal.{Refusal}
 use Rattle.quic_recovery.specs.History.{Beginning, History, Reply, Throughout}
-use Rattle.quic_recovery.specs.Search.{SearchesFew, discovery_settings, entered_so_far}
+use Rattle.quic_recovery.specs.Search.{discovery_settings}
 use Rattle.quic_recovery.specs.Promises.Few.{ProbesFew, is_in_flight, probed}
 use Rattle.quic_recovery.specs.Told.{Told}
+use Rattle.quic_recovery.proofs.SearchSaid.{SearchesFew, entered_so_far}
 use Rattle.quic_recovery.proofs.SearchLaws.{searches}
 use Rattle.quic_recovery.proofs.SearchSteps.{Facts, facts, seen_as, turned, acked_as, lost_as, ended_as, throughout_both, throughout_by}
 

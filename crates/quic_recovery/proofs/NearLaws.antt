@@ -22,12 +22,13 @@ use Rattle.quic_recovery.specs.Entries.{answered, entries_of, logs_of}
 use Rattle.quic_recovery.specs.History.{Beginning, History, QueueMeaning, Reply, Throughout}
 use Rattle.quic_recovery.specs.Known.{Known, known_by, last_limit}
 use Rattle.quic_recovery.specs.Logs.{onto}
-use Rattle.quic_recovery.specs.Search.{EndsNear, LimitsOutside, discovery_settings, entered_so_far}
+use Rattle.quic_recovery.specs.Search.{discovery_settings}
 use Rattle.quic_recovery.specs.Promises.Few.{is_in_flight}
 use Rattle.quic_recovery.specs.Promises.Mtu.{limit, mtu}
 use Rattle.quic_recovery.specs.Promises.Near.{EndsNearBy, IsNear, next, start}
 use Rattle.quic_recovery.specs.Promises.Probes.{acked_probes, are_some, last_probe, lost_probes, runs}
 use Rattle.quic_recovery.specs.Told.{Told}
+use Rattle.quic_recovery.proofs.SearchSaid.{EndsNear, LimitsOutside, entered_so_far}
 use Rattle.quic_recovery.proofs.FewLaws as few
 use Rattle.quic_recovery.proofs.HolesLaws as holes
 use Rattle.quic_recovery.proofs.MadeLaws.{is_made, made_after, made_in}
@@ -266,12 +267,12 @@ abbrev Carries : Discovery → Discovery → List MtuEntry → List MtuEntry →
 Carries made old after entries = search_runs after ≡ true → (before_search after ≡ before_search entries) × (made ≡ old)
 
 -- a search runs by the history where one does by its entries
-runs_same : {Q S M P : Type 0} (history : History Q S M P) (entries : List MtuEntry) → few.TiedTo history entries
+pub runs_same : {Q S M P : Type 0} (history : History Q S M P) (entries : List MtuEntry) → few.TiedTo history entries
     → runs history ≡ search_runs entries
 runs_same history entries tied = ap are_some tied.1 ∙ runs_by_sizes entries
 
 module _ {Q S M P : Type 0} (first least : ℕ) (settings : MtuDiscoveryConfig) where
-  abbrev TiedTo : Discovery → History Q S M P → List MtuEntry → Type 0
+  abbrev pub TiedTo : Discovery → History Q S M P → List MtuEntry → Type 0
   TiedTo made history entries =
       LastOf (last_probe history) (probe_in_flight entries)
       × (limit_in_use made entries ≡ Some (limit_or_greatest (limit history)))
@@ -507,7 +508,7 @@ module _ {F K Q S M P : Type 0} (beginning : Beginning F K Q S M P) (settings : 
   abbrev least : ℕ
   least = beginning.config.transport.min_mtu
 
-  abbrev TiedAt : History Q S M P → Type 0
+  abbrev pub TiedAt : History Q S M P → Type 0
   TiedAt history = TiedTo first least settings (made_in beginning history) history (entered_so_far beginning history)
 
   module _ (history : History Q S M P) (before : few.Tied beginning history) (tied : TiedAt history)
@@ -628,8 +629,8 @@ module _ {F K Q S M P : Type 0} (beginning : Beginning F K Q S M P) (settings : 
       start first least history ≡ mtu_in_use (made_in beginning history)
       (before_search (entered_so_far beginning history))
 
-  record Searched (history : History Q S M P) : Type 0 where
-    tied : TiedAt history
+  pub record Searched (history : History Q S M P) : Type 0 where
+    pub tied : TiedAt history
     start : StartsAt history
 
   module _ (history : History Q S M P) (before : few.Tied beginning history) (searched : Searched history)
@@ -730,17 +731,17 @@ module _ {F K Q S M P : Type 0} (beginning : Beginning F K Q S M P) (settings : 
 -- ---- throughout a run
 
 module _ {F K Q S M P : Type 0} (beginning : Beginning F K Q S M P) where
-  record Kept (history : History Q S M P) : Type 0 where
+  pub record Kept (history : History Q S M P) : Type 0 where
     holes : holes.Kept beginning history
-    few : few.Tied beginning history
-    searched : (settings : MtuDiscoveryConfig) (is : discovery_settings beginning ≡ Some settings)
+    pub few : few.Tied beginning history
+    pub searched : (settings : MtuDiscoveryConfig) (is : discovery_settings beginning ≡ Some settings)
         → Searched beginning settings is history
 
-  abbrev IsKnownOf : History Q S M P → Event Q S M P → Reply Q → Type 0
+  abbrev pub IsKnownOf : History Q S M P → Event Q S M P → Reply Q → Type 0
   IsKnownOf history event reply = Facts beginning history event reply
       × (LimitsOutside beginning history event reply × EndsNear beginning history event reply)
 
-  kept_after : (history : History Q S M P) (event : Event Q S M P) (reply : Reply Q) → IsKnownOf history event reply
+  pub kept_after : (history : History Q S M P) (event : Event Q S M P) (reply : Reply Q) → IsKnownOf history event reply
       → Kept history → Kept ((event, reply) ∷ history)
   kept_after history event reply known kept =
       let after = few.tied_after beginning history event reply known.0 kept.few in
@@ -751,6 +752,13 @@ module _ {F K Q S M P : Type 0} (beginning : Beginning F K Q S M P) where
             (sym (holes.least_known beginning history kept.holes)) event reply known.0 known.1.0 after;
       }
 
+  pub kept_first : Kept []
+  kept_first = record {
+    holes = holes.kept_first beginning;
+    few = (refl, refl);
+    searched = λ settings is. searched_first beginning settings is;
+  }
+
   near_one : (history : History Q S M P) (event : Event Q S M P) (reply : Reply Q) → IsKnownOf history event reply
       → Kept history
       → Kept ((event, reply) ∷ history) → EndsNearBy beginning history event reply
@@ -758,18 +766,18 @@ module _ {F K Q S M P : Type 0} (beginning : Beginning F K Q S M P) where
       near_after beginning settings is history now kept.few (kept.searched settings is) (known.1.1 settings is change)
   near_one history event reply known kept after = tt
 
+  pub known_of : ForSome (discovery_settings beginning) (λ settings. settings.upper_bound < 2 ^ 16)
+      → (events : List (Event Q S M P)) (replies : List (Reply Q))
+      → Throughout (Told beginning) events replies → Throughout IsKnownOf events replies
+  known_of small events replies told =
+      throughout_both (Facts beginning) _ [] events replies (facts beginning events replies told)
+      (throughout_both (LimitsOutside beginning) (EndsNear beginning) [] events replies
+      (limits beginning events replies told) (ends beginning small events replies told))
+
   pub near_told : ForSome (discovery_settings beginning) (λ settings. settings.upper_bound < 2 ^ 16)
       → (events : List (Event Q S M P)) (replies : List (Reply Q))
       → Throughout (Told beginning) events replies → Throughout (EndsNearBy beginning) events replies
   near_told small events replies told =
       throughout_by IsKnownOf (EndsNearBy beginning) Kept kept_after near_one [] events replies
-      (throughout_both (Facts beginning) _ [] events replies (facts beginning events replies told)
-      (throughout_both (LimitsOutside beginning) (EndsNear beginning) [] events replies
-      (limits beginning events replies told)
-      (ends beginning small events replies told)))
-      (record {
-        holes = holes.kept_first beginning;
-        few =
-            (refl, refl);
-        searched = λ settings is. searched_first beginning settings is;
-      })
+      (known_of small events replies told)
+      kept_first

@@ -10,9 +10,8 @@ use Rattle.quic_recovery.specs.Known.{known_by}
 use Rattle.quic_recovery.specs.Parts.{Parts}
 use Rattle.quic_recovery.specs.Past.{Past, more, history_of, Came, CameSomehow, GoesOn, GoesOnFrom, StaysOn, WentOn}
 use Rattle.quic_recovery.specs.State.{Changes, Left}
-use Rattle.quic_recovery.specs.Bursts.{ComesAtFourBursts, NeedsFourBursts}
 use Rattle.quic_recovery.specs.Pacing.{DelaysByBalance, KeepsPace, PassesSoon, PassesWhenNamed}
-use Rattle.quic_recovery.specs.Search.{EndsNear, EntersAsTold, LimitsOutside, ProbesInTurn, SearchesFew, TellsProbes, UsesMtu}
+use Rattle.quic_recovery.specs.Search.{EntersAsTold, UsesMtu}
 use Rattle.quic_recovery.specs.Promises.Blocked.{BlocksExactly}
 use Rattle.quic_recovery.specs.Promises.Counted.{CountsInFlight}
 use Rattle.quic_recovery.specs.Promises.Few.{ProbesFew}
@@ -22,9 +21,9 @@ use Rattle.quic_recovery.specs.Promises.Once.{LeaveOnceEach}
 use Rattle.quic_recovery.specs.Promises.PeerIds.{AcceptsIds}
 use Rattle.quic_recovery.specs.Promises.Refused.{RefusesRightly}
 use Rattle.quic_recovery.specs.Promises.Threefold.{KeepsThreefold}
+use Rattle.quic_recovery.specs.Promises.Turns.{SearchesInTurn}
 use Rattle.quic_recovery.specs.Told.{Told}
 use Rattle.quic_recovery.proofs.BlockedLaws.{blocks_exactly}
-use Rattle.quic_recovery.proofs.BurstLaws.{comes_at_four, needs_four}
 use Rattle.quic_recovery.proofs.CountedLaws.{counts_in_flight}
 use Rattle.quic_recovery.proofs.DepartureLaws.{leave_once_in}
 use Rattle.quic_recovery.proofs.EnteredLaws.{entries_told}
@@ -39,10 +38,11 @@ use Rattle.quic_recovery.proofs.PacingLaws.{delayed, rate, soon, named}
 use Rattle.quic_recovery.proofs.PeerIdsLaws.{accepts_ids}
 use Rattle.quic_recovery.proofs.RefusedLaws.{refuses_rightly}
 use Rattle.quic_recovery.proofs.Runs.{history_from-push, throughout_push}
-use Rattle.quic_recovery.proofs.SearchLaws.{searches, ends, probes, limits, tells, mtu}
+use Rattle.quic_recovery.proofs.SearchLaws.{mtu}
 use Rattle.quic_recovery.proofs.ThreefoldLaws.{sends_threefold}
 use Rattle.quic_recovery.proofs.TimeoutsLaws.{timers_told}
 use Rattle.quic_recovery.proofs.ToldLaws.{told_by_logs}
+use Rattle.quic_recovery.proofs.TurnsLaws.{turns_told}
 
 module _ {Q S M C : Type 0} (P H : History Q S M C → Event Q S M C → Reply Q → Type 0) (event : Event Q S M C) (reply : Reply Q) where
   -- what holds throughout with one event more holds at that event
@@ -90,17 +90,11 @@ module _ {F K Q S M P : Type 0} (beginning : Beginning F K Q S M P) where
           soon = last (PassesSoon beginning) (soon beginning events replies all);
           named = last (PassesWhenNamed beginning) (named beginning events replies all);
           entries = last (EntersAsTold beginning) (entries_told beginning events replies all);
-          searches = last (SearchesFew beginning) (searches beginning came.small events replies all);
-          ends = last (EndsNear beginning) (ends beginning came.small events replies all);
-          probes = last (ProbesInTurn beginning) (probes beginning events replies all);
-          limits = last (LimitsOutside beginning) (limits beginning events replies all);
-          tells = last (TellsProbes beginning) (tells beginning events replies all);
           mtu = last (UsesMtu beginning) (mtu beginning events replies all);
+          turns = last (SearchesInTurn beginning) (turns_told beginning came.small events replies all);
           few = last (ProbesFew beginning) (few_told beginning came.small events replies all);
           near = last (EndsNearBy beginning) (near_told beginning came.small events replies all);
           holes = last (ReportsAtFour beginning.config.transport.min_mtu) (holes_told beginning events replies all);
-          needs_four = last (NeedsFourBursts beginning) (needs_four beginning events replies all);
-          comes_at_four = last (ComesAtFourBursts beginning) (comes_at_four beginning events replies all);
           once = subst Leave longer (leave_once_each beginning (history events replies) (leave_once_in beginning events replies all));
         };
         came = record {

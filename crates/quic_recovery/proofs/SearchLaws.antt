@@ -29,8 +29,9 @@ use Rattle.quic_recovery.specs.Amplification.{pasts_of}
 use Rattle.quic_recovery.specs.Entries.{entries_of, logs_of}
 use Rattle.quic_recovery.specs.History.{Beginning, History, QueueMeaning, Reply, Throughout}
 use Rattle.quic_recovery.specs.Known.{Known, known_by, first_path, settings_of}
-use Rattle.quic_recovery.specs.Search.{entries_on, discovery_settings, is_in_flight, LimitsOutside, SearchesFew, ProbesInTurn, EndsNear, TellsProbes, UsesMtu}
+use Rattle.quic_recovery.specs.Search.{entries_on, discovery_settings, UsesMtu}
 use Rattle.quic_recovery.specs.Told.{Told, ProbeOutReply}
+use Rattle.quic_recovery.proofs.SearchSaid.{EndsNear, LimitsOutside, ProbesInTurn, SearchesFew, TellsProbes, is_in_flight}
 use Rattle.quic_recovery.proofs.AmplificationLaws.{is_allowed, throughout_kept}
 
 not_true : (b : Bool) → (¬ (b ≡ true)) → b ≡ false

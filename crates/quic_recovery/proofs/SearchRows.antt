@@ -1,9 +1,8 @@
--- Worked rows of the promises of searches for the MTU and of black holes, computed: with the right answer each holds,
--- and with a wrong one
--- it does not.
+-- Worked rows of the promises of searches for the MTU and of black holes, computed: with the right answer each holds, and with
+-- a wrong one it does not.
 use Rattle.std.proofs.Common.{◌≡◌, ℕ, ◌<◌, ◌≤◌, zero, suc, true, false, [], ◌∷◌, None, Some, Ok, Err, refl, arith}
 use Rattle.std.specs.Prelude.{All}
-use Rattle.recovery_base.specs.declared.below.SpaceId.TheVariants.{Data}
+use Rattle.recovery_base.specs.declared.below.SpaceId.TheVariants.{Data, Handshake}
 use Rattle.recovery_mtud.specs.declared.config.MtuDiscoveryConfig.{MtuDiscoveryConfig}
 use Rattle.quic_recovery.specs.declared.event.Event.{Event}
 use Rattle.quic_recovery.specs.declared.event.Event.TheVariants as event
@@ -16,6 +15,7 @@ use Rattle.quic_recovery.specs.Promises.Holes.{ReportsAtFour}
 use Rattle.quic_recovery.specs.Promises.Mtu.{mtu}
 use Rattle.quic_recovery.specs.Promises.Near.{IsNear, next, start}
 use Rattle.quic_recovery.specs.Promises.Probes.{acked_probes, lost_probes}
+use Rattle.quic_recovery.specs.Promises.Turns.{SearchesInTurn}
 use Rattle.quic_recovery.specs.Search.{discovery_settings}
 
 -- ---- too many probes, and too many sizes
@@ -96,6 +96,39 @@ module _ (Q S M P : Type 0) where
 
   cooled : next by ((event.LossesDone 7, Ok (answer.BlackHole true)) ∷ ended) ≡ Some 67
   cooled = refl
+
+-- ---- in turn: a probe is in flight as packet 7
+
+module _ {F K Q S M P : Type 0} (beginning : Beginning F K Q S M P) where
+  abbrev one_out : History Q S M P
+  one_out = (event.PollMtu 2, Ok (answer.Probe 7 1389)) ∷ []
+
+  its_own_number : SearchesInTurn beginning one_out (event.Acked Data 5 7 false) (Ok (answer.Acked true))
+  its_own_number = refl
+
+  another_number : SearchesInTurn beginning one_out (event.Lost Data 6) (Ok (answer.Lost false))
+  another_number = refl
+
+  not_another_number : ¬ SearchesInTurn beginning one_out (event.Lost Data 6) (Ok (answer.Lost true))
+  not_another_number = λ told. cc
+
+  not_in_another_space : ¬ SearchesInTurn beginning one_out (event.Acked Handshake 5 7 false) (Ok (answer.Acked true))
+  not_in_another_space = λ told. cc
+
+  no_second : ¬ SearchesInTurn beginning one_out (event.PollMtu 3) (Ok (answer.Probe 8 1400))
+  no_second = λ told. let quiet : true ≡ false = told.0 in cc
+
+  no_limit_now : SearchesInTurn beginning one_out (event.PeerLimit 1300) (Err refusal.Searching)
+  no_limit_now = refl
+
+  not_taken : ¬ SearchesInTurn beginning one_out (event.PeerLimit 1300) (Ok answer.Done)
+  not_taken = λ told. cc
+
+  taken_before : SearchesInTurn beginning [] (event.PeerLimit 1300) (Ok answer.Done)
+  taken_before = refl
+
+  not_refused_before : ¬ SearchesInTurn beginning [] (event.PeerLimit 1300) (Err refusal.Searching)
+  not_refused_before = λ told. cc
 
 module _ (Q S M P : Type 0) (queue : Q) (frames : M) where
   -- ---- searches: 1326 got through, and 1389 is in flight

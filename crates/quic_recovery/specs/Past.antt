@@ -3,10 +3,10 @@ use Rattle.std.specs.Prelude.{◌≡◌, ℕ, List, [], ◌∷◌, ◌++◌, ◌
 use Rattle.std.specs.Option.{ForSome}
 use Rattle.rand_core.specs.Stream.{Stream}
 use Rattle.recovery_congestion.specs.Controllers.{ControllerWords}
+use Rattle.quic_recovery.specs.declared.driver.Recovery.{Recovery}
 use Rattle.quic_recovery.specs.declared.driver.RecoveryConfig.{RecoveryConfig}
 use Rattle.quic_recovery.specs.declared.event.Event.{Event}
-use Rattle.quic_recovery.specs.Bursts.{ComesAtFourBursts, NeedsFourBursts}
-use Rattle.quic_recovery.specs.History.{Beginning, History, Reply, QueueMeaning, Throughout, begins, history}
+use Rattle.quic_recovery.specs.History.{Beginning, History, Reply, QueueMeaning, Throughout, begins, history, queue_meaning}
 use Rattle.quic_recovery.specs.Pacing.{DelaysByBalance, KeepsPace, PassesSoon, PassesWhenNamed}
 use Rattle.quic_recovery.specs.Parts.{Parts}
 use Rattle.quic_recovery.specs.Promises.Blocked.{BlocksExactly}
@@ -21,8 +21,9 @@ use Rattle.quic_recovery.specs.Promises.PeerIds.{AcceptsIds}
 use Rattle.quic_recovery.specs.Promises.Refused.{RefusesRightly}
 use Rattle.quic_recovery.specs.Promises.Threefold.{KeepsThreefold}
 use Rattle.quic_recovery.specs.Promises.Timeouts.{TellsTimers}
-use Rattle.quic_recovery.specs.Search.{EndsNear, EntersAsTold, LimitsOutside, ProbesInTurn, SearchesFew, TellsProbes, UsesMtu}
-use Rattle.quic_recovery.specs.State.{Left}
+use Rattle.quic_recovery.specs.Promises.Turns.{SearchesInTurn}
+use Rattle.quic_recovery.specs.Search.{EntersAsTold, UsesMtu}
+use Rattle.quic_recovery.specs.State.{Left, parts_of}
 use Rattle.quic_recovery.specs.Told.{Told}
 
 -- the events so far with their replies, the oldest first
@@ -67,17 +68,11 @@ module _ {F K Q S M P : Type 0} (beginning : Beginning F K Q S M P) where
     pub soon : PassesSoon beginning before event reply
     pub named : PassesWhenNamed beginning before event reply
     pub entries : EntersAsTold beginning before event reply
-    pub searches : SearchesFew beginning before event reply
-    pub ends : EndsNear beginning before event reply
-    pub probes : ProbesInTurn beginning before event reply
-    pub limits : LimitsOutside beginning before event reply
-    pub tells : TellsProbes beginning before event reply
     pub mtu : UsesMtu beginning before event reply
+    pub turns : SearchesInTurn beginning before event reply
     pub few : ProbesFew beginning before event reply
     pub near : EndsNearBy beginning before event reply
     pub holes : ReportsAtFour beginning.config.transport.min_mtu before event reply
-    pub needs_four : NeedsFourBursts beginning before event reply
-    pub comes_at_four : ComesAtFourBursts beginning before event reply
     pub once : LeaveOnceEach ((event, reply) ∷ before)
 
   -- from a past to that past with one event more
@@ -111,3 +106,17 @@ module _ {F K Q S M P : Type 0} (built : F → ℕ → ℕ → K) (words : Contr
   StaysOn old new = (config : RecoveryConfig F) (start : ℕ) (random : Stream) (past : Past Q S M P) →
       let beginning = begins built words queue config start random in
       Came beginning past old → Came beginning past new
+
+-- the same of recoveries
+module _ {F Q R C K S M P : Type 0} {f : _} {c : _} {q : _} {m : _} {r : _} where
+  abbrev pub HasCome : Recovery F Q R C K S M P f c q m r → Type 0
+  HasCome recovery = CameSomehow f.built c.words (queue_meaning q.contents q.words q.blank) (parts_of recovery)
+
+  abbrev pub Goes : Recovery F Q R C K S M P f c q m r → Event Q S M P → Reply Q → Recovery F Q R C K S M P f c q m r → Type 0
+  Goes old event reply new = GoesOn f.built c.words (queue_meaning q.contents q.words q.blank) (parts_of old) event reply (parts_of new)
+
+  abbrev pub Went : Recovery F Q R C K S M P f c q m r → Event Q S M P → Reply Q → Recovery F Q R C K S M P f c q m r → Type 0
+  Went old event reply new = WentOn f.built c.words (queue_meaning q.contents q.words q.blank) (parts_of old) event reply (parts_of new)
+
+  abbrev pub Stays : Recovery F Q R C K S M P f c q m r → Recovery F Q R C K S M P f c q m r → Type 0
+  Stays old new = StaysOn f.built c.words (queue_meaning q.contents q.words q.blank) (parts_of old) (parts_of new)

@@ -18,3 +18,4 @@ pub mod Refused
 pub mod Threefold
 pub mod Timeouts
 pub mod Tracked
+pub mod Turns

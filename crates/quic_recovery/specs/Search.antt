@@ -1,21 +1,17 @@
 -- The search for the MTU at each moment of a run (RFC 8899, 5; RFC 9000, 14.3): what it is told and answered, how many probes it
 -- takes, how near it ends to what a link carries, and which MTU is in use.
-use Rattle.std.specs.Prelude.{◌≡◌, ℕ, ◌≤◌, ◌&&◌, Bool, true, false, List, [], ◌∷◌, ◌++◌, Option, None, Ok, Err, if◌then◌else◌, is_some, IsSomeAnd, option_to_list, option_map}
+use Rattle.std.specs.Prelude.{◌≡◌, ℕ, ◌≤◌, true, List, [], ◌∷◌, ◌++◌, Option, None, Ok, Err, if◌then◌else◌, option_to_list, option_map}
 use Rattle.std.specs.Option.{ForSome}
-use Rattle.recovery_base.specs.declared.below.SpaceId.{SpaceId}
 use Rattle.recovery_base.specs.declared.below.SpaceId.TheVariants.{Data}
 use Rattle.recovery_ledger.specs.Packets.{Packet, packet_at}
 use Rattle.recovery_mtud.specs.declared.config.MtuDiscoveryConfig.{MtuDiscoveryConfig}
-use Rattle.recovery_mtud.specs.Discovery.{is_data}
-use Rattle.recovery_mtud.specs.MtuEntries.{MtuEntry, probed, unprobed, limited, acked, probe_lost, lost, losses_over, reported, reset, entries_by, probe_in_flight, size_at, mtu_in_use}
-use Rattle.recovery_mtud.specs.SearchRuns.{EndsNearBest, ProbesInSearch, TakesFew, search_runs}
+use Rattle.recovery_mtud.specs.MtuEntries.{MtuEntry, probed, unprobed, limited, acked, probe_lost, lost, losses_over, reported, reset, entries_by, mtu_in_use}
 use Rattle.recovery_paths.specs.PathLog.{OnEachPath, PathPast, state_of}
 use Rattle.quic_recovery.specs.declared.event.Event.{Event}
 use Rattle.quic_recovery.specs.declared.event.Event.TheVariants.{Acked, Lost, PollMtu, PeerLimit, LossesDone, NewPath, ResetPath}
 use Rattle.quic_recovery.specs.declared.event.Answer.{Answer}
 use Rattle.quic_recovery.specs.declared.event.Answer.TheVariants as answer
 use Rattle.quic_recovery.specs.declared.event.Answer.TheVariants.{Probe, NoProbe, BlackHole}
-use Rattle.quic_recovery.specs.declared.event.Refusal.TheVariants.{Searching}
 use Rattle.quic_recovery.specs.Amplification.{pasts_of}
 use Rattle.quic_recovery.specs.History.{Beginning, History, Reply}
 use Rattle.quic_recovery.specs.Entries.{logs_of}
@@ -65,47 +61,6 @@ module _ {F K Q S M P : Type 0} (beginning : Beginning F K Q S M P) where
       ≡ entered history event given ++ entries_on (pasts_of beginning history).current
   EntersAsTold history event (Err refusal) =
       entries_on (pasts_of beginning ((event, Err refusal) ∷ history)).current ≡ entries_on (pasts_of beginning history).current
-
-  -- what the search on the path in use was told and answered before
-  abbrev pub entered_so_far : History Q S M P → List MtuEntry
-  entered_so_far history = entries_on (pasts_of beginning history).current
-
-  -- a limit of the peer is refused by `Searching` while a search runs, from its first probe until it ends, and taken while none does
-  abbrev pub LimitsOutside : History Q S M P → Event Q S M P → Reply Q → Type 0
-  LimitsOutside history (PeerLimit size) (Err Searching) = search_runs (entered_so_far history) ≡ true
-  LimitsOutside history (PeerLimit size) (Ok given) = search_runs (entered_so_far history) ≡ false
-  LimitsOutside history event reply = Unit {0}
-
-  -- the packet of 1-RTT keys of this number is the probe in flight: one from the poll that gave it until it is acknowledged or lost, or
-  -- until a report or a reset
-  abbrev pub is_in_flight : History Q S M P → SpaceId → ℕ → Bool
-  is_in_flight history space number = is_data space && is_some (size_at number (probe_in_flight (entered_so_far history)))
-
-  -- a packet that is acknowledged or lost is answered to be a probe exactly where it is the one in flight
-  abbrev pub TellsProbes : History Q S M P → Event Q S M P → Reply Q → Type 0
-  TellsProbes history (Acked space now number app_limited) (Ok given) = given ≡ answer.Acked (is_in_flight history space number)
-  TellsProbes history (Lost space number) (Ok given) = given ≡ answer.Lost (is_in_flight history space number)
-  TellsProbes history event reply = Unit {0}
-
-  -- after an event, the search that runs on each path that lives has taken at most 16 sizes and 48 probes
-  abbrev pub SearchesFew : History Q S M P → Event Q S M P → Reply Q → Type 0
-  SearchesFew history event reply =
-      WhereSearched beginning (λ settings. OnEachPath (λ past. TakesFew (entries_on past)) (pasts_of beginning ((event, reply) ∷ history)))
-
-  -- a poll that is answered by a probe comes where paths are searched; it finds a search that runs, or begins one that is due, and
-  -- no probe in flight
-  abbrev pub ProbesInTurn : History Q S M P → Event Q S M P → Reply Q → Type 0
-  ProbesInTurn history (PollMtu now) (Ok (Probe number size)) =
-      IsSomeAnd (discovery_settings beginning) (λ settings.
-      ProbesInSearch settings (probed now number size ∷ entries_on (pasts_of beginning history).current))
-  ProbesInTurn history event reply = Unit {0}
-
-  -- a search that ends by a poll that is answered by no probe ends near the best size of an honest link
-  abbrev pub EndsNear : History Q S M P → Event Q S M P → Reply Q → Type 0
-  EndsNear history (PollMtu now) (Ok NoProbe) =
-      let past = (pasts_of beginning history).current in
-      WhereSearched beginning (λ settings. EndsNearBest past.making.discovery settings (unprobed now ∷ entries_on past))
-  EndsNear history event reply = Unit {0}
 
   -- after an event, the MTU in use on each path that lives is the one that its entries say
   abbrev pub UsesMtu : History Q S M P → Event Q S M P → Reply Q → Type 0

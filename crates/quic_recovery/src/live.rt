@@ -2,9 +2,8 @@
 ghost use Rattle.std.specs.Prelude.{◌≡◌, ◌≤◌, ◌^◌, IfOk};
 ghost use Rattle.recovery_skips.specs.Skips.{IsSkips};
 ghost use Rattle.quic_recovery.specs.Above.{marks_at, with_marks_at};
-ghost use Rattle.quic_recovery.specs.History.{begins, queue_meaning};
-ghost use Rattle.quic_recovery.specs.Past.{Came, CameSomehow, GoesOn, WentOn, no_past};
-ghost use Rattle.quic_recovery.specs.State.{parts_of, known_to, Changes, InFlightLeft};
+ghost use Rattle.quic_recovery.specs.Past.{Came, Goes, HasCome, Went, no_past};
+ghost use Rattle.quic_recovery.specs.State.{parts_of, begun, known_to, Does, InFlightLeft};
 
 use crate::driver::{Recovery, RecoveryConfig};
 use crate::event::{Answer, Event, PathName, Refusal};
@@ -24,8 +23,7 @@ use std::alloc::Global;
 #[derive(Drop)]
 pub struct LiveRecovery<F: ControllerFactory, Q: RetransmitQueue, R: Rng> {
     recovery: Recovery<F, Q, R>,
-    ghost came: { let queues = queue_meaning Q.contents Q.words Q.blank in
-        ∥ CameSomehow F.built F.Controller.words queues (parts_of recovery) ∥₁ },
+    ghost came: { ∥ HasCome recovery ∥₁ },
 }
 
 impl<F, Q, R> LiveRecovery<F, Q, R>
@@ -47,9 +45,7 @@ where
     ) -> Result<Self, NoMemory>
         requires issued { config.issued ≤ 2 ^ 62 }
         requires skips { IsSkips config.skips }
-        ensures came { let queues = queue_meaning Q.contents Q.words Q.blank in
-            let begun = begins F.built F.Controller.words queues config now (R.stream rng) in
-            IfOk result (λ live. Came begun no_past (parts_of live.recovery)) }
+        ensures came { IfOk result (λ live. Came (begun live.recovery config now rng) no_past (parts_of live.recovery)) }
     {
         let recovery = Recovery::new(alloc, config, rng, now)?;
         Ok(LiveRecovery { recovery })
@@ -67,21 +63,16 @@ where
     /// this event and this reply.
     pub fn apply(&mut self, event: Event<Q>) -> Result<Answer<Q>, Refusal>
         // What the event is told, by the state before it, and what it changes.
-        ensures changes { let queues = queue_meaning Q.contents Q.words Q.blank in
-            Changes queues (parts_of self.old.recovery) event result (parts_of self.new.recovery) }
+        ensures changes { Does event self.old.recovery result self.new.recovery }
 
         // Then the bytes in flight on each path are sums over the packets tracked (RFC 9002, B.2).
         ensures in_flight { let new = parts_of self.new.recovery in InFlightLeft (known_to new) new.paths }
 
         // Whatever the beginning and the past by which the recovery came here, it goes on from them,
-        ensures goes_on { let queues = queue_meaning Q.contents Q.words Q.blank in
-            GoesOn F.built F.Controller.words queues
-            (parts_of self.old.recovery) event result (parts_of self.new.recovery) }
+        ensures goes_on { Goes self.old.recovery event result self.new.recovery }
 
         // and there are such.
-        ensures went_on { let queues = queue_meaning Q.contents Q.words Q.blank in
-            ∥ WentOn F.built F.Controller.words queues
-            (parts_of self.old.recovery) event result (parts_of self.new.recovery) ∥₁ }
+        ensures went_on { ∥ Went self.old.recovery event result self.new.recovery ∥₁ }
     {
         self.recovery.apply(event)
     }
