@@ -21,8 +21,8 @@ use Rattle.quic_recovery.specs.Amplification.{pasts_of}
 use Rattle.quic_recovery.specs.Entries.{acked_entry, acked_search, is_own, logs_of, lost_search, searched}
 use Rattle.quic_recovery.specs.History.{Beginning, History, Reply, Throughout}
 use Rattle.quic_recovery.specs.Known.{Known, first_path, known_by, settings_of, tracked_known}
-use Rattle.quic_recovery.specs.Search.{EntersAsTold, data_packet, entries_on, of_packet}
 use Rattle.quic_recovery.specs.Told.{Told, ProbeOutReply}
+use Rattle.quic_recovery.proofs.SearchSaid.{EntersAsTold, data_packet, entries_on, of_packet}
 use Rattle.quic_recovery.proofs.AmplificationLaws.{throughout_kept}
 
 module _ {K P M : Type 0} (settings : PathSettings K) (first : PathMaking K) (log : List PathsEntry) (known : Known K P M) where

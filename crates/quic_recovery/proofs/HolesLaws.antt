@@ -19,9 +19,8 @@ use Rattle.quic_recovery.specs.Entries.{logs_of}
 use Rattle.quic_recovery.specs.History.{Beginning, History, Reply, Throughout}
 use Rattle.quic_recovery.specs.Promises.Bursts.{size_of, open_run}
 use Rattle.quic_recovery.specs.Promises.Holes.{ReportsAtFour, larger_acked, standing, unanswered}
-use Rattle.quic_recovery.specs.Search.{data_packet}
 use Rattle.quic_recovery.specs.Told.{Told}
-use Rattle.quic_recovery.proofs.SearchSaid.{ComesAtFourBursts, NeedsFourBursts, entered_so_far}
+use Rattle.quic_recovery.proofs.SearchSaid.{ComesAtFourBursts, NeedsFourBursts, data_packet, entered_so_far}
 use Rattle.quic_recovery.proofs.BurstLaws.{comes_at_four, needs_four}
 use Rattle.quic_recovery.proofs.MadeLaws.{is_made, made_after, made_in}
 use Rattle.quic_recovery.proofs.SearchSteps.{Facts, facts, seen_as, turned, acked_as, lost_as, ended_as, throughout_both, throughout_by}

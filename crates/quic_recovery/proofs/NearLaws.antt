@@ -276,7 +276,7 @@ module _ {Q S M P : Type 0} (first least : ℕ) (settings : MtuDiscoveryConfig) 
   TiedTo made history entries =
       LastOf (last_probe history) (probe_in_flight entries)
       × (limit_in_use made entries ≡ Some (limit_or_greatest (limit history)))
-      × (mtu first least history ≡ mtu_in_use made entries)
+      × (mtu true first least history ≡ mtu_in_use made entries)
       × (next settings history ≡ next_activation settings entries)
       × (acked_probes history ≡ acked_sizes (search_of entries))
       × (lost_probes history ≡ lost_sizes (search_of entries))
@@ -466,7 +466,7 @@ module _ {Q S M P : Type 0} (first least : ℕ) (settings : MtuDiscoveryConfig) 
     Stays happened =
         (last_probe (happened ∷ history) ≡ last_probe history)
         × (limit (happened ∷ history) ≡ limit history)
-        × (mtu first least (happened ∷ history) ≡ mtu first least history)
+        × (mtu true first least (happened ∷ history) ≡ mtu true first least history)
         × (next settings (happened ∷ history) ≡ next settings history)
         × (acked_probes (happened ∷ history) ≡ (if runs (happened ∷ history) then acked_probes history else []))
         × (lost_probes (happened ∷ history) ≡ (if runs (happened ∷ history) then lost_probes history else []))
@@ -636,7 +636,7 @@ module _ {F K Q S M P : Type 0} (beginning : Beginning F K Q S M P) (settings : 
   module _ (history : History Q S M P) (before : few.Tied beginning history) (searched : Searched history)
       (least_is : least ≡ min_mtu_in_use (made_in beginning history) (entered_so_far beginning history)) where
     start_after : (happened : Event Q S M P × Reply Q) → few.Tied beginning (happened ∷ history)
-        → mtu first least (happened ∷ history)
+        → mtu true first least (happened ∷ history)
         ≡ mtu_in_use (made_in beginning (happened ∷ history)) (entered_so_far beginning (happened ∷ history))
         → Carries (made_in beginning (happened ∷ history)) (made_in beginning history)
         (entered_so_far beginning (happened ∷ history)) (entered_so_far beginning history)
@@ -650,7 +650,7 @@ module _ {F K Q S M P : Type 0} (beginning : Beginning F K Q S M P) (settings : 
         made_then = made_in beginning (happened ∷ history)
 
         begins : Bool → ℕ
-        begins running = if running then start first least history else mtu first least (happened ∷ history)
+        begins running = if running then start first least history else mtu true first least (happened ∷ history)
 
         go : (running : Bool) → search_runs after_it ≡ running → StartsAt (happened ∷ history)
         go true running =
@@ -721,7 +721,7 @@ module _ {F K Q S M P : Type 0} (beginning : Beginning F K Q S M P) (settings : 
         lost = subst (λ (sizes : List ℕ). All (λ size. link < size) sizes) tied.5 losses;
       }) in (
         subst (λ size. size ≤ link) (sym tied.2) found.carried,
-        subst (λ upper. min link upper < mtu first least history + 2 * settings.minimum_change)
+        subst (λ upper. min link upper < mtu true first least history + 2 * settings.minimum_change)
             (upper_is history searched)
             (subst (λ size. min link
             (start_upper (made_in beginning history) settings entries) < size + 2 * settings.minimum_change)
@@ -732,7 +732,7 @@ module _ {F K Q S M P : Type 0} (beginning : Beginning F K Q S M P) (settings : 
 
 module _ {F K Q S M P : Type 0} (beginning : Beginning F K Q S M P) where
   pub record Kept (history : History Q S M P) : Type 0 where
-    holes : holes.Kept beginning history
+    pub holes : holes.Kept beginning history
     pub few : few.Tied beginning history
     pub searched : (settings : MtuDiscoveryConfig) (is : discovery_settings beginning ≡ Some settings)
         → Searched beginning settings is history

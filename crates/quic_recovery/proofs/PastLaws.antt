@@ -11,11 +11,11 @@ use Rattle.quic_recovery.specs.Parts.{Parts}
 use Rattle.quic_recovery.specs.Past.{Past, more, history_of, Came, CameSomehow, GoesOn, GoesOnFrom, StaysOn, WentOn}
 use Rattle.quic_recovery.specs.State.{Changes, Left}
 use Rattle.quic_recovery.specs.Pacing.{DelaysByBalance, KeepsPace, PassesSoon, PassesWhenNamed}
-use Rattle.quic_recovery.specs.Search.{EntersAsTold, UsesMtu}
 use Rattle.quic_recovery.specs.Promises.Blocked.{BlocksExactly}
 use Rattle.quic_recovery.specs.Promises.Counted.{CountsInFlight}
 use Rattle.quic_recovery.specs.Promises.Few.{ProbesFew}
 use Rattle.quic_recovery.specs.Promises.Holes.{ReportsAtFour}
+use Rattle.quic_recovery.specs.Promises.Mtu.{UsesMtu}
 use Rattle.quic_recovery.specs.Promises.Near.{EndsNearBy}
 use Rattle.quic_recovery.specs.Promises.Once.{LeaveOnceEach}
 use Rattle.quic_recovery.specs.Promises.PeerIds.{AcceptsIds}
@@ -26,10 +26,10 @@ use Rattle.quic_recovery.specs.Told.{Told}
 use Rattle.quic_recovery.proofs.BlockedLaws.{blocks_exactly}
 use Rattle.quic_recovery.proofs.CountedLaws.{counts_in_flight}
 use Rattle.quic_recovery.proofs.DepartureLaws.{leave_once_in}
-use Rattle.quic_recovery.proofs.EnteredLaws.{entries_told}
 use Rattle.quic_recovery.proofs.FewLaws.{few_told}
 use Rattle.quic_recovery.proofs.HolesLaws.{holes_told}
 use Rattle.quic_recovery.proofs.LeftLaws.{changes_by_logs, left_after}
+use Rattle.quic_recovery.proofs.MtuLaws.{mtu_told}
 use Rattle.quic_recovery.proofs.NearLaws.{near_told}
 use Rattle.quic_recovery.proofs.NewNumbersLaws.{numbers_told}
 use Rattle.quic_recovery.proofs.OnceLaws.{leave_once_each}
@@ -38,7 +38,6 @@ use Rattle.quic_recovery.proofs.PacingLaws.{delayed, rate, soon, named}
 use Rattle.quic_recovery.proofs.PeerIdsLaws.{accepts_ids}
 use Rattle.quic_recovery.proofs.RefusedLaws.{refuses_rightly}
 use Rattle.quic_recovery.proofs.Runs.{history_from-push, throughout_push}
-use Rattle.quic_recovery.proofs.SearchLaws.{mtu}
 use Rattle.quic_recovery.proofs.ThreefoldLaws.{sends_threefold}
 use Rattle.quic_recovery.proofs.TimeoutsLaws.{timers_told}
 use Rattle.quic_recovery.proofs.ToldLaws.{told_by_logs}
@@ -89,8 +88,7 @@ module _ {F K Q S M P : Type 0} (beginning : Beginning F K Q S M P) where
           rate = last (KeepsPace beginning) (rate beginning events replies all);
           soon = last (PassesSoon beginning) (soon beginning events replies all);
           named = last (PassesWhenNamed beginning) (named beginning events replies all);
-          entries = last (EntersAsTold beginning) (entries_told beginning events replies all);
-          mtu = last (UsesMtu beginning) (mtu beginning events replies all);
+          mtu = last (UsesMtu beginning) (mtu_told beginning came.small events replies all);
           turns = last (SearchesInTurn beginning) (turns_told beginning came.small events replies all);
           few = last (ProbesFew beginning) (few_told beginning came.small events replies all);
           near = last (EndsNearBy beginning) (near_told beginning came.small events replies all);

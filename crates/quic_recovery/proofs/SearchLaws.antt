@@ -29,9 +29,9 @@ use Rattle.quic_recovery.specs.Amplification.{pasts_of}
 use Rattle.quic_recovery.specs.Entries.{entries_of, logs_of}
 use Rattle.quic_recovery.specs.History.{Beginning, History, QueueMeaning, Reply, Throughout}
 use Rattle.quic_recovery.specs.Known.{Known, known_by, first_path, settings_of}
-use Rattle.quic_recovery.specs.Search.{entries_on, discovery_settings, UsesMtu}
+use Rattle.quic_recovery.specs.Search.{discovery_settings}
 use Rattle.quic_recovery.specs.Told.{Told, ProbeOutReply}
-use Rattle.quic_recovery.proofs.SearchSaid.{EndsNear, LimitsOutside, ProbesInTurn, SearchesFew, TellsProbes, is_in_flight}
+use Rattle.quic_recovery.proofs.SearchSaid.{EndsNear, LimitsOutside, ProbesInTurn, SearchesFew, TellsProbes, MtuByEntries, entries_on, is_in_flight}
 use Rattle.quic_recovery.proofs.AmplificationLaws.{is_allowed, throughout_kept}
 
 not_true : (b : Bool) → (¬ (b ≡ true)) → b ≡ false
@@ -189,7 +189,7 @@ module _ {F K Q S M P : Type 0} (beginning : Beginning F K Q S M P) where
   tells_one before event reply told searched = tt
 
   mtu_one : (before : History Q S M P) (event : Event Q S M P) (reply : Reply Q) → Told beginning before event reply
-      → AreSearched before → UsesMtu beginning before event reply
+      → AreSearched before → MtuByEntries beginning before event reply
   mtu_one before event reply told searched =
       let after = searched_one before event reply told searched in
       let past = (pasts_of beginning ((event, reply) ∷ before)).current in
@@ -210,5 +210,5 @@ module _ {F K Q S M P : Type 0} (beginning : Beginning F K Q S M P) where
   tells events replies told = throughout_kept beginning AreSearched (TellsProbes beginning) searched_one tells_one [] events replies told (first_is beginning)
 
   pub mtu : (events : List (Event Q S M P)) (replies : List (Reply Q)) → Throughout (Told beginning) events replies
-      → Throughout (UsesMtu beginning) events replies
-  mtu events replies told = throughout_kept beginning AreSearched (UsesMtu beginning) searched_one mtu_one [] events replies told (first_is beginning)
+      → Throughout (MtuByEntries beginning) events replies
+  mtu events replies told = throughout_kept beginning AreSearched (MtuByEntries beginning) searched_one mtu_one [] events replies told (first_is beginning)

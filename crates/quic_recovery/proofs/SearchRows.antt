@@ -1,5 +1,5 @@
--- Worked rows of the promises of searches for the MTU and of black holes, computed: with the right answer each holds, and with
--- a wrong one it does not.
+-- Worked rows of the promises of searches for the MTU and of black holes, computed: with the right answer each holds,
+-- and with a wrong one it does not.
 use Rattle.std.proofs.Common.{◌≡◌, ℕ, ◌<◌, ◌≤◌, zero, suc, true, false, [], ◌∷◌, None, Some, Ok, Err, refl, arith}
 use Rattle.std.specs.Prelude.{All}
 use Rattle.recovery_base.specs.declared.below.SpaceId.TheVariants.{Data, Handshake}
@@ -60,7 +60,7 @@ module _ (Q S M P : Type 0) where
       ∷ (event.PollMtu 0, Ok (answer.Probe 0 1326))
       ∷ []
 
-  in_use : mtu 1200 1200 ended ≡ 1326
+  in_use : mtu true 1200 1200 ended ≡ 1326
   in_use = refl
 
   at_start : start 1200 1200 ended ≡ 1200
@@ -91,7 +91,7 @@ module _ (Q S M P : Type 0) where
   at_its_limit = λ starts acks losses. (omega arith, omega arith)
 
   -- a report lowers what is in use, and the next search waits for the cooldown
-  lowered : mtu 1300 1200 ((event.LossesDone 7, Ok (answer.BlackHole true)) ∷ ended) ≡ 1200
+  lowered : mtu true 1300 1200 ((event.LossesDone 7, Ok (answer.BlackHole true)) ∷ ended) ≡ 1200
   lowered = refl
 
   cooled : next by ((event.LossesDone 7, Ok (answer.BlackHole true)) ∷ ended) ≡ Some 67

@@ -11,9 +11,8 @@ use Rattle.quic_recovery.specs.declared.event.Answer.TheVariants as answer
 use Rattle.quic_recovery.specs.Entries.{logs_of}
 use Rattle.quic_recovery.specs.History.{Beginning, History, Reply, Throughout, ThroughoutFrom}
 use Rattle.quic_recovery.specs.Known.{known_by}
-use Rattle.quic_recovery.specs.Search.{EntersAsTold, data_packet, entered, of_packet}
 use Rattle.quic_recovery.specs.Told.{Told}
-use Rattle.quic_recovery.proofs.SearchSaid.{TellsProbes, entered_so_far}
+use Rattle.quic_recovery.proofs.SearchSaid.{EntersAsTold, TellsProbes, data_packet, entered, entered_so_far, of_packet}
 use Rattle.quic_recovery.proofs.EnteredLaws.{entries_told}
 use Rattle.quic_recovery.proofs.SearchLaws.{tells}
 

@@ -14,8 +14,8 @@ use Rattle.quic_recovery.specs.Parts.{Parts}
 
 -- ---- paths
 
--- a path that is made has fresh marks, but that one that goes on keeps the first packet after a sample of the RTT; the marks of a path
--- go with it, and no event changes them
+-- a path that is made has fresh marks, but that one that goes on keeps the first packet after a sample of the RTT; the
+-- marks of a path go with it, and no event changes them
 abbrev pub marks_after : {Q S M P : Type 0} → Event Q S M P → Reply Q → OfPaths PathMarks → OfPaths PathMarks
 marks_after (NewPath now remote true) (Ok given) old = moved_to (marks_made None) old
 marks_after (NewPath now remote false) (Ok given) old = moved_to (marks_made old.current.first_after_sample) old
@@ -36,7 +36,8 @@ with_marks_at name marks recovery = record recovery { paths = on_path_of name (w
 
 -- ---- spaces
 
--- counts of the packets that came with each ECN codepoint, when a packet is to be called lost, and the bytes of CRYPTO frames sent
+-- counts of the packets that came with each ECN codepoint, when a packet is to be called lost, and the bytes of CRYPTO
+-- frames sent
 pub record Beside : Type 0 where
   pub ecn : EcnCounts
   pub loss_time : Option ℕ

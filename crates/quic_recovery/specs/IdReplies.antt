@@ -54,8 +54,8 @@ InitialReply ids = Refuses NotInitialId (ids.active ≢ 0) (AlwaysAnswers (λ an
 
 -- ---- ids of this end
 
--- ids are issued in the order of their numbers, which go on from the count issued and end below 2^62; only where there are
--- ids is memory taken
+-- ids are issued in the order of their numbers, which go on from the count issued and end below 2^62; only where there
+-- are ids is memory taken
 abbrev pub IssueReply : {Q : Type 0} → LocalIds → List IssuedCid → Reply Q → Type 0
 IssueReply ids more =
     Refuses NumberTooLarge (2 ^ 62 < ids.issued + length more)

@@ -1,5 +1,6 @@
--- Pacing at each moment of a run (RFC 9002, 7.7): what is delayed and until when, and the rate of what goes out. Both are said of
--- a pacer as long as all transmissions since it was made were checked, at windows within 32 bits and RTTs above zero.
+-- Pacing at each moment of a run (RFC 9002, 7.7): what is delayed and until when, and the rate of what goes out. Both
+-- are said of a pacer as long as all transmissions since it was made were checked, at windows within 32 bits and RTTs
+-- above zero.
 use Rattle.std.specs.Prelude.{ℕ, true, ◌∷◌, Option, None, Some, Ok}
 use Rattle.recovery_pacing.specs.PacerLog.{asked, AreChecked, DelaysBy, KeepsRate}
 use Rattle.recovery_pacing.specs.Pacing.{PacerCall}
@@ -46,7 +47,8 @@ module _ {F K Q S M P : Type 0} (beginning : Beginning F K Q S M P) where
   abbrev pub PassesSoon : History Q S M P → Event Q S M P → Reply Q → Type 0
   PassesSoon = AtCalls (λ past. PassesBehind (bucket_of past.making.pacer) past.pacing)
 
-  -- what was delayed passes at the moment that was named, where the bucket has room for what rounding and questions in between cost
+  -- what was delayed passes at the moment that was named, where the bucket has room for what rounding and questions in
+  -- between cost
   abbrev pub PassesWhenNamed : History Q S M P → Event Q S M P → Reply Q → Type 0
   PassesWhenNamed = AtCalls (λ past. PassesAtMoment (bucket_of past.making.pacer) past.pacing)
 

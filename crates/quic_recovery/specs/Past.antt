@@ -13,6 +13,7 @@ use Rattle.quic_recovery.specs.Promises.Blocked.{BlocksExactly}
 use Rattle.quic_recovery.specs.Promises.Counted.{CountsInFlight}
 use Rattle.quic_recovery.specs.Promises.Few.{ProbesFew}
 use Rattle.quic_recovery.specs.Promises.Holes.{ReportsAtFour}
+use Rattle.quic_recovery.specs.Promises.Mtu.{UsesMtu}
 use Rattle.quic_recovery.specs.Promises.Near.{EndsNearBy}
 use Rattle.quic_recovery.specs.Promises.NewNumbers.{CallsNew}
 use Rattle.quic_recovery.specs.Promises.Once.{LeaveOnceEach}
@@ -22,7 +23,6 @@ use Rattle.quic_recovery.specs.Promises.Refused.{RefusesRightly}
 use Rattle.quic_recovery.specs.Promises.Threefold.{KeepsThreefold}
 use Rattle.quic_recovery.specs.Promises.Timeouts.{TellsTimers}
 use Rattle.quic_recovery.specs.Promises.Turns.{SearchesInTurn}
-use Rattle.quic_recovery.specs.Search.{EntersAsTold, UsesMtu}
 use Rattle.quic_recovery.specs.State.{Left, parts_of}
 use Rattle.quic_recovery.specs.Told.{Told}
 
@@ -67,7 +67,6 @@ module _ {F K Q S M P : Type 0} (beginning : Beginning F K Q S M P) where
     pub rate : KeepsPace beginning before event reply
     pub soon : PassesSoon beginning before event reply
     pub named : PassesWhenNamed beginning before event reply
-    pub entries : EntersAsTold beginning before event reply
     pub mtu : UsesMtu beginning before event reply
     pub turns : SearchesInTurn beginning before event reply
     pub few : ProbesFew beginning before event reply

@@ -1,5 +1,5 @@
--- Black holes (RFC 8899, 4.3): a report needs four bursts of losses of large packets that no acknowledgement refuted, and it comes at
--- four since the first of which no large packet was acknowledged, though small ones may be.
+-- Black holes (RFC 8899, 4.3): a report needs four bursts of losses of large packets that no acknowledgement refuted,
+-- and it comes at four since the first of which no large packet was acknowledged, though small ones may be.
 use Rattle.std.specs.Prelude.{◌≡◌, ℕ, ◌≤◌, nat_lt, true, ◌||◌, List, [], ◌∷◌, ◌++◌, length, filter, Ok, if◌then◌else◌}
 use Rattle.recovery_base.specs.declared.below.SpaceId.TheVariants.{Data}
 use Rattle.recovery_mtud.specs.BurstRuns.{Loss, from_first, if_any, is_above, is_past}
@@ -11,8 +11,8 @@ use Rattle.quic_recovery.specs.Promises.Few.{begins_anew}
 use Rattle.quic_recovery.specs.Promises.Bursts.{size_of, open_run, closed}
 
 module _ {Q S M P : Type 0} where
-  -- the bursts closed since all began anew, but those that an acknowledged packet refutes: a probe all, another one those with a packet
-  -- no larger
+  -- the bursts closed since all began anew, but those that an acknowledged packet refutes: a probe all, another one
+  -- those with a packet no larger
   abbrev pub standing : History Q S M P → List (List Loss)
   standing [] = []
   standing ((Acked Data now n app_limited, Ok (answer.Acked probe)) ∷ earlier) =
@@ -35,7 +35,8 @@ module _ {Q S M P : Type 0} where
   larger_acked size ((NewPath now remote true, Ok given) ∷ earlier) = []
   larger_acked size (happened ∷ earlier) = larger_acked size earlier
 
-  -- bursts count whose packets are all above the least MTU; of those that force a report the first ends past each such number
+  -- bursts count whose packets are all above the least MTU; of those that force a report the first ends past each such
+  -- number
   abbrev pub ReportsAtFour : ℕ → History Q S M P → Event Q S M P → Reply Q → Type 0
   ReportsAtFour least history (LossesDone now) reply =
       let now_closed = if_any (open_run history) in

@@ -30,7 +30,7 @@ module _ {Q S M P : Type 0} where
     abbrev pub start : History Q S M P → ℕ
     start [] = first
     start (happened ∷ earlier) =
-        if runs (happened ∷ earlier) then start earlier else mtu first least (happened ∷ earlier)
+        if runs (happened ∷ earlier) then start earlier else mtu true first least (happened ∷ earlier)
 
     -- where what was in use at first and each probe acknowledged fit the link, and each lost one does not
     abbrev pub IsNear : MtuDiscoveryConfig → ℕ → History Q S M P → Type 0
@@ -38,7 +38,7 @@ module _ {Q S M P : Type 0} where
         start history ≤ link
         → All (λ size. size ≤ link) (acked_probes history) → All (λ size. link < size) (lost_probes history)
         → let best = min link (min (max settings.upper_bound (start history)) (limit_or_greatest (limit history))) in
-        (mtu first least history ≤ link) × (best < mtu first least history + 2 * settings.minimum_change)
+        (mtu true first least history ≤ link) × (best < mtu true first least history + 2 * settings.minimum_change)
 
 module _ {F K Q S M P : Type 0} (beginning : Beginning F K Q S M P) where
   -- where the least change is at least 3, for a poll that ends a search that runs, or one that is due

@@ -1,5 +1,5 @@
--- New packet numbers (RFC 9000, 12.3): a packet is processed once. Its number is new where it exceeds all that came in its space, or is
--- none of them and not too old.
+-- New packet numbers (RFC 9000, 12.3): a packet is processed once. Its number is new where it exceeds all that came in
+-- its space, or is none of them and not too old.
 use Rattle.std.specs.Prelude.{◌≡◌, ℕ, ◌+◌, ◌^◌, Bool, true, false, not, ◌&&◌, ◌||◌, nat_eq, nat_lt, nat_le, List, [], ◌∷◌, Ok, Err, if◌then◌else◌}
 use Rattle.std.specs.List.{list_all}
 use Rattle.std.specs.Set.{is_member}

@@ -1,4 +1,5 @@
--- Packets leave once (RFC 9002, A.7 and A.10): no number of a space is acknowledged twice, or lost twice, or both acknowledged and lost.
+-- Packets leave once (RFC 9002, A.7 and A.10): no number of a space is acknowledged twice, or lost twice, or both
+-- acknowledged and lost.
 use Rattle.std.specs.Prelude.{ℕ, ◌+◌, ◌≤◌, ◌==◌, ◌&&◌, [], ◌∷◌, Ok, if◌then◌else◌}
 use Rattle.recovery_base.specs.declared.below.SpaceId.{SpaceId}
 use Rattle.recovery_base.specs.Spaces.{same_space}

@@ -1,5 +1,5 @@
--- Timers (RFC 9002, 6.2 and A.3): each is set to the moment that it was last set to, unless it was stopped since; the next timeout is the
--- least of these.
+-- Timers (RFC 9002, 6.2 and A.3): each is set to the moment that it was last set to, unless it was stopped since; the
+-- next timeout is the least of these.
 use Rattle.std.specs.Prelude.{◌≡◌, ℕ, min, List, [], ◌∷◌, map, Option, None, Some, Ok, if◌then◌else◌}
 use Rattle.recovery_base.specs.declared.timer.Timer.{Timer}
 use Rattle.recovery_base.specs.declared.timer.Timer.TheVariants.{LossDetection, Idle, Close, KeyDiscard, PathValidation, KeepAlive, Pacing, PushNewCid, MaxAckDelay}

@@ -1,0 +1,301 @@
+-- By the history alone the MTU in use is the one that is kept, on both paths.
+use Rattle.std.proofs.Common.{ℕ, ◌≡◌, ◌<◌, ◌^◌, min, Bool, true, false, if◌then◌else◌, List, [], ◌∷◌, Option, None, Some, Ok, Err, refl, sym, ap, subst, ◌∙◌, is_some}
+use Rattle.std.specs.Prelude.{IsSomeAnd, option_map, unwrap_or}
+use Rattle.std.specs.Option.{ForSome}
+use Rattle.recovery_base.specs.declared.below.SpaceId.TheVariants as space
+use Rattle.recovery_config.specs.declared.config.TransportConfig.{TransportConfig}
+use Rattle.recovery_config.specs.Settings.{initial_mtu_of}
+use Rattle.recovery_mtud.specs.declared.config.MtuDiscoveryConfig.{MtuDiscoveryConfig}
+use Rattle.recovery_mtud.specs.Discovery.{Discovery, within}
+use Rattle.recovery_mtud.specs.DiscoveryLog.{kept_limit}
+use Rattle.recovery_mtud.specs.MtuEntries.{MtuEntry, MtuProbe, probed, acked, probe_lost, lost, losses_over, reported, probe_in_flight, size_at, unless_number, limit_in_use, min_mtu_in_use, mtu_in_use as by_entries}
+use Rattle.recovery_mtud.specs.SearchRuns.{ProbesInSearch}
+use Rattle.recovery_paths.specs.declared.live_paths.PathName.TheVariants.{Current, Previous}
+use Rattle.recovery_paths.specs.PathLog.{OfPaths, PathKnown, PathPast, is_validated, known_of, past_with, receives, state_of}
+use Rattle.recovery_paths.specs.PathMaking.{discovery_with}
+use Rattle.quic_recovery.specs.declared.event.Event.{Event}
+use Rattle.quic_recovery.specs.declared.event.Event.TheVariants.{PollMtu, Acked, Lost, LossesDone, PeerLimit, ResetPath, NewPath, DropPrevious}
+use Rattle.quic_recovery.specs.declared.event.Answer.{Answer}
+use Rattle.quic_recovery.specs.declared.event.Answer.TheVariants as answer
+use Rattle.quic_recovery.specs.declared.event.Refusal.{Refusal}
+use Rattle.quic_recovery.specs.Amplification.{pasts_of}
+use Rattle.quic_recovery.specs.Entries.{logs_of}
+use Rattle.quic_recovery.specs.History.{Beginning, History, Reply, Throughout}
+use Rattle.quic_recovery.specs.Known.{last_limit, settings_of}
+use Rattle.quic_recovery.specs.Promises.Mtu.{UsesMtu, before_move, mtu, mtu_in_use}
+use Rattle.quic_recovery.specs.Search.{discovery_settings}
+use Rattle.quic_recovery.specs.Told.{Told}
+use Rattle.quic_recovery.proofs.HolesLaws as holes
+use Rattle.quic_recovery.proofs.MadeLaws.{is_made, made_after, made_in}
+use Rattle.quic_recovery.proofs.NearLaws as near
+use Rattle.quic_recovery.proofs.SearchLaws.{mtu as mtu_by_entries, probes}
+use Rattle.quic_recovery.proofs.SearchSaid.{MtuByEntries, ProbesInTurn, entered_so_far}
+use Rattle.quic_recovery.proofs.SearchSteps.{Facts, acked_as, ended_as, lost_as, seen_as, throughout_both, throughout_by, turned}
+use Rattle.quic_recovery.proofs.SeenLaws.{IsStill, IsStillOn, stays_seen}
+
+-- ---- where paths are not searched: no probe goes out, and no limit is kept
+
+module _ {Q S M P : Type 0} (first least : ℕ) where
+  abbrev TiedTo : Discovery → History Q S M P → List MtuEntry → Type 0
+  TiedTo made history entries = (probe_in_flight entries ≡ None) × (limit_in_use made entries ≡ None)
+      × (mtu false first least history ≡ by_entries made entries)
+
+  module _ (made : Discovery) (history : History Q S M P) (entries : List MtuEntry) (tied : TiedTo made history entries)
+    where
+      acked_tied : (now number bytes : ℕ) (app_limited : Bool) → TiedTo made
+          ((
+            Acked space.Data now number app_limited,
+            Ok (answer.Acked (is_some (size_at number (probe_in_flight entries)))),
+          ) ∷ history)
+          (acked number bytes ∷ entries)
+      acked_tied now number bytes app_limited = go (probe_in_flight entries) tied.0
+        where
+          go : (flight : Option MtuProbe) → flight ≡ None → (unless_number number flight ≡ None)
+              × (limit_in_use made entries ≡ None)
+              × (mtu false first least
+              ((Acked space.Data now number app_limited, Ok (answer.Acked (is_some (size_at number flight))))
+              ∷ history)
+              ≡ unwrap_or (size_at number flight) (by_entries made entries))
+          go None is = (refl, tied.1, tied.2)
+          go (Some probe) is = absurd (cc)
+
+      lost_tied : (number bytes : ℕ) (probe : Bool)
+          → TiedTo made ((Lost space.Data number, Ok (answer.Lost probe)) ∷ history)
+          ((if probe then probe_lost else lost number bytes) ∷ entries)
+      lost_tied number bytes true = (refl, tied.1, tied.2)
+      lost_tied number bytes false = tied
+
+      ended_tied : (now : ℕ) → least ≡ min_mtu_in_use made entries → (hole : Bool)
+          → TiedTo made ((LossesDone now, Ok (answer.BlackHole hole)) ∷ history)
+          ((if hole then reported now else losses_over) ∷ entries)
+      ended_tied now is true = (refl, tied.1, is)
+      ended_tied now is false = tied
+
+module _ {F : Type 0} (limit : Option ℕ) (config : TransportConfig F) where
+  fresh_limit : (by : Option MtuDiscoveryConfig) → by ≡ None → kept_limit (discovery_with limit config by) ≡ None
+  fresh_limit None is = refl
+  fresh_limit (Some settings) is = absurd (cc)
+
+  fresh_mtu : (by : Option MtuDiscoveryConfig) → by ≡ None
+      → initial_mtu_of config ≡ (discovery_with limit config by).mtu
+  fresh_mtu None is = refl
+  fresh_mtu (Some settings) is = absurd (cc)
+
+module _ {F K Q S M P : Type 0} (beginning : Beginning F K Q S M P) (is : discovery_settings beginning ≡ None) where
+  abbrev first : ℕ
+  first = initial_mtu_of beginning.config.transport
+
+  abbrev least : ℕ
+  least = beginning.config.transport.min_mtu
+
+  abbrev pub Unsearched : History Q S M P → Type 0
+  Unsearched history = TiedTo first least (made_in beginning history) history (entered_so_far beginning history)
+
+  module _ (history : History Q S M P) (tied : Unsearched history)
+      (least_is : least ≡ min_mtu_in_use (made_in beginning history) (entered_so_far beginning history)) where
+    abbrev Then : Event Q S M P → Reply Q → List MtuEntry → Type 0
+    Then event reply entries =
+        TiedTo first least (made_after beginning history event reply) ((event, reply) ∷ history) entries
+
+    abbrev Given : Event Q S M P → Answer Q → List MtuEntry → Type 0
+    Given event given entries = Then event (Ok given) entries
+
+    abbrev made : Discovery
+    made = made_in beginning history
+
+    abbrev so_far : List MtuEntry
+    so_far = entered_so_far beginning history
+
+    answer_tied : (event : Event Q S M P) (given : Answer Q) → Facts beginning history event (Ok given)
+        → ProbesInTurn beginning history event (Ok given)
+        → Given event given (entered_so_far beginning ((event, Ok given) ∷ history))
+    answer_tied (PollMtu now) (answer.Probe number size) facts turn = absurd
+        (subst (λ by. IsSomeAnd by (λ settings. ProbesInSearch settings (probed now number size ∷ so_far))) is turn)
+    answer_tied (PollMtu now) answer.NoProbe facts turn = turned (Given (PollMtu now) answer.NoProbe) facts.entered tied
+    answer_tied (PollMtu now) given facts turn = turned (Given (PollMtu now) given) facts.entered tied
+    answer_tied (PeerLimit size) given facts turn = turned (Given (PeerLimit size) given) facts.entered
+        (tied.0, ap (option_map (λ old. size)) tied.1, ap (λ m. min m size) tied.2)
+    answer_tied (Acked space.Data now number app_limited) given facts turn =
+        acked_as beginning history (Given (Acked space.Data now number app_limited)) now number app_limited given facts
+        (λ packet found. acked_tied first least made history so_far tied now number packet.size app_limited)
+    answer_tied (Acked space.Initial now number app_limited) given facts turn =
+        seen_as (Given (Acked space.Initial now number app_limited)) given (answer.Acked false) _ so_far facts.tells
+        facts.entered tied
+    answer_tied (Acked space.Handshake now number app_limited) given facts turn =
+        seen_as (Given (Acked space.Handshake now number app_limited)) given (answer.Acked false) _ so_far facts.tells
+        facts.entered tied
+    answer_tied (Lost space.Data number) given facts turn =
+        lost_as beginning history (Given (Lost space.Data number)) number given facts
+        (λ packet found. lost_tied first least made history so_far tied number packet.size _)
+    answer_tied (Lost space.Initial number) given facts turn =
+        seen_as (Given (Lost space.Initial number)) given (answer.Lost false) _ so_far facts.tells facts.entered tied
+    answer_tied (Lost space.Handshake number) given facts turn =
+        seen_as (Given (Lost space.Handshake number)) given (answer.Lost false) _ so_far facts.tells facts.entered tied
+    answer_tied (LossesDone now) given facts turn =
+        ended_as beginning history (Given (LossesDone now)) now given facts
+        (ended_tied first least made history so_far tied now least_is)
+    answer_tied (ResetPath now) given facts turn = turned (Given (ResetPath now) given) facts.entered
+        (refl, tied.1, ap (within first) (sym tied.1))
+    answer_tied (NewPath now remote true) given facts turn =
+        let limit = last_limit (logs_of beginning history).limits in
+        turned (Given (NewPath now remote true) given) facts.entered (
+          refl,
+          fresh_limit limit beginning.config.transport (discovery_settings beginning) is,
+          fresh_mtu limit beginning.config.transport (discovery_settings beginning) is,
+        )
+    answer_tied (NewPath now remote false) given facts turn =
+        turned (Given (NewPath now remote false) given) facts.entered tied
+    answer_tied event given facts turn = turned (Given event given) facts.entered tied
+
+    refused_tied : (event : Event Q S M P) (refusal : Refusal) → Facts beginning history event (Err refusal)
+        → Then event (Err refusal) (entered_so_far beginning ((event, Err refusal) ∷ history))
+    refused_tied (NewPath now remote true) refusal facts =
+        turned (Then (NewPath now remote true) (Err refusal)) facts.entered tied
+    refused_tied (NewPath now remote false) refusal facts =
+        turned (Then (NewPath now remote false) (Err refusal)) facts.entered tied
+    refused_tied event refusal facts = turned (Then event (Err refusal)) facts.entered tied
+
+    pub unsearched_after : (event : Event Q S M P) (reply : Reply Q) → Facts beginning history event reply
+        → ProbesInTurn beginning history event reply → Unsearched ((event, reply) ∷ history)
+    unsearched_after event reply facts turn =
+        let entries = entered_so_far beginning ((event, reply) ∷ history) in
+        let Now : Discovery → Type 0 = λ d. TiedTo first least d ((event, reply) ∷ history) entries in
+        subst Now (sym (is_made beginning history event reply)) (go reply facts turn)
+      where
+        go : (reply : Reply Q) → Facts beginning history event reply → ProbesInTurn beginning history event reply
+            → Then event reply (entered_so_far beginning ((event, reply) ∷ history))
+        go (Ok given) facts turn = answer_tied event given facts turn
+        go (Err refusal) facts turn = refused_tied event refusal facts
+
+  pub unsearched_first : Unsearched []
+  unsearched_first = (
+    refl,
+    fresh_limit None beginning.config.transport (discovery_settings beginning) is,
+    fresh_mtu None beginning.config.transport (discovery_settings beginning) is,
+  )
+
+-- ---- on both paths
+
+map_kept : {A B : Type 0} (see : A → B) (f : A → A) → ((a : A) → see (f a) ≡ see a) → (o : Option A)
+    → option_map see (option_map f o) ≡ option_map see o
+map_kept see f same None = refl
+map_kept see f same (Some a) = ap (λ b. Some b) (same a)
+
+some_same : {A : Type 0} {a b : A} → Some a ≡ Some b → a ≡ b
+some_same e = cc
+
+module _ {F K Q S M P : Type 0} (beginning : Beginning F K Q S M P) where
+  abbrev in_state : PathPast K → ℕ
+  in_state past = (state_of (settings_of beginning) past).discovery.mtu
+
+  -- that of the path before the one in use, where it lives
+  abbrev mtu_before : OfPaths (PathPast K) → Option ℕ
+  mtu_before paths = option_map in_state paths.previous
+
+  still : IsStill (settings_of beginning) mtu_before
+  still entry paths = refl
+
+  still_on : IsStillOn (settings_of beginning) mtu_before
+  still_on Current paths = (λ bytes. refl, refl)
+  still_on Previous paths = (
+    λ bytes. map_kept in_state (past_with (settings_of beginning) (receives bytes)) (λ past. refl) paths.previous,
+    map_kept in_state (past_with (settings_of beginning) is_validated) (λ past. refl) paths.previous,
+  )
+
+  abbrev IsLeft : History Q S M P → Type 0
+  IsLeft history = ForSome (mtu_before (pasts_of beginning history))
+      (λ size. size ≡ mtu_in_use beginning (before_move history))
+
+  abbrev IsNow : History Q S M P → Type 0
+  IsNow history = in_state (pasts_of beginning history).current ≡ mtu_in_use beginning history
+
+  left_after : (history : History Q S M P) (event : Event Q S M P) (reply : Reply Q) → IsNow history → IsLeft history
+      → IsLeft ((event, reply) ∷ history)
+  left_after history (NewPath now remote true) (Ok given) is left = λ size found. sym (some_same found) ∙ is
+  left_after history (NewPath now remote false) (Ok given) is left = λ size found. sym (some_same found) ∙ is
+  left_after history DropPrevious (Ok given) is left = λ size found. absurd (cc)
+  left_after history (NewPath now remote true) (Err refusal) is left =
+      subst (λ o. ForSome o (λ size. size ≡ mtu_in_use beginning (before_move history)))
+      (sym (stays_seen beginning mtu_before still still_on history (NewPath now remote true) (Err refusal))) left
+  left_after history (NewPath now remote false) (Err refusal) is left =
+      subst (λ o. ForSome o (λ size. size ≡ mtu_in_use beginning (before_move history)))
+      (sym (stays_seen beginning mtu_before still still_on history (NewPath now remote false) (Err refusal))) left
+  left_after history event reply is left =
+      subst (λ o. ForSome o (λ size. size ≡ mtu_in_use beginning (before_move history)))
+      (sym (stays_seen beginning mtu_before still still_on history event reply)) left
+
+  -- ---- throughout a run
+
+  record Kept (history : History Q S M P) : Type 0 where
+    near : near.Kept beginning history
+    unsearched : (is : discovery_settings beginning ≡ None) → Unsearched beginning is history
+    now : IsNow history
+    left : IsLeft history
+
+  in_use_same : (history : History Q S M P) → near.Kept beginning history
+      → ((is : discovery_settings beginning ≡ None) → Unsearched beginning is history)
+      → mtu_in_use beginning history ≡ by_entries (made_in beginning history) (entered_so_far beginning history)
+  in_use_same history near unsearched = go (discovery_settings beginning) refl
+    where
+      of : Option MtuDiscoveryConfig → ℕ
+      of by = mtu (is_some by) (initial_mtu_of beginning.config.transport) beginning.config.transport.min_mtu history
+
+      go : (by : Option MtuDiscoveryConfig) → discovery_settings beginning ≡ by
+          → mtu_in_use beginning history ≡ by_entries (made_in beginning history) (entered_so_far beginning history)
+      go None is = ap of is ∙ (unsearched is).2
+      go (Some settings) is = ap of is ∙ (near.searched settings is).tied.2
+
+  abbrev IsKnown : History Q S M P → Event Q S M P → Reply Q → Type 0
+  IsKnown history event reply = near.IsKnownOf beginning history event reply
+      × (ProbesInTurn beginning history event reply × MtuByEntries beginning history event reply)
+
+  kept_after : (history : History Q S M P) (event : Event Q S M P) (reply : Reply Q) → IsKnown history event reply
+      → Kept history
+      → Kept ((event, reply) ∷ history)
+  kept_after history event reply known kept =
+      let after = near.kept_after beginning history event reply known.0 kept.near in
+      let least_is = sym (holes.least_known beginning history kept.near.holes) in
+      let unsearched : (is : discovery_settings beginning ≡ None) → Unsearched beginning is ((event, reply) ∷ history) =
+      λ is. unsearched_after beginning is history (kept.unsearched is) least_is event reply known.0.0 known.1.0 in
+      record {
+        near = after;
+        unsearched = unsearched;
+        now = known.1.1.0 ∙ sym (in_use_same ((event, reply) ∷ history) after unsearched);
+        left = left_after history event reply kept.now kept.left;
+      }
+
+  kept_first : Kept []
+  kept_first =
+      let config = beginning.config.transport in
+      record {
+        near = near.kept_first beginning;
+        unsearched = λ is. unsearched_first beginning is;
+        now = sym (in_use_same [] (near.kept_first beginning) (λ is. unsearched_first beginning is));
+        left = λ size found. absurd (cc);
+      }
+
+  state_mtu : (previous : Option (PathPast K)) (path : PathKnown K)
+      → option_map (known_of (settings_of beginning)) previous ≡ Some path
+      → option_map in_state previous ≡ Some path.state.discovery.mtu
+  state_mtu None path is = absurd (cc)
+  state_mtu (Some past) path is = ap (λ (p : PathKnown K). Some p.state.discovery.mtu) (some_same is)
+
+  uses_mtu : (history : History Q S M P) (event : Event Q S M P) (reply : Reply Q) → IsKnown history event reply
+      → Kept history
+      → Kept ((event, reply) ∷ history) → UsesMtu beginning history event reply
+  uses_mtu history event reply known kept after = (
+    after.now,
+    λ path lives. after.left path.state.discovery.mtu
+        (state_mtu (pasts_of beginning ((event, reply) ∷ history)).previous path lives),
+  )
+
+  pub mtu_told : ForSome (discovery_settings beginning) (λ settings. settings.upper_bound < 2 ^ 16)
+      → (events : List (Event Q S M P)) (replies : List (Reply Q))
+      → Throughout (Told beginning) events replies → Throughout (UsesMtu beginning) events replies
+  mtu_told small events replies told =
+      throughout_by IsKnown (UsesMtu beginning) Kept kept_after uses_mtu [] events replies
+      (throughout_both (near.IsKnownOf beginning) _ [] events replies
+      (near.known_of beginning small events replies told)
+      (throughout_both (ProbesInTurn beginning) (MtuByEntries beginning) [] events replies
+      (probes beginning events replies told) (mtu_by_entries beginning events replies told)))
+      kept_first

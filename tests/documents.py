@@ -1,0 +1,83 @@
+#!/usr/bin/env python3
+"""Reads the README and the documents: each link leads to a file, each name in backquotes stands in a source, and each clause of run is named in
+the README and in docs/PROVED.md. Names of others (the crate that this follows, the toolchain's own, patterns) are listed here."""
+import pathlib
+import re
+import sys
+
+ROOT = pathlib.Path(__file__).resolve().parent.parent
+NAME = re.compile(r"[A-Za-z_][A-Za-z0-9_-]*")
+INPUT = re.compile(r"(tracked|local_ids)_\d+_")  # of bench/, which makes these names
+README_LINES = 130
+
+# names in backquotes that stand in no source: what the crate that this follows, Rust or the toolchain calls so, and parts of patterns
+OTHERS = {
+    "README.md": "rattle-kit-13b logic dac8208d650f15bf",
+    "DECISIONS.md": "write_all circular_buffer",
+    "DIFFERENCES.md": "first_packet crypto crypto_stream tinyvec Trait non_exhaustive Box dyn clone_box into_any Arc f32 Retransmits ThinRetransmits stats",
+    "EMBEDDING.md": "rand_chacha Retransmits max_data handshake_done reset_stream max_stream_data crypto Box",
+    "PROVED.md": "Display",
+    "PROVING.md": "_alike same-self- answer_x refusal_x reply_x plant After-from-2 After-self-3-1 fmt helper",
+}
+
+
+def files_here():
+    """All files but those that are built."""
+    found = (it.relative_to(ROOT) for it in ROOT.rglob("*") if it.is_file())
+    return sorted(it for it in found if not {"out", ".git", "__pycache__"} & set(it.parts))
+
+
+def words_of_sources(files):
+    """All words of the sources, and of the names of files."""
+    words = {word for file in files for word in NAME.findall(str(file))}
+    for file in files:
+        if file.parts[0] not in ("docs", "README.md") and (ROOT / file).is_file():
+            words.update(NAME.findall((ROOT / file).read_text(errors="ignore")))
+    return words
+
+
+def is_known(word, words, others):
+    """A word of a source, or its plural; short ones, and those in capitals, which stand for what is to be filled in, are not looked up."""
+    return len(word) < 3 or word.isupper() or INPUT.match(word) or word in words or word in others or (word.endswith("s") and word[:-1] in words)
+
+
+def faults_in(file, text, words):
+    prose = re.sub(r"^    .*$", "", text, flags=re.M)
+    others = set(OTHERS.get(file.name, "").split())
+    for name in re.findall(r"`([^`\n]+)`", prose):
+        pattern = "*" in name or "_W_" in name
+        for word in NAME.findall("" if pattern else name):
+            if not is_known(word, words, others):
+                yield f"{file}: `{word}` (in `{name}`) stands in no source"
+    for link in re.findall(r"\]\(([^)#]+)[^)]*\)", text):
+        if "://" not in link and not (ROOT / file.parent / link).exists():
+            yield f"{file}: {link} is not there"
+
+
+def clauses_of_run():
+    text = (ROOT / "crates" / "quic_recovery" / "src" / "driver.rt").read_text()
+    contract = text[text.index("    pub fn run("):]
+    return re.findall(r"\n\s+ensures (\w+)", contract[:contract.index("\n    {\n")])
+
+
+def main():
+    files = files_here()
+    words = words_of_sources(files)
+    documents = [it for it in files if it.suffix == ".md" and it.parts[0] in ("docs", "README.md")]
+    clauses, passed, faults = clauses_of_run(), 0, []
+    for file in documents:
+        text = (ROOT / file).read_text()
+        found = list(faults_in(file, text, words))
+        if file.name in ("README.md", "PROVED.md"):
+            found += [f"{file}: the clause `{it}` of run is not named" for it in clauses if f"`{it}`" not in text]
+        if file.name == "README.md" and text.count("\n") > README_LINES:
+            found.append(f"{file}: {text.count(chr(10))} lines, and not at most {README_LINES}")
+        passed += not found
+        faults += found
+    for fault in faults:
+        print(f"documents: {fault}", file=sys.stderr)
+    print(f"documents: {passed} passed, {len(documents) - passed} failed")
+    return 1 if faults else 0
+
+
+sys.exit(main())
