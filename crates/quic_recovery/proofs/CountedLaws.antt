@@ -36,9 +36,8 @@ use Rattle.quic_recovery.specs.Told.{Told, Is, OnPath, counters_answer}
 use Rattle.quic_recovery.specs.Promises.Counted.{sum_on, total, IsTally, CountsInFlight}
 use Rattle.quic_recovery.specs.Promises.Paths.{paths_made}
 use Rattle.quic_recovery.proofs.AmplificationLaws.{throughout_kept}
-use Rattle.quic_recovery.proofs.DepartureLaws.{sent_in}
 use Rattle.quic_recovery.proofs.PathLaws.{generation_told}
-use Rattle.quic_recovery.proofs.TrackedLaws.{AllTracked, keeps_tracked, none_tracked, probe_number, one_space}
+use Rattle.quic_recovery.proofs.TrackedLaws.{AllTracked, keeps_tracked, none_tracked, probe_number, one_space, sent_in}
 
 -- ---- sums over tracked packets, but for the numbers that are gone
 

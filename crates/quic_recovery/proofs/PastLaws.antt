@@ -5,7 +5,7 @@ use Rattle.recovery_congestion.specs.Controllers.{ControllerWords}
 use Rattle.recovery_paths.specs.Balance.{AreBalanced}
 use Rattle.quic_recovery.specs.declared.event.Event.{Event}
 use Rattle.quic_recovery.specs.Entries.{entries_of, logs_of}
-use Rattle.quic_recovery.specs.History.{Beginning, History, QueueMeaning, Reply, history, history_from, Throughout, ThroughoutFrom}
+use Rattle.quic_recovery.specs.History.{Beginning, History, QueueMeaning, Reply, history_from, Throughout, ThroughoutFrom}
 use Rattle.quic_recovery.specs.Known.{known_by}
 use Rattle.quic_recovery.specs.Parts.{Parts}
 use Rattle.quic_recovery.specs.Past.{Past, more, history_of, Came, CameSomehow, GoesOn, GoesOnFrom, StaysOn, WentOn}
@@ -15,10 +15,10 @@ use Rattle.quic_recovery.specs.Pacing.{DelaysByBalance, KeepsPace, PassesSoon, P
 use Rattle.quic_recovery.specs.Search.{EndsNear, EntersAsTold, LimitsOutside, ProbesInTurn, SearchesFew, TellsProbes, UsesMtu}
 use Rattle.quic_recovery.specs.Promises.Blocked.{BlocksExactly}
 use Rattle.quic_recovery.specs.Promises.Counted.{CountsInFlight}
+use Rattle.quic_recovery.specs.Promises.Fates.{HaveOneFate}
 use Rattle.quic_recovery.specs.Promises.Few.{ProbesFew}
 use Rattle.quic_recovery.specs.Promises.Holes.{ReportsAtFour}
 use Rattle.quic_recovery.specs.Promises.Near.{EndsNearBy}
-use Rattle.quic_recovery.specs.Promises.Once.{LeaveOnceEach}
 use Rattle.quic_recovery.specs.Promises.PeerIds.{AcceptsIds}
 use Rattle.quic_recovery.specs.Promises.Refused.{RefusesRightly}
 use Rattle.quic_recovery.specs.Promises.Threefold.{KeepsThreefold}
@@ -26,14 +26,13 @@ use Rattle.quic_recovery.specs.Told.{Told}
 use Rattle.quic_recovery.proofs.BlockedLaws.{blocks_exactly}
 use Rattle.quic_recovery.proofs.BurstLaws.{comes_at_four, needs_four}
 use Rattle.quic_recovery.proofs.CountedLaws.{counts_in_flight}
-use Rattle.quic_recovery.proofs.DepartureLaws.{leave_once_in}
 use Rattle.quic_recovery.proofs.EnteredLaws.{entries_told}
 use Rattle.quic_recovery.proofs.FewLaws.{few_told}
 use Rattle.quic_recovery.proofs.HolesLaws.{holes_told}
 use Rattle.quic_recovery.proofs.LeftLaws.{changes_by_logs, left_after}
 use Rattle.quic_recovery.proofs.NearLaws.{near_told}
 use Rattle.quic_recovery.proofs.NewNumbersLaws.{numbers_told}
-use Rattle.quic_recovery.proofs.OnceLaws.{leave_once_each}
+use Rattle.quic_recovery.proofs.OneFateLaws.{have_one_fate, leave_once}
 use Rattle.quic_recovery.proofs.OwnIdsLaws.{issues_ids}
 use Rattle.quic_recovery.proofs.PacingLaws.{delayed, rate, soon, named}
 use Rattle.quic_recovery.proofs.PeerIdsLaws.{accepts_ids}
@@ -72,7 +71,8 @@ module _ {F K Q S M P : Type 0} (beginning : Beginning F K Q S M P) where
       let last : (H : History Q S M P → Event Q S M P → Reply Q → Type 0) → Throughout H events replies → H before event reply = λ H holds.
       last_of (Told beginning) H event reply [] past.events past.replies came.told holds in
       let Leaves : History Q S M P → Type 0 = λ h. Left beginning h new in
-      let Leave : History Q S M P → Type 0 = LeaveOnceEach in
+      let Fate : History Q S M P → Type 0 = HaveOneFate in
+      let one = subst Fate longer (have_one_fate beginning events replies all) in
       record {
         history = longer;
         keeps = record {
@@ -101,7 +101,8 @@ module _ {F K Q S M P : Type 0} (beginning : Beginning F K Q S M P) where
           holes = last (ReportsAtFour beginning.config.transport.min_mtu) (holes_told beginning events replies all);
           needs_four = last (NeedsFourBursts beginning) (needs_four beginning events replies all);
           comes_at_four = last (ComesAtFourBursts beginning) (comes_at_four beginning events replies all);
-          once = subst Leave longer (leave_once_each beginning (history events replies) (leave_once_in beginning events replies all));
+          fates = one;
+          once = leave_once ((event, reply) ∷ before) one;
         };
         came = record {
           told = all;

@@ -1,7 +1,6 @@
 pub mod Above
 pub mod Amplification
 pub mod Bursts
-pub mod Departures
 pub mod Entries
 pub mod History
 pub mod IdReplies

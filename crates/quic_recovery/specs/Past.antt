@@ -11,6 +11,7 @@ use Rattle.quic_recovery.specs.Pacing.{DelaysByBalance, KeepsPace, PassesSoon, P
 use Rattle.quic_recovery.specs.Parts.{Parts}
 use Rattle.quic_recovery.specs.Promises.Blocked.{BlocksExactly}
 use Rattle.quic_recovery.specs.Promises.Counted.{CountsInFlight}
+use Rattle.quic_recovery.specs.Promises.Fates.{HaveOneFate}
 use Rattle.quic_recovery.specs.Promises.Few.{ProbesFew}
 use Rattle.quic_recovery.specs.Promises.Holes.{ReportsAtFour}
 use Rattle.quic_recovery.specs.Promises.Near.{EndsNearBy}
@@ -78,6 +79,7 @@ module _ {F K Q S M P : Type 0} (beginning : Beginning F K Q S M P) where
     pub holes : ReportsAtFour beginning.config.transport.min_mtu before event reply
     pub needs_four : NeedsFourBursts beginning before event reply
     pub comes_at_four : ComesAtFourBursts beginning before event reply
+    pub fates : HaveOneFate ((event, reply) ∷ before)
     pub once : LeaveOnceEach ((event, reply) ∷ before)
 
   -- from a past to that past with one event more

@@ -3,6 +3,7 @@ pub mod Blocked
 pub mod Bursts
 pub mod Counted
 pub mod Datagrams
+pub mod Fates
 pub mod Few
 pub mod GivenIds
 pub mod Holes
