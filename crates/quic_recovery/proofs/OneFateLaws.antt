@@ -4,11 +4,12 @@ use Rattle.recovery_base.specs.declared.below.SpaceId.{SpaceId}
 use Rattle.recovery_base.specs.Spaces.{same_space}
 use Rattle.quic_recovery.specs.declared.event.Event.{Event}
 use Rattle.quic_recovery.specs.declared.event.Event.TheVariants.{Acked, Lost}
-use Rattle.quic_recovery.specs.History.{Beginning, History, Reply, Throughout, ThroughoutFrom, history, history_from}
+use Rattle.quic_recovery.specs.History.{Beginning, History, Reply, Throughout, history}
 use Rattle.quic_recovery.specs.Promises.Fates.{more_if, times, is_acked, is_lost, is_forgotten, is_discarded, HaveOneFate}
 use Rattle.quic_recovery.specs.Promises.Once.{LeaveOnceEach, departures_of}
 use Rattle.quic_recovery.specs.Promises.Tracked.{is_tracked}
 use Rattle.quic_recovery.specs.Told.{Told}
+use Rattle.quic_recovery.proofs.Runs.{kept_after}
 use Rattle.quic_recovery.proofs.TrackedLaws.{AllTracked, keeps_tracked, none_tracked}
 
 -- ---- what has one fate leaves once
@@ -51,14 +52,7 @@ module _ {F K Q S M P : Type 0} (beginning : Beginning F K Q S M P) where
   pub one_fate : (history : History Q S M P) → AllTracked beginning history → HaveOneFate history
   one_fate history all = λ space n. ((all space n).once, (all space n).adds)
 
-  all_tracked : (before : History Q S M P) (events : List (Event Q S M P)) (replies : List (Reply Q))
-      → ThroughoutFrom (Told beginning) before events replies → AllTracked beginning before
-      → AllTracked beginning (history_from before events replies)
-  all_tracked before [] replies told all = all
-  all_tracked before (event ∷ events) (reply ∷ replies) told all =
-      all_tracked ((event, reply) ∷ before) events replies told.1 (keeps_tracked beginning before event reply told.0 all)
-  all_tracked before (event ∷ events) [] told all = absurd told
-
   pub have_one_fate : (events : List (Event Q S M P)) (replies : List (Reply Q)) → Throughout (Told beginning) events replies
       → HaveOneFate (history events replies)
-  have_one_fate events replies told = one_fate (history events replies) (all_tracked [] events replies told (none_tracked beginning))
+  have_one_fate events replies told = one_fate (history events replies)
+      (kept_after (Told beginning) (AllTracked beginning) (keeps_tracked beginning) [] events replies told (none_tracked beginning))

@@ -14,6 +14,7 @@ use Rattle.quic_recovery.specs.Bursts.{ComesAtFourBursts, NeedsFourBursts}
 use Rattle.quic_recovery.specs.Pacing.{DelaysByBalance, KeepsPace, PassesSoon, PassesWhenNamed}
 use Rattle.quic_recovery.specs.Search.{EndsNear, EntersAsTold, LimitsOutside, ProbesInTurn, SearchesFew, TellsProbes, UsesMtu}
 use Rattle.quic_recovery.specs.Promises.Blocked.{BlocksExactly}
+use Rattle.quic_recovery.specs.Promises.Contents.{LosesNothing}
 use Rattle.quic_recovery.specs.Promises.Counted.{CountsInFlight}
 use Rattle.quic_recovery.specs.Promises.Fates.{HaveOneFate}
 use Rattle.quic_recovery.specs.Promises.Few.{ProbesFew}
@@ -25,6 +26,7 @@ use Rattle.quic_recovery.specs.Promises.Threefold.{KeepsThreefold}
 use Rattle.quic_recovery.specs.Told.{Told}
 use Rattle.quic_recovery.proofs.BlockedLaws.{blocks_exactly}
 use Rattle.quic_recovery.proofs.BurstLaws.{comes_at_four, needs_four}
+use Rattle.quic_recovery.proofs.ContentsLaws.{loses_nothing}
 use Rattle.quic_recovery.proofs.CountedLaws.{counts_in_flight}
 use Rattle.quic_recovery.proofs.EnteredLaws.{entries_told}
 use Rattle.quic_recovery.proofs.FewLaws.{few_told}
@@ -103,6 +105,7 @@ module _ {F K Q S M P : Type 0} (beginning : Beginning F K Q S M P) where
           comes_at_four = last (ComesAtFourBursts beginning) (comes_at_four beginning events replies all);
           fates = one;
           once = leave_once ((event, reply) ∷ before) one;
+          contents = subst (LosesNothing beginning) longer (loses_nothing beginning events replies all);
         };
         came = record {
           told = all;

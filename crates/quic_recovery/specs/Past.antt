@@ -10,6 +10,7 @@ use Rattle.quic_recovery.specs.History.{Beginning, History, Reply, QueueMeaning,
 use Rattle.quic_recovery.specs.Pacing.{DelaysByBalance, KeepsPace, PassesSoon, PassesWhenNamed}
 use Rattle.quic_recovery.specs.Parts.{Parts}
 use Rattle.quic_recovery.specs.Promises.Blocked.{BlocksExactly}
+use Rattle.quic_recovery.specs.Promises.Contents.{LosesNothing}
 use Rattle.quic_recovery.specs.Promises.Counted.{CountsInFlight}
 use Rattle.quic_recovery.specs.Promises.Fates.{HaveOneFate}
 use Rattle.quic_recovery.specs.Promises.Few.{ProbesFew}
@@ -81,6 +82,7 @@ module _ {F K Q S M P : Type 0} (beginning : Beginning F K Q S M P) where
     pub comes_at_four : ComesAtFourBursts beginning before event reply
     pub fates : HaveOneFate ((event, reply) ∷ before)
     pub once : LeaveOnceEach ((event, reply) ∷ before)
+    pub contents : LosesNothing beginning ((event, reply) ∷ before)
 
   -- from a past to that past with one event more
   pub record GoesOnFrom (past : Past Q S M P) (event : Event Q S M P) (reply : Reply Q) (new : Parts K P M) : Type 0 where
