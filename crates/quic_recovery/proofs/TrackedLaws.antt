@@ -1,6 +1,6 @@
 -- A packet is tracked by its space exactly where the history says so; and each number that was given out, once at most, has one fate.
 use Rattle.std.proofs.Common.{◌≡◌, ◌≤◌, ◌+◌, ℕ, ◌==◌, ◌&&◌, ◌||◌, not, Bool, true, false, cond, List, [], ◌∷◌, Option, None, Some, Ok, Err, refl, sym, ap, subst, arith}
-use Rattle.std.specs.Prelude.{is_some}
+use Rattle.std.specs.Prelude.{is_some, sum_by}
 use Rattle.std.specs.BTreeMap.{is_at}
 use Rattle.std.specs.Cmp.{nat_cmp_total, tied_itself}
 use Rattle.std.specs.Ordering.{nat_cmp, is_eq}
@@ -15,7 +15,6 @@ use Rattle.recovery_ledger.specs.Probes.{ProbeFound, pending_stands, moves, noth
 use Rattle.recovery_ledger.specs.SpaceLog.{SpaceEntry, heard, heard_again, sends, acknowledged, loses, probes, takes_pending, feeds_back, emptied, ack_goes, ack_is_late, asked}
 use Rattle.recovery_ledger.specs.Tracked.{Sent, sent_by, sent_less, sent_more, sent_moved, forgotten_by}
 use Rattle.recovery_ledger.proofs.CarryLaws.{sum-carrying}
-use Rattle.recovery_ledger.proofs.DepartureLaws.{times, IsTracked}
 use Rattle.recovery_ledger.proofs.CountLaws.{is_forgotten}
 use Rattle.recovery_ledger.proofs.LedgerLaws.{gone, sum-sent_onto}
 use Rattle.recovery_ledger.proofs.PacketLaws.{found-le-sum, sum-without}
@@ -36,6 +35,14 @@ use Rattle.quic_recovery.specs.Promises.Tracked.{is_tracked}
 use Rattle.quic_recovery.specs.Told.{Told, ProbeOutReply}
 
 -- ---- a number among those that are tracked
+
+-- how often it stands there
+abbrev pub times : {P M : Type 0} → ℕ → Packets P M → ℕ
+times n packets = sum_by (λ entry. one_if_same entry.0 n) packets
+
+-- the packet of a number is there
+abbrev IsTracked : {P M : Type 0} → Sent P M → ℕ → Type 0
+IsTracked {P} {M} sent number = (packet : Packet P M) × (packet_at sent.tracked number ≡ Some packet)
 
 at_itself : (n : ℕ) → is_at (nat_cmp n) n ≡ true
 at_itself n = ap is_eq (tied_itself nat_cmp_total n)
