@@ -1,8 +1,7 @@
 -- A report of a black hole needs four bursts, and comes at four, throughout a run.
-use Rattle.std.proofs.Common.{◌≡◌, ℕ, Bool, true, false, cond, List, [], ◌∷◌, Option, None, Some, Ok, Err, refl, sym, ap, subst, arith, ◌∙◌}
+use Rattle.std.proofs.Common.{◌≡◌, ◌≤◌, ℕ, Bool, true, false, cond, List, [], ◌∷◌, Option, None, Some, Ok, Err, refl, sym, ap, subst, arith, ◌∙◌}
 use Rattle.recovery_base.specs.declared.below.SpaceId.TheVariants.{Data}
 use Rattle.recovery_config.specs.declared.config.TransportConfig.{TransportConfig}
-use Rattle.recovery_ledger.specs.Departures.{LeaveOnce}
 use Rattle.recovery_mtud.specs.declared.config.MtuDiscoveryConfig.{MtuDiscoveryConfig}
 use Rattle.recovery_mtud.specs.Discovery.{reports}
 use Rattle.recovery_mtud.specs.DiscoveryLog.{discovery_by}
@@ -19,12 +18,15 @@ use Rattle.quic_recovery.specs.declared.event.Answer.TheVariants.{BlackHole}
 use Rattle.quic_recovery.specs.declared.event.Refusal.TheVariants.{NoMemory}
 use Rattle.quic_recovery.specs.Amplification.{pasts_of}
 use Rattle.quic_recovery.specs.Entries.{logs_of}
-use Rattle.quic_recovery.specs.History.{Beginning, History, Reply, ThroughoutFrom, Throughout, history_from}
+use Rattle.quic_recovery.specs.History.{Beginning, History, Reply, ThroughoutFrom, Throughout}
 use Rattle.quic_recovery.specs.Known.{first_path, settings_of}
+use Rattle.quic_recovery.specs.Promises.Once.{departures_of}
 use Rattle.quic_recovery.specs.Told.{Told}
 use Rattle.quic_recovery.proofs.SearchSaid.{ComesAtFourBursts, NeedsFourBursts}
-use Rattle.quic_recovery.proofs.DepartureLaws.{leave_once_in}
-use Rattle.quic_recovery.proofs.FateLaws.{log_of_data, fates_depart, once_before}
+use Rattle.quic_recovery.proofs.AmplificationLaws.{throughout_kept}
+use Rattle.quic_recovery.proofs.FateLaws.{fates_depart}
+use Rattle.quic_recovery.proofs.OneFateLaws.{leave_once, one_fate}
+use Rattle.quic_recovery.proofs.TrackedLaws.{AllTracked, keeps_tracked, none_tracked}
 
 -- ---- the search of the path in use was told nothing as it was made
 
@@ -84,7 +86,7 @@ module _ {F K Q S M P : Type 0} (beginning : Beginning F K Q S M P) where
 
   -- no number of a 1-RTT packet has left twice
   abbrev HaveLeftOnce : History Q S M P → Type 0
-  HaveLeftOnce history = LeaveOnce (log_of_data beginning history)
+  HaveLeftOnce history = (number : ℕ) → departures_of Data number history ≤ 1
 
   -- where a hole is reported, four stand
   needs_by : (before : History Q S M P) (now : ℕ) → HaveLeftOnce before → (hole : Bool) → reports_there before ≡ hole
@@ -104,19 +106,10 @@ module _ {F K Q S M P : Type 0} (beginning : Beginning F K Q S M P) where
   needs_one before (LossesDone now) (Err refusal) told once = tt
   needs_one before event reply told once = tt
 
-  -- from a moment on, in a run after which no number has left twice
-  needs_from : (before : History Q S M P) (events : List (Event Q S M P)) (replies : List (Reply Q))
-      → ThroughoutFrom (Told beginning) before events replies → HaveLeftOnce (history_from before events replies)
-      → ThroughoutFrom (NeedsFourBursts beginning) before events replies
-  needs_from before [] [] told once = tt
-  needs_from before (event ∷ events) (reply ∷ replies) told once = (
-    needs_one before event reply told.0 (once_before beginning before (event ∷ events) (reply ∷ replies) once),
-    needs_from ((event, reply) ∷ before) events replies told.1 once,
-  )
-  needs_from before [] (reply ∷ replies) told once = absurd told
-  needs_from before (event ∷ events) [] told once = absurd told
-
   -- throughout a run
   pub needs_four : (events : List (Event Q S M P)) (replies : List (Reply Q))
       → Throughout (Told beginning) events replies → Throughout (NeedsFourBursts beginning) events replies
-  needs_four events replies told = needs_from [] events replies told (leave_once_in beginning events replies told Data)
+  needs_four events replies told =
+      throughout_kept beginning (AllTracked beginning) (NeedsFourBursts beginning) (keeps_tracked beginning)
+      (λ before event reply here all. needs_one before event reply here (leave_once before (one_fate beginning before all) Data))
+      [] events replies told (none_tracked beginning)

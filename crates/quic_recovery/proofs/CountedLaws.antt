@@ -16,7 +16,6 @@ use Rattle.recovery_ledger.specs.Probes.{ProbeFound, pending_stands, moves, noth
 use Rattle.recovery_ledger.specs.SpaceLog.{SpaceEntry, heard, heard_again, sends, acknowledged, loses, probes, takes_pending, feeds_back, emptied, ack_goes, ack_is_late, asked}
 use Rattle.recovery_ledger.specs.Tracked.{Sent, sent_by, sent_less, sent_more, sent_moved, forgotten_by}
 use Rattle.recovery_ledger.proofs.CarryLaws.{sum-carrying}
-use Rattle.recovery_ledger.proofs.DepartureLaws.{times}
 use Rattle.recovery_ledger.proofs.PacketLaws.{number_at}
 use Rattle.recovery_paths.specs.PathLog.{PathKnown, path_of}
 use Rattle.recovery_paths.specs.declared.live_paths.PathName.TheVariants.{Current}
@@ -36,9 +35,8 @@ use Rattle.quic_recovery.specs.Told.{Told, Is, OnPath, counters_answer}
 use Rattle.quic_recovery.specs.Promises.Counted.{sum_on, total, IsTally, CountsInFlight}
 use Rattle.quic_recovery.specs.Promises.Paths.{paths_made}
 use Rattle.quic_recovery.proofs.AmplificationLaws.{throughout_kept}
-use Rattle.quic_recovery.proofs.DepartureLaws.{sent_in}
 use Rattle.quic_recovery.proofs.PathLaws.{generation_told}
-use Rattle.quic_recovery.proofs.TrackedLaws.{AllTracked, keeps_tracked, none_tracked, probe_number, one_space}
+use Rattle.quic_recovery.proofs.TrackedLaws.{AllTracked, keeps_tracked, none_tracked, probe_number, one_space, sent_in, times}
 
 -- ---- sums over tracked packets, but for the numbers that are gone
 

@@ -1,11 +1,11 @@
 -- What the search of the path in use is told of a number happened to that number in the space of 1-RTT packets.
-use Rattle.std.proofs.Common.{◌≡◌, ℕ, ◌+◌, ◌≤◌, ◌&&◌, Bool, true, false, cond, List, [], ◌∷◌, ◌++◌, Option, None, Some, Ok, Err, refl, arith}
+use Rattle.std.proofs.Common.{◌≡◌, ℕ, ◌+◌, ◌≤◌, ◌==◌, ◌&&◌, Bool, true, false, cond, if◌then◌else◌, [], ◌∷◌, ◌++◌, Option, None, Some, Ok, Err, refl, arith}
 use Rattle.recovery_base.specs.declared.below.SpaceId.{SpaceId}
 use Rattle.recovery_base.specs.declared.below.SpaceId.TheVariants.{Initial, Handshake, Data}
+use Rattle.recovery_base.specs.Spaces.{same_space}
 use Rattle.recovery_congestion.specs.Calls.{ControllerCall}
-use Rattle.recovery_ledger.specs.Departures.{one_if_same, departures, LeaveOnce}
+use Rattle.recovery_ledger.specs.Departures.{one_if_same}
 use Rattle.recovery_ledger.specs.Packets.{Packet, packet_at}
-use Rattle.recovery_ledger.specs.SpaceLog.{SpaceEntry, heard, heard_again, sends, acknowledged, loses, probes, takes_pending, feeds_back, emptied, ack_goes, ack_is_late, asked}
 use Rattle.recovery_mtud.specs.Discovery.{reports, is_probe}
 use Rattle.recovery_mtud.specs.DiscoveryLog.{MtuCall, losses_end, loses_probe, loses as loses_packet, acks as acks_packet}
 use Rattle.recovery_paths.specs.declared.live_paths.PathName.TheVariants.{Current, Previous}
@@ -19,27 +19,14 @@ use Rattle.quic_recovery.specs.declared.event.Answer.TheVariants.{New, Flag, Tra
 use Rattle.quic_recovery.specs.declared.event.Refusal.{Refusal}
 use Rattle.quic_recovery.specs.declared.event.Refusal.TheVariants.{DelayTooSmall}
 use Rattle.quic_recovery.specs.Amplification.{pasts_of}
-use Rattle.quic_recovery.specs.Entries.{Entries, here, answered, entries_of, refused, acked_entry, acked_search, lost_search, searched, is_own, logs_of}
-use Rattle.quic_recovery.specs.History.{Beginning, History, QueueMeaning, Reply, history_from}
+use Rattle.quic_recovery.specs.Entries.{Entries, answered, entries_of, refused, acked_entry, acked_search, lost_search, searched, is_own, logs_of}
+use Rattle.quic_recovery.specs.History.{Beginning, History, QueueMeaning, Reply}
 use Rattle.quic_recovery.specs.Known.{Known, known_by, first_path, settings_of, tracked_known}
-use Rattle.quic_recovery.specs.Logs.{onto}
+use Rattle.quic_recovery.specs.Promises.Once.{departures_of}
 
--- an entry's own departures are added to those before it
-departures-onto : {P M : Type 0} (number : ℕ) (entry : Option (SpaceEntry P M)) (log : List (SpaceEntry P M))
-    → departures number (onto entry log) ≡ departures number log + departures number (onto entry [])
-departures-onto number None log = omega arith
-departures-onto number (Some (acknowledged other)) log = omega arith
-departures-onto number (Some (loses other)) log = omega arith
-departures-onto number (Some (heard now other eliciting)) log = omega arith
-departures-onto number (Some (heard_again other)) log = omega arith
-departures-onto number (Some (sends other packet)) log = omega arith
-departures-onto number (Some (probes immediate found)) log = omega arith
-departures-onto number (Some takes_pending) log = omega arith
-departures-onto number (Some (feeds_back counts)) log = omega arith
-departures-onto number (Some emptied) log = omega arith
-departures-onto number (Some ack_goes) log = omega arith
-departures-onto number (Some ack_is_late) log = omega arith
-departures-onto number (Some (asked frame)) log = omega arith
+-- how often a number leaves the space of 1-RTT packets, where it is this one
+abbrev leaves_data : SpaceId → ℕ → ℕ → ℕ
+leaves_data space other number = if same_space space Data && other == number then 1 else 0
 
 module _ {K P M : Type 0} (known : Known K P M) (number : ℕ) where
   -- ---- what each part of an event's entries tells
@@ -67,8 +54,7 @@ module _ {K P M : Type 0} (known : Known K P M) (number : ℕ) where
 
   -- what is told of an acknowledged packet
   acked_departs : (space : SpaceId) (now other : ℕ) (app_limited : Bool) (packet : Option (Packet P M))
-      → told_in number (acked_entry known now app_limited packet ++ acked_search known space other packet) ≤ departures
-      {P = P} {M = M} number (onto (here space Data (acknowledged other)) [])
+      → told_in number (acked_entry known now app_limited packet ++ acked_search known space other packet) ≤ leaves_data space other number
   acked_departs space now other app_limited None = omega arith
   acked_departs Initial now other app_limited (Some packet) =
       omega (arith, told-append number (acked_entry known now app_limited (Some packet)) [], acked_entry_tells now app_limited (Some packet))
@@ -86,8 +72,7 @@ module _ {K P M : Type 0} (known : Known K P M) (number : ℕ) where
 
   -- and of a lost one
   lost_departs : (space : SpaceId) (other : ℕ) (packet : Option (Packet P M))
-      → told_in number (lost_search known space other packet) ≤ departures {P = P} {M = M} number
-      (onto (here space Data (loses other)) [])
+      → told_in number (lost_search known space other packet) ≤ leaves_data space other number
   lost_departs space other None = omega arith
   lost_departs Initial other (Some packet) = omega arith
   lost_departs Handshake other (Some packet) = omega arith
@@ -95,16 +80,20 @@ module _ {K P M : Type 0} (known : Known K P M) (number : ℕ) where
       let discovery = known.paths.current.state.discovery in
       omega (arith, searched_tells false (loss_call other packet.size discovery), lost_tells (is_probe other discovery) other packet.size)
 
--- what is told of a number in an event's entries is in the entry of the space of 1-RTT packets
-abbrev Departs : {P M : Type 0} → ℕ → Entries P M → Type 0
-Departs number entries = told_in number entries.paths ≤ departures number (onto (entries.spaces Data) [])
+module _ {K Q S M P : Type 0} (q : QueueMeaning Q S M P) (known : Known K P M) (number : ℕ) (earlier : History Q S M P) where
+  -- what is told of a number by an event's entries, it left by the event
+  abbrev Departs : Entries P M → Event Q S M P × Reply Q → Type 0
+  Departs entries happened =
+      told_in number entries.paths + departures_of Data number earlier ≤ departures_of Data number (happened ∷ earlier)
 
-module _ {K Q S M P : Type 0} (q : QueueMeaning Q S M P) (known : Known K P M) (number : ℕ) where
   -- by each event
-  answer_departs : (event : Event Q S M P) (answer : Answer Q) → Departs number (answered q known event answer)
-  answer_departs (Acked space now other app_limited) answer = acked_departs known number space now other app_limited
-      (packet_at (tracked_known known space) other)
-  answer_departs (Lost space other) answer = lost_departs known number space other (packet_at (tracked_known known space) other)
+  answer_departs : (event : Event Q S M P) (answer : Answer Q) → Departs (answered q known event answer) (event, Ok answer)
+  answer_departs (Acked space now other app_limited) answer =
+      let departs = acked_departs known number space now other app_limited (packet_at (tracked_known known space) other) in
+      omega (arith, departs)
+  answer_departs (Lost space other) answer =
+      let departs = lost_departs known number space other (packet_at (tracked_known known space) other) in
+      omega (arith, departs)
   answer_departs (LossesDone now) answer = omega (arith, searched_tells known number (reports known.paths.current.state.discovery) (losses_end now))
   answer_departs (PollMtu now) (Probe other size) = omega arith
   answer_departs (PollMtu now) answer = omega arith
@@ -133,50 +122,31 @@ module _ {K Q S M P : Type 0} (q : QueueMeaning Q S M P) (known : Known K P M) (
   answer_departs event answer = omega arith
 
   -- and by a refused one
-  refusal_departs : (event : Event Q S M P) (refusal : Refusal) → Departs number (refused event refusal)
+  refusal_departs : (event : Event Q S M P) (refusal : Refusal) → Departs (refused event refusal) (event, Err refusal)
   refusal_departs (AckFrequencyIn frame) DelayTooSmall = omega arith
   refusal_departs (AckFrequencyIn frame) refusal = omega arith
   refusal_departs event refusal = omega arith
 
-  event_departs : (event : Event Q S M P) (reply : Reply Q) → Departs number (entries_of q known event reply)
+  event_departs : (event : Event Q S M P) (reply : Reply Q) → Departs (entries_of q known event reply) (event, reply)
   event_departs event (Ok answer) = answer_departs event answer
   event_departs event (Err refusal) = refusal_departs event refusal
 
-module _ {F K Q S M P : Type 0} (beginning : Beginning F K Q S M P) where
-  -- what happened in the space of 1-RTT packets up to a moment
-  abbrev pub log_of_data : History Q S M P → List (SpaceEntry P M)
-  log_of_data history = (logs_of beginning history).spaces Data
-
+module _ {F K Q S M P : Type 0} (beginning : Beginning F K Q S M P) (number : ℕ) where
   -- so by a whole history
-  told_departs : (number : ℕ) (history : History Q S M P) → told_in number (logs_of beginning history).paths ≤ departures number (log_of_data history)
-  told_departs number [] = omega arith
-  told_departs number (happened ∷ earlier) =
+  told_departs : (history : History Q S M P) → told_in number (logs_of beginning history).paths ≤ departures_of Data number history
+  told_departs [] = omega arith
+  told_departs (happened ∷ earlier) =
       let logs = logs_of beginning earlier in
-      let entries = entries_of beginning.queue (known_by beginning logs) happened.0 happened.1 in
-      omega (
-        arith,
-        told_departs number earlier,
-        told-append number entries.paths logs.paths,
-        departures-onto number (entries.spaces Data) (logs.spaces Data),
-        event_departs beginning.queue (known_by beginning logs) number happened.0 happened.1,
-      )
+      let known = known_by beginning logs in
+      let before = told_departs earlier in
+      let both = told-append number (entries_of beginning.queue known happened.0 happened.1).paths logs.paths in
+      let now = event_departs beginning.queue known number earlier happened.0 happened.1 in
+      omega (arith, before, both, now)
 
   -- at each moment a number was told at most as often to the search of the path in use as it left its space
-  pub fates_depart : (number : ℕ) (history : History Q S M P)
-      → fates number (pasts_of beginning history).current.searched ≤ departures number (log_of_data history)
-  fates_depart number history = omega (
-    arith,
-    fates_by (settings_of beginning) number (first_path beginning)
-        (logs_of beginning history).paths,
-    told_departs number history,
-  )
-
-  -- what leaves once in a whole run has left once at most up to each moment
-  pub once_before : (before : History Q S M P) (events : List (Event Q S M P)) (replies : List (Reply Q))
-      → LeaveOnce (log_of_data (history_from before events replies)) → LeaveOnce (log_of_data before)
-  once_before before [] replies once = once
-  once_before before (event ∷ events) [] once = once
-  once_before before (event ∷ events) (reply ∷ replies) once = λ number.
-      let logs = logs_of beginning before in
-      let entries = entries_of beginning.queue (known_by beginning logs) event reply in
-      omega (arith, once_before ((event, reply) ∷ before) events replies once number, departures-onto number (entries.spaces Data) (logs.spaces Data))
+  pub fates_depart : (history : History Q S M P)
+      → fates number (pasts_of beginning history).current.searched ≤ departures_of Data number history
+  fates_depart history =
+      let told = fates_by (settings_of beginning) number (first_path beginning) (logs_of beginning history).paths in
+      let departs = told_departs history in
+      omega (arith, told, departs)

@@ -5,19 +5,20 @@ use Rattle.recovery_congestion.specs.Controllers.{ControllerWords}
 use Rattle.recovery_paths.specs.Balance.{AreBalanced}
 use Rattle.quic_recovery.specs.declared.event.Event.{Event}
 use Rattle.quic_recovery.specs.Entries.{entries_of, logs_of}
-use Rattle.quic_recovery.specs.History.{Beginning, History, QueueMeaning, Reply, history, history_from, Throughout, ThroughoutFrom}
+use Rattle.quic_recovery.specs.History.{Beginning, History, QueueMeaning, Reply, history_from, Throughout, ThroughoutFrom}
 use Rattle.quic_recovery.specs.Known.{known_by}
 use Rattle.quic_recovery.specs.Parts.{Parts}
 use Rattle.quic_recovery.specs.Past.{Past, more, history_of, Came, CameSomehow, GoesOn, GoesOnFrom, StaysOn, WentOn}
 use Rattle.quic_recovery.specs.State.{Changes, Left}
 use Rattle.quic_recovery.specs.Pacing.{DelaysByBalance, KeepsPace, PassesSoon, PassesWhenNamed}
 use Rattle.quic_recovery.specs.Promises.Blocked.{BlocksExactly}
+use Rattle.quic_recovery.specs.Promises.Contents.{LosesNothing}
 use Rattle.quic_recovery.specs.Promises.Counted.{CountsInFlight}
+use Rattle.quic_recovery.specs.Promises.Fates.{HaveOneFate}
 use Rattle.quic_recovery.specs.Promises.Few.{ProbesFew}
 use Rattle.quic_recovery.specs.Promises.Holes.{ReportsAtFour}
 use Rattle.quic_recovery.specs.Promises.Mtu.{UsesMtu}
 use Rattle.quic_recovery.specs.Promises.Near.{EndsNearBy}
-use Rattle.quic_recovery.specs.Promises.Once.{LeaveOnceEach}
 use Rattle.quic_recovery.specs.Promises.PeerIds.{AcceptsIds}
 use Rattle.quic_recovery.specs.Promises.Refused.{RefusesRightly}
 use Rattle.quic_recovery.specs.Promises.Threefold.{KeepsThreefold}
@@ -25,14 +26,14 @@ use Rattle.quic_recovery.specs.Promises.Turns.{SearchesInTurn}
 use Rattle.quic_recovery.specs.Told.{Told}
 use Rattle.quic_recovery.proofs.BlockedLaws.{blocks_exactly}
 use Rattle.quic_recovery.proofs.CountedLaws.{counts_in_flight}
-use Rattle.quic_recovery.proofs.DepartureLaws.{leave_once_in}
+use Rattle.quic_recovery.proofs.ContentsLaws.{loses_nothing}
 use Rattle.quic_recovery.proofs.FewLaws.{few_told}
 use Rattle.quic_recovery.proofs.HolesLaws.{holes_told}
 use Rattle.quic_recovery.proofs.LeftLaws.{changes_by_logs, left_after}
 use Rattle.quic_recovery.proofs.MtuLaws.{mtu_told}
 use Rattle.quic_recovery.proofs.NearLaws.{near_told}
 use Rattle.quic_recovery.proofs.NewNumbersLaws.{numbers_told}
-use Rattle.quic_recovery.proofs.OnceLaws.{leave_once_each}
+use Rattle.quic_recovery.proofs.OneFateLaws.{have_one_fate, leave_once}
 use Rattle.quic_recovery.proofs.OwnIdsLaws.{issues_ids}
 use Rattle.quic_recovery.proofs.PacingLaws.{delayed, rate, soon, named}
 use Rattle.quic_recovery.proofs.PeerIdsLaws.{accepts_ids}
@@ -71,7 +72,8 @@ module _ {F K Q S M P : Type 0} (beginning : Beginning F K Q S M P) where
       let last : (H : History Q S M P → Event Q S M P → Reply Q → Type 0) → Throughout H events replies → H before event reply = λ H holds.
       last_of (Told beginning) H event reply [] past.events past.replies came.told holds in
       let Leaves : History Q S M P → Type 0 = λ h. Left beginning h new in
-      let Leave : History Q S M P → Type 0 = LeaveOnceEach in
+      let Fate : History Q S M P → Type 0 = HaveOneFate in
+      let one = subst Fate longer (have_one_fate beginning events replies all) in
       record {
         history = longer;
         keeps = record {
@@ -93,7 +95,9 @@ module _ {F K Q S M P : Type 0} (beginning : Beginning F K Q S M P) where
           few = last (ProbesFew beginning) (few_told beginning came.small events replies all);
           near = last (EndsNearBy beginning) (near_told beginning came.small events replies all);
           holes = last (ReportsAtFour beginning.config.transport.min_mtu) (holes_told beginning events replies all);
-          once = subst Leave longer (leave_once_each beginning (history events replies) (leave_once_in beginning events replies all));
+          fates = one;
+          once = leave_once ((event, reply) ∷ before) one;
+          contents = subst (LosesNothing beginning) longer (loses_nothing beginning events replies all);
         };
         came = record {
           told = all;

@@ -1,6 +1,6 @@
--- A packet is tracked by its space exactly where the history says so.
+-- A packet is tracked by its space exactly where the history says so; and each number that was given out, once at most, has one fate.
 use Rattle.std.proofs.Common.{◌≡◌, ◌≤◌, ◌+◌, ℕ, ◌==◌, ◌&&◌, ◌||◌, not, Bool, true, false, cond, List, [], ◌∷◌, Option, None, Some, Ok, Err, refl, sym, ap, subst, arith}
-use Rattle.std.specs.Prelude.{is_some}
+use Rattle.std.specs.Prelude.{is_some, sum_by}
 use Rattle.std.specs.BTreeMap.{is_at}
 use Rattle.std.specs.Cmp.{nat_cmp_total, tied_itself}
 use Rattle.std.specs.Ordering.{nat_cmp, is_eq}
@@ -10,14 +10,15 @@ use Rattle.recovery_base.specs.declared.below.SpaceId.{SpaceId}
 use Rattle.recovery_base.specs.declared.below.SpaceId.TheVariants.{Initial, Handshake, Data}
 use Rattle.recovery_base.specs.Spaces.{same_space}
 use Rattle.recovery_ledger.specs.Departures.{one_if_same}
-use Rattle.recovery_ledger.specs.Packets.{Packet, Packets, packet_at, entry_at, numbered}
+use Rattle.recovery_ledger.specs.Packets.{Packet, Packets, packet_at, entry_at, numbered, is_silent_above, least_number, forgotten_silent, silent_above}
 use Rattle.recovery_ledger.specs.Probes.{ProbeFound, pending_stands, moves, nothing_found}
 use Rattle.recovery_ledger.specs.SpaceLog.{SpaceEntry, heard, heard_again, sends, acknowledged, loses, probes, takes_pending, feeds_back, emptied, ack_goes, ack_is_late, asked}
 use Rattle.recovery_ledger.specs.Tracked.{Sent, sent_by, sent_less, sent_more, sent_moved, forgotten_by}
 use Rattle.recovery_ledger.proofs.CarryLaws.{sum-carrying}
-use Rattle.recovery_ledger.proofs.DepartureLaws.{times, IsTracked}
+use Rattle.recovery_ledger.proofs.CountLaws.{is_forgotten}
 use Rattle.recovery_ledger.proofs.LedgerLaws.{gone, sum-sent_onto}
 use Rattle.recovery_ledger.proofs.PacketLaws.{found-le-sum, sum-without}
+use Rattle.recovery_skips.proofs.SkipLaws.{number_from_above}
 use Rattle.quic_recovery.specs.declared.event.Event.{Event}
 use Rattle.quic_recovery.specs.declared.event.Event.TheVariants.{Received, Send, Acked, Lost, AckFrequencyIn, AcksSent, AckDelayTimeout, DiscardSpace, PollMtu, Transmit, Ecn, QueueProbe, TakePending}
 use Rattle.quic_recovery.specs.declared.event.Answer.{Answer}
@@ -25,15 +26,23 @@ use Rattle.quic_recovery.specs.declared.event.Answer.TheVariants as answers
 use Rattle.quic_recovery.specs.declared.event.Answer.TheVariants.{New, Flag, Probe, Transmitted, Delayed}
 use Rattle.quic_recovery.specs.declared.event.Refusal.{Refusal}
 use Rattle.quic_recovery.specs.declared.event.Refusal.TheVariants.{DelayTooSmall}
-use Rattle.quic_recovery.specs.Entries.{answered, refused, entries_of, found_in, logs_of}
-use Rattle.quic_recovery.specs.History.{Beginning, History, QueueMeaning, Reply, history}
+use Rattle.quic_recovery.specs.Entries.{answered, found_in, logs_of}
+use Rattle.quic_recovery.specs.History.{Beginning, History, QueueMeaning, Reply}
 use Rattle.quic_recovery.specs.Known.{Known, known_by, number_in, packet_now}
 use Rattle.quic_recovery.specs.Logs.{onto}
+use Rattle.quic_recovery.specs.Promises.Fates.{more_if, times as times_in, is_given, is_acked, is_lost, is_forgotten as is_forgotten_in, is_discarded}
 use Rattle.quic_recovery.specs.Promises.Tracked.{is_tracked}
 use Rattle.quic_recovery.specs.Told.{Told, ProbeOutReply}
-use Rattle.quic_recovery.proofs.DepartureLaws.{tracked as is_there, sent_in, is_new}
 
 -- ---- a number among those that are tracked
+
+-- how often it stands there
+abbrev pub times : {P M : Type 0} → ℕ → Packets P M → ℕ
+times n packets = sum_by (λ entry. one_if_same entry.0 n) packets
+
+-- the packet of a number is there
+abbrev IsTracked : {P M : Type 0} → Sent P M → ℕ → Type 0
+IsTracked {P} {M} sent number = (packet : Packet P M) × (packet_at sent.tracked number ≡ Some packet)
 
 at_itself : (n : ℕ) → is_at (nat_cmp n) n ≡ true
 at_itself n = ap is_eq (tied_itself nat_cmp_total n)
@@ -61,11 +70,54 @@ module _ (n : ℕ) where
   one_less true false count sum = absurd (omega (arith, sum))
   one_less false tracked count sum = omega (arith, sum)
 
+-- ---- what became of a number that was given out
+
+-- so often it was given out, and so often it is gone; and whether it is tracked
+abbrev Adds : ℕ → Bool → ℕ → Type 0
+Adds given tracked departed = given ≡ more_if tracked departed
+
+-- it is given out, or another one is, and perhaps it is forgotten
+adds_sent : (here forgotten tracked : Bool) (given departed : ℕ) → Adds given tracked departed → (here ≡ true → given ≡ 0)
+    → (forgotten ≡ true → tracked ≡ true)
+    → Adds (more_if here given) (here || (not forgotten && tracked)) (more_if forgotten departed)
+adds_sent true forgotten true given departed adds new there = let none = new refl in absurd (omega (arith, adds, none))
+adds_sent here true false given departed adds new there = (let wrong = there refl in cc)
+adds_sent true false false given departed adds new there = omega (arith, adds)
+adds_sent false true true given departed adds new there = adds
+adds_sent false false tracked given departed adds new there = adds
+
+-- given out at most once
+once_sent : (here : Bool) (given : ℕ) → given ≤ 1 → (here ≡ true → given ≡ 0) → more_if here given ≤ 1
+once_sent true given once new = let none = new refl in omega (arith, none)
+once_sent false given once new = once
+
+none_sent : (here : Bool) (given : ℕ) → here ≡ false → given ≡ 0 → more_if here given ≡ 0
+none_sent true given other none = cc
+none_sent false given other none = none
+
+-- it leaves, where it is the one that does
+adds_less : (here tracked : Bool) (count given departed : ℕ) → count + cond here 1 0 ≡ cond tracked 1 0 → Adds given tracked departed
+    → Adds given (not here && tracked) (more_if here departed)
+adds_less true true count given departed sum adds = adds
+adds_less true false count given departed sum adds = absurd (omega (arith, sum))
+adds_less false tracked count given departed sum adds = adds
+
+stands_tracked : (tracked : Bool) (count : ℕ) → count ≡ cond tracked 1 0 → 1 ≤ count → tracked ≡ true
+stands_tracked true count same there = refl
+stands_tracked false count same there = absurd (omega (arith, same, there))
+
+untracked : (tracked : Bool) (given departed : ℕ) → Adds given tracked departed → given ≡ 0 → tracked ≡ false
+untracked true given departed adds none = absurd (omega (arith, adds, none))
+untracked false given departed adds none = refl
+
 module _ {P M : Type 0} (n : ℕ) where
-  -- the number stands there once where it is tracked, and else not; and what is tracked was given out
-  pub record Tracks (sent : Sent P M) (tracked : Bool) : Type 0 where
+  -- the number stands there once where it is tracked, and else not; it was given out once at most, and not yet from the next one on;
+  -- and where it was it is tracked, or gone
+  pub record Tracks (sent : Sent P M) (tracked : Bool) (given departed : ℕ) : Type 0 where
     pub same : times n sent.tracked ≡ cond tracked 1 0
-    pub given : sent.next ≤ n → tracked ≡ false
+    pub adds : Adds given tracked departed
+    pub once : given ≤ 1
+    pub late : sent.next ≤ n → given ≡ 0
 
   found_counts : (packets : Packets P M) (packet : Packet P M) → packet_at packets n ≡ Some packet → 1 ≤ times n packets
   found_counts packets packet found =
@@ -106,42 +158,78 @@ module _ {P M : Type 0} (n : ℕ) where
           (subst (λ k. packet_at packets k ≡ Some packet) is found) in
           grind (arith, nat_tests, one, same)
 
-  module _ (sent : Sent P M) (tracked : Bool) (here : Tracks sent tracked) where
+  -- what is forgotten stands there
+  least_counts : (last : Option ℕ) (packets : Packets P M) → least_number (silent_above last packets) ≡ Some n → 1 ≤ times n packets
+  least_counts last [] is = cc
+  least_counts last (entry ∷ packets) is = go (is_silent_above last entry) is (least_counts last packets)
+    where
+      go : (b : Bool) → least_number (cond b (entry ∷ silent_above last packets) (silent_above last packets)) ≡ Some n
+          → (least_number (silent_above last packets) ≡ Some n → 1 ≤ times n packets) → 1 ≤ times n (entry ∷ packets)
+      go true is later =
+          let cons = sum_by-cons (λ (e : ℕ × Packet P M). one_if_same e.0 n) entry packets in
+          let same : entry.0 ≡ n = some_same is in
+          let one : one_if_same entry.0 n ≡ 1 = grind (arith, nat_tests, same) in
+          omega (arith, cons, one)
+        where
+          some_same : {k m : ℕ} → Some k ≡ Some m → k ≡ m
+          some_same e = cc
+      go false is later =
+          let cons = sum_by-cons (λ (e : ℕ × Packet P M). one_if_same e.0 n) entry packets in
+          let there = later is in
+          omega (arith, cons, there)
+
+  forgotten_stands : (sent : Sent P M) (packet : Packet P M) → is_it n (forgotten_by sent packet) ≡ true → 1 ≤ times n sent.tracked
+  forgotten_stands sent packet is = eliciting packet.ack_eliciting is
+    where
+      silent : (f : Option ℕ) → forgotten_silent sent.last sent.tracked ≡ f → is_it n f ≡ true → 1 ≤ times n sent.tracked
+      silent None e is = cc
+      silent (Some m) e is =
+          let same : m ≡ n = grind (arith, nat_tests, is) in
+          let least = is_forgotten sent.last sent.tracked m e in
+          least_counts sent.last sent.tracked (subst (λ k. least_number (silent_above sent.last sent.tracked) ≡ Some k) same least)
+
+      eliciting : (b : Bool) → is_it n (cond b None (forgotten_silent sent.last sent.tracked)) ≡ true → 1 ≤ times n sent.tracked
+      eliciting true is = cc
+      eliciting false is = silent (forgotten_silent sent.last sent.tracked) refl is
+
+  module _ (sent : Sent P M) (tracked : Bool) (given departed : ℕ) (here : Tracks sent tracked given departed) where
     -- a packet goes out under a number that was not given out, and another is perhaps forgotten
     sent_tracks : (number : ℕ) (packet : Packet P M) → sent.next ≤ number
-        → Tracks (sent_more number packet sent) (number == n || (not (is_it n (forgotten_by sent packet)) && tracked))
-    sent_tracks number packet new = record {
-      same =
-          let sum = sum-sent_onto (λ entry. one_if_same entry.0 n) sent.last number packet sent.tracked in
-          let left = forgotten_counts sent.tracked (forgotten_by sent packet) tracked here.same in
-          let was = here.same in
-          let apart : (number == n) ≡ true → tracked ≡ false = λ is. here.given (grind (arith, nat_tests, is, new)) in
-          more_sent n (number == n) (is_it n (forgotten_by sent packet)) tracked _ (omega (arith, sum, left, was))
-          apart;
-      given = λ late. go (is_it n (forgotten_by sent packet)) tracked (here.given (omega (arith, late, new))) late;
-    }
-      where
-        go : (forgotten tracked : Bool) → tracked ≡ false → number + 1 ≤ n
-            → (number == n || (not forgotten && tracked)) ≡ false
-        go true tracked none late = grind (arith, nat_tests, late)
-        go false tracked none late = grind (arith, nat_tests, late, none)
+        → let forgotten = is_it n (forgotten_by sent packet) in
+        Tracks (sent_more number packet sent) (number == n || (not forgotten && tracked)) (more_if (number == n) given)
+        (more_if forgotten departed)
+    sent_tracks number packet new =
+        let forgotten = is_it n (forgotten_by sent packet) in
+        let none : (number == n) ≡ true → given ≡ 0 = λ is. here.late (grind (arith, nat_tests, is, new)) in
+        record {
+          same =
+              let sum = sum-sent_onto (λ entry. one_if_same entry.0 n) sent.last number packet sent.tracked in
+              let left = forgotten_counts sent.tracked (forgotten_by sent packet) tracked here.same in
+              let was = here.same in
+              more_sent n (number == n) forgotten tracked _ (omega (arith, sum, left, was))
+              (λ is. untracked tracked given departed here.adds (none is));
+          adds = adds_sent (number == n) forgotten tracked given departed here.adds none
+              (λ is. stands_tracked tracked _ here.same (forgotten_stands sent packet is));
+          once = once_sent (number == n) given here.once none;
+          late = λ late. none_sent (number == n) given (grind (arith, nat_tests, late)) (here.late (omega (arith, late, new)));
+        }
 
     -- a tracked packet leaves
-    taken_tracks : (number : ℕ) → IsTracked sent number → Tracks (sent_less number sent) (not (number == n) && tracked)
-    taken_tracks number there = record {
-      same =
-          let sum = sum-without (λ entry. one_if_same entry.0 n) sent.tracked number there.0 there.1 in
-          let was = here.same in
-          one_less n (number == n) tracked _ (omega (arith, sum, was));
-      given = λ late. go (number == n) (here.given late);
-    }
-      where
-        go : (b : Bool) → tracked ≡ false → (not b && tracked) ≡ false
-        go true none = refl
-        go false none = none
+    taken_tracks : (number : ℕ) → IsTracked sent number
+        → Tracks (sent_less number sent) (not (number == n) && tracked) given (more_if (number == n) departed)
+    taken_tracks number there =
+        let sum = sum-without (λ entry. one_if_same entry.0 n) sent.tracked number there.0 there.1 in
+        let was = here.same in
+        let left : times n (sent_less number sent).tracked + cond (number == n) 1 0 ≡ cond tracked 1 0 = omega (arith, sum, was) in
+        record {
+          same = one_less n (number == n) tracked _ left;
+          adds = adds_less (number == n) tracked _ given departed left here.adds;
+          once = here.once;
+          late = here.late;
+        }
 
     -- contents are moved out of a packet
-    moved_tracks : (empty : P) (found : ProbeFound) → Tracks (sent_moved empty found sent) tracked
+    moved_tracks : (empty : P) (found : ProbeFound) → Tracks (sent_moved empty found sent) tracked given departed
     moved_tracks empty pending_stands = here
     moved_tracks empty nothing_found = here
     moved_tracks empty (moves number) = record {
@@ -149,7 +237,9 @@ module _ {P M : Type 0} (n : ℕ) where
           let kept = sum-carrying sent.tracked number (λ entry. one_if_same entry.0 n) empty (λ m packet. refl) in
           let was = here.same in
           omega (arith, kept, was);
-      given = here.given;
+      adds = here.adds;
+      once = here.once;
+      late = here.late;
     }
 
     -- a look-up says the same
@@ -167,6 +257,22 @@ module _ {P M : Type 0} (n : ℕ) where
 
 -- ---- what an event does to it
 
+-- what a history leaves of the packets of a space
+abbrev pub sent_in : {F K Q S M P : Type 0} → Beginning F K Q S M P → History Q S M P → SpaceId → Sent P M
+sent_in beginning history space = sent_by beginning.queue.words ((logs_of beginning history).spaces space)
+
+-- the number that is given out was not given out before
+is_new : {F K Q S M P : Type 0} (beginning : Beginning F K Q S M P) (before : History Q S M P) (space : SpaceId)
+    → (sent_in beginning before space).next ≤ number_in (known_by beginning (logs_of beginning before)) space
+is_new beginning before Initial = omega arith
+is_new beginning before Handshake = omega arith
+is_new beginning before Data = number_from_above beginning.config.skips beginning.random (sent_in beginning before Data).next
+
+-- a packet that was found is there
+pub is_there : {P M : Type 0} (found : Option (Packet P M)) → ¬ (found ≡ None) → (packet : Packet P M) × (found ≡ Some packet)
+is_there None there = absurd (there refl)
+is_there (Some packet) there = (packet, refl)
+
 pub one_space : (there space : SpaceId) → same_space there space ≡ true → there ≡ space
 one_space Initial Initial e = refl
 one_space Handshake Handshake e = refl
@@ -179,8 +285,37 @@ pub probe_number : {K Q S M P : Type 0} (q : QueueMeaning Q S M P) (known : Know
 probe_number q known now None number size told = cc
 probe_number q known now (Some due) number size told = let is = told.1 in cc
 
+-- how often a number of a space is gone
+abbrev departed_in : {Q S M P : Type 0} → SpaceId → ℕ → History Q S M P → ℕ
+departed_in space n history =
+    times_in (is_acked space n) history + times_in (is_lost space n) history + times_in (is_forgotten_in space n) history
+    + times_in (is_discarded space n) history
+
+-- one more, by each of the four ways
+module _ (acked lost forgotten discarded : ℕ) where
+  acked_more : (one : Bool) → more_if one (acked + lost + forgotten + discarded) ≡ more_if one acked + lost + forgotten + discarded
+  acked_more true = omega arith
+  acked_more false = refl
+
+  lost_more : (one : Bool) → more_if one (acked + lost + forgotten + discarded) ≡ acked + more_if one lost + forgotten + discarded
+  lost_more true = omega arith
+  lost_more false = refl
+
+  forgotten_more : (one : Bool) → more_if one (acked + lost + forgotten + discarded) ≡ acked + lost + more_if one forgotten + discarded
+  forgotten_more true = omega arith
+  forgotten_more false = refl
+
+  discarded_more : (one : Bool) → more_if one (acked + lost + forgotten + discarded) ≡ acked + lost + forgotten + more_if one discarded
+  discarded_more true = omega arith
+  discarded_more false = refl
+
+-- the number is where the history says
+abbrev TracksIn : {F K Q S M P : Type 0} → Beginning F K Q S M P → History Q S M P → SpaceId → ℕ → Type 0
+TracksIn beginning history space n =
+    Tracks n (sent_in beginning history space) (is_tracked space n history) (times_in (is_given space n) history) (departed_in space n history)
+
 module _ {F K Q S M P : Type 0} (beginning : Beginning F K Q S M P) (before : History Q S M P) (space : SpaceId) (n : ℕ)
-    (here : Tracks n (sent_in beginning before space) (is_tracked space n before)) where
+    (here : TracksIn beginning before space n) where
   abbrev log : List (SpaceEntry P M)
   log = (logs_of beginning before).spaces space
 
@@ -190,69 +325,105 @@ module _ {F K Q S M P : Type 0} (beginning : Beginning F K Q S M P) (before : Hi
   abbrev tracked_now : Bool
   tracked_now = is_tracked space n before
 
-  abbrev After : Option (SpaceEntry P M) → Bool → Type 0
-  After entry tracked = Tracks n (sent_by beginning.queue.words (onto entry log)) tracked
+  abbrev given_now : ℕ
+  given_now = times_in (is_given space n) before
+
+  abbrev departed_now : ℕ
+  departed_now = departed_in space n before
+
+  abbrev acked_now : ℕ
+  acked_now = times_in (is_acked space n) before
+
+  abbrev lost_now : ℕ
+  lost_now = times_in (is_lost space n) before
+
+  abbrev forgotten_now : ℕ
+  forgotten_now = times_in (is_forgotten_in space n) before
+
+  abbrev discarded_now : ℕ
+  discarded_now = times_in (is_discarded space n) before
+
+  abbrev After : Option (SpaceEntry P M) → Bool → ℕ → ℕ → Type 0
+  After entry tracked given departed = Tracks n (sent_by beginning.queue.words (onto entry log)) tracked given departed
 
   -- an entry that leaves what is tracked
-  stays : (b : Bool) (entry : SpaceEntry P M) → After (Some entry) tracked_now
-      → After (cond b (Some entry) None) tracked_now
+  stays : (b : Bool) (entry : SpaceEntry P M) → After (Some entry) tracked_now given_now departed_now
+      → After (cond b (Some entry) None) tracked_now given_now departed_now
   stays true entry first = first
   stays false entry first = here
 
-  goes : (b out : Bool) (entry : SpaceEntry P M) → (b ≡ true → After (Some entry) (out || tracked_now))
-      → After (cond b (Some entry) None) ((b && out) || tracked_now)
+  goes : (b out : Bool) (entry : SpaceEntry P M)
+      → (b ≡ true → After (Some entry) (out || tracked_now) (more_if out given_now) departed_now)
+      → After (cond b (Some entry) None) ((b && out) || tracked_now) (more_if (b && out) given_now) departed_now
   goes true out entry first = first refl
   goes false out entry first = here
 
   goes_for : (b out left : Bool) (entry : SpaceEntry P M)
-      → (b ≡ true → After (Some entry) (out || (not left && tracked_now)))
-      → After (cond b (Some entry) None) ((b && out) || (not (b && left) && tracked_now))
+      → (b ≡ true → After (Some entry) (out || (not left && tracked_now)) (more_if out given_now) (more_if left departed_now))
+      → After (cond b (Some entry) None) ((b && out) || (not (b && left) && tracked_now)) (more_if (b && out) given_now)
+      (more_if (b && left) departed_now)
   goes_for true out left entry first = first refl
   goes_for false out left entry first = here
 
-  takes : (b left : Bool) (entry : SpaceEntry P M) → (b ≡ true → After (Some entry) (not left && tracked_now))
-      → After (cond b (Some entry) None) (not (b && left) && tracked_now)
+  takes : (b left : Bool) (entry : SpaceEntry P M)
+      → (b ≡ true → After (Some entry) (not left && tracked_now) given_now (more_if left departed_now))
+      → After (cond b (Some entry) None) (not (b && left) && tracked_now) given_now (more_if (b && left) departed_now)
   takes true left entry first = first refl
   takes false left entry first = here
 
-  empties : (b : Bool) (entry : SpaceEntry P M) → After (Some entry) false
-      → After (cond b (Some entry) None) (not b && tracked_now)
-  empties true entry first = first
-  empties false entry first = here
+  empties : (b : Bool) → After (cond b (Some emptied) None) (not b && tracked_now) given_now (more_if (b && tracked_now) departed_now)
+  empties true = record { same = refl; adds = here.adds; once = here.once; late = here.late }
+  empties false = here
 
   -- a packet goes out as it is told
   goes_told : (there : SpaceId) (packet : Packet P M) (number : ℕ) (forgotten : Option ℕ)
       → same_space there space ≡ true
       → number ≡ number_in known there → forgotten ≡ forgotten_by (known.spaces there).sent packet
       → After (Some (sends (number_in known there) packet)) (number == n || (not (is_it n forgotten) && tracked_now))
+      (more_if (number == n) given_now) (more_if (is_it n forgotten) departed_now)
   goes_told there packet number forgotten is same_number same_forgotten =
       let at = one_space there space is in
       let k = number_in known there in
       let entry : SpaceEntry P M = sends k packet in
+      let Goes : ℕ → Option ℕ → Type 0 = λ m f. After (Some entry) (m == n || (not (is_it n f) && tracked_now)) (more_if (m == n) given_now)
+      (more_if (is_it n f) departed_now) in
       let new : (sent_in beginning before space).next ≤ k = subst (λ s. (sent_in beginning before s).next ≤ k) at
       (is_new beginning before there) in
       let other : forgotten ≡ forgotten_by (sent_in beginning before space) packet
       = subst (λ s. forgotten ≡ forgotten_by (sent_in beginning before s) packet) at same_forgotten in
-      let step = sent_tracks n (sent_in beginning before space) tracked_now here k packet new in
-      let moved = subst (λ f. After (Some entry) (k == n || (not (is_it n f) && tracked_now))) (sym other) step in
-      subst (λ m. After (Some entry) (m == n || (not (is_it n forgotten) && tracked_now))) (sym same_number) moved
+      let step : Goes k (forgotten_by (sent_in beginning before space) packet)
+      = sent_tracks n (sent_in beginning before space) tracked_now given_now departed_now here k packet new in
+      subst (λ m. Goes m forgotten) (sym same_number) (subst (λ f. Goes k f) (sym other) step)
 
   -- a tracked packet leaves
   leaves_told : (there : SpaceId) (number : ℕ) → ¬ (packet_at (known.spaces there).sent.tracked number ≡ None)
       → same_space there space ≡ true
-      → Tracks n (sent_less number (sent_in beginning before space)) (not (number == n) && tracked_now)
+      → Tracks n (sent_less number (sent_in beginning before space)) (not (number == n) && tracked_now) given_now
+      (more_if (number == n) departed_now)
   leaves_told there number told is =
       let found = is_there (packet_at (known.spaces there).sent.tracked number) told in
-      taken_tracks n (sent_in beginning before space) tracked_now here number
+      taken_tracks n (sent_in beginning before space) tracked_now given_now departed_now here number
       (subst (λ s. IsTracked (sent_in beginning before s) number) (one_space there space is) found)
 
-  answer_tracks : (event : Event Q S M P) (answer : Answer Q) → Told beginning before event (Ok answer)
-      → After ((answered beginning.queue known event answer).spaces space)
-      (is_tracked space n ((event, Ok answer) ∷ before))
+  abbrev Answered : Event Q S M P → Answer Q → Type 0
+  Answered event answer =
+      let after : History Q S M P = (event, Ok answer) ∷ before in
+      After ((answered beginning.queue known event answer).spaces space) (is_tracked space n after) (times_in (is_given space n) after)
+      (departed_in space n after)
+
+  answer_tracks : (event : Event Q S M P) (answer : Answer Q) → Told beginning before event (Ok answer) → Answered event answer
   answer_tracks (Acked there now number app_limited) answer told =
-      takes (same_space there space) (number == n) (acknowledged number) (leaves_told there number told.1.0)
+      let b = same_space there space in
+      let entry : SpaceEntry P M = acknowledged number in
+      subst (λ d. After (cond b (Some entry) None) (not (b && number == n) && tracked_now) given_now d)
+      (acked_more acked_now lost_now forgotten_now discarded_now (b && number == n))
+      (takes b (number == n) entry (leaves_told there number told.1.0))
   answer_tracks (Lost there number) answer told =
-      takes (same_space there space) (number == n) (loses number) (leaves_told there number told.1.0)
+      let b = same_space there space in
+      let entry : SpaceEntry P M = loses number in
+      subst (λ d. After (cond b (Some entry) None) (not (b && number == n) && tracked_now) given_now d)
+      (lost_more acked_now lost_now forgotten_now discarded_now (b && number == n))
+      (takes b (number == n) entry (leaves_told there number told.1.0))
   answer_tracks (Send there now size eliciting largest queue frames) (answers.Sent number None) told =
       let packet = packet_now known now size eliciting largest (beginning.queue.contents queue) frames in
       let is = told.1.1.1.1 in
@@ -260,8 +431,13 @@ module _ {F K Q S M P : Type 0} (beginning : Beginning F K Q S M P) (before : Hi
   answer_tracks (Send there now size eliciting largest queue frames) (answers.Sent number (Some forgotten)) told =
       let packet = packet_now known now size eliciting largest (beginning.queue.contents queue) frames in
       let is = told.1.1.1.1 in
-      goes_for (same_space there space) (number == n) (forgotten == n) _
-      (λ at. goes_told there packet number (Some forgotten) at (cc) (cc))
+      let b = same_space there space in
+      let entry : SpaceEntry P M = sends (number_in known there) packet in
+      subst (λ d. After (cond b (Some entry) None) ((b && number == n) || (not (b && forgotten == n) && tracked_now))
+      (more_if (b && number == n) given_now) d)
+      (forgotten_more acked_now lost_now forgotten_now discarded_now (b && forgotten == n))
+      (goes_for b (number == n) (forgotten == n) entry
+      (λ at. goes_told there packet number (Some forgotten) at (cc) (cc)))
   answer_tracks (Send there now size eliciting largest queue frames) answer told = let is = told.1.1.1.1 in cc
   answer_tracks (PollMtu now) (Probe number size) told =
       let packet = packet_now known now size true None beginning.queue.words.empty beginning.queue.blank in
@@ -269,7 +445,10 @@ module _ {F K Q S M P : Type 0} (beginning : Beginning F K Q S M P) (before : Hi
       goes (same_space Data space) (number == n) _ (λ at. goes_told Data packet number None at is refl)
   answer_tracks (PollMtu now) answer told = here
   answer_tracks (DiscardSpace there) answer told =
-      empties (same_space there space) emptied record { same = refl; given = λ late. refl }
+      let b = same_space there space in
+      let entry : SpaceEntry P M = emptied in
+      subst (λ d. After (cond b (Some entry) None) (not b && tracked_now) given_now d)
+      (discarded_more acked_now lost_now forgotten_now discarded_now (b && tracked_now)) (empties b)
   answer_tracks (Received there now number eliciting) (New arm) told =
       stays (same_space there space) (heard now number eliciting) here
   answer_tracks (Received there now number eliciting) answer told =
@@ -283,7 +462,7 @@ module _ {F K Q S M P : Type 0} (beginning : Beginning F K Q S M P) (before : Hi
   answer_tracks (QueueProbe there immediate streams) answer told =
       let found = found_in known beginning.queue.words streams there in
       stays (same_space there space) (probes immediate found)
-      (moved_tracks n (sent_in beginning before space) tracked_now here beginning.queue.words.empty found)
+      (moved_tracks n (sent_in beginning before space) tracked_now given_now departed_now here beginning.queue.words.empty found)
   answer_tracks (TakePending there) answer told = stays (same_space there space) takes_pending here
   answer_tracks (Transmit now bytes true) Transmitted told = here
   answer_tracks (Transmit now bytes true) (Delayed until) told = here
@@ -291,15 +470,15 @@ module _ {F K Q S M P : Type 0} (beginning : Beginning F K Q S M P) (before : Hi
   answer_tracks (Transmit now bytes false) answer told = here
   answer_tracks event answer told = here
 
-  refusal_tracks : (event : Event Q S M P) (refusal : Refusal)
-      → After ((refused event refusal).spaces space) (is_tracked space n ((event, Err refusal) ∷ before))
+  abbrev Replied : Event Q S M P → Reply Q → Type 0
+  Replied event reply = TracksIn beginning ((event, reply) ∷ before) space n
+
+  refusal_tracks : (event : Event Q S M P) (refusal : Refusal) → Replied event (Err refusal)
   refusal_tracks (AckFrequencyIn frame) DelayTooSmall = here
   refusal_tracks (AckFrequencyIn frame) refusal = here
   refusal_tracks event refusal = here
 
-  reply_tracks : (event : Event Q S M P) (reply : Reply Q) → Told beginning before event reply
-      → After ((entries_of beginning.queue known event reply).spaces space)
-      (is_tracked space n ((event, reply) ∷ before))
+  reply_tracks : (event : Event Q S M P) (reply : Reply Q) → Told beginning before event reply → Replied event reply
   reply_tracks event (Ok answer) told = answer_tracks event answer told
   reply_tracks event (Err refusal) told = refusal_tracks event refusal
 
@@ -308,8 +487,7 @@ module _ {F K Q S M P : Type 0} (beginning : Beginning F K Q S M P) (before : Hi
 module _ {F K Q S M P : Type 0} (beginning : Beginning F K Q S M P) where
   -- each number of each space is tracked where the history says so
   abbrev pub AllTracked : History Q S M P → Type 0
-  AllTracked history =
-      (space : SpaceId) (n : ℕ) → Tracks n (sent_in beginning history space) (is_tracked space n history)
+  AllTracked history = (space : SpaceId) (n : ℕ) → TracksIn beginning history space n
 
   -- an event that was told keeps that
   pub keeps_tracked : (before : History Q S M P) (event : Event Q S M P) (reply : Reply Q)
@@ -319,10 +497,10 @@ module _ {F K Q S M P : Type 0} (beginning : Beginning F K Q S M P) where
       λ space n. reply_tracks beginning before space n (all space n) event reply told
 
   pub none_tracked : AllTracked []
-  none_tracked = λ space n. record { same = refl; given = λ late. refl }
+  none_tracked = λ space n. record { same = refl; adds = refl; once = omega arith; late = λ late. refl }
 
   -- a packet is found where its number is tracked
   pub tracked_found : (history : History Q S M P) → AllTracked history → (space : SpaceId) (n : ℕ)
       → is_some (packet_at (sent_in beginning history space).tracked n) ≡ is_tracked space n history
   tracked_found history all space n =
-      looked_up n (sent_in beginning history space) (is_tracked space n history) (all space n)
+      looked_up n (sent_in beginning history space) (is_tracked space n history) _ _ (all space n)

@@ -1,6 +1,5 @@
 pub mod Above
 pub mod Amplification
-pub mod Departures
 pub mod Entries
 pub mod History
 pub mod IdReplies

@@ -10,7 +10,9 @@ use Rattle.quic_recovery.specs.History.{Beginning, History, Reply, QueueMeaning,
 use Rattle.quic_recovery.specs.Pacing.{DelaysByBalance, KeepsPace, PassesSoon, PassesWhenNamed}
 use Rattle.quic_recovery.specs.Parts.{Parts}
 use Rattle.quic_recovery.specs.Promises.Blocked.{BlocksExactly}
+use Rattle.quic_recovery.specs.Promises.Contents.{LosesNothing}
 use Rattle.quic_recovery.specs.Promises.Counted.{CountsInFlight}
+use Rattle.quic_recovery.specs.Promises.Fates.{HaveOneFate}
 use Rattle.quic_recovery.specs.Promises.Few.{ProbesFew}
 use Rattle.quic_recovery.specs.Promises.Holes.{ReportsAtFour}
 use Rattle.quic_recovery.specs.Promises.Mtu.{UsesMtu}
@@ -72,7 +74,9 @@ module _ {F K Q S M P : Type 0} (beginning : Beginning F K Q S M P) where
     pub few : ProbesFew beginning before event reply
     pub near : EndsNearBy beginning before event reply
     pub holes : ReportsAtFour beginning.config.transport.min_mtu before event reply
+    pub fates : HaveOneFate ((event, reply) ∷ before)
     pub once : LeaveOnceEach ((event, reply) ∷ before)
+    pub contents : LosesNothing beginning ((event, reply) ∷ before)
 
   -- from a past to that past with one event more
   pub record GoesOnFrom (past : Past Q S M P) (event : Event Q S M P) (reply : Reply Q) (new : Parts K P M) : Type 0 where

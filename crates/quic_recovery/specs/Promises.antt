@@ -1,8 +1,10 @@
 -- Promises of events and answers alone: each is read without any other.
 pub mod Blocked
 pub mod Bursts
+pub mod Contents
 pub mod Counted
 pub mod Datagrams
+pub mod Fates
 pub mod Few
 pub mod GivenIds
 pub mod Holes

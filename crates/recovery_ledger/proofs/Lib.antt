@@ -3,7 +3,6 @@ pub mod AmongLaws
 pub mod CarryLaws
 pub mod CoherentLaws
 pub mod CountLaws
-pub mod DepartureLaws
 pub mod EmptyLaws
 pub mod GenerationLaws
 pub mod HeardLaws

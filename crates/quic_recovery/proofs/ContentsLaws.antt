@@ -1,0 +1,298 @@
+-- Contents are neither lost nor doubled: what was sent is what is tracked and waits, and what is gone.
+use Rattle.std.proofs.Common.{◌≡◌, ◌+◌, ℕ, Bool, true, false, cond, List, [], ◌∷◌, Option, None, Some, Ok, Err, refl, sym, ap, subst, ◌∙◌, arith}
+use Rattle.std.specs.Prelude.{sum_by, option_map}
+use Rattle.std.specs.BTreeMap.{is_at}
+use Rattle.std.specs.Ordering.{nat_cmp}
+use Rattle.std.proofs.lemmas.List.Sums.{sum_by-cons}
+use Rattle.recovery_base.specs.declared.below.SpaceId.{SpaceId}
+use Rattle.recovery_base.specs.declared.below.SpaceId.TheVariants.{Data}
+use Rattle.recovery_base.specs.Spaces.{same_space}
+use Rattle.recovery_ledger.specs.Packets.{Packet, Packets, packet_at, without, with_contents, replaced, contents_or, entry_at, numbered}
+use Rattle.recovery_ledger.specs.Probes.{ProbeFound, pending_stands, moves, nothing_found}
+use Rattle.recovery_ledger.specs.Queued.{joined_with, joined_found, pending_by}
+use Rattle.recovery_ledger.specs.SpaceLog.{SpaceEntry, heard, heard_again, sends, acknowledged, loses, probes, takes_pending, feeds_back, emptied, ack_goes, ack_is_late, asked}
+use Rattle.recovery_ledger.specs.Tracked.{Sent, sent_by, sent_moved, forgotten_by}
+use Rattle.recovery_ledger.proofs.LedgerLaws.{gone as gone_by, sum-sent_onto}
+use Rattle.recovery_ledger.proofs.PacketLaws.{sum-without, without-absent, some_packet, no_packet}
+use Rattle.recovery_queue.specs.Queues.{QueueWords}
+use Rattle.quic_recovery.specs.declared.event.Event.{Event}
+use Rattle.quic_recovery.specs.declared.event.Event.TheVariants.{Received, Send, Acked, Lost, AckFrequencyIn, AcksSent, AckDelayTimeout, DiscardSpace, PollMtu, Transmit, Ecn, QueueProbe, TakePending}
+use Rattle.quic_recovery.specs.declared.event.Answer.{Answer}
+use Rattle.quic_recovery.specs.declared.event.Answer.TheVariants as answers
+use Rattle.quic_recovery.specs.declared.event.Answer.TheVariants.{New, Flag, Probe, Transmitted, Delayed}
+use Rattle.quic_recovery.specs.declared.event.Refusal.{Refusal}
+use Rattle.quic_recovery.specs.declared.event.Refusal.TheVariants.{DelayTooSmall}
+use Rattle.quic_recovery.specs.Entries.{found_in, logs_of}
+use Rattle.quic_recovery.specs.History.{Beginning, History, Reply, Throughout, history}
+use Rattle.quic_recovery.specs.Known.{Known, known_by, number_in, packet_now}
+use Rattle.quic_recovery.specs.Logs.{onto}
+use Rattle.quic_recovery.specs.Promises.Contents.{AddsUp, LosesNothing, outgoing, held, gone, carried}
+use Rattle.quic_recovery.specs.Told.{Told}
+use Rattle.quic_recovery.proofs.Runs.{kept_after}
+use Rattle.quic_recovery.proofs.TrackedLaws.{one_space, sent_in}
+
+-- ---- what packets carry
+
+module _ {P M S : Type 0} (words : QueueWords P S) (measure : P → ℕ) (adds : AddsUp words measure) where
+  abbrev carries : ℕ × Packet P M → ℕ
+  carries entry = measure entry.1.retransmits
+
+  -- what the packet of a number carries, where there is one
+  abbrev carried_at : Packets P M → ℕ → ℕ
+  carried_at packets n = measure (contents_or words.empty (packet_at packets n))
+
+  -- a packet leaves with what it carries
+  sum_leaves : (packets : Packets P M) (n : ℕ) → sum_by carries (without packets n) + carried_at packets n ≡ sum_by carries packets
+  sum_leaves packets n = go (packet_at packets n) refl
+    where
+      go : (found : Option (Packet P M)) → packet_at packets n ≡ found
+          → sum_by carries (without packets n) + measure (contents_or words.empty found) ≡ sum_by carries packets
+      go None absent =
+          let same = ap (λ (es : Packets P M). sum_by carries es) (without-absent packets n absent) in
+          let none = adds.empty in
+          omega (arith, same, none)
+      go (Some packet) found = sum-without carries packets n packet found
+
+  -- a packet carries something else
+  sum_replaced : (packets : Packets P M) (n : ℕ) (packet other : Packet P M) → packet_at packets n ≡ Some packet
+      → sum_by carries (replaced n (Some other) packets) + measure packet.retransmits ≡ sum_by carries packets + measure other.retransmits
+  sum_replaced [] n packet other found = no_packet packet found
+  sum_replaced (entry ∷ packets) n packet other found =
+      go (is_at (nat_cmp n) entry.0) found (λ there. sum_replaced packets n packet other there)
+    where
+      go : (b : Bool) → cond b (Some entry.1) (packet_at packets n) ≡ Some packet
+          → (packet_at packets n ≡ Some packet
+          → sum_by carries (replaced n (Some other) packets) + measure packet.retransmits ≡ sum_by carries packets + measure other.retransmits)
+          → sum_by carries (cond b ((entry.0, other) ∷ packets) (entry ∷ replaced n (Some other) packets)) + measure packet.retransmits
+          ≡ sum_by carries (entry ∷ packets) + measure other.retransmits
+      go true is later =
+          let cons = sum_by-cons carries entry packets in
+          let here = sum_by-cons carries (entry.0, other) packets in
+          let same = ap (λ (p : Packet P M). measure p.retransmits) (some_packet entry.1 packet is) in
+          omega (arith, cons, here, same)
+      go false is later =
+          let cons = sum_by-cons carries entry packets in
+          let here = sum_by-cons carries entry (replaced n (Some other) packets) in
+          let rest = later is in
+          omega (arith, cons, here, rest)
+
+  -- what a packet carried waits, where it is tracked
+  joins : (pending : P) (found : Option (Packet P M))
+      → measure (joined_with words pending found) ≡ measure pending + measure (contents_or words.empty found)
+  joins pending None = let none = adds.empty in omega (arith, none)
+  joins pending (Some packet) = adds.joined pending packet.retransmits
+
+  -- a lost packet's contents wait
+  loses_none : (pending : P) (packets : Packets P M) (n : ℕ)
+      → sum_by carries (without packets n) + measure (joined_with words pending (packet_at packets n)) ≡ sum_by carries packets + measure pending
+  loses_none pending packets n =
+      let left = sum_leaves packets n in
+      let waits = joins pending (packet_at packets n) in
+      omega (arith, left, waits)
+
+  -- what a probe finds waits
+  moves_none : (pending : P) (found : ProbeFound) (sent : Sent P M)
+      → sum_by carries (sent_moved words.empty found sent).tracked + measure (joined_found words pending found sent.tracked)
+      ≡ sum_by carries sent.tracked + measure pending
+  moves_none pending pending_stands sent = refl
+  moves_none pending nothing_found sent = refl
+  moves_none pending (moves n) sent = go (packet_at sent.tracked n) refl
+    where
+      go : (found : Option (Packet P M)) → packet_at sent.tracked n ≡ found
+          → sum_by carries (replaced n (option_map (with_contents words.empty) found) sent.tracked) + measure (joined_with words pending found)
+          ≡ sum_by carries sent.tracked + measure pending
+      go None absent = refl
+      go (Some packet) found =
+          let sum = sum_replaced sent.tracked n packet (with_contents words.empty packet) found in
+          let waits = joins pending (Some packet) in
+          let none = adds.empty in
+          omega (arith, sum, waits, none)
+
+  -- what goes with a packet that is forgotten
+  forgets : (packets : Packets P M) (n : ℕ) → gone_by carries (entry_at packets (Some n)) ≡ carried_at packets n
+  forgets packets n = go (packet_at packets n)
+    where
+      go : (found : Option (Packet P M)) → gone_by carries (numbered n found) ≡ measure (contents_or words.empty found)
+      go None = sym adds.empty
+      go (Some packet) = refl
+
+-- ---- what an event does to them
+
+module _ {F K Q S M P : Type 0} (beginning : Beginning F K Q S M P) (before : History Q S M P) (measure : P → ℕ)
+    (adds : AddsUp beginning.queue.words measure) (space : SpaceId)
+    (same : outgoing beginning measure space before ≡ held beginning measure space before + gone beginning measure space before) where
+  abbrev log : List (SpaceEntry P M)
+  log = (logs_of beginning before).spaces space
+
+  abbrev known : Known K P M
+  known = known_by beginning (logs_of beginning before)
+
+  abbrev outgoing_now : ℕ
+  outgoing_now = outgoing beginning measure space before
+
+  abbrev gone_now : ℕ
+  gone_now = gone beginning measure space before
+
+  abbrev held_by : List (SpaceEntry P M) → ℕ
+  held_by entries =
+      sum_by (λ (entry : ℕ × Packet P M). measure entry.1.retransmits) (sent_by beginning.queue.words entries).tracked
+      + measure (pending_by beginning.queue.words entries)
+
+  -- after an entry in this space, or none
+  abbrev held_after : Bool → SpaceEntry P M → ℕ
+  held_after b entry = held_by (onto (cond b (Some entry) None) log)
+
+  stays : (b : Bool) (entry : SpaceEntry P M) → held_by (entry ∷ log) ≡ held_by log → outgoing_now ≡ held_after b entry + gone_now
+  stays true entry keeps = go (held_by (entry ∷ log)) (held_by log) keeps same
+    where
+      go : (after now : ℕ) → after ≡ now → outgoing_now ≡ now + gone_now → outgoing_now ≡ after + gone_now
+      go after now keeps same = cc
+  stays false entry keeps = same
+
+  leaves : (b : Bool) (entry : SpaceEntry P M) (left : ℕ) → (b ≡ true → held_by (entry ∷ log) + left ≡ held_by log)
+      → outgoing_now ≡ held_after b entry + (cond b left 0 + gone_now)
+  leaves true entry left less = go outgoing_now (held_by (entry ∷ log)) (held_by log) gone_now (less refl) same
+    where
+      go : (out after now gone : ℕ) → after + left ≡ now → out ≡ now + gone → out ≡ after + (left + gone)
+      go out after now gone less same = omega (arith, less, same)
+  leaves false entry left less = go outgoing_now (held_by log) gone_now same
+    where
+      go : (out now gone : ℕ) → out ≡ now + gone → out ≡ now + (0 + gone)
+      go out now gone same = omega (arith, same)
+
+  goes : (b : Bool) (entry : SpaceEntry P M) (out left : ℕ) → (b ≡ true → held_by (entry ∷ log) + left ≡ held_by log + out)
+      → cond b out 0 + outgoing_now ≡ held_after b entry + (cond b left 0 + gone_now)
+  goes true entry out left changes = go outgoing_now (held_by (entry ∷ log)) (held_by log) gone_now (changes refl) same
+    where
+      go : (before after now gone : ℕ) → after + left ≡ now + out → before ≡ now + gone → out + before ≡ after + (left + gone)
+      go before after now gone changes same = omega (arith, changes, same)
+  goes false entry out left changes = go outgoing_now (held_by log) gone_now same
+    where
+      go : (out now gone : ℕ) → out ≡ now + gone → 0 + out ≡ now + (0 + gone)
+      go out now gone same = omega (arith, same)
+
+  abbrev words : QueueWords P S
+  words = beginning.queue.words
+
+  abbrev sent : Sent P M
+  sent = sent_in beginning before space
+
+  abbrev pending : P
+  pending = pending_by words log
+
+  -- a packet goes out, and another one is perhaps forgotten
+  sends_more : (k : ℕ) (packet : Packet P M) (forgotten : Option ℕ) → forgotten ≡ forgotten_by sent packet
+      → held_by (sends k packet ∷ log) + carried beginning measure space forgotten before ≡ held_by log + measure packet.retransmits
+  sends_more k packet forgotten is =
+      let sum = sum-sent_onto (carries words measure adds) sent.last k packet sent.tracked in
+      let left = ap (λ f. gone_by (carries words measure adds) (entry_at sent.tracked f)) (sym is) ∙ go forgotten in
+      plain _ _ _ _ _ _ sum left
+    where
+      go : (f : Option ℕ) → gone_by (carries words measure adds) (entry_at sent.tracked f) ≡ carried beginning measure space f before
+      go None = refl
+      go (Some n) = forgets words measure adds sent.tracked n
+
+      plain : (after now forgot left more waits : ℕ) → after + forgot ≡ now + more → forgot ≡ left → (after + waits) + left ≡ (now + waits) + more
+      plain after now forgot left more waits sum same = omega (arith, sum, same)
+
+  goes_told : (there : SpaceId) (packet : Packet P M) (forgotten : Option ℕ) → forgotten ≡ forgotten_by (known.spaces there).sent packet
+      → cond (same_space there space) (measure packet.retransmits) 0 + outgoing_now
+      ≡ held_after (same_space there space) (sends (number_in known there) packet)
+      + (cond (same_space there space) (carried beginning measure space forgotten before) 0 + gone_now)
+  goes_told there packet forgotten is =
+      goes (same_space there space) (sends (number_in known there) packet) _ _
+      (λ at. sends_more (number_in known there) packet forgotten
+      (subst (λ s. forgotten ≡ forgotten_by (sent_in beginning before s) packet) (one_space there space at) is))
+
+  -- a probe of the MTU carries nothing
+  probe_goes : (packet : Packet P M) → packet.retransmits ≡ words.empty → packet.ack_eliciting ≡ true
+      → outgoing_now ≡ held_after (same_space Data space) (sends (number_in known Data) packet) + gone_now
+  probe_goes packet empty eliciting =
+      stays (same_space Data space) (sends (number_in known Data) packet)
+      (plain _ _ _ (sends_more (number_in known Data) packet None none) (ap measure empty ∙ adds.empty))
+    where
+      none : None ≡ forgotten_by sent packet
+      none = cc
+
+      plain : (after now more : ℕ) → after + 0 ≡ now + more → more ≡ 0 → after ≡ now
+      plain after now more sum nothing = omega (arith, sum, nothing)
+
+  leaves_less : (n : ℕ) → held_by (acknowledged n ∷ log) + carried beginning measure space (Some n) before ≡ held_by log
+  leaves_less n = plain _ _ _ _ (sum_leaves words measure adds sent.tracked n)
+    where
+      plain : (after now left waits : ℕ) → after + left ≡ now → (after + waits) + left ≡ now + waits
+      plain after now left waits sum = omega (arith, sum)
+
+  hands_out : (waits : ℕ) → waits ≡ measure pending → held_by (takes_pending ∷ log) + waits ≡ held_by log
+  hands_out waits is = plain _ _ _ _ adds.empty is
+    where
+      plain : (sum none waits pending : ℕ) → none ≡ 0 → waits ≡ pending → (sum + none) + waits ≡ sum + pending
+      plain sum none waits pending nothing is = omega (arith, nothing, is)
+
+  empties : held_by (emptied ∷ log) + held_by log ≡ held_by log
+  empties = plain _ (held_by log) adds.empty
+    where
+      plain : (none held : ℕ) → none ≡ 0 → (0 + none) + held ≡ held
+      plain none held nothing = omega (arith, nothing)
+
+  abbrev Balanced : History Q S M P → Type 0
+  Balanced after = outgoing beginning measure space after ≡ held beginning measure space after + gone beginning measure space after
+
+  answer_keeps : (event : Event Q S M P) (answer : Answer Q) → Told beginning before event (Ok answer) → Balanced ((event, Ok answer) ∷ before)
+  answer_keeps (Send there now size eliciting largest queue frames) (answers.Sent number forgotten) told =
+      let packet = packet_now known now size eliciting largest (beginning.queue.contents queue) frames in
+      let is = told.1.1.1.1 in
+      goes_told there packet forgotten (cc)
+  answer_keeps (Send there now size eliciting largest queue frames) answer told = let is = told.1.1.1.1 in cc
+  answer_keeps (PollMtu now) (Probe number size) told =
+      probe_goes (packet_now known now size true None words.empty beginning.queue.blank) refl refl
+  answer_keeps (PollMtu now) answer told = same
+  answer_keeps (Acked there now number app_limited) answer told =
+      leaves (same_space there space) (acknowledged number) _ (λ at. leaves_less number)
+  answer_keeps (Lost there number) answer told =
+      stays (same_space there space) (loses number) (loses_none words measure adds pending sent.tracked number)
+  answer_keeps (DiscardSpace there) answer told = leaves (same_space there space) emptied _ (λ at. empties)
+  answer_keeps (TakePending there) (answers.Queue queue) told =
+      leaves (same_space there space) takes_pending _
+      (λ at. hands_out _ (ap measure (told.1 ∙ ap (λ s. pending_by words ((logs_of beginning before).spaces s)) (one_space there space at))))
+  answer_keeps (TakePending there) answer told = absurd told.1
+  answer_keeps (QueueProbe there immediate streams) answer told =
+      let found = found_in known words streams there in
+      stays (same_space there space) (probes immediate found) (moves_none words measure adds pending found sent)
+  answer_keeps (Received there now number eliciting) (New arm) told = stays (same_space there space) (heard now number eliciting) refl
+  answer_keeps (Received there now number eliciting) answer told = stays (same_space there space) (heard_again number) refl
+  answer_keeps (AckFrequencyIn frame) (Flag true) told = stays (same_space Data space) (asked frame) refl
+  answer_keeps (AckFrequencyIn frame) (Flag false) told = same
+  answer_keeps (AckFrequencyIn frame) answer told = same
+  answer_keeps (AcksSent there) answer told = stays (same_space there space) ack_goes refl
+  answer_keeps (AckDelayTimeout there) answer told = stays (same_space there space) ack_is_late refl
+  answer_keeps (Ecn there newly counts) answer told = stays (same_space there space) (feeds_back counts) refl
+  answer_keeps (Transmit now bytes true) Transmitted told = same
+  answer_keeps (Transmit now bytes true) (Delayed until) told = same
+  answer_keeps (Transmit now bytes true) answer told = same
+  answer_keeps (Transmit now bytes false) answer told = same
+  answer_keeps event answer told = same
+
+  refusal_keeps : (event : Event Q S M P) (refusal : Refusal) → Balanced ((event, Err refusal) ∷ before)
+  refusal_keeps (AckFrequencyIn frame) DelayTooSmall = same
+  refusal_keeps (AckFrequencyIn frame) refusal = same
+  refusal_keeps event refusal = same
+
+  reply_keeps : (event : Event Q S M P) (reply : Reply Q) → Told beginning before event reply → Balanced ((event, reply) ∷ before)
+  reply_keeps event (Ok answer) told = answer_keeps event answer told
+  reply_keeps event (Err refusal) told = refusal_keeps event refusal
+
+-- ---- throughout a run
+
+module _ {F K Q S M P : Type 0} (beginning : Beginning F K Q S M P) where
+  keeps : (before : History Q S M P) (event : Event Q S M P) (reply : Reply Q) → Told beginning before event reply
+      → LosesNothing beginning before → LosesNothing beginning ((event, reply) ∷ before)
+  keeps before event reply told before_it =
+      λ measure adds space. reply_keeps beginning before measure adds space (before_it measure adds space) event reply told
+
+  nothing_yet : LosesNothing beginning []
+  nothing_yet = λ measure adds space. let none = adds.empty in omega (arith, none)
+
+  pub loses_nothing : (events : List (Event Q S M P)) (replies : List (Reply Q)) → Throughout (Told beginning) events replies
+      → LosesNothing beginning (history events replies)
+  loses_nothing events replies told = kept_after (Told beginning) (LosesNothing beginning) keeps [] events replies told nothing_yet

@@ -1,0 +1,62 @@
+-- Worked rows of the promise that each number has one fate, computed: of a right history each number has one, and of a wrong one some has not.
+use Rattle.std.proofs.Common.{◌≡◌, true, false, [], ◌∷◌, None, Some, Ok, Err, refl, arith}
+use Rattle.recovery_base.specs.declared.below.SpaceId.TheVariants.{Initial, Data}
+use Rattle.quic_recovery.specs.declared.event.Event.TheVariants as event
+use Rattle.quic_recovery.specs.declared.event.Answer.TheVariants as answer
+use Rattle.quic_recovery.specs.declared.event.Refusal.TheVariants as refusal
+use Rattle.quic_recovery.specs.History.{History}
+use Rattle.quic_recovery.specs.Promises.Fates.{times, fates, is_given, HaveOneFate}
+
+module _ (Q S M P : Type 0) (queue : Q) (frames : M) where
+  -- of 1-RTT packets 0 was forgotten, 1 lost, 2 is a probe of the MTU; 0 of Initial ones was discarded with its space
+  abbrev past : History Q S M P
+  past =
+      (event.DiscardSpace Initial, Ok answer.Done)
+      ∷ (event.Send Initial 9 1200 true None queue frames, Ok (answer.Sent 0 None))
+      ∷ (event.Send Data 8 100 false None queue frames, Ok (answer.Sent 3 (Some 0)))
+      ∷ (event.Acked Data 7 1 false, Err refusal.NotTracked)
+      ∷ (event.Lost Data 1, Ok (answer.Lost false))
+      ∷ (event.PollMtu 6, Ok (answer.Probe 2 1400))
+      ∷ (event.Send Data 5 1200 true None queue frames, Ok (answer.Sent 1 None))
+      ∷ (event.Send Data 4 100 false None queue frames, Ok (answer.Sent 0 None))
+      ∷ []
+
+  forgotten : fates Data 0 past ≡ 1
+  forgotten = refl
+
+  lost : fates Data 1 past ≡ 1
+  lost = refl
+
+  tracked : fates Data 2 past ≡ 1
+  tracked = refl
+
+  discarded : fates Initial 0 past ≡ 1
+  discarded = refl
+
+  given : times (is_given Data 2) past ≡ 1
+  given = refl
+
+  not_yet : fates Data 4 past ≡ 0
+  not_yet = refl
+
+  not_given_yet : times (is_given Data 4) past ≡ 0
+  not_given_yet = refl
+
+  -- no number twice, and no fate besides
+  given_again : ¬ HaveOneFate ((event.PollMtu 10, Ok (answer.Probe 3 1400)) ∷ past)
+  given_again = λ e. let twice = (e Data 3).0 in omega (arith, twice)
+
+  lost_and_acked : ¬ HaveOneFate ((event.Acked Data 10 1 false, Ok (answer.Acked false)) ∷ past)
+  lost_and_acked = λ e. let two = (e Data 1).1 in omega (arith, two)
+
+  forgotten_and_lost : ¬ HaveOneFate ((event.Lost Data 0, Ok (answer.Lost false)) ∷ past)
+  forgotten_and_lost = λ e. let two = (e Data 0).1 in omega (arith, two)
+
+  never_given : ¬ HaveOneFate ((event.Lost Data 4, Ok (answer.Lost false)) ∷ past)
+  never_given = λ e. let one = (e Data 4).1 in omega (arith, one)
+
+  discarded_and_lost : ¬ HaveOneFate ((event.Lost Initial 0, Ok (answer.Lost false)) ∷ past)
+  discarded_and_lost = λ e. let two = (e Initial 0).1 in omega (arith, two)
+
+  forgets_itself : ¬ HaveOneFate ((event.Send Data 10 100 false None queue frames, Ok (answer.Sent 4 (Some 4))) ∷ past)
+  forgets_itself = λ e. let two = (e Data 4).1 in omega (arith, two)
