@@ -13,6 +13,7 @@ use Rattle.quic_recovery.specs.State.{Changes, Left}
 use Rattle.quic_recovery.specs.Bursts.{ComesAtFourBursts, NeedsFourBursts}
 use Rattle.quic_recovery.specs.Pacing.{DelaysByBalance, KeepsPace, PassesSoon, PassesWhenNamed}
 use Rattle.quic_recovery.specs.Search.{EndsNear, EntersAsTold, LimitsOutside, ProbesInTurn, SearchesFew, TellsProbes, UsesMtu}
+use Rattle.quic_recovery.specs.Promises.Acknowledged.{KeepsToAcknowledge}
 use Rattle.quic_recovery.specs.Promises.Blocked.{BlocksExactly}
 use Rattle.quic_recovery.specs.Promises.Counted.{CountsInFlight}
 use Rattle.quic_recovery.specs.Promises.Few.{ProbesFew}
@@ -23,6 +24,7 @@ use Rattle.quic_recovery.specs.Promises.PeerIds.{AcceptsIds}
 use Rattle.quic_recovery.specs.Promises.Refused.{RefusesRightly}
 use Rattle.quic_recovery.specs.Promises.Threefold.{KeepsThreefold}
 use Rattle.quic_recovery.specs.Told.{Told}
+use Rattle.quic_recovery.proofs.AcknowledgedLaws.{keeps_to_acknowledge}
 use Rattle.quic_recovery.proofs.BlockedLaws.{blocks_exactly}
 use Rattle.quic_recovery.proofs.BurstLaws.{comes_at_four, needs_four}
 use Rattle.quic_recovery.proofs.CountedLaws.{counts_in_flight}
@@ -73,6 +75,7 @@ module _ {F K Q S M P : Type 0} (beginning : Beginning F K Q S M P) where
       last_of (Told beginning) H event reply [] past.events past.replies came.told holds in
       let Leaves : History Q S M P → Type 0 = λ h. Left beginning h new in
       let Leave : History Q S M P → Type 0 = LeaveOnceEach in
+      let Acknowledges : History Q S M P → Type 0 = KeepsToAcknowledge beginning in
       record {
         history = longer;
         keeps = record {
@@ -102,6 +105,7 @@ module _ {F K Q S M P : Type 0} (beginning : Beginning F K Q S M P) where
           needs_four = last (NeedsFourBursts beginning) (needs_four beginning events replies all);
           comes_at_four = last (ComesAtFourBursts beginning) (comes_at_four beginning events replies all);
           once = subst Leave longer (leave_once_each beginning (history events replies) (leave_once_in beginning events replies all));
+          to_acknowledge = subst Acknowledges longer (keeps_to_acknowledge beginning events replies all);
         };
         came = record {
           told = all;

@@ -1,4 +1,5 @@
 -- Promises of events and answers alone: each is read without any other.
+pub mod Acknowledged
 pub mod Blocked
 pub mod Bursts
 pub mod Counted

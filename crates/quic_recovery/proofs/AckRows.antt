@@ -1,0 +1,111 @@
+-- Worked rows of the promises on ACKs, computed: with the right answer each holds, and with a wrong one it does not.
+use Rattle.std.proofs.Common.{◌≡◌, ℕ, zero, suc, ◌+◌, ◌<◌, ◌≤◌, true, false, List, [], ◌∷◌, None, Some, Ok, inl, inr, refl, arith}
+use Rattle.std.proofs.lemmas.Bool.Decides.{nat_tests}
+use Rattle.recovery_acks.specs.Runs.{Ascend, AtMost, EndsRun}
+use Rattle.recovery_base.specs.declared.below.SpaceId.TheVariants.{Initial, Handshake, Data}
+use Rattle.recovery_base.specs.Numbers.{With}
+use Rattle.quic_recovery.specs.declared.event.Event.{Event}
+use Rattle.quic_recovery.specs.declared.event.Event.TheVariants as event
+use Rattle.quic_recovery.specs.declared.event.Answer.TheVariants as answer
+use Rattle.quic_recovery.specs.History.{History, Reply}
+use Rattle.quic_recovery.specs.Promises.Acknowledged.{HasCome, LiesBelow, WasDropped, largest_in}
+
+-- ---- ranges
+
+-- where no number is above one, one range at most ends at it or above
+one_range : (Numbers : ℕ → Type 0) (n : ℕ) → ((m : ℕ) → n < m → ¬ Numbers m)
+    → AtMost 64 (λ end. (n ≤ end) × EndsRun Numbers end)
+unfolding Ascend
+one_range Numbers n none [] up = omega arith
+one_range Numbers n none (k ∷ []) up = omega arith
+one_range Numbers n none (k ∷ m ∷ numbers) up =
+    let first : n ≤ k = up.1.0 in
+    let second : k + 1 ≤ m = up.2.0 in
+    absurd (none m (omega (arith, first, second)) up.2.1.1.0)
+
+-- 65 ranges of one number each, from 0 on: 0 lies below the 64 highest
+abbrev Evens : ℕ → Type 0
+Evens n = (k : ℕ) × (n ≡ k + k) × (k ≤ 64)
+
+abbrev by_two : ℕ → ℕ → List ℕ
+by_two from zero = []
+by_two from (suc more) = (from + from) ∷ by_two (from + 1) more
+
+ascends : (from more low : ℕ) → from + more ≡ 65 → low ≤ from + from
+    → Ascend (λ end. (0 ≤ end) × EndsRun Evens end) low (by_two from more)
+unfolding Ascend
+ascends from zero low sum up = tt
+ascends from (suc more) low sum up = (
+  up,
+  (omega arith, ((from, refl, omega (arith, sum)), λ next. let odd = next.1 in omega (arith, odd))),
+  ascends (from + 1) more (from + from + 1) (omega (arith, sum)) (omega arith),
+)
+
+zero_lies_below : LiesBelow Evens 0
+zero_lies_below few = let many : 65 ≤ 64 = few (by_two 0 65) (ascends 0 65 0 refl (omega arith)) in omega (arith, many)
+
+-- ---- what is to be acknowledged: 3 and 7 came, and the packet with the ACK of 3 was acknowledged
+
+module _ (Q S M P : Type 0) (queue : Q) (frames : M) where
+  abbrev came : ℕ → Event Q S M P × Reply Q
+  came n = (event.Received Handshake 5 n true, Ok (answer.New false))
+
+  abbrev sent_and_acked : History Q S M P → History Q S M P
+  sent_and_acked before =
+      (event.Acked Handshake 7 0 false, Ok (answer.Acked false))
+      ∷ (event.Send Handshake 6 50 false (Some 3) queue frames, Ok (answer.Sent 0 None))
+      ∷ before
+
+  abbrev told : History Q S M P
+  told = sent_and_acked (came 7 ∷ came 3 ∷ [])
+
+  it_carries_three : largest_in Handshake 0 told ≡ Some 3
+  it_carries_three = refl
+
+  a_probe_carries_none : largest_in Data 4 ((event.PollMtu 6, Ok (answer.Probe 4 1400)) ∷ told) ≡ None
+  a_probe_carries_none = refl
+
+  three_is_dropped : WasDropped Handshake 3 told
+  three_is_dropped = inl (refl, omega arith)
+
+  three_to_acknowledge_is_wrong : ¬ (HasCome Handshake 3 told × ¬ WasDropped Handshake 3 told)
+  three_to_acknowledge_is_wrong = λ e. e.1 three_is_dropped
+
+  six_never_came : ¬ HasCome Handshake 6 told
+  six_never_came = λ e. elim e [ inl is ↦ cc | inr before ↦ elim before [ inl is ↦ cc | inr none ↦ none ] ]
+
+  not_in_another_space : ¬ HasCome Initial 7 told
+  not_in_another_space = λ e. elim e [ inl is ↦ cc | inr before ↦ elim before [ inl is ↦ cc | inr none ↦ none ] ]
+
+  -- 7 is above 3, and its range is the highest
+  none_above : (n : ℕ) → 7 < n
+      → ¬ With 7 (λ k. HasCome Handshake k (came 3 ∷ []) × ¬ WasDropped Handshake k (came 3 ∷ [])) n
+  none_above n above (inl is) = omega (arith, above, is)
+  none_above n above (inr there) = elim there.0 [
+    | inl is ↦ (let same : 3 ≡ n = grind (arith, nat_tests, is) in omega (arith, above, same))
+    | inr none ↦ none
+  ]
+
+  seven_stays : HasCome Handshake 7 told × ¬ WasDropped Handshake 7 told
+  seven_stays = (
+    inl refl,
+    λ drops. elim drops [
+      | inl up ↦ (let under : 7 ≤ 3 = up.1 in omega (arith, under))
+      | inr before ↦ elim before [
+        | inl low ↦ low.1 (one_range _ 7 none_above)
+        | inr other ↦ (let is = other.0 in cc)
+      ]
+    ],
+  )
+
+  -- what comes once the packet was acknowledged is not dropped by it
+  none_but_three : (n : ℕ) → 3 < n
+      → ¬ With 3 (λ k. HasCome Handshake k (sent_and_acked []) × ¬ WasDropped Handshake k (sent_and_acked [])) n
+  none_but_three n above (inl is) = omega (arith, above, is)
+  none_but_three n above (inr there) = there.0
+
+  late_three_stays : ¬ WasDropped Handshake 3 (came 3 ∷ sent_and_acked [])
+  late_three_stays = λ drops. elim drops [
+    | inl low ↦ low.1 (one_range _ 3 none_but_three)
+    | inr other ↦ (let is = other.0 in cc)
+  ]
