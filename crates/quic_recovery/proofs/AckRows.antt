@@ -1,14 +1,18 @@
 -- Worked rows of the promises on ACKs, computed: with the right answer each holds, and with a wrong one it does not.
-use Rattle.std.proofs.Common.{◌≡◌, ℕ, zero, suc, ◌+◌, ◌<◌, ◌≤◌, true, false, List, [], ◌∷◌, None, Some, Ok, inl, inr, refl, arith}
+use Rattle.std.proofs.Common.{◌≡◌, ℕ, zero, suc, ◌+◌, ◌<◌, ◌≤◌, ◌⊎◌, Bool, true, false, List, [], ◌∷◌, Option, None, Some, Ok, inl, inr, refl, arith}
 use Rattle.std.proofs.lemmas.Bool.Decides.{nat_tests}
+use Rattle.recovery_acks.specs.Acks.{number_or_zero}
 use Rattle.recovery_acks.specs.Runs.{Ascend, AtMost, EndsRun}
 use Rattle.recovery_base.specs.declared.below.SpaceId.TheVariants.{Initial, Handshake, Data}
 use Rattle.recovery_base.specs.Numbers.{With}
+use Rattle.recovery_ledger.specs.Acks.{AsksAtOnce, IsRequired}
 use Rattle.quic_recovery.specs.declared.event.Event.{Event}
 use Rattle.quic_recovery.specs.declared.event.Event.TheVariants as event
 use Rattle.quic_recovery.specs.declared.event.Answer.TheVariants as answer
-use Rattle.quic_recovery.specs.History.{History, Reply}
+use Rattle.quic_recovery.specs.Entries.{logs_of}
+use Rattle.quic_recovery.specs.History.{Beginning, History, Reply}
 use Rattle.quic_recovery.specs.Promises.Acknowledged.{HasCome, LiesBelow, WasDropped, largest_in}
+use Rattle.quic_recovery.specs.Promises.Duty.{AcknowledgesInTime, timer_starts, waits}
 
 -- ---- ranges
 
@@ -109,3 +113,97 @@ module _ (Q S M P : Type 0) (queue : Q) (frames : M) where
     | inl low ↦ low.1 (one_range _ 3 none_but_three)
     | inr other ↦ (let is = other.0 in cc)
   ]
+
+-- ---- the duty to acknowledge
+
+-- the first one since an ACK asks for none at once, where it is next behind the greatest
+asks_nothing : (Numbers : ℕ → Type 0) (greatest acknowledged : Option ℕ) (number : ℕ)
+    → number_or_zero greatest ≤ number → number ≤ number_or_zero greatest + 1
+    → ¬ AsksAtOnce Numbers
+    (record { eliciting = 0; thresholds = (1, 1); greatest = greatest; acknowledged = acknowledged }) number
+asks_nothing Numbers greatest acknowledged number from to (inl many) = let more : 1 < 1 = many in omega (arith, more)
+asks_nothing Numbers greatest acknowledged number from to (inr (inl gap)) = elim gap.1 [
+  | inl below ↦ omega (arith, from, below)
+  | inr missing ↦ (let a = missing.1.0 in let b = missing.1.1 in omega (arith, to, a, b))
+]
+asks_nothing Numbers greatest acknowledged number from to (inr (inr more)) =
+    let above : 1 < 1 = more.0 in omega (arith, above)
+
+module _ {F K Q S M P : Type 0} (beginning : Beginning F K Q S M P) where
+  abbrev elicits : ℕ → Bool → Event Q S M P × Reply Q
+  elicits n started = (event.Received Data 5 n true, Ok (answer.New started))
+
+  -- 0 came and was acknowledged
+  abbrev acked : History Q S M P
+  acked = (event.AcksSent Data, Ok answer.Done) ∷ elicits 0 true ∷ []
+
+  only_data : (history : History Q S M P) → waits Initial history ≡ false → waits Handshake history ≡ false
+      → (waits Data history ≡ true
+      → IsRequired ((logs_of beginning history).spaces Data) ⊎ (timer_starts Data history ≡ true))
+      → AcknowledgesInTime beginning history
+  only_data history initial handshake in_time Initial = λ is. cc
+  only_data history initial handshake in_time Handshake = λ is. cc
+  only_data history initial handshake in_time Data = in_time
+
+  nothing_waits : AcknowledgesInTime beginning acked
+  nothing_waits = only_data acked refl refl (λ is. cc)
+
+  -- the first ack-eliciting packet, with the timer or without
+  with_timer : AcknowledgesInTime beginning (elicits 1 true ∷ acked)
+  with_timer = only_data (elicits 1 true ∷ acked) refl refl (λ is. inr refl)
+
+  without_timer_is_wrong : ¬ AcknowledgesInTime beginning (elicits 1 false ∷ acked)
+  without_timer_is_wrong in_time = elim (in_time Data refl) [
+    | inl required ↦ elim required [
+      | inl none ↦ none
+      | inr asks ↦ asks_nothing _ (Some 0) (Some 0) 1 (omega arith) (omega arith) asks.1
+    ]
+    | inr started ↦ cc
+  ]
+
+  -- a timer of one space is none of another
+  abbrev two_spaces : History Q S M P
+  two_spaces = (event.Received Initial 6 0 true, Ok (answer.New false)) ∷ elicits 1 true ∷ acked
+
+  other_space_is_wrong : ¬ AcknowledgesInTime beginning two_spaces
+  other_space_is_wrong in_time = elim (in_time Initial refl) [
+    | inl required ↦ elim required [
+      | inl none ↦ none
+      | inr asks ↦ asks_nothing _ None None 0 (omega arith) (omega arith) asks.1
+    ]
+    | inr started ↦ cc
+  ]
+
+  -- one out of order asks for an ACK at once: 1 is missing
+  out_of_order : AcknowledgesInTime beginning (elicits 5 false ∷ acked)
+  out_of_order = only_data (elicits 5 false ∷ acked) refl refl (λ is. inl (inr (
+    refl,
+    inr (inl (
+      refl,
+      inr (
+        1,
+        (omega arith, omega arith, (one_missing, window), λ m above below missing. above),
+      ),
+    )),
+  )))
+    where
+      one_missing : ¬ With 5 (λ n. (n ≡ 0) ⊎ ⊥) 1
+      one_missing (inl is) = omega (arith, is)
+      one_missing (inr there) = elim there [ inl is ↦ omega (arith, is) | inr none ↦ none ]
+
+      window : (m : ℕ) → With 5 (λ n. (n ≡ 0) ⊎ ⊥) m → m ≤ 1 + 128
+      window m (inl is) = omega (arith, is)
+      window m (inr there) = elim there [ inl is ↦ omega (arith, is) | inr none ↦ absurd none ]
+
+  -- so does the second one, and a timeout while one waits
+  abbrev twice : History Q S M P
+  twice = elicits 2 false ∷ elicits 1 false ∷ acked
+
+  the_second : AcknowledgesInTime beginning twice
+  the_second = only_data twice refl refl (λ is. inl (inr (refl, inl (omega arith))))
+
+  abbrev late : History Q S M P
+  late = (event.AckDelayTimeout Data, Ok answer.Done) ∷ elicits 1 false ∷ acked
+
+  timed_out : AcknowledgesInTime beginning late
+  timed_out = only_data late refl refl (λ is. inl (omega arith))

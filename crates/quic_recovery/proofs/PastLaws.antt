@@ -16,6 +16,7 @@ use Rattle.quic_recovery.specs.Search.{EndsNear, EntersAsTold, LimitsOutside, Pr
 use Rattle.quic_recovery.specs.Promises.Acknowledged.{KeepsToAcknowledge}
 use Rattle.quic_recovery.specs.Promises.Blocked.{BlocksExactly}
 use Rattle.quic_recovery.specs.Promises.Counted.{CountsInFlight}
+use Rattle.quic_recovery.specs.Promises.Duty.{KeepsDuty}
 use Rattle.quic_recovery.specs.Promises.Few.{ProbesFew}
 use Rattle.quic_recovery.specs.Promises.Holes.{ReportsAtFour}
 use Rattle.quic_recovery.specs.Promises.Near.{EndsNearBy}
@@ -29,6 +30,7 @@ use Rattle.quic_recovery.proofs.BlockedLaws.{blocks_exactly}
 use Rattle.quic_recovery.proofs.BurstLaws.{comes_at_four, needs_four}
 use Rattle.quic_recovery.proofs.CountedLaws.{counts_in_flight}
 use Rattle.quic_recovery.proofs.DepartureLaws.{leave_once_in}
+use Rattle.quic_recovery.proofs.DutyLaws.{keeps_duty}
 use Rattle.quic_recovery.proofs.EnteredLaws.{entries_told}
 use Rattle.quic_recovery.proofs.FewLaws.{few_told}
 use Rattle.quic_recovery.proofs.HolesLaws.{holes_told}
@@ -104,6 +106,7 @@ module _ {F K Q S M P : Type 0} (beginning : Beginning F K Q S M P) where
           holes = last (ReportsAtFour beginning.config.transport.min_mtu) (holes_told beginning events replies all);
           needs_four = last (NeedsFourBursts beginning) (needs_four beginning events replies all);
           comes_at_four = last (ComesAtFourBursts beginning) (comes_at_four beginning events replies all);
+          duty = last (KeepsDuty beginning) (keeps_duty beginning events replies all);
           once = subst Leave longer (leave_once_each beginning (history events replies) (leave_once_in beginning events replies all));
           to_acknowledge = subst Acknowledges longer (keeps_to_acknowledge beginning events replies all);
         };

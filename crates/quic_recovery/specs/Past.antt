@@ -12,6 +12,7 @@ use Rattle.quic_recovery.specs.Parts.{Parts}
 use Rattle.quic_recovery.specs.Promises.Acknowledged.{KeepsToAcknowledge}
 use Rattle.quic_recovery.specs.Promises.Blocked.{BlocksExactly}
 use Rattle.quic_recovery.specs.Promises.Counted.{CountsInFlight}
+use Rattle.quic_recovery.specs.Promises.Duty.{KeepsDuty}
 use Rattle.quic_recovery.specs.Promises.Few.{ProbesFew}
 use Rattle.quic_recovery.specs.Promises.Holes.{ReportsAtFour}
 use Rattle.quic_recovery.specs.Promises.Near.{EndsNearBy}
@@ -79,6 +80,7 @@ module _ {F K Q S M P : Type 0} (beginning : Beginning F K Q S M P) where
     pub holes : ReportsAtFour beginning.config.transport.min_mtu before event reply
     pub needs_four : NeedsFourBursts beginning before event reply
     pub comes_at_four : ComesAtFourBursts beginning before event reply
+    pub duty : KeepsDuty beginning before event reply
     pub once : LeaveOnceEach ((event, reply) ∷ before)
     pub to_acknowledge : KeepsToAcknowledge beginning ((event, reply) ∷ before)
 

@@ -4,6 +4,7 @@ pub mod Blocked
 pub mod Bursts
 pub mod Counted
 pub mod Datagrams
+pub mod Duty
 pub mod Few
 pub mod GivenIds
 pub mod Holes
