@@ -22,9 +22,10 @@ use Rattle.quic_recovery.specs.Promises.Holes.{ReportsAtFour, larger_acked, stan
 use Rattle.quic_recovery.specs.Told.{Told}
 use Rattle.quic_recovery.proofs.SearchSaid.{ComesAtFourBursts, NeedsFourBursts, data_packet, entered_so_far}
 use Rattle.quic_recovery.proofs.BurstLaws.{comes_at_four, needs_four}
+use Rattle.quic_recovery.proofs.FieldLaws.{said_found}
 use Rattle.quic_recovery.proofs.MadeLaws.{is_made, made_after, made_in}
 use Rattle.quic_recovery.proofs.SearchSteps.{Facts, facts, seen_as, turned, acked_as, lost_as, ended_as, throughout_both, throughout_by}
-use Rattle.quic_recovery.proofs.SizeLaws.{Sized, sized_after, sized_found}
+use Rattle.quic_recovery.proofs.SizeLaws.{Sized, sized_after, size_in}
 
 -- ---- the least MTU is that of the settings
 
@@ -112,7 +113,7 @@ module _ {F K Q S M P : Type 0} (beginning : Beginning F K Q S M P) where
       → data_packet beginning history number ≡ Some packet → packet.size ≡ size_of history number
   size_known history sized number packet found =
       let sent = sent_by beginning.queue.words ((logs_of beginning history).spaces space.Data) in
-      sized_found (size_of history) sent.next sent.tracked sized number packet found
+      said_found size_in (size_of history) sent.next sent.tracked sized number packet found
 
   module _ (history : History Q S M P) (sized : Sized beginning history) (tied : Tied history) where
     abbrev before : List MtuEntry

@@ -11,10 +11,12 @@ use Rattle.quic_recovery.specs.Parts.{Parts}
 use Rattle.quic_recovery.specs.Past.{Past, more, history_of, Came, CameSomehow, GoesOn, GoesOnFrom, StaysOn, WentOn}
 use Rattle.quic_recovery.specs.State.{Changes, Left}
 use Rattle.quic_recovery.specs.Pacing.{DelaysByBalance, KeepsPace, PassesSoon, PassesWhenNamed}
+use Rattle.quic_recovery.specs.Promises.Acknowledged.{KeepsToAcknowledge}
 use Rattle.quic_recovery.specs.Promises.Blocked.{BlocksExactly}
 use Rattle.quic_recovery.specs.Promises.Contents.{LosesNothing}
 use Rattle.quic_recovery.specs.Promises.Counted.{CountsInFlight}
 use Rattle.quic_recovery.specs.Promises.Fates.{HaveOneFate}
+use Rattle.quic_recovery.specs.Promises.Duty.{KeepsDuty}
 use Rattle.quic_recovery.specs.Promises.Few.{ProbesFew}
 use Rattle.quic_recovery.specs.Promises.Holes.{ReportsAtFour}
 use Rattle.quic_recovery.specs.Promises.Mtu.{UsesMtu}
@@ -24,9 +26,11 @@ use Rattle.quic_recovery.specs.Promises.Refused.{RefusesRightly}
 use Rattle.quic_recovery.specs.Promises.Threefold.{KeepsThreefold}
 use Rattle.quic_recovery.specs.Promises.Turns.{SearchesInTurn}
 use Rattle.quic_recovery.specs.Told.{Told}
+use Rattle.quic_recovery.proofs.AcknowledgedLaws.{keeps_to_acknowledge}
 use Rattle.quic_recovery.proofs.BlockedLaws.{blocks_exactly}
 use Rattle.quic_recovery.proofs.CountedLaws.{counts_in_flight}
 use Rattle.quic_recovery.proofs.ContentsLaws.{loses_nothing}
+use Rattle.quic_recovery.proofs.DutyLaws.{keeps_duty}
 use Rattle.quic_recovery.proofs.FewLaws.{few_told}
 use Rattle.quic_recovery.proofs.HolesLaws.{holes_told}
 use Rattle.quic_recovery.proofs.LeftLaws.{changes_by_logs, left_after}
@@ -74,6 +78,7 @@ module _ {F K Q S M P : Type 0} (beginning : Beginning F K Q S M P) where
       let Leaves : History Q S M P → Type 0 = λ h. Left beginning h new in
       let Fate : History Q S M P → Type 0 = HaveOneFate in
       let one = subst Fate longer (have_one_fate beginning events replies all) in
+      let Acknowledges : History Q S M P → Type 0 = KeepsToAcknowledge beginning in
       record {
         history = longer;
         keeps = record {
@@ -98,6 +103,8 @@ module _ {F K Q S M P : Type 0} (beginning : Beginning F K Q S M P) where
           fates = one;
           once = leave_once ((event, reply) ∷ before) one;
           contents = subst (LosesNothing beginning) longer (loses_nothing beginning events replies all);
+          duty = last (KeepsDuty beginning) (keeps_duty beginning events replies all);
+          to_acknowledge = subst Acknowledges longer (keeps_to_acknowledge beginning events replies all);
         };
         came = record {
           told = all;

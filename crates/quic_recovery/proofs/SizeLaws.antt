@@ -1,16 +1,11 @@
 -- Each packet of 1-RTT keys that is tracked has the size with which the history says that it went out.
-use Rattle.std.proofs.Common.{ℕ, ◌≡◌, ◌+◌, ◌<◌, ◌≤◌, ◌==◌, Bool, true, false, cond, if◌then◌else◌, List, [], ◌∷◌, ◌++◌, Option, None, Some, Ok, Err, refl, sym, ap, subst, ◌∙◌, arith, eq-eqb, ne_eqb}
-use Rattle.std.specs.Prelude.{option_map}
-use Rattle.std.specs.Ordering.{nat_cmp}
-use Rattle.std.specs.BTreeMap.{is_at}
+use Rattle.std.proofs.Common.{ℕ, ◌≡◌, ◌+◌, ◌≤◌, ◌==◌, Bool, true, false, cond, if◌then◌else◌, List, ◌∷◌, Option, None, Some, Ok, Err, refl, sym, ap, subst, ◌∙◌, arith, eq-eqb, ne_eqb}
 use Rattle.recovery_base.specs.declared.below.SpaceId.{SpaceId}
 use Rattle.recovery_base.specs.declared.below.SpaceId.TheVariants.{Initial, Handshake, Data}
 use Rattle.recovery_base.specs.Spaces.{same_space}
-use Rattle.recovery_ledger.specs.Packets.{Packet, Packets, packet_at, without, without_some, replaced, carrying, with_contents, forgotten_number, sent_onto}
-use Rattle.recovery_ledger.specs.Probes.{ProbeFound, pending_stands, moves, nothing_found}
-use Rattle.recovery_ledger.specs.SpaceLog.{SpaceEntry, probes}
+use Rattle.recovery_ledger.specs.Packets.{Packet, Packets, without, sent_onto}
+use Rattle.recovery_ledger.specs.SpaceLog.{SpaceEntry}
 use Rattle.recovery_ledger.specs.Tracked.{sent_by}
-use Rattle.recovery_ledger.proofs.PacketLaws.{number_at, some_packet, no_packet}
 use Rattle.recovery_queue.specs.Queues.{QueueWords}
 use Rattle.recovery_skips.proofs.SkipLaws.{number_from_above}
 use Rattle.quic_recovery.specs.declared.event.Event.{Event}
@@ -26,116 +21,39 @@ use Rattle.quic_recovery.specs.Known.{Known, known_by, packet_now}
 use Rattle.quic_recovery.specs.Logs.{onto}
 use Rattle.quic_recovery.specs.Promises.Bursts.{size_of}
 use Rattle.quic_recovery.specs.Told.{Told, ProbeOutReply}
+use Rattle.quic_recovery.proofs.FieldLaws.{AreSaid, IsSaid, said_moved, said_sent, said_without}
 
 -- ---- packets
 
--- packets have the sizes that go with their numbers, which are below another
-abbrev pub AreSized : {P M : Type 0} → (ℕ → ℕ) → ℕ → Packets P M → Type 0
-AreSized size limit [] = Unit {0}
-AreSized size limit (entry ∷ packets) = (entry.1.size ≡ size entry.0) × (entry.0 < limit) × AreSized size limit packets
+abbrev pub size_in : {P M : Type 0} → Packet P M → ℕ
+size_in packet = packet.size
 
 -- the sizes with one more
 abbrev size_then : (ℕ → ℕ) → ℕ → ℕ → ℕ → ℕ
 size_then size number bytes n = if n == number then bytes else size n
 
-module _ {P M : Type 0} where
-  module _ (size : ℕ → ℕ) (limit : ℕ) where
-    -- so does the packet of a number
-    pub sized_found : (packets : Packets P M) → AreSized size limit packets → (number : ℕ) (packet : Packet P M)
-        → packet_at packets number ≡ Some packet → packet.size ≡ size number
-    sized_found [] sized number packet found = no_packet packet found
-    sized_found (entry ∷ packets) sized number packet found = go (is_at (nat_cmp number) entry.0) refl found
-        (sized_found packets sized.2 number packet)
-      where
-        go : (b : Bool) → is_at (nat_cmp number) entry.0 ≡ b
-            → cond b (Some entry.1) (packet_at packets number) ≡ Some packet
-            → (packet_at packets number ≡ Some packet → packet.size ≡ size number) → packet.size ≡ size number
-        go true at e later = ap (λ (p : Packet P M). p.size) (sym (some_packet entry.1 packet e)) ∙ sized.0
-            ∙ ap size (number_at number entry.0 at)
-        go false at e later = later e
-
-    -- some that are left
-    sized_without : (packets : Packets P M) (number : ℕ) → AreSized size limit packets
-        → AreSized size limit (without packets number)
-    sized_without [] number sized = tt
-    sized_without (entry ∷ packets) number sized = go (is_at (nat_cmp number) entry.0)
-        (sized_without packets number sized.2)
-      where
-        go : (b : Bool) → AreSized size limit (without packets number)
-            → AreSized size limit (cond b packets (entry ∷ without packets number))
-        go true later = sized.2
-        go false later = (sized.0, sized.1, later)
-
-    sized_without_some : (packets : Packets P M) (forgotten : Option ℕ) → AreSized size limit packets
-        → AreSized size limit (without_some packets forgotten)
-    sized_without_some packets None sized = sized
-    sized_without_some packets (Some number) sized = sized_without packets number sized
-
-    -- one with other contents
-    sized_replaced : (packets : Packets P M) (number : ℕ) (packet : Packet P M) → packet.size ≡ size number
-        → AreSized size limit packets
-        → AreSized size limit (replaced number (Some packet) packets)
-    sized_replaced [] number packet same sized = tt
-    sized_replaced (entry ∷ packets) number packet same sized = go (is_at (nat_cmp number) entry.0) refl
-        (sized_replaced packets number packet same sized.2)
-      where
-        go : (b : Bool) → is_at (nat_cmp number) entry.0 ≡ b
-            → AreSized size limit (replaced number (Some packet) packets)
-            → AreSized size limit (cond b ((entry.0, packet) ∷ packets) (entry ∷ replaced number (Some packet) packets))
-        go true at later = (same ∙ ap size (sym (number_at number entry.0 at)), sized.1, sized.2)
-        go false at later = (sized.0, sized.1, later)
-
-    sized_carrying : (packets : Packets P M) (number : ℕ) (contents : P) → AreSized size limit packets
-        → AreSized size limit (carrying number contents packets)
-    sized_carrying packets number contents sized = go (packet_at packets number) refl
-      where
-        go : (found : Option (Packet P M)) → packet_at packets number ≡ found
-            → AreSized size limit (replaced number (option_map (with_contents contents) found) packets)
-        go None found = sized
-        go (Some packet) found = sized_replaced packets number (with_contents contents packet)
-            (sized_found packets sized number packet found) sized
-
-    -- one more, under a number that is not below any
-    module _ (number bytes : ℕ) (above : limit ≤ number) where
-      sized_push : (packets : Packets P M) (packet : Packet P M) → packet.size ≡ bytes → AreSized size limit packets
-          → AreSized (size_then size number bytes) (number + 1) (packets ++ (number, packet) ∷ [])
-      sized_push [] packet same sized = (
-        same ∙ ap (λ (own : Bool). if own then bytes else size number) (sym (eq-eqb number number refl)),
-        omega arith,
-        tt,
-      )
-      sized_push (entry ∷ packets) packet same sized =
-          let below : entry.0 < limit = sized.1 in (
-            sized.0 ∙ ap (λ (own : Bool). if own then bytes else size entry.0)
-                (sym (ne_eqb entry.0 number (λ is. omega (arith, is, below, above)))),
-            omega (arith, below, above),
-            sized_push packets packet same sized.2,
-          )
-
-      pub sized_sent : (last : Option ℕ) (packets : Packets P M) (packet : Packet P M) → packet.size ≡ bytes
-          → AreSized size limit packets
-          → AreSized (size_then size number bytes) (number + 1) (sent_onto last number packet packets)
-      sized_sent last packets packet same sized =
-          sized_push (without_some packets (forgotten_number last packet packets)) packet same
-          (sized_without_some packets _ sized)
+module _ {P M : Type 0} (size : ℕ → ℕ) (limit number bytes : ℕ) (above : limit ≤ number) where
+  -- one more packet, under a number that is not below any
+  sized_sent : (last : Option ℕ) (packets : Packets P M) (packet : Packet P M) → packet.size ≡ bytes
+      → AreSaid size_in size limit packets
+      → AreSaid size_in (size_then size number bytes) (number + 1) (sent_onto last number packet packets)
+  sized_sent last packets packet same sized =
+      said_sent size_in size limit number above (size_then size number bytes)
+      (λ n below. sym (ap (λ (own : Bool). if own then bytes else size n)
+      (ne_eqb n number (λ is. omega (arith, is, below, above)))))
+      last packets packet
+      (same ∙ ap (λ (own : Bool). if own then bytes else size number) (sym (eq-eqb number number refl))) sized
 
 -- ---- the log of the space of 1-RTT packets
 
 abbrev pub IsSizedLog : {P M S : Type 0} → QueueWords P S → (ℕ → ℕ) → List (SpaceEntry P M) → Type 0
-IsSizedLog words size log = let sent = sent_by words log in AreSized size sent.next sent.tracked
+IsSizedLog words size log = IsSaid size_in size (sent_by words log)
 
 module _ {P M S : Type 0} (words : QueueWords P S) (size : ℕ → ℕ) (log : List (SpaceEntry P M))
     (sized : IsSizedLog words size log) where
-  -- a packet's contents are moved out
-  sized_moved : (immediate : Bool) (found : ProbeFound) → IsSizedLog words size (probes immediate found ∷ log)
-  sized_moved immediate pending_stands = sized
-  sized_moved immediate nothing_found = sized
-  sized_moved immediate (moves number) =
-      let sent = sent_by words log in sized_carrying size sent.next sent.tracked number words.empty sized
-
   -- a packet leaves
-  sized_left : (number : ℕ) → AreSized size (sent_by words log).next (without (sent_by words log).tracked number)
-  sized_left number = let sent = sent_by words log in sized_without size sent.next sent.tracked number sized
+  sized_left : (number : ℕ) → AreSaid size_in size (sent_by words log).next (without (sent_by words log).tracked number)
+  sized_left number = let sent = sent_by words log in said_without size_in size sent.next sent.tracked number sized
 
 pick : {P M S : Type 0} (words : QueueWords P S) (size : ℕ → ℕ) (log : List (SpaceEntry P M))
     → IsSizedLog words size log → (here : Bool)
@@ -195,7 +113,7 @@ module _ {F K Q S M P : Type 0} (beginning : Beginning F K Q S M P) where
         let sent = sent_by beginning.queue.words log in
         let packet = packet_now known now size true None beginning.queue.words.empty beginning.queue.blank in
         let is = probe_number now number size (poll_of now known.paths.current.state.discovery) told.1.1 in
-        subst (λ n. AreSized (size_then (size_of history) n size) (known.numbers.next + 1)
+        subst (λ n. AreSaid size_in (size_then (size_of history) n size) (known.numbers.next + 1)
         (sent_onto sent.last known.numbers.next packet sent.tracked)) is
         (sized_sent
         (size_of history) sent.next known.numbers.next size new_number sent.last sent.tracked packet refl sized)
@@ -205,7 +123,8 @@ module _ {F K Q S M P : Type 0} (beginning : Beginning F K Q S M P) where
     answer_sized (Lost there number) answer told = other there _
         (sized_left beginning.queue.words (size_of history) log sized number)
     answer_sized (QueueProbe there immediate streams) answer told = other there _
-        (sized_moved beginning.queue.words (size_of history) log sized immediate _)
+        (said_moved size_in (λ contents packet. refl) (size_of history) (sent_by beginning.queue.words log)
+        beginning.queue.words.empty _ sized)
     answer_sized (DiscardSpace there) answer told = other there _ tt
     answer_sized (Received there now number eliciting) (New arm) told = other there _ sized
     answer_sized (Received there now number eliciting) answer told = other there _ sized

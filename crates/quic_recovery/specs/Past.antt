@@ -9,10 +9,12 @@ use Rattle.quic_recovery.specs.declared.event.Event.{Event}
 use Rattle.quic_recovery.specs.History.{Beginning, History, Reply, QueueMeaning, Throughout, begins, history, queue_meaning}
 use Rattle.quic_recovery.specs.Pacing.{DelaysByBalance, KeepsPace, PassesSoon, PassesWhenNamed}
 use Rattle.quic_recovery.specs.Parts.{Parts}
+use Rattle.quic_recovery.specs.Promises.Acknowledged.{KeepsToAcknowledge}
 use Rattle.quic_recovery.specs.Promises.Blocked.{BlocksExactly}
 use Rattle.quic_recovery.specs.Promises.Contents.{LosesNothing}
 use Rattle.quic_recovery.specs.Promises.Counted.{CountsInFlight}
 use Rattle.quic_recovery.specs.Promises.Fates.{HaveOneFate}
+use Rattle.quic_recovery.specs.Promises.Duty.{KeepsDuty}
 use Rattle.quic_recovery.specs.Promises.Few.{ProbesFew}
 use Rattle.quic_recovery.specs.Promises.Holes.{ReportsAtFour}
 use Rattle.quic_recovery.specs.Promises.Mtu.{UsesMtu}
@@ -77,6 +79,8 @@ module _ {F K Q S M P : Type 0} (beginning : Beginning F K Q S M P) where
     pub fates : HaveOneFate ((event, reply) ∷ before)
     pub once : LeaveOnceEach ((event, reply) ∷ before)
     pub contents : LosesNothing beginning ((event, reply) ∷ before)
+    pub duty : KeepsDuty beginning before event reply
+    pub to_acknowledge : KeepsToAcknowledge beginning ((event, reply) ∷ before)
 
   -- from a past to that past with one event more
   pub record GoesOnFrom (past : Past Q S M P) (event : Event Q S M P) (reply : Reply Q) (new : Parts K P M) : Type 0 where

@@ -1,9 +1,12 @@
--- Promises of events and answers alone: each is read without any other.
+-- Promises of events and answers: each is read without any other. Three name the table on one side: what is held of contents (Contents),
+-- when an ACK is required (Duty), and what is to be acknowledged (Acknowledged).
+pub mod Acknowledged
 pub mod Blocked
 pub mod Bursts
 pub mod Contents
 pub mod Counted
 pub mod Datagrams
+pub mod Duty
 pub mod Fates
 pub mod Few
 pub mod GivenIds

@@ -1,0 +1,262 @@
+-- What is to be acknowledged is by the table what the history says: new numbers, but those dropped since they came.
+use Rattle.std.proofs.Common.{◌≡◌, ◌≢◌, ◌≤◌, ◌<◌, ℕ, ◌==◌, ◌&&◌, Bool, true, false, cond, List, [], ◌∷◌, length, Option, None, Some, Ok, Err, ◌⊎◌, inl, inr, ◌↔◌, IsTrue, IsSomeAnd, refl, sym, subst, arith, lt-ltb, ltb-true}
+use Rattle.std.proofs.lemmas.Bool.{cases_lt}
+use Rattle.std.proofs.lemmas.Bool.Decides.{eqb_tells}
+use Rattle.recovery_acks.specs.Runs.{AtMost, EndsRun, IsInHighest}
+use Rattle.recovery_acks.proofs.RunLaws.{highest_alike}
+use Rattle.recovery_base.specs.declared.below.SpaceId.{SpaceId}
+use Rattle.recovery_base.specs.declared.below.SpaceId.TheVariants.{Data}
+use Rattle.recovery_base.specs.Numbers.{With}
+use Rattle.recovery_base.specs.Spaces.{same_space}
+use Rattle.recovery_ledger.specs.Acks.{ToAcknowledge}
+use Rattle.recovery_ledger.specs.Packets.{packet_at, is_above, largest_acked_by}
+use Rattle.recovery_ledger.specs.SpaceLog.{SpaceEntry, heard, heard_again, acknowledged, asked}
+use Rattle.recovery_ledger.specs.Tracked.{sent_by}
+use Rattle.recovery_queue.specs.Queues.{QueueWords}
+use Rattle.quic_recovery.specs.declared.event.Event.{Event}
+use Rattle.quic_recovery.specs.declared.event.Event.TheVariants.{Received, Send, Acked, Lost, AckFrequencyIn, AcksSent, AckDelayTimeout, DiscardSpace, PollMtu, Transmit, Ecn, QueueProbe, TakePending}
+use Rattle.quic_recovery.specs.declared.event.Answer.{Answer}
+use Rattle.quic_recovery.specs.declared.event.Answer.TheVariants.{New, Flag, Probe, Transmitted, Delayed}
+use Rattle.quic_recovery.specs.declared.event.Refusal.{Refusal}
+use Rattle.quic_recovery.specs.declared.event.Refusal.TheVariants.{DelayTooSmall}
+use Rattle.quic_recovery.specs.Entries.{answered, refused, logs_of}
+use Rattle.quic_recovery.specs.History.{Beginning, History, Reply, Throughout, ThroughoutFrom, history, history_from}
+use Rattle.quic_recovery.specs.Known.{Known, known_by}
+use Rattle.quic_recovery.specs.Logs.{onto}
+use Rattle.quic_recovery.specs.Promises.Acknowledged.{HasCome, KeepsToAcknowledge, LiesBelow, WasDropped, largest_in}
+use Rattle.quic_recovery.specs.Told.{Told}
+use Rattle.quic_recovery.proofs.CarriedLaws.{AllCarry, carries_largest, keeps_carried, none_carry}
+
+-- that there are at most so many is kept where its negation is refuted
+many_or_few : (count : ℕ) (Ends : ℕ → Type 0) → ¬ (¬ AtMost count Ends) → AtMost count Ends
+many_or_few count Ends none numbers up = elim (cases_lt count (length numbers)) [
+  | inl many ↦ absurd (none (λ few. let h : length numbers ≤ count = few numbers up in omega (arith, many, h)))
+  | inr few ↦ few
+]
+
+module _ {P M S : Type 0} (words : QueueWords P S) (log : List (SpaceEntry P M)) (Came Dropped : ℕ → Type 0)
+    (kept : (n : ℕ) → ToAcknowledge words log n ↔ (Came n × ¬ Dropped n)) where
+  abbrev Stands : ℕ → Type 0
+  Stands n = Came n × ¬ Dropped n
+
+  abbrev Pending : ℕ → Type 0
+  Pending n = ToAcknowledge words log n
+
+  -- with one entry more, where there is one
+  abbrev IsAfter : Option (SpaceEntry P M) → ℕ → Type 0 → Type 0 → Type 0
+  IsAfter entry n Comes Drops = ToAcknowledge words (onto entry log) n ↔ (Comes × ¬ Drops)
+
+  stays : (b : Bool) (entry : SpaceEntry P M) (n : ℕ) → IsAfter (Some entry) n (Came n) (Dropped n)
+      → IsAfter (cond b (Some entry) None) n (Came n) (Dropped n)
+  stays true entry n first = first
+  stays false entry n first = kept n
+
+  -- ---- a new number, in this space or in another one
+
+  abbrev Comes : Bool → ℕ → ℕ → Type 0
+  Comes b m n = ((b && m == n) ≡ true) ⊎ Came n
+
+  abbrev Drops : Bool → ℕ → ℕ → Type 0
+  Drops b m n = ((b ≡ true) × LiesBelow (With m Stands) n) ⊎ (((b && m == n) ≡ false) × Dropped n)
+
+  module _ (m n : ℕ) where
+    abbrev IsSameOrNot : Type 0
+    IsSameOrNot = (((m == n) ≡ true) × (m ≡ n)) ⊎ (((m == n) ≡ false) × (m ≢ n))
+
+    high_stands : IsInHighest 64 (With m Stands) n → Comes true m n × ¬ Drops true m n
+    high_stands high = go high.0 (eqb_tells m n)
+      where
+        go : With m Stands n → IsSameOrNot → Comes true m n × ¬ Drops true m n
+        go there (inl own) = (
+          inl own.0,
+          λ drops. elim drops [
+            | inl low ↦ low.1 high.1
+            | inr was ↦ (let other = was.0 in let same = own.0 in cc)
+          ],
+        )
+        go (inl same) (inr other) = absurd (other.1 (sym same))
+        go (inr old) (inr other) = (
+          inr old.0,
+          λ drops. elim drops [
+            | inl low ↦ low.1 high.1
+            | inr was ↦ old.1 was.1
+          ],
+        )
+
+    stands_high : Comes true m n → ¬ Drops true m n → IsInHighest 64 (With m Stands) n
+    stands_high come none = (go come (eqb_tells m n), few (λ low. none (inl (refl, low))))
+      where
+        few : ¬ LiesBelow (With m Stands) n → AtMost 64 (λ end. (n ≤ end) × EndsRun (With m Stands) end)
+        few = many_or_few 64 (λ end. (n ≤ end) × EndsRun (With m Stands) end)
+
+        go : Comes true m n → IsSameOrNot → With m Stands n
+        go come (inl own) = inl (sym own.1)
+        go (inl own) (inr other) = let same = other.0 in cc
+        go (inr came) (inr other) = inr (came, λ was. none (inr (other.0, was)))
+
+    alike : (k : ℕ) → With m Pending k ↔ With m Stands k
+    alike k = (
+      λ h. elim h [ inl same ↦ inl same | inr there ↦ inr ((kept k).0 there) ],
+      λ h. elim h [ inl same ↦ inl same | inr there ↦ inr ((kept k).1 there) ],
+    )
+
+    arrives : (b : Bool) (now : ℕ) (eliciting : Bool)
+        → IsAfter (cond b (Some (heard now m eliciting)) None) n (Comes b m n) (Drops b m n)
+    arrives true now eliciting = (
+      λ high. high_stands (highest_alike (With m Pending) (With m Stands) alike 64 n high),
+      λ both. highest_alike (With m Stands) (With m Pending) (λ k. ((alike k).1, (alike k).0)) 64 n
+          (stands_high both.0 both.1),
+    )
+    arrives false now eliciting = (
+      λ set. let old = (kept n).0 set in (
+        inr old.0,
+        λ drops. elim drops [
+          | inl low ↦ (let is = low.0 in cc)
+          | inr was ↦ old.1 was.1
+        ],
+      ),
+      λ both. elim both.0 [ inl is ↦ cc | inr came ↦ (kept n).1 (came, λ was. both.1 (inr (refl, was))) ],
+    )
+
+  -- ---- a tracked packet is acknowledged, which carried the ACK of the numbers up to a largest one
+
+  abbrev Goes : Bool → Option ℕ → ℕ → Type 0
+  Goes b largest n = ((b ≡ true) × IsSomeAnd largest (λ last. n ≤ last)) ⊎ Dropped n
+
+  above_largest : (n : ℕ) (largest : Option ℕ)
+      → (Pending n × IsTrue (is_above largest n)) ↔ (Came n × ¬ Goes true largest n)
+  above_largest n None = (
+    λ set. let old = (kept n).0 set.0 in (old.0, λ goes. elim goes [ inl up ↦ up.1 | inr was ↦ old.1 was ]),
+    λ both. ((kept n).1 (both.0, λ was. both.1 (inr was)), refl),
+  )
+  above_largest n (Some last) = (
+    λ set.
+        let old = (kept n).0 set.0 in
+        let above : last < n = ltb-true last n set.1 in (
+          old.0,
+          λ goes. elim goes [
+            | inl up ↦ (let under : n ≤ last = up.1 in omega (arith, above, under))
+            | inr was ↦ old.1 was
+          ],
+        ),
+    λ both.
+        let above : last < n = elim (cases_lt last n)
+        [ inl is ↦ is | inr under ↦ absurd (both.1 (inl (refl, under))) ] in
+        ((kept n).1 (both.0, λ was. both.1 (inr was)), lt-ltb last n above),
+  )
+
+  leaves : (b : Bool) (m n : ℕ) (largest : Option ℕ)
+      → (b ≡ true → largest_acked_by (packet_at (sent_by words log).tracked m) ≡ largest)
+      → IsAfter (cond b (Some (acknowledged m)) None) n (Came n) (Goes b largest n)
+  leaves true m n largest is =
+      let Holds : Option ℕ → Type 0 = λ o. (Pending n × IsTrue (is_above o n)) ↔ (Came n × ¬ Goes true largest n) in
+      subst Holds (sym (is refl)) (above_largest n largest)
+  leaves false m n largest is = (
+    λ set. let old = (kept n).0 set in (
+      old.0,
+      λ goes. elim goes [
+        | inl up ↦ (let is = up.0 in cc)
+        | inr was ↦ old.1 was
+      ],
+    ),
+    λ both. (kept n).1 (both.0, λ was. both.1 (inr was)),
+  )
+
+-- ---- what an event does
+
+module _ {F K Q S M P : Type 0} (beginning : Beginning F K Q S M P) (before : History Q S M P) (space : SpaceId) (n : ℕ)
+    (carried : AllCarry beginning before) (keeps : KeepsToAcknowledge beginning before) where
+  abbrev log : SpaceId → List (SpaceEntry P M)
+  log = (logs_of beginning before).spaces
+
+  abbrev known : Known K P M
+  known = known_by beginning (logs_of beginning before)
+
+  abbrev Came : ℕ → Type 0
+  Came n = HasCome space n before
+
+  abbrev Dropped : ℕ → Type 0
+  Dropped n = WasDropped space n before
+
+  abbrev Pending_then : Option (SpaceEntry P M) → Type 0
+  Pending_then entry = ToAcknowledge beginning.queue.words (onto entry (log space)) n
+
+  kept : Pending_then None ↔ (Came n × ¬ Dropped n)
+  kept = keeps space n
+
+  abbrev After : Option (SpaceEntry P M) → Event Q S M P → Reply Q → Type 0
+  After entry event reply = Pending_then entry
+      ↔ (HasCome space n ((event, reply) ∷ before) × ¬ WasDropped space n ((event, reply) ∷ before))
+
+  -- an entry that leaves it, in this space or in another one
+  unmoved : (b : Bool) (entry : SpaceEntry P M) → Pending_then (Some entry) ↔ (Came n × ¬ Dropped n)
+      → Pending_then (cond b (Some entry) None) ↔ (Came n × ¬ Dropped n)
+  unmoved b entry first = stays beginning.queue.words (log space) Came Dropped (keeps space) b entry n first
+
+  answer_keeps : (event : Event Q S M P) (answer : Answer Q) → Told beginning before event (Ok answer)
+      → After ((answered beginning.queue known event answer).spaces space) event (Ok answer)
+  answer_keeps (Received there now number eliciting) (New arm) told =
+      arrives beginning.queue.words (log space) Came Dropped (keeps space) number n
+      (same_space there space) now eliciting
+  answer_keeps (Received there now number eliciting) answer told =
+      unmoved (same_space there space) (heard_again number) kept
+  answer_keeps (Acked there now number app_limited) answer told =
+      leaves beginning.queue.words (log space) Came Dropped (keeps space) (same_space there space) number n
+      (largest_in space number before) (carries_largest beginning before carried there space number told.1.0)
+  answer_keeps (Lost there number) answer told = unmoved (same_space there space) _ kept
+  answer_keeps (Send there now size eliciting last queue frames) answer told =
+      unmoved (same_space there space) _ kept
+  answer_keeps (AckFrequencyIn frame) (Flag true) told = unmoved (same_space Data space) (asked frame) kept
+  answer_keeps (AckFrequencyIn frame) (Flag false) told = kept
+  answer_keeps (AckFrequencyIn frame) answer told = kept
+  answer_keeps (AcksSent there) answer told = unmoved (same_space there space) _ kept
+  answer_keeps (AckDelayTimeout there) answer told = unmoved (same_space there space) _ kept
+  answer_keeps (DiscardSpace there) answer told = unmoved (same_space there space) _ kept
+  answer_keeps (PollMtu now) (Probe number size) told = unmoved (same_space Data space) _ kept
+  answer_keeps (PollMtu now) answer told = kept
+  answer_keeps (Ecn there newly counts) answer told = unmoved (same_space there space) _ kept
+  answer_keeps (QueueProbe there immediate streams) answer told = unmoved (same_space there space) _ kept
+  answer_keeps (TakePending there) answer told = unmoved (same_space there space) _ kept
+  answer_keeps (Transmit now bytes true) Transmitted told = kept
+  answer_keeps (Transmit now bytes true) (Delayed until) told = kept
+  answer_keeps (Transmit now bytes true) answer told = kept
+  answer_keeps (Transmit now bytes false) answer told = kept
+  answer_keeps event answer told = kept
+
+  refusal_keeps : (event : Event Q S M P) (refusal : Refusal)
+      → After ((refused event refusal).spaces space) event (Err refusal)
+  refusal_keeps (AckFrequencyIn frame) DelayTooSmall = kept
+  refusal_keeps (AckFrequencyIn frame) refusal = kept
+  refusal_keeps event refusal = kept
+
+-- ---- throughout a run
+
+module _ {F K Q S M P : Type 0} (beginning : Beginning F K Q S M P) where
+  -- what tracked packets carry, and what is to be acknowledged, is what the history says
+  record Tied (history : History Q S M P) : Type 0 where
+    pub carried : AllCarry beginning history
+    pub keeps : KeepsToAcknowledge beginning history
+
+  keeps_after : (before : History Q S M P) (event : Event Q S M P) (reply : Reply Q) → Told beginning before event reply
+      → Tied before → KeepsToAcknowledge beginning ((event, reply) ∷ before)
+  keeps_after before event (Ok answer) told tied =
+      λ space n. answer_keeps beginning before space n tied.carried tied.keeps event answer told
+  keeps_after before event (Err refusal) told tied =
+      λ space n. refusal_keeps beginning before space n tied.carried tied.keeps event refusal
+
+  tied_then : (before : History Q S M P) (events : List (Event Q S M P)) (replies : List (Reply Q))
+      → ThroughoutFrom (Told beginning) before events replies → Tied before → Tied (history_from before events replies)
+  tied_then before [] replies told tied = tied
+  tied_then before (event ∷ events) (reply ∷ replies) told tied =
+      tied_then ((event, reply) ∷ before) events replies told.1 record {
+        carried = keeps_carried beginning before event reply told.0 tied.carried;
+        keeps = keeps_after before event reply told.0 tied;
+      }
+  tied_then before (event ∷ events) [] told tied = absurd told
+
+  pub keeps_to_acknowledge : (events : List (Event Q S M P)) (replies : List (Reply Q))
+      → Throughout (Told beginning) events replies → KeepsToAcknowledge beginning (history events replies)
+  keeps_to_acknowledge events replies told = (tied_then [] events replies told record {
+    carried = none_carry beginning;
+    keeps = λ space n. (λ set. absurd set, λ both. absurd both.0);
+  }).keeps

@@ -1,0 +1,213 @@
+-- While an ack-eliciting packet waits, an ACK is required at once or the timer was started, by what each event is told.
+use Rattle.std.proofs.Common.{◌≡◌, ◌<◌, ℕ, Bool, true, false, not, ◌&&◌, ◌||◌, cond, List, [], ◌∷◌, Option, None, Some, Ok, Err, ◌⊎◌, inl, inr, ◌↔◌, IsTrue, refl, subst, arith}
+use Rattle.recovery_acks.specs.Acks.{counted}
+use Rattle.recovery_base.specs.declared.below.SpaceId.{SpaceId}
+use Rattle.recovery_base.specs.declared.below.SpaceId.TheVariants.{Data}
+use Rattle.recovery_base.specs.Spaces.{same_space}
+use Rattle.recovery_ledger.specs.Acks.{Arms, AsksAtOnce, IsRequired, StartedAt, counts_by, heard_by}
+use Rattle.recovery_ledger.specs.Received.{CameIn}
+use Rattle.recovery_ledger.specs.SpaceLog.{SpaceEntry, heard, heard_again, ack_goes, ack_is_late, asked}
+use Rattle.recovery_queue.specs.Queues.{QueueWords}
+use Rattle.quic_recovery.specs.declared.event.Event.{Event}
+use Rattle.quic_recovery.specs.declared.event.Event.TheVariants.{Received, Send, Acked, Lost, AckFrequencyIn, AcksSent, AckDelayTimeout, DiscardSpace, PollMtu, Transmit, Ecn, QueueProbe, TakePending}
+use Rattle.quic_recovery.specs.declared.event.Answer.{Answer}
+use Rattle.quic_recovery.specs.declared.event.Answer.TheVariants.{New, Flag, Probe, Transmitted, Delayed}
+use Rattle.quic_recovery.specs.declared.event.Refusal.{Refusal}
+use Rattle.quic_recovery.specs.declared.event.Refusal.TheVariants.{DelayTooSmall}
+use Rattle.quic_recovery.specs.Entries.{answered, refused, entries_of, logs_of}
+use Rattle.quic_recovery.specs.History.{Beginning, History, Reply, Throughout}
+use Rattle.quic_recovery.specs.Known.{Known, known_by}
+use Rattle.quic_recovery.specs.Logs.{onto}
+use Rattle.quic_recovery.specs.Promises.Duty.{KeepsDuty, timer_starts, waits}
+use Rattle.quic_recovery.specs.Told.{Told}
+use Rattle.quic_recovery.proofs.AmplificationLaws.{throughout_kept}
+use Rattle.quic_recovery.proofs.RequiredLaws.{Decided, either, asks, is_required}
+use Rattle.quic_recovery.proofs.TrackedLaws.{one_space}
+
+-- ---- what a packet, an ACK and a timeout do
+
+-- what waits was counted, the timer was started where the log says so, and the duty is kept
+pub record Attends (waiting starting : Bool) (eliciting : ℕ) (Required Started : Type 0) : Type 0 where
+  pub counts : waiting ≡ true → 0 < eliciting
+  pub starts : (starting ≡ true) ↔ Started
+  pub duty : waiting ≡ true → Required ⊎ (starting ≡ true)
+
+abbrev pub AttendsTo : {P M S : Type 0} → QueueWords P S → Bool → Bool → List (SpaceEntry P M) → Type 0
+AttendsTo words waiting starting log =
+    Attends waiting starting (counts_by log).eliciting (IsRequired log) ((m : ℕ) × StartedAt words log m)
+
+module _ {P M S : Type 0} (words : QueueWords P S) (waiting starting : Bool) (log : List (SpaceEntry P M))
+    (attends : AttendsTo words waiting starting log) where
+  above_zero : (n : ℕ) → 0 < counted n
+  above_zero n = omega arith
+
+  module _ (now number : ℕ) where
+    -- the timer starts at a new ack-eliciting packet
+    starts_now : Arms (heard_by words log) (counts_by log) number true
+        → AttendsTo words true true (heard now number true ∷ log)
+    starts_now arms = record {
+      counts = λ is. above_zero (counts_by log).eliciting;
+      starts = (λ is. (now, inr (refl, arms)), λ started. refl);
+      duty = λ is. inr refl;
+    }
+
+    -- or it does not: it was started, or an ACK is required
+    not_now : ¬ Arms (heard_by words log) (counts_by log) number true
+        → AttendsTo words true starting (heard now number true ∷ log)
+    not_now other = record {
+      counts = λ is. above_zero (counts_by log).eliciting;
+      starts = (
+        λ is. let was = attends.starts.0 is in (was.0, inl was.1),
+        λ started. elim started.1 [ inl was ↦ attends.starts.1 (started.0, was) | inr now ↦ absurd (other now.1) ],
+      );
+      duty = λ is. go starting attends.starts (either (is_required log) (asks log (counts_by log) number));
+    }
+      where
+        go : (b : Bool) → (b ≡ true) ↔ ((m : ℕ) × StartedAt words log m)
+            → Decided (IsRequired log ⊎ AsksAtOnce (CameIn log) (counts_by log) number)
+            → (IsRequired log ⊎ (IsTrue true × AsksAtOnce (CameIn log) (counts_by log) number)) ⊎ (b ≡ true)
+        go true starts why = inr refl
+        go false starts (inl (inl was)) = inl (inl was)
+        go false starts (inl (inr asks)) = inl (inr (refl, asks))
+        go false starts (inr none) = absurd (other (refl, (λ started. let is = starts.1 started in cc), none))
+
+    -- a packet that elicits no ACK
+    silent : AttendsTo words waiting starting (heard now number false ∷ log)
+    silent = record {
+      counts = attends.counts;
+      starts = (
+        λ is. let was = attends.starts.0 is in (was.0, inl was.1),
+        λ started. elim started.1 [ inl was ↦ attends.starts.1 (started.0, was) | inr now ↦ (let is = now.1.0 in cc) ],
+      );
+      duty = λ is. elim (attends.duty is) [ inl required ↦ inl (inl required) | inr started ↦ inr started ];
+    }
+
+  -- an ACK is sent
+  acked : AttendsTo words false false (ack_goes ∷ log)
+  acked = record { counts = λ is. cc; starts = (λ is. cc, λ started. absurd started.1); duty = λ is. cc }
+
+  -- the timer for a late one expired
+  late : AttendsTo words waiting starting (ack_is_late ∷ log)
+  late = record { counts = attends.counts; starts = attends.starts; duty = λ is. inl (attends.counts is) }
+
+-- ---- what an event does
+
+module _ {F K Q S M P : Type 0} (beginning : Beginning F K Q S M P) (before : History Q S M P) (space : SpaceId)
+    (here : AttendsTo beginning.queue.words (waits space before) (timer_starts space before)
+    ((logs_of beginning before).spaces space)) where
+  abbrev log : SpaceId → List (SpaceEntry P M)
+  log = (logs_of beginning before).spaces
+
+  abbrev known : Known K P M
+  known = known_by beginning (logs_of beginning before)
+
+  abbrev waiting : Bool
+  waiting = waits space before
+
+  abbrev starting : Bool
+  starting = timer_starts space before
+
+  abbrev After : Option (SpaceEntry P M) → Bool → Bool → Type 0
+  After entry waiting starting = AttendsTo beginning.queue.words waiting starting (onto entry (log space))
+
+  abbrev ArmsIn : SpaceId → ℕ → Type 0
+  ArmsIn there number = Arms (heard_by beginning.queue.words (log there)) (counts_by (log there)) number true
+
+  -- an entry that leaves what waits, in this space or in another one
+  stays : (b : Bool) (entry : SpaceEntry P M) → After (Some entry) waiting starting
+      → After (cond b (Some entry) None) waiting starting
+  stays true entry first = first
+  stays false entry first = here
+
+  sends_ack : (b : Bool) → After (cond b (Some ack_goes) None) (not b && waiting) (not b && starting)
+  sends_ack true = acked beginning.queue.words waiting starting (log space) here
+  sends_ack false = here
+
+  -- a new ack-eliciting packet with which the timer starts, or does not
+  module _ (there : SpaceId) (now number : ℕ) where
+    abbrev Comes : Bool → Bool → Type 0
+    Comes b starting = After (cond b (Some (heard now number true)) None) (b || waiting) starting
+
+    arms_told : ArmsIn there number → Comes (same_space there space) (same_space there space || starting)
+    arms_told arms = go (same_space there space) refl
+      where
+        go : (b : Bool) → same_space there space ≡ b → Comes b (b || starting)
+        go true at = starts_now beginning.queue.words waiting starting (log space) here now number
+            (subst (λ s. ArmsIn s number) (one_space there space at) arms)
+        go false at = here
+
+    other_told : ¬ ArmsIn there number → Comes (same_space there space) starting
+    other_told other = go (same_space there space) refl
+      where
+        go : (b : Bool) → same_space there space ≡ b → Comes b starting
+        go true at = not_now beginning.queue.words waiting starting (log space) here now number
+            (subst (λ s. ¬ ArmsIn s number) (one_space there space at) other)
+        go false at = here
+
+  answer_attends : (event : Event Q S M P) (answer : Answer Q) → Told beginning before event (Ok answer)
+      → After ((answered beginning.queue known event answer).spaces space)
+      (waits space ((event, Ok answer) ∷ before)) (timer_starts space ((event, Ok answer) ∷ before))
+  answer_attends (Received there now number true) (New true) told = arms_told there now number (told.1.1.1.0 refl)
+  answer_attends (Received there now number true) (New false) told =
+      other_told there now number (λ arms. let is = told.1.1.1.1 arms in cc)
+  answer_attends (Received there now number false) (New true) told = let is = (told.1.1.1.0 refl).0 in cc
+  answer_attends (Received there now number false) (New false) told =
+      stays (same_space there space) (heard now number false)
+      (silent beginning.queue.words waiting starting (log space) here now number)
+  answer_attends (Received there now number eliciting) answer told =
+      stays (same_space there space) (heard_again number) here
+  answer_attends (AcksSent there) answer told = sends_ack (same_space there space)
+  answer_attends (AckDelayTimeout there) answer told =
+      stays (same_space there space) ack_is_late (late beginning.queue.words waiting starting (log space) here)
+  answer_attends (Send there now size eliciting largest queue frames) answer told =
+      stays (same_space there space) _ here
+  answer_attends (Acked there now number app_limited) answer told = stays (same_space there space) _ here
+  answer_attends (Lost there number) answer told = stays (same_space there space) _ here
+  answer_attends (AckFrequencyIn frame) (Flag true) told = stays (same_space Data space) (asked frame) here
+  answer_attends (AckFrequencyIn frame) (Flag false) told = here
+  answer_attends (AckFrequencyIn frame) answer told = here
+  answer_attends (DiscardSpace there) answer told = stays (same_space there space) _ here
+  answer_attends (PollMtu now) (Probe number size) told = stays (same_space Data space) _ here
+  answer_attends (PollMtu now) answer told = here
+  answer_attends (Ecn there newly counts) answer told = stays (same_space there space) _ here
+  answer_attends (QueueProbe there immediate streams) answer told = stays (same_space there space) _ here
+  answer_attends (TakePending there) answer told = stays (same_space there space) _ here
+  answer_attends (Transmit now bytes true) Transmitted told = here
+  answer_attends (Transmit now bytes true) (Delayed until) told = here
+  answer_attends (Transmit now bytes true) answer told = here
+  answer_attends (Transmit now bytes false) answer told = here
+  answer_attends event answer told = here
+
+  refusal_attends : (event : Event Q S M P) (refusal : Refusal)
+      → After ((refused event refusal).spaces space)
+      (waits space ((event, Err refusal) ∷ before)) (timer_starts space ((event, Err refusal) ∷ before))
+  refusal_attends (AckFrequencyIn frame) DelayTooSmall = here
+  refusal_attends (AckFrequencyIn frame) refusal = here
+  refusal_attends (Received there now number true) refusal = here
+  refusal_attends (Received there now number false) refusal = here
+  refusal_attends event refusal = here
+
+  reply_attends : (event : Event Q S M P) (reply : Reply Q) → Told beginning before event reply
+      → After ((entries_of beginning.queue known event reply).spaces space)
+      (waits space ((event, reply) ∷ before)) (timer_starts space ((event, reply) ∷ before))
+  reply_attends event (Ok answer) told = answer_attends event answer told
+  reply_attends event (Err refusal) told = refusal_attends event refusal
+
+-- ---- throughout a run
+
+module _ {F K Q S M P : Type 0} (beginning : Beginning F K Q S M P) where
+  abbrev AllAttended : History Q S M P → Type 0
+  AllAttended history = (space : SpaceId)
+      → AttendsTo beginning.queue.words (waits space history) (timer_starts space history)
+      ((logs_of beginning history).spaces space)
+
+  after_one : (before : History Q S M P) (event : Event Q S M P) (reply : Reply Q) → Told beginning before event reply
+      → AllAttended before → AllAttended ((event, reply) ∷ before)
+  after_one before event reply told all = λ space. reply_attends beginning before space (all space) event reply told
+
+  pub keeps_duty : (events : List (Event Q S M P)) (replies : List (Reply Q))
+      → Throughout (Told beginning) events replies → Throughout (KeepsDuty beginning) events replies
+  keeps_duty events replies told =
+      throughout_kept beginning AllAttended (KeepsDuty beginning) after_one
+      (λ before event reply here all space. (after_one before event reply here all space).duty) [] events replies told
+      (λ space. record { counts = λ is. cc; starts = (λ is. cc, λ started. absurd started.1); duty = λ is. cc })

@@ -1,0 +1,101 @@
+-- What each tracked packet says of itself, as its size, goes with its number: so it stays as packets come and go.
+use Rattle.std.proofs.Common.{ℕ, ◌≡◌, ◌+◌, ◌<◌, ◌≤◌, Bool, true, false, cond, [], ◌∷◌, ◌++◌, Option, None, Some, refl, sym, ap, ◌∙◌, arith}
+use Rattle.std.specs.Prelude.{option_map}
+use Rattle.std.specs.Ordering.{nat_cmp}
+use Rattle.std.specs.BTreeMap.{is_at}
+use Rattle.recovery_ledger.specs.Packets.{Packet, Packets, packet_at, without, without_some, replaced, carrying, with_contents, forgotten_number, sent_onto}
+use Rattle.recovery_ledger.specs.Probes.{ProbeFound, pending_stands, moves, nothing_found}
+use Rattle.recovery_ledger.specs.Tracked.{Sent, sent_moved}
+use Rattle.recovery_ledger.proofs.PacketLaws.{number_at, some_packet, no_packet}
+
+module _ {P M A : Type 0} (says : Packet P M → A) where
+  -- packets say what goes with their numbers, which are below another
+  abbrev pub AreSaid : (ℕ → A) → ℕ → Packets P M → Type 0
+  AreSaid by limit [] = Unit {0}
+  AreSaid by limit (entry ∷ packets) = (says entry.1 ≡ by entry.0) × (entry.0 < limit) × AreSaid by limit packets
+
+  module _ (by : ℕ → A) (limit : ℕ) where
+    -- so does the packet of a number
+    pub said_found : (packets : Packets P M) → AreSaid by limit packets → (number : ℕ) (packet : Packet P M)
+        → packet_at packets number ≡ Some packet → says packet ≡ by number
+    said_found [] said number packet found = no_packet packet found
+    said_found (entry ∷ packets) said number packet found = go (is_at (nat_cmp number) entry.0) refl found
+        (said_found packets said.2 number packet)
+      where
+        go : (b : Bool) → is_at (nat_cmp number) entry.0 ≡ b
+            → cond b (Some entry.1) (packet_at packets number) ≡ Some packet
+            → (packet_at packets number ≡ Some packet → says packet ≡ by number) → says packet ≡ by number
+        go true at e later = ap says (sym (some_packet entry.1 packet e)) ∙ said.0 ∙ ap by (number_at number entry.0 at)
+        go false at e later = later e
+
+    -- some that are left
+    pub said_without : (packets : Packets P M) (number : ℕ) → AreSaid by limit packets
+        → AreSaid by limit (without packets number)
+    said_without [] number said = tt
+    said_without (entry ∷ packets) number said =
+        go (is_at (nat_cmp number) entry.0) (said_without packets number said.2)
+      where
+        go : (b : Bool) → AreSaid by limit (without packets number)
+            → AreSaid by limit (cond b packets (entry ∷ without packets number))
+        go true later = said.2
+        go false later = (said.0, said.1, later)
+
+    said_without_some : (packets : Packets P M) (forgotten : Option ℕ) → AreSaid by limit packets
+        → AreSaid by limit (without_some packets forgotten)
+    said_without_some packets None said = said
+    said_without_some packets (Some number) said = said_without packets number said
+
+    -- one with other contents, of which nothing is said
+    module _ (kept : (contents : P) (packet : Packet P M) → says (with_contents contents packet) ≡ says packet) where
+      said_replaced : (packets : Packets P M) (number : ℕ) (packet : Packet P M) → says packet ≡ by number
+          → AreSaid by limit packets → AreSaid by limit (replaced number (Some packet) packets)
+      said_replaced [] number packet same said = tt
+      said_replaced (entry ∷ packets) number packet same said = go (is_at (nat_cmp number) entry.0) refl
+          (said_replaced packets number packet same said.2)
+        where
+          go : (b : Bool) → is_at (nat_cmp number) entry.0 ≡ b
+              → AreSaid by limit (replaced number (Some packet) packets)
+              → AreSaid by limit (cond b ((entry.0, packet) ∷ packets) (entry ∷ replaced number (Some packet) packets))
+          go true at later = (same ∙ ap by (sym (number_at number entry.0 at)), said.1, said.2)
+          go false at later = (said.0, said.1, later)
+
+      pub said_carrying : (packets : Packets P M) (number : ℕ) (contents : P) → AreSaid by limit packets
+          → AreSaid by limit (carrying number contents packets)
+      said_carrying packets number contents said = go (packet_at packets number) refl
+        where
+          go : (found : Option (Packet P M)) → packet_at packets number ≡ found
+              → AreSaid by limit (replaced number (option_map (with_contents contents) found) packets)
+          go None found = said
+          go (Some packet) found = said_replaced packets number (with_contents contents packet)
+              (kept contents packet ∙ said_found packets said number packet found) said
+
+    -- one more, under a number that is not below any
+    module _ (number : ℕ) (above : limit ≤ number) (then_by : ℕ → A)
+        (same : (n : ℕ) → n < limit → by n ≡ then_by n) where
+      said_push : (packets : Packets P M) (packet : Packet P M) → says packet ≡ then_by number
+          → AreSaid by limit packets → AreSaid then_by (number + 1) (packets ++ (number, packet) ∷ [])
+      said_push [] packet own said = (own, omega arith, tt)
+      said_push (entry ∷ packets) packet own said =
+          let below : entry.0 < limit = said.1 in (
+            said.0 ∙ same entry.0 below,
+            omega (arith, below, above),
+            said_push packets packet own said.2,
+          )
+
+      pub said_sent : (last : Option ℕ) (packets : Packets P M) (packet : Packet P M) → says packet ≡ then_by number
+          → AreSaid by limit packets → AreSaid then_by (number + 1) (sent_onto last number packet packets)
+      said_sent last packets packet own said =
+          said_push (without_some packets (forgotten_number last packet packets)) packet own
+          (said_without_some packets _ said)
+
+  -- so do the packets that are tracked, whose numbers were given out
+  abbrev pub IsSaid : (ℕ → A) → Sent P M → Type 0
+  IsSaid by sent = AreSaid by sent.next sent.tracked
+
+  -- contents that a probe finds are moved out
+  pub said_moved : ((contents : P) (packet : Packet P M) → says (with_contents contents packet) ≡ says packet)
+      → (by : ℕ → A) (sent : Sent P M) (empty : P) (found : ProbeFound) → IsSaid by sent
+      → IsSaid by (sent_moved empty found sent)
+  said_moved kept by sent empty pending_stands said = said
+  said_moved kept by sent empty nothing_found said = said
+  said_moved kept by sent empty (moves number) said = said_carrying by sent.next kept sent.tracked number empty said

@@ -1,0 +1,173 @@
+-- Whether an ACK is required at once can be decided from the log of its space: a gap is sought between two numbers.
+use Rattle.std.proofs.Common.{◌≡◌, ◌≤◌, ◌<◌, ◌+◌, ◌-◌, ℕ, zero, suc, Bool, true, false, List, [], ◌∷◌, Option, None, Some, ◌⊎◌, inl, inr, IsTrue, refl, subst, arith}
+use Rattle.std.proofs.lemmas.Bool.{cases_eq, cases_lt}
+use Rattle.recovery_acks.specs.Acks.{counted, number_or_zero, IsOutOfOrder, IsReported}
+use Rattle.recovery_base.specs.Numbers.{IsInWindow, IsLeastMissing, IsMissing}
+use Rattle.recovery_base.proofs.WindowLaws.{HasGreatest}
+use Rattle.recovery_ledger.specs.Acks.{AckCounts, AsksAtOnce, IsRequired, counts_by, greatest_with}
+use Rattle.recovery_ledger.specs.Received.{CameIn}
+use Rattle.recovery_ledger.specs.SpaceLog.{SpaceEntry, heard, heard_again, ack_goes, ack_is_late}
+use Rattle.recovery_ledger.proofs.ReceivedLaws.{came_greatest}
+
+-- ---- what can be decided
+
+abbrev pub Decided : Type 0 → Type 0
+Decided A = A ⊎ (¬ A)
+
+both : {A B : Type 0} → Decided A → Decided B → Decided (A × B)
+both (inl a) (inl b) = inl (a, b)
+both (inl a) (inr none) = inr (λ h. none h.1)
+both (inr none) other = inr (λ h. none h.0)
+
+pub either : {A B : Type 0} → Decided A → Decided B → Decided (A ⊎ B)
+either (inl a) other = inl (inl a)
+either (inr none) (inl b) = inl (inr b)
+either (inr none) (inr other) = inr (λ h. elim h [ inl a ↦ none a | inr b ↦ other b ])
+
+less : (m n : ℕ) → Decided (m < n)
+less m n = elim (cases_lt m n) [ inl is ↦ inl is | inr is ↦ inr (λ h. omega (arith, is, h)) ]
+
+up_to : (m n : ℕ) → Decided (m ≤ n)
+up_to m n = elim (cases_lt n m) [ inl is ↦ inr (λ h. omega (arith, is, h)) | inr is ↦ inl is ]
+
+flag : (b : Bool) → Decided (IsTrue b)
+flag true = inl refl
+flag false = inr (λ h. cc)
+
+-- ---- the least missing number, by a search
+
+module _ (Missing : ℕ → Type 0) (decided : (n : ℕ) → Decided (Missing n)) (low : ℕ) where
+  abbrev IsFirst : ℕ → ℕ → Type 0
+  IsFirst high n = (low < n) × (n < high) × Missing n × ((m : ℕ) → low < m → m < high → Missing m → n ≤ m)
+
+  abbrev Found : ℕ → Type 0
+  Found high = ((n : ℕ) × IsFirst high n) ⊎ ((m : ℕ) → low < m → m < high → ¬ Missing m)
+
+  seek : (count : ℕ) → Found (low + 1 + count)
+  seek zero = inr (λ m above below missing. omega (arith, above, below))
+  seek (suc count) = go (seek count) (decided (low + 1 + count))
+    where
+      go : Found (low + 1 + count) → Decided (Missing (low + 1 + count)) → Found (low + 1 + suc count)
+      go (inl first) last =
+          let below = first.1.1 in
+          let least = first.1.3 in
+          let under : first.0 < low + 1 + suc count = omega (arith, below) in
+          inl (
+            first.0,
+            (
+              first.1.0,
+              under,
+              first.1.2,
+              λ m above inside missing. elim (cases_lt m (low + 1 + count)) [
+                | inl before ↦ least m above before missing
+                | inr behind ↦ omega (arith, below, behind)
+              ],
+            ),
+          )
+      go (inr none) (inl last) =
+          inl (
+            low + 1 + count,
+            (
+              omega arith,
+              omega arith,
+              last,
+              λ m above inside missing. elim (cases_lt m (low + 1 + count)) [
+                | inl before ↦ absurd (none m above before missing)
+                | inr behind ↦ behind
+              ],
+            ),
+          )
+      go (inr none) (inr other) =
+          inr (λ m above inside missing. elim (cases_lt m (low + 1 + count)) [
+            | inl before ↦ none m above before missing
+            | inr behind ↦ (
+                let same : m ≡ low + 1 + count = omega (arith, inside, behind) in other (subst Missing same missing)
+                )
+          ])
+
+  found : (high : ℕ) → Found high
+  found high = elim (cases_lt low high) [
+    | inl above ↦ (
+        let is : low + 1 + (high - (low + 1)) ≡ high = omega (arith, above) in
+        subst Found is (seek (high - (low + 1)))
+        )
+    | inr below ↦ inr (λ m over under missing. omega (arith, below, over, under))
+  ]
+
+-- ---- of the numbers that came
+
+module _ (Numbers : ℕ → Type 0) (greatest : HasGreatest Numbers) (came : (n : ℕ) → Decided (Numbers n)) where
+  is_near : HasGreatest Numbers → (n : ℕ) → Decided (IsInWindow Numbers n)
+  is_near (inl none) n = inl (λ m here. absurd (none m here))
+  is_near (inr most) n = elim (cases_lt (n + 128) most.0) [
+    | inl far ↦ inr (λ near. let h : most.0 ≤ n + 128 = near most.0 most.1 in omega (arith, h, far))
+    | inr near ↦ inl (λ m here. let h : m ≤ most.0 = most.2 m here in omega (arith, h, near))
+  ]
+
+  is_missing : (n : ℕ) → Decided (IsMissing Numbers n)
+  is_missing n = elim (came n) [
+    | inl here ↦ inr (λ missing. missing.0 here)
+    | inr none ↦ both (inl none) (is_near greatest n)
+  ]
+
+  abbrev HasLeast : ℕ → ℕ → (ℕ → Type 0) → Type 0
+  HasLeast low high P = (m : ℕ) × IsLeastMissing Numbers low high (Some m) × P m
+
+  least_with : (low high : ℕ) (P : ℕ → Type 0) → ((m : ℕ) → Decided (P m)) → Decided (HasLeast low high P)
+  least_with low high P decided = go (found (IsMissing Numbers) is_missing low high)
+    where
+      go : Found (IsMissing Numbers) is_missing low high → Decided (HasLeast low high P)
+      go (inl first) = elim (decided first.0) [
+        | inl is ↦ inl (first.0, first.1, is)
+        | inr other ↦ inr (λ h. (
+            let up : first.0 ≤ h.0 = first.1.3 h.0 h.1.0 h.1.1 h.1.2 in
+            let down : h.0 ≤ first.0 = h.1.3 first.0 first.1.0 first.1.1 first.1.2 in
+            let same : h.0 ≡ first.0 = omega (arith, up, down) in
+            other (subst P same h.2)
+            ))
+      ]
+      go (inr none) = inr (λ h. none h.0 h.1.0 h.1.1 h.1.2)
+
+  is_reported : (threshold greatest : ℕ) (acknowledged : Option ℕ)
+      → Decided (IsReported Numbers threshold greatest acknowledged)
+  is_reported threshold greatest None = inr (λ h. h)
+  is_reported threshold greatest (Some k) =
+      let decided = least_with (k - threshold + 1) greatest (λ m. threshold ≤ greatest - m) in
+      both (up_to threshold k) (decided (λ m. up_to threshold (greatest - m)))
+
+  some_gap : (low high : ℕ) → Decided ((m : ℕ) × IsLeastMissing Numbers low high (Some m))
+  some_gap low high = elim (least_with low high (λ m. Unit {0}) (λ m. inl tt)) [
+    | inl first ↦ inl (first.0, first.1)
+    | inr none ↦ inr (λ h. none (h.0, h.1, tt))
+  ]
+
+  is_out_of_order : (threshold : ℕ) (acknowledged : Option ℕ) (before greatest number : ℕ)
+      → Decided (IsOutOfOrder Numbers threshold acknowledged before greatest number)
+  is_out_of_order threshold acknowledged before greatest number =
+      either
+      (both (cases_eq threshold 1) (either (less number before) (some_gap before number)))
+      (both (less 1 threshold) (is_reported threshold greatest acknowledged))
+
+module _ {P M : Type 0} where
+  has_come : (log : List (SpaceEntry P M)) (n : ℕ) → Decided (CameIn log n)
+  has_come [] n = inr (λ h. h)
+  has_come (heard now number eliciting ∷ earlier) n = either (cases_eq n number) (has_come earlier n)
+  has_come (heard_again number ∷ earlier) n = either (cases_eq n number) (has_come earlier n)
+  has_come (entry ∷ earlier) n = has_come earlier n
+
+  pub asks : (log : List (SpaceEntry P M)) (counts : AckCounts) (number : ℕ)
+      → Decided (AsksAtOnce (CameIn log) counts number)
+  asks log counts number =
+      let longer : List (SpaceEntry P M) = heard_again number ∷ log in
+      either (less counts.thresholds.0 (counted counts.eliciting))
+      (is_out_of_order (CameIn longer) (came_greatest longer) (has_come longer) counts.thresholds.1 counts.acknowledged
+      (number_or_zero counts.greatest) (greatest_with counts.greatest number) number)
+
+  -- an ACK is required at once, or not
+  pub is_required : (log : List (SpaceEntry P M)) → Decided (IsRequired log)
+  is_required [] = inr (λ h. h)
+  is_required (heard now number eliciting ∷ earlier) =
+      either (is_required earlier) (both (flag eliciting) (asks earlier (counts_by earlier) number))
+  is_required (ack_goes ∷ earlier) = inr (λ h. h)
+  is_required (ack_is_late ∷ earlier) = less 0 (counts_by earlier).eliciting
+  is_required (entry ∷ earlier) = is_required earlier

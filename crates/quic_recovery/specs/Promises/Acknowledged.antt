@@ -1,0 +1,50 @@
+-- What is to be acknowledged (RFC 9000, 13.2.3 and 13.2.4): the new numbers, but those of which since they came a packet was acknowledged
+-- that carried their ACK or a later one, and those that came to lie below the 64 highest ranges of what is to be acknowledged.
+use Rattle.std.specs.Prelude.{◌≡◌, ℕ, ◌≤◌, ◌⊎◌, ◌↔◌, ◌==◌, ◌&&◌, true, false, [], ◌∷◌, IsSomeAnd, Option, None, Ok, if◌then◌else◌}
+use Rattle.recovery_acks.specs.Runs.{AtMost, EndsRun}
+use Rattle.recovery_base.specs.declared.below.SpaceId.{SpaceId}
+use Rattle.recovery_base.specs.declared.below.SpaceId.TheVariants.{Data}
+use Rattle.recovery_base.specs.Numbers.{With}
+use Rattle.recovery_base.specs.Spaces.{same_space}
+use Rattle.recovery_ledger.specs.Acks.{ToAcknowledge}
+use Rattle.quic_recovery.specs.declared.event.Event.TheVariants.{Received, Send, Acked, PollMtu}
+use Rattle.quic_recovery.specs.declared.event.Answer.TheVariants.{New, Sent, Probe}
+use Rattle.quic_recovery.specs.Entries.{logs_of}
+use Rattle.quic_recovery.specs.History.{Beginning, History}
+
+-- more than 64 ranges of a set end at a number or above it
+abbrev pub LiesBelow : (ℕ → Type 0) → ℕ → Type 0
+LiesBelow Numbers n = ¬ AtMost 64 (λ end. (n ≤ end) × EndsRun Numbers end)
+
+module _ {Q S M P : Type 0} (space : SpaceId) where
+  -- a number was new in the space
+  abbrev pub HasCome : ℕ → History Q S M P → Type 0
+  HasCome n [] = ⊥
+  HasCome n ((Received there now m eliciting, Ok (New started)) ∷ earlier) =
+      ((same_space there space && m == n) ≡ true) ⊎ HasCome n earlier
+  HasCome n (happened ∷ earlier) = HasCome n earlier
+
+  -- the largest number whose ACK the packet of a number carries; a probe of the MTU carries none
+  abbrev pub largest_in : ℕ → History Q S M P → Option ℕ
+  largest_in n [] = None
+  largest_in n ((Send there now size eliciting largest queue frames, Ok (Sent number forgotten)) ∷ earlier) =
+      if same_space there space && number == n then largest else largest_in n earlier
+  largest_in n ((PollMtu now, Ok (Probe number size)) ∷ earlier) =
+      if same_space Data space && number == n then None else largest_in n earlier
+  largest_in n (happened ∷ earlier) = largest_in n earlier
+
+  -- since a number came, a packet that carried its ACK or a later one was acknowledged, or it came to lie below the 64 highest ranges
+  abbrev pub WasDropped : ℕ → History Q S M P → Type 0
+  WasDropped n [] = ⊥
+  WasDropped n ((Acked there now m app_limited, Ok answer) ∷ earlier) =
+      ((same_space there space ≡ true) × IsSomeAnd (largest_in m earlier) (λ largest. n ≤ largest)) ⊎ WasDropped n earlier
+  WasDropped n ((Received there now m eliciting, Ok (New started)) ∷ earlier) =
+      ((same_space there space ≡ true) × LiesBelow (With m (λ k. HasCome k earlier × ¬ WasDropped k earlier)) n)
+      ⊎ (((same_space there space && m == n) ≡ false) × WasDropped n earlier)
+  WasDropped n (happened ∷ earlier) = WasDropped n earlier
+
+-- so says the table, to which the state is tied
+abbrev pub KeepsToAcknowledge : {F K Q S M P : Type 0} → Beginning F K Q S M P → History Q S M P → Type 0
+KeepsToAcknowledge beginning history = (space : SpaceId) (n : ℕ)
+    → ToAcknowledge beginning.queue.words ((logs_of beginning history).spaces space) n
+    ↔ (HasCome space n history × ¬ WasDropped space n history)
