@@ -1,9 +1,10 @@
 -- What the proofs of worked rows cite: when the timer for a late ACK starts, and which numbers are new.
-use Rattle.std.proofs.Common.{◌≡◌, ℕ, ◌+◌, ◌<◌, ◌≤◌, ◌^◌, ◌↔◌, ◌⊎◌, true, false, List, IsTrue, nat_lt, ltb-true, [], ◌∷◌, Option, None, Some, refl, arith, inl, inr, lt_irrefl, get_or, nat_eq, ap, sym, subst}
+use Rattle.std.proofs.Common.{◌≡◌, ℕ, ◌+◌, ◌<◌, ◌≤◌, ◌^◌, ◌↔◌, ◌⊎◌, true, false, List, IsTrue, IsSome, min, nat_lt, ltb-true, [], ◌∷◌, Option, None, Some, refl, arith, inl, inr, lt_irrefl, get_or, nat_eq, ap, sym, subst}
 use Rattle.std.proofs.lemmas.Bool.{eqb-false}
 use Rattle.recovery_acks.specs.Acks.{IsOutOfOrder}
 use Rattle.recovery_acks.specs.Runs.{Ascend, AtMost}
-use Rattle.recovery_base.specs.Numbers.{IsNew, IsLeastMissing}
+use Rattle.recovery_base.specs.Numbers.{IsNew}
+use Rattle.recovery_ids.specs.RemoteIds.{Table, IsLeastHeld}
 use Rattle.quic_recovery.specs.declared.event.Answer.{Answer}
 use Rattle.quic_recovery.specs.declared.event.Answer.TheVariants as answer
 
@@ -58,10 +59,12 @@ in_turn before step acknowledged near (inr (inl (one, inl below))) = omega (arit
 in_turn before step acknowledged near (inr (inl (one, inr (m, missing)))) = omega (arith, near, missing.0, missing.1)
 in_turn before step acknowledged near (inr (inr many)) = omega (arith, many.0)
 
--- 1 is missing below a number
-pub one_missing : {Numbers : ℕ → Type 0} {high : ℕ} → 1 < high → ¬ Numbers 1 → ((m : ℕ) → Numbers m → m ≤ 129)
-    → (m : ℕ) × IsLeastMissing Numbers 0 high (Some m)
-one_missing below lacks window = (1, (omega arith, below, (lacks, window), λ m low less missing. low))
+-- 1 is missing below a number: so an ACK is required at once, and no timer is started
+pub leaves_a_gap : {Started Required : Type 0} {Numbers : ℕ → Type 0} {high : ℕ} → 1 < high → ¬ Numbers 1
+    → ((m : ℕ) → Numbers m → m ≤ 129)
+    → IsTrue false ↔ (IsTrue true × (¬ Started) × ¬ (Required ⊎ ((1 < 1) ⊎ IsOutOfOrder Numbers 1 None 0 high high)))
+leaves_a_gap below lacks window =
+    stays (λ all. all.2 (inr (inr (inl (refl, inr (1, (omega arith, below, (lacks, window), λ m low less missing. low)))))))
 
 -- three may come without an ACK, and nothing was acknowledged yet
 pub patient : {Numbers : ℕ → Type 0} (number : ℕ) → ¬ ((3 < 1) ⊎ IsOutOfOrder Numbers 2 None 0 number number)
@@ -94,3 +97,27 @@ one_run P k only (n ∷ m ∷ rest) rise =
     let first = only n rise.1 in
     let next = only m rise.2.1 in
     absurd (omega (arith, rise.2.0, first, next))
+
+-- four causes of refusal that do not hold
+pub taken : {a b c d limit low least most : ℕ} {Told : Type 0} → nat_lt a limit ≡ true → nat_lt b low ≡ true
+    → nat_lt c least ≡ true → nat_lt d most ≡ true → Told
+    → (¬ (limit ≤ a)) × ((¬ (low ≤ b)) × ((¬ (least ≤ c)) × ((¬ (most ≤ d)) × Told)))
+taken first second third fourth told = (small first, (small second, (small third, (small fourth, told))))
+
+-- a frame moves the active number to the least one that is held
+pub moves : {held : Table} {active low start end : ℕ} {token : List ℕ} (next : ℕ) (id : List ℕ) → nat_lt active low ≡ true
+    → start ≡ active → end ≡ min next (active + 8) → held next ≡ Some (id, Some token) → ((m : ℕ) → m < next → held m ≡ None)
+    → (active < low) × (start ≡ active) × (n : ℕ) × IsLeastHeld held 0 n × (end ≡ min n (active + 8))
+    × ((given : List ℕ) × (held n ≡ Some (given, Some token)))
+moves {held} {active} {low} next id above starts ends is gone = (
+  ltb-true active low above,
+  starts,
+  next,
+  record {
+    bound = omega arith;
+    is_held = subst (λ h. IsSome h) (sym is) refl;
+    least = λ m bound less. gone m less;
+  },
+  ends,
+  (id, is),
+)

@@ -67,6 +67,6 @@ AllTold start [] = Unit {0}
 AllTold start (happened ∷ earlier) = AllTold start earlier × Told start earlier happened.0 happened.1
 
 -- what came before, and behind it what comes next
-infixl 5 ◌▸◌
-pub ◌▸◌ : {A B : Type 0} → A → B → A × B
-before ▸ next = (before, next)
+infixl 5 ◌⊳◌
+pub ◌⊳◌ : {A B : Type 0} → A → B → A × B
+before ⊳ next = (before, next)

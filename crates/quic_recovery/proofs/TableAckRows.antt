@@ -10,7 +10,7 @@ use Rattle.quic_recovery.specs.declared.event.Event.TheVariants as event
 use Rattle.quic_recovery.specs.declared.event.Answer.TheVariants as answer
 use Rattle.quic_recovery.specs.declared.event.Refusal.TheVariants as refusal
 use Rattle.quic_recovery.specs.Told.{Told}
-use Rattle.quic_recovery.proofs.RowStart.{ack_frame, RowEvent, RowReply, RowHistory, row_start, AllTold, ◌▸◌}
+use Rattle.quic_recovery.proofs.RowStart.{ack_frame, RowEvent, RowReply, RowHistory, row_start, AllTold, ◌⊳◌}
 use Rattle.quic_recovery.proofs.RowLaws.{unrefused, small, fits, calm, at_first, starts, stays, in_turn, one_run}
 
 module _ (remote : SocketAddr) (random : Stream) where
@@ -32,9 +32,9 @@ module _ (remote : SocketAddr) (random : Stream) where
   requests_told : TellsAll requests
   requests_told =
       tt
-      ▸ (unrefused, (λ s. s, omega arith))
-      ▸ (unrefused, (λ h. h.0 (omega arith), stays (λ n. n (omega arith))))
-      ▸ (unrefused, (λ h. omega (arith, h.1), starts (λ s. omega (arith, s))))
+      ⊳ (unrefused, (λ s. s, omega arith))
+      ⊳ (unrefused, (λ h. h.0 (omega arith), stays (λ n. n (omega arith))))
+      ⊳ (unrefused, (λ h. omega (arith, h.1), starts (λ s. omega (arith, s))))
 
   refused_number_is_kept : ¬ Tells (drop 2 requests) (event.AckFrequencyIn (ack_frame 5 2000)) (Ok (answer.Flag true))
   refused_number_is_kept = λ told. told.1.1.0 refl (omega arith)
@@ -62,13 +62,29 @@ module _ (remote : SocketAddr) (random : Stream) where
   late_told : TellsAll late
   late_told =
       tt
-      ▸ (unrefused, (small refl, (inl (λ m came. absurd came), starts (at_first (in_turn 0 0 None (omega arith))))))
-      ▸ (unrefused, refl)
-      ▸ (unrefused, (small refl, (inl (λ m came. grind (arith, came)), stays (λ all. all.2 (inl (omega arith))))))
-      ▸ (unrefused, (starts (inl (omega arith), (1, (inl refl, one_run _ 1 (λ m end. elim end.1.0 [ inl one ↦ one | inr old ↦ absurd (grind (arith, old.0, end.0)) ])))), refl))
-      ▸ (unrefused, refl)
-      ▸ (unrefused, refl)
-      ▸ (
+      ⊳ (unrefused, (small refl, (inl (λ m came. absurd came), starts (at_first (in_turn 0 0 None (omega arith))))))
+      ⊳ (unrefused, refl)
+      ⊳ (unrefused, (small refl, (inl (λ m came. grind (arith, came)), stays (λ all. all.2 (inl (omega arith))))))
+      ⊳ (
+        unrefused,
+        (
+          starts (
+            inl (omega arith),
+            (
+              1,
+              (
+                inl refl,
+                one_run _ 1 (λ m end.
+                    elim end.1.0 [ inl one ↦ one | inr old ↦ absurd (grind (arith, old.0, end.0)) ]),
+              ),
+            ),
+          ),
+          refl,
+        ),
+      )
+      ⊳ (unrefused, refl)
+      ⊳ (unrefused, refl)
+      ⊳ (
         unrefused,
         (
           small refl,
@@ -78,7 +94,30 @@ module _ (remote : SocketAddr) (random : Stream) where
           ),
         ),
       )
-      ▸ (unrefused, (stays (λ all. elim all.0 [ inl r ↦ omega (arith, r) | inr a ↦ in_turn 1 1 (Some 1) (omega arith) a.1 ]), refl))
+      ⊳ (
+        unrefused,
+        (
+          stays (λ all. elim all.0 [ inl r ↦ omega (arith, r) | inr a ↦ in_turn 1 1 (Some 1) (omega arith) a.1 ]),
+          refl,
+        ),
+      )
+
+  late_is_done : ¬ Tells [] (event.AckDelayTimeout Data) (Ok (answer.Flag true))
+  late_is_done = λ told. cc
+
+  no_ack_is_wrong : ¬ Tells (drop 4 late) (event.QueueProbe Data false tt)
+      (Ok (answer.Sendable (record { acks = false; other = true })))
+  no_ack_is_wrong = λ told. unrefused (told.1.0.1 (
+    inl (omega arith),
+    (
+      1,
+      (
+        inl refl,
+        one_run _ 1 (λ m end.
+            elim end.1.0 [ inl one ↦ one | inr old ↦ absurd (grind (arith, old.0, end.0)) ]),
+      ),
+    ),
+  ))
 
   -- ---- counts of ECN
 
@@ -98,7 +137,13 @@ module _ (remote : SocketAddr) (random : Stream) where
       ∷ []
 
   marked_told : TellsAll marked
-  marked_told = tt ▸ (unrefused, (refl, refl)) ▸ (unrefused, refl) ▸ (unrefused, refl) ▸ (unrefused, refl) ▸ (unrefused, (refl, refl))
+  marked_told =
+      tt
+      ⊳ (unrefused, (refl, refl))
+      ⊳ (unrefused, refl)
+      ⊳ (unrefused, refl)
+      ⊳ (unrefused, refl)
+      ⊳ (unrefused, (refl, refl))
 
   corrupted_is_kept_is_wrong : ¬ Tells (drop 2 marked) (ecn 1 2 1 0) (Ok (answer.Flag false))
   corrupted_is_kept_is_wrong = λ told. cc
@@ -121,9 +166,9 @@ module _ (remote : SocketAddr) (random : Stream) where
   ranges_told : TellsAll ranges
   ranges_told =
       tt
-      ▸ (unrefused, (small refl, (small refl, (λ h. h, refl))))
-      ▸ (unrefused, (small refl, omega arith))
-      ▸ (unrefused, omega arith)
+      ⊳ (unrefused, (small refl, (small refl, (λ h. h, refl))))
+      ⊳ (unrefused, (small refl, omega arith))
+      ⊳ (unrefused, omega arith)
 
   backwards_is_wrong : ¬ Tells [] (event.CheckAck Data 9 8) (Ok answer.Done)
   backwards_is_wrong = λ told. told.1.1.0 (omega arith)
@@ -154,10 +199,10 @@ module _ (remote : SocketAddr) (random : Stream) where
   skipped_told : AllTold (row_start remote random 8 (Starting 0)) skipped
   skipped_told =
       tt
-      ▸ (unrefused, (small refl, (small refl, (λ h. h, refl))))
-      ▸ (unrefused, (λ h. h, (small refl, (fits refl refl, refl))))
-      ▸ (unrefused, (small refl, (small refl, holds_zero)))
-      ▸ (unrefused, (small refl, (small refl, (λ h. h, refl))))
+      ⊳ (unrefused, (small refl, (small refl, (λ h. h, refl))))
+      ⊳ (unrefused, (λ h. h, (small refl, (fits refl refl, refl))))
+      ⊳ (unrefused, (small refl, (small refl, holds_zero)))
+      ⊳ (unrefused, (small refl, (small refl, (λ h. h, refl))))
 
   skipped_is_given_is_wrong : ¬ SkipsTells [] (event.Send Data 0 1 true None [] tt) (Ok (answer.Sent 0 None))
   skipped_is_given_is_wrong = λ told. cc

@@ -11,8 +11,8 @@ use Rattle.quic_recovery.specs.declared.event.Answer.{Answer}
 use Rattle.quic_recovery.specs.declared.event.Answer.TheVariants as answer
 use Rattle.quic_recovery.specs.declared.event.Refusal.TheVariants as refusal
 use Rattle.quic_recovery.specs.Told.{Told}
-use Rattle.quic_recovery.proofs.RowStart.{RowEvent, RowReply, RowHistory, row_start, AllTold, ◌▸◌}
-use Rattle.quic_recovery.proofs.RowLaws.{unrefused, small, some_is_none, differ}
+use Rattle.quic_recovery.proofs.RowStart.{RowEvent, RowReply, RowHistory, row_start, AllTold, ◌⊳◌}
+use Rattle.quic_recovery.proofs.RowLaws.{unrefused, small, some_is_none, differ, taken, moves}
 
 module _ (remote : SocketAddr) (random : Stream) where
   abbrev Tells : RowHistory → RowEvent → RowReply → Type 0
@@ -45,57 +45,13 @@ module _ (remote : SocketAddr) (random : Stream) where
   unfolding remote_ids_with first_held
   peers_told =
       tt
-      ▸ (small refl, (small refl, (small refl, (small refl, (λ not. not tt, omega arith)))))
-      ▸ (
-        small refl,
-        (
-          small refl,
-          (
-            small refl,
-            (
-              small refl,
-              (
-                λ not. not tt,
-                (
-                  omega arith,
-                  refl,
-                  2,
-                  record { bound = omega arith; is_held = refl; least = λ m low less. grind (arith, nat_tests, less) },
-                  refl,
-                  (replicate 8 7, refl),
-                ),
-              ),
-            ),
-          ),
-        ),
-      )
-      ▸ (refl, record { bound = omega arith; is_held = refl; least = λ m low less. absurd (omega (arith, low, less)) }, (replicate 8 8, refl))
-      ▸ (λ n above. grind (arith, nat_tests, above))
-      ▸ (
-        small refl,
-        (
-          small refl,
-          (
-            small refl,
-            (
-              small refl,
-              (
-                λ not. not tt,
-                (
-                  omega arith,
-                  refl,
-                  1000000,
-                  record { bound = omega arith; is_held = refl; least = λ m low less. grind (arith, nat_tests, less) },
-                  refl,
-                  (replicate 8 9, refl),
-                ),
-              ),
-            ),
-          ),
-        ),
-      )
-      ▸ (λ e. omega (arith, e))
-      ▸ (small refl, omega arith)
+      ⊳ taken refl refl refl refl (λ not. not tt, omega arith)
+      ⊳ taken refl refl refl refl (λ not. not tt, moves 2 (replicate 8 7) refl refl refl refl (λ m less. grind (arith, nat_tests, less)))
+      ⊳ (refl, record { bound = omega arith; is_held = refl; least = λ m low less. absurd (omega (arith, low, less)) }, (replicate 8 8, refl))
+      ⊳ (λ n above. grind (arith, nat_tests, above))
+      ⊳ taken refl refl refl refl (λ not. not tt, moves 1000000 (replicate 8 9) refl refl refl refl (λ m less. grind (arith, nat_tests, less)))
+      ⊳ (λ e. omega (arith, e))
+      ⊳ (small refl, omega arith)
 
   ends_late_is_wrong : ¬ Tells (drop 6 peers) (event.NewId (frame 3 1 8)) (Ok (retires 0 3 8))
   unfolding remote_ids_with first_held
@@ -142,57 +98,13 @@ module _ (remote : SocketAddr) (random : Stream) where
   unfolding remote_ids_with first_held
   conflicts_told =
       tt
-      ▸ (small refl, (small refl, (small refl, (small refl, ((λ not. not (refl, tt)), omega arith)))))
-      ▸ (small refl, (small refl, (small refl, (small refl, λ same. differ refl same.0))))
-      ▸ (small refl, (small refl, (small refl, (small refl, (λ not. not tt, omega arith)))))
-      ▸ (small refl, (small refl, (small refl, omega arith)))
-      ▸ (small refl, (small refl, (small refl, (small refl, λ same. differ refl same.0))))
-      ▸ (
-        small refl,
-        (
-          small refl,
-          (
-            small refl,
-            (
-              small refl,
-              (
-                λ not. not (refl, refl),
-                (
-                  omega arith,
-                  refl,
-                  7,
-                  record { bound = omega arith; is_held = refl; least = λ m low less. grind (arith, nat_tests, less) },
-                  refl,
-                  (replicate 8 1, refl),
-                ),
-              ),
-            ),
-          ),
-        ),
-      )
-      ▸ (
-        small refl,
-        (
-          small refl,
-          (
-            small refl,
-            (
-              small refl,
-              (
-                λ not. not tt,
-                (
-                  omega arith,
-                  refl,
-                  2000,
-                  record { bound = omega arith; is_held = refl; least = λ m low less. grind (arith, nat_tests, less) },
-                  refl,
-                  (replicate 8 3, refl),
-                ),
-              ),
-            ),
-          ),
-        ),
-      )
+      ⊳ taken refl refl refl refl ((λ not. not (refl, tt)), omega arith)
+      ⊳ taken refl refl refl refl (λ same. differ refl same.0)
+      ⊳ taken refl refl refl refl (λ not. not tt, omega arith)
+      ⊳ (small refl, (small refl, (small refl, omega arith)))
+      ⊳ taken refl refl refl refl (λ same. differ refl same.0)
+      ⊳ taken refl refl refl refl (λ not. not (refl, refl), moves 7 (replicate 8 1) refl refl refl refl (λ m less. grind (arith, nat_tests, less)))
+      ⊳ taken refl refl refl refl (λ not. not tt, moves 2000 (replicate 8 3) refl refl refl refl (λ m less. grind (arith, nat_tests, less)))
 
   other_id_is_taken_is_wrong : ¬ Tells (drop 6 conflicts) (event.NewId (frame 0 0 7)) (Ok (answer.Retire None))
   unfolding remote_ids_with first_held
@@ -221,55 +133,11 @@ module _ (remote : SocketAddr) (random : Stream) where
   unfolding remote_ids_with first_held
   far_told =
       tt
-      ▸ (
-        small refl,
-        (
-          small refl,
-          (
-            small refl,
-            (
-              small refl,
-              (
-                λ not. not tt,
-                (
-                  omega arith,
-                  refl,
-                  1000000,
-                  record { bound = omega arith; is_held = refl; least = λ m low less. grind (arith, nat_tests, less) },
-                  refl,
-                  (replicate 8 9, refl),
-                ),
-              ),
-            ),
-          ),
-        ),
-      )
-      ▸ (
-        small refl,
-        (
-          small refl,
-          (
-            small refl,
-            (
-              small refl,
-              (
-                λ not. not tt,
-                (
-                  omega arith,
-                  refl,
-                  (2 ^ 62 - 1),
-                  record { bound = omega arith; is_held = refl; least = λ m low less. grind (arith, nat_tests, less) },
-                  refl,
-                  (replicate 8 9, refl),
-                ),
-              ),
-            ),
-          ),
-        ),
-      )
-      ▸ omega arith
-      ▸ (small refl, (small refl, omega arith))
-      ▸ (λ n above. grind (arith, nat_tests, above))
+      ⊳ taken refl refl refl refl (λ not. not tt, moves 1000000 (replicate 8 9) refl refl refl refl (λ m less. grind (arith, nat_tests, less)))
+      ⊳ taken refl refl refl refl (λ not. not tt, moves (2 ^ 62 - 1) (replicate 8 9) refl refl refl refl (λ m less. grind (arith, nat_tests, less)))
+      ⊳ omega arith
+      ⊳ (small refl, (small refl, omega arith))
+      ⊳ (λ n above. grind (arith, nat_tests, above))
 
   retired_is_taken_is_wrong : ¬ Tells (drop 2 far) (event.NewId (frame 5 0 1)) (Ok (answer.Retire None))
   unfolding remote_ids_with first_held
@@ -288,9 +156,9 @@ module _ (remote : SocketAddr) (random : Stream) where
   unfolding remote_ids_with first_held
   initial_told =
       tt
-      ▸ (λ not. not refl, refl)
-      ▸ (small refl, (small refl, (small refl, (small refl, λ same. differ refl same.0))))
-      ▸ (small refl, (small refl, (small refl, (small refl, ((λ not. not (refl, tt)), omega arith)))))
+      ⊳ (λ not. not refl, refl)
+      ⊳ taken refl refl refl refl (λ same. differ refl same.0)
+      ⊳ taken refl refl refl refl ((λ not. not (refl, tt)), omega arith)
 
   first_is_initial : ¬ Tells [] (event.InitialId (replicate 8 7)) (Err refusal.NotInitialId)
   first_is_initial = λ told. told refl

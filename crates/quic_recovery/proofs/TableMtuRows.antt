@@ -1,5 +1,5 @@
 -- Worked rows of the table of replies, computed: searches for the MTU, and black holes.
-use Rattle.std.proofs.Common.{◌≡◌, true, false, [], ◌∷◌, drop, None, Ok, Err, refl, arith, ap}
+use Rattle.std.proofs.Common.{◌≡◌, ◌-◌, ◌^◌, inl, true, false, [], ◌∷◌, drop, None, Ok, Err, refl, arith, ap}
 use Rattle.std.specs.declared.net.socket_addr.SocketAddr.{SocketAddr}
 use Rattle.rand_core.specs.Stream.{Stream}
 use Rattle.recovery_base.specs.declared.below.SpaceId.TheVariants.{Data}
@@ -8,7 +8,7 @@ use Rattle.quic_recovery.specs.declared.event.Event.TheVariants as event
 use Rattle.quic_recovery.specs.declared.event.Answer.TheVariants as answer
 use Rattle.quic_recovery.specs.declared.event.Refusal.TheVariants as refusal
 use Rattle.quic_recovery.specs.Told.{Told}
-use Rattle.quic_recovery.proofs.RowStart.{RowEvent, RowReply, RowHistory, row_start, AllTold, ◌▸◌}
+use Rattle.quic_recovery.proofs.RowStart.{RowEvent, RowReply, RowHistory, row_start, AllTold, ◌⊳◌}
 use Rattle.quic_recovery.proofs.RowLaws.{unrefused, small, fits, said}
 
 module _ (remote : SocketAddr) (random : Stream) where
@@ -36,15 +36,15 @@ module _ (remote : SocketAddr) (random : Stream) where
   searches_told : TellsAll searches
   searches_told =
       tt
-      ▸ (λ h. omega (arith, h), (unrefused, refl))
-      ▸ (unrefused, (small refl, (fits refl refl, refl)))
-      ▸ (unrefused, (small refl, refl))
-      ▸ (unrefused, (λ none. cc, refl))
-      ▸ (unrefused, (small refl, (fits refl refl, refl)))
-      ▸ (λ h. omega (arith, h), refl)
-      ▸ refl
-      ▸ (unrefused, (λ none. cc, refl))
-      ▸ (unrefused, (small refl, (fits refl refl, refl)))
+      ⊳ (λ h. omega (arith, h), (unrefused, refl))
+      ⊳ (unrefused, (small refl, (fits refl refl, refl)))
+      ⊳ (unrefused, (small refl, refl))
+      ⊳ (unrefused, (λ none. cc, refl))
+      ⊳ (unrefused, (small refl, (fits refl refl, refl)))
+      ⊳ (λ h. omega (arith, h), refl)
+      ⊳ refl
+      ⊳ (unrefused, (λ none. cc, refl))
+      ⊳ (unrefused, (small refl, (fits refl refl, refl)))
 
   probe_is_no_probe_is_wrong : ¬ Tells (drop 6 searches) (event.Acked Data 0 0 false) (Ok (answer.Acked false))
   probe_is_no_probe_is_wrong = λ told. cc
@@ -78,14 +78,14 @@ module _ (remote : SocketAddr) (random : Stream) where
   abandoned_told : TellsAll abandoned
   abandoned_told =
       tt
-      ▸ (unrefused, (small refl, (fits refl refl, refl)))
-      ▸ (unrefused, refl)
-      ▸ (λ h. omega (arith, h), refl)
-      ▸ refl
-      ▸ refl
-      ▸ refl
-      ▸ (λ h. omega (arith, h), (unrefused, refl))
-      ▸ refl
+      ⊳ (unrefused, (small refl, (fits refl refl, refl)))
+      ⊳ (unrefused, refl)
+      ⊳ (λ h. omega (arith, h), refl)
+      ⊳ refl
+      ⊳ refl
+      ⊳ refl
+      ⊳ (λ h. omega (arith, h), (unrefused, refl))
+      ⊳ refl
 
   discard_ends_search_is_wrong : ¬ Tells (drop 6 abandoned) (event.PeerLimit 1300) (Ok answer.Done)
   discard_ends_search_is_wrong = λ told. told.1.0 refl
@@ -116,20 +116,20 @@ module _ (remote : SocketAddr) (random : Stream) where
   black_hole_told : TellsAll black_hole
   black_hole_told =
       tt
-      ▸ (unrefused, (λ h. h, (small refl, (fits refl refl, refl))))
-      ▸ (unrefused, (λ h. h, (small refl, (fits refl refl, refl))))
-      ▸ (unrefused, (λ h. h, (small refl, (fits refl refl, refl))))
-      ▸ (unrefused, (λ h. h, (small refl, (fits refl refl, refl))))
-      ▸ (unrefused, (λ h. h, (small refl, (fits refl refl, refl))))
-      ▸ (unrefused, (λ h. h, (small refl, (fits refl refl, refl))))
-      ▸ (unrefused, (λ h. h, (small refl, (fits refl refl, refl))))
-      ▸ (unrefused, (λ none. cc, refl))
-      ▸ (unrefused, (λ none. cc, refl))
-      ▸ (unrefused, (λ none. cc, refl))
-      ▸ (unrefused, (λ none. cc, refl))
-      ▸ refl
-      ▸ (unrefused, (small refl, refl))
-      ▸ (unrefused, (small refl, (fits refl refl, refl)))
+      ⊳ (unrefused, (λ h. h, (small refl, (fits refl refl, refl))))
+      ⊳ (unrefused, (λ h. h, (small refl, (fits refl refl, refl))))
+      ⊳ (unrefused, (λ h. h, (small refl, (fits refl refl, refl))))
+      ⊳ (unrefused, (λ h. h, (small refl, (fits refl refl, refl))))
+      ⊳ (unrefused, (λ h. h, (small refl, (fits refl refl, refl))))
+      ⊳ (unrefused, (λ h. h, (small refl, (fits refl refl, refl))))
+      ⊳ (unrefused, (λ h. h, (small refl, (fits refl refl, refl))))
+      ⊳ (unrefused, (λ none. cc, refl))
+      ⊳ (unrefused, (λ none. cc, refl))
+      ⊳ (unrefused, (λ none. cc, refl))
+      ⊳ (unrefused, (λ none. cc, refl))
+      ⊳ refl
+      ⊳ (unrefused, (small refl, refl))
+      ⊳ (unrefused, (small refl, (fits refl refl, refl)))
 
   four_bursts_are_none_is_wrong : ¬ Tells (drop 3 black_hole) (event.LossesDone 0) (Ok (answer.BlackHole false))
   four_bursts_are_none_is_wrong = λ told. cc
@@ -163,20 +163,20 @@ module _ (remote : SocketAddr) (random : Stream) where
   refuted_told : TellsAll refuted
   refuted_told =
       tt
-      ▸ (unrefused, (λ h. h, (small refl, (fits refl refl, refl))))
-      ▸ (unrefused, (λ h. h, (small refl, (fits refl refl, refl))))
-      ▸ (unrefused, (λ h. h, (small refl, (fits refl refl, refl))))
-      ▸ (unrefused, (λ h. h, (small refl, (fits refl refl, refl))))
-      ▸ (unrefused, (λ h. h, (small refl, (fits refl refl, refl))))
-      ▸ (unrefused, (λ h. h, (small refl, (fits refl refl, refl))))
-      ▸ (unrefused, (λ h. h, (small refl, (fits refl refl, refl))))
-      ▸ (unrefused, (λ none. cc, refl))
-      ▸ (unrefused, (λ none. cc, refl))
-      ▸ (unrefused, (λ none. cc, refl))
-      ▸ refl
-      ▸ (unrefused, (λ none. cc, refl))
-      ▸ (unrefused, (λ none. cc, refl))
-      ▸ refl
+      ⊳ (unrefused, (λ h. h, (small refl, (fits refl refl, refl))))
+      ⊳ (unrefused, (λ h. h, (small refl, (fits refl refl, refl))))
+      ⊳ (unrefused, (λ h. h, (small refl, (fits refl refl, refl))))
+      ⊳ (unrefused, (λ h. h, (small refl, (fits refl refl, refl))))
+      ⊳ (unrefused, (λ h. h, (small refl, (fits refl refl, refl))))
+      ⊳ (unrefused, (λ h. h, (small refl, (fits refl refl, refl))))
+      ⊳ (unrefused, (λ h. h, (small refl, (fits refl refl, refl))))
+      ⊳ (unrefused, (λ none. cc, refl))
+      ⊳ (unrefused, (λ none. cc, refl))
+      ⊳ (unrefused, (λ none. cc, refl))
+      ⊳ refl
+      ⊳ (unrefused, (λ none. cc, refl))
+      ⊳ (unrefused, (λ none. cc, refl))
+      ⊳ refl
 
   refuted_is_reported_is_wrong : ¬ Tells (drop 1 refuted) (event.LossesDone 0) (Ok (answer.BlackHole true))
   refuted_is_reported_is_wrong = λ told. cc
@@ -197,13 +197,13 @@ module _ (remote : SocketAddr) (random : Stream) where
   moved_told : TellsAll moved
   moved_told =
       tt
-      ▸ (unrefused, (small refl, (fits refl refl, refl)))
-      ▸ (small refl, refl)
-      ▸ (unrefused, (λ none. cc, refl))
-      ▸ (unrefused, (small refl, (fits refl refl, refl)))
-      ▸ (small refl, refl)
-      ▸ (unrefused, (λ none. cc, refl))
-      ▸ (unrefused, (small refl, (fits refl refl, refl)))
+      ⊳ (unrefused, (small refl, (fits refl refl, refl)))
+      ⊳ (small refl, refl)
+      ⊳ (unrefused, (λ none. cc, refl))
+      ⊳ (unrefused, (small refl, (fits refl refl, refl)))
+      ⊳ (small refl, refl)
+      ⊳ (unrefused, (λ none. cc, refl))
+      ⊳ (unrefused, (small refl, (fits refl refl, refl)))
 
   probe_of_another_path_is_wrong : ¬ Tells (drop 2 moved) (event.Acked Data 0 1 false) (Ok (answer.Acked true))
   probe_of_another_path_is_wrong = λ told. cc
@@ -225,11 +225,25 @@ module _ (remote : SocketAddr) (random : Stream) where
   at_once_told : TellsAll at_once
   at_once_told =
       tt
-      ▸ (λ h. omega (arith, h), (unrefused, refl))
-      ▸ (unrefused, (small refl, refl))
-      ▸ (λ h. omega (arith, h), (unrefused, refl))
-      ▸ (unrefused, (small refl, refl))
-      ▸ (unrefused, (small refl, (fits refl refl, refl)))
+      ⊳ (λ h. omega (arith, h), (unrefused, refl))
+      ⊳ (unrefused, (small refl, refl))
+      ⊳ (λ h. omega (arith, h), (unrefused, refl))
+      ⊳ (unrefused, (small refl, refl))
+      ⊳ (unrefused, (small refl, (fits refl refl, refl)))
 
   ended_runs_is_wrong : ¬ Tells (drop 3 at_once) (event.PeerLimit 1300) (Err refusal.Searching)
   ended_runs_is_wrong = λ told. unrefused told.1
+
+  -- ---- bytes in flight overflow only where a probe is due
+
+  abbrev full : RowHistory
+  full = (event.Send Data 0 (2 ^ 64 - 1) true None [] tt, Ok (answer.Sent 0 None)) ∷ []
+
+  probe_overflows : Tells full (event.PollMtu 0) (Err refusal.Overflow)
+  probe_overflows = (unrefused, (small refl, inl (omega arith)))
+
+  no_probe_overflows_not : Tells ((event.PeerLimit 1200, Ok answer.Done) ∷ full) (event.PollMtu 0) (Ok answer.NoProbe)
+  no_probe_overflows_not = (unrefused, (small refl, refl))
+
+  no_probe_is_wrong : ¬ Tells ((event.PeerLimit 1200, Ok answer.Done) ∷ full) (event.PollMtu 0) (Err refusal.Overflow)
+  no_probe_is_wrong = λ told. told.1.1

@@ -5,13 +5,14 @@ use Rattle.std.specs.Global.{Vec}
 use Rattle.rand_core.specs.Stream.{Stream}
 use Rattle.recovery_base.specs.Timers.{same_timer}
 use Rattle.recovery_base.specs.declared.below.ids.IssuedCid.{IssuedCid}
+use Rattle.recovery_base.specs.declared.timer.Timer.{Timer}
 use Rattle.recovery_base.specs.declared.timer.Timer.TheVariants.{Idle, Pacing}
 use Rattle.recovery_skips.specs.declared.filter.Skips.TheVariants.{Disabled}
 use Rattle.quic_recovery.specs.declared.event.Event.TheVariants as event
 use Rattle.quic_recovery.specs.declared.event.Answer.TheVariants as answer
 use Rattle.quic_recovery.specs.declared.event.Refusal.TheVariants as refusal
 use Rattle.quic_recovery.specs.Told.{Told}
-use Rattle.quic_recovery.proofs.RowStart.{RowEvent, RowReply, RowHistory, row_start, AllTold, ◌▸◌}
+use Rattle.quic_recovery.proofs.RowStart.{RowEvent, RowReply, RowHistory, row_start, AllTold, ◌⊳◌}
 use Rattle.quic_recovery.proofs.RowLaws.{small, starts, stays, some_is_none, differ}
 
 module _ (remote : SocketAddr) (random : Stream) (given : Vec IssuedCid) where
@@ -48,12 +49,12 @@ module _ (remote : SocketAddr) (random : Stream) (given : Vec IssuedCid) where
   own_told : TellsAll own
   own_told =
       tt
-      ▸ (small refl, (λ other. other refl, refl))
-      ▸ refl
-      ▸ (λ h. omega (arith, h), (small refl, starts (omega arith)))
-      ▸ (λ h. omega (arith, h), omega arith)
-      ▸ refl
-      ▸ (small refl, differ refl)
+      ⊳ (small refl, (λ other. other refl, refl))
+      ⊳ refl
+      ⊳ (λ h. omega (arith, h), (small refl, starts (omega arith)))
+      ⊳ (λ h. omega (arith, h), omega arith)
+      ⊳ refl
+      ⊳ (small refl, differ refl)
 
   unretired_is_asked_for : ¬ Tells (drop 5 own) (event.IdTimeout) (Ok (answer.Flag false))
   unretired_is_asked_for = λ told. cc
@@ -99,10 +100,10 @@ module _ (remote : SocketAddr) (random : Stream) (given : Vec IssuedCid) where
   deadlines_told : TellsAll deadlines
   deadlines_told =
       tt
-      ▸ (small refl, (λ other. other refl, refl))
-      ▸ (small refl, (λ other. other refl, refl))
-      ▸ refl
-      ▸ refl
+      ⊳ (small refl, (λ other. other refl, refl))
+      ⊳ (small refl, (λ other. other refl, refl))
+      ⊳ refl
+      ⊳ refl
 
   -- ---- a number may be retired again
 
@@ -115,10 +116,16 @@ module _ (remote : SocketAddr) (random : Stream) (given : Vec IssuedCid) where
   retired_twice_told : TellsAll retired_twice
   retired_twice_told =
       tt
-      ▸ (λ h. omega (arith, h), (small refl, starts (omega arith)))
-      ▸ (λ h. omega (arith, h), (small refl, stays (small refl)))
+      ⊳ (λ h. omega (arith, h), (small refl, starts (omega arith)))
+      ⊳ (λ h. omega (arith, h), (small refl, stays (small refl)))
 
   -- ---- timers: Pacing is set to 20 and Idle to 50, and then Pacing is stopped
+
+  abbrev at_pacing : Timer → Bool
+  at_pacing kind = same_timer kind Pacing
+
+  abbrev at_idle : Timer → Bool
+  at_idle kind = same_timer kind Idle
 
   from_20 : (pacing idle : Bool) → 20 ≤ unwrap_or (if pacing then Some 20 else (if idle then Some 50 else None)) 20
   from_20 true idle = omega arith
@@ -144,21 +151,25 @@ module _ (remote : SocketAddr) (random : Stream) (given : Vec IssuedCid) where
   timers_told : TellsAll timers
   timers_told =
       tt
-      ▸ (λ kind. refl)
-      ▸ refl
-      ▸ refl
-      ▸ ((Pacing, refl), λ kind time at. subst (λ m. 20 ≤ unwrap_or m 20) at (from_20 (same_timer kind Pacing) (same_timer kind Idle)))
-      ▸ refl
-      ▸ ((Idle, refl), λ kind time at. subst (λ m. 50 ≤ unwrap_or m 50) at (from_50 (same_timer kind Pacing) (same_timer kind Idle)))
+      ⊳ (λ kind. refl)
+      ⊳ refl
+      ⊳ refl
+      ⊳ ((Pacing, refl), λ kind time at. subst (λ m. 20 ≤ unwrap_or m 20) at (from_20 (at_pacing kind) (at_idle kind)))
+      ⊳ refl
+      ⊳ ((Idle, refl), λ kind time at. subst (λ m. 50 ≤ unwrap_or m 50) at (from_50 (at_pacing kind) (at_idle kind)))
 
   later_is_wrong : ¬ Tells (drop 3 timers) (event.NextTimeout) (Ok (answer.Timeout (Some 50)))
   later_is_wrong = λ told. omega (arith, told.1 Pacing 20 refl)
 
   stopped_is_wrong : ¬ Tells (drop 1 timers) (event.NextTimeout) (Ok (answer.Timeout (Some 20)))
-  stopped_is_wrong = λ told. let below = subst (λ m. 50 ≤ unwrap_or m 50) told.0.1 (from_50 (same_timer told.0.0 Pacing) (same_timer told.0.0 Idle)) in omega (arith, below)
+  stopped_is_wrong = λ told.
+      let below = subst (λ m. 50 ≤ unwrap_or m 50) told.0.1 (from_50 (at_pacing told.0.0) (at_idle told.0.0)) in omega (arith, below)
 
   none_is_wrong : ¬ Tells (drop 1 timers) (event.NextTimeout) (Ok (answer.Timeout None))
   none_is_wrong = λ told. some_is_none (told Idle)
 
   set_is_done : ¬ Tells [] (event.SetTimer Idle 50) (Ok (answer.Timeout (Some 50)))
   set_is_done = λ told. cc
+
+  stop_is_done : ¬ Tells [] (event.StopTimer Idle) (Err refusal.NoMemory)
+  stop_is_done = λ told. told

@@ -7,7 +7,7 @@ use Rattle.recovery_skips.specs.declared.filter.Skips.TheVariants.{Disabled}
 use Rattle.quic_recovery.specs.declared.event.Event.TheVariants as event
 use Rattle.quic_recovery.specs.declared.event.Answer.TheVariants as answer
 use Rattle.quic_recovery.specs.Told.{Told}
-use Rattle.quic_recovery.proofs.RowStart.{RowEvent, RowReply, RowHistory, row_start, AllTold, ◌▸◌}
+use Rattle.quic_recovery.proofs.RowStart.{RowEvent, RowReply, RowHistory, row_start, AllTold, ◌⊳◌}
 use Rattle.quic_recovery.proofs.RowLaws.{unrefused, small, said}
 
 module _ (remote : SocketAddr) (random : Stream) where
@@ -38,18 +38,18 @@ module _ (remote : SocketAddr) (random : Stream) where
   paced_told : TellsAll paced
   paced_told =
       tt
-      ▸ refl
-      ▸ (small refl, refl)
-      ▸ (small refl, refl)
-      ▸ (small refl, refl)
-      ▸ (small refl, refl)
-      ▸ (small refl, refl)
-      ▸ (small refl, refl)
-      ▸ (small refl, refl)
-      ▸ (small refl, refl)
-      ▸ (small refl, refl)
-      ▸ (small refl, refl)
-      ▸ (small refl, refl)
+      ⊳ refl
+      ⊳ (small refl, refl)
+      ⊳ (small refl, refl)
+      ⊳ (small refl, refl)
+      ⊳ (small refl, refl)
+      ⊳ (small refl, refl)
+      ⊳ (small refl, refl)
+      ⊳ (small refl, refl)
+      ⊳ (small refl, refl)
+      ⊳ (small refl, refl)
+      ⊳ (small refl, refl)
+      ⊳ (small refl, refl)
 
   eleventh_passes_is_wrong : ¬ Tells (drop 1 paced) (event.Transmit 0 1200 true) (Ok answer.Transmitted)
   eleventh_passes_is_wrong = λ told. cc
@@ -72,9 +72,9 @@ module _ (remote : SocketAddr) (random : Stream) where
   checks_told : TellsAll checks
   checks_told =
       tt
-      ▸ refl
-      ▸ refl
-      ▸ refl
+      ⊳ refl
+      ⊳ refl
+      ⊳ refl
 
   earlier_is_wrong : ¬ Tells (drop 1 checks) (event.PacerCheck 0 12001) (Ok (answer.Delayed 22200))
   earlier_is_wrong = λ told. let same : 22200 ≡ 333022200 = ap said told in omega (arith, same)
@@ -102,20 +102,20 @@ module _ (remote : SocketAddr) (random : Stream) where
   backwards_told : TellsAll backwards
   backwards_told =
       tt
-      ▸ refl
-      ▸ (small refl, refl)
-      ▸ (small refl, refl)
-      ▸ (small refl, refl)
-      ▸ (small refl, refl)
-      ▸ (small refl, refl)
-      ▸ (small refl, refl)
-      ▸ (small refl, refl)
-      ▸ (small refl, refl)
-      ▸ (small refl, refl)
-      ▸ (small refl, refl)
-      ▸ (small refl, refl)
-      ▸ (small refl, refl)
-      ▸ (small refl, refl)
+      ⊳ refl
+      ⊳ (small refl, refl)
+      ⊳ (small refl, refl)
+      ⊳ (small refl, refl)
+      ⊳ (small refl, refl)
+      ⊳ (small refl, refl)
+      ⊳ (small refl, refl)
+      ⊳ (small refl, refl)
+      ⊳ (small refl, refl)
+      ⊳ (small refl, refl)
+      ⊳ (small refl, refl)
+      ⊳ (small refl, refl)
+      ⊳ (small refl, refl)
+      ⊳ (small refl, refl)
 
   -- ---- a fresh path where the peer takes datagrams of 600 bytes
 
@@ -130,10 +130,10 @@ module _ (remote : SocketAddr) (random : Stream) where
   small_path_told : TellsAll small_path
   small_path_told =
       tt
-      ▸ (λ h. omega (arith, h), (unrefused, refl))
-      ▸ (small refl, refl)
-      ▸ refl
-      ▸ refl
+      ⊳ (λ h. omega (arith, h), (unrefused, refl))
+      ⊳ (small refl, refl)
+      ⊳ refl
+      ⊳ refl
 
   -- ---- no moment is named behind the last one
 
@@ -146,5 +146,5 @@ module _ (remote : SocketAddr) (random : Stream) where
   last_moment_told : TellsAll last_moment
   last_moment_told =
       tt
-      ▸ refl
-      ▸ refl
+      ⊳ refl
+      ⊳ refl

@@ -9,7 +9,7 @@ use Rattle.quic_recovery.specs.declared.event.Event.TheVariants as event
 use Rattle.quic_recovery.specs.declared.event.Answer.TheVariants as answer
 use Rattle.quic_recovery.specs.declared.event.Refusal.TheVariants as refusal
 use Rattle.quic_recovery.specs.Told.{Told}
-use Rattle.quic_recovery.proofs.RowStart.{RowEvent, RowReply, RowHistory, row_start, AllTold, ◌▸◌}
+use Rattle.quic_recovery.proofs.RowStart.{RowEvent, RowReply, RowHistory, row_start, AllTold, ◌⊳◌}
 use Rattle.quic_recovery.proofs.RowLaws.{unrefused, small, fits, said}
 
 module _ (remote : SocketAddr) (random : Stream) where
@@ -33,11 +33,11 @@ module _ (remote : SocketAddr) (random : Stream) where
   amplified_told : TellsAll amplified
   amplified_told =
       tt
-      ▸ (small refl, refl)
-      ▸ (small refl, refl)
-      ▸ (small refl, refl)
-      ▸ (small refl, refl)
-      ▸ (small refl, refl)
+      ⊳ (small refl, refl)
+      ⊳ (small refl, refl)
+      ⊳ (small refl, refl)
+      ⊳ (small refl, refl)
+      ⊳ (small refl, refl)
 
   fourth_passes_is_wrong : ¬ Tells (drop 1 amplified) (event.Transmit 0 1200 true) (Ok answer.Transmitted)
   fourth_passes_is_wrong = λ told. cc
@@ -60,9 +60,9 @@ module _ (remote : SocketAddr) (random : Stream) where
   many_bytes_told : TellsAll many_bytes
   many_bytes_told =
       tt
-      ▸ (small refl, refl)
-      ▸ omega arith
-      ▸ (small refl, refl)
+      ⊳ (small refl, refl)
+      ⊳ omega arith
+      ⊳ (small refl, refl)
 
   overflow_counts_is_wrong : ¬ Tells (drop 2 many_bytes) (event.DatagramIn Current 1) (Ok answer.Done)
   overflow_counts_is_wrong = λ told. told.0 (omega arith)
@@ -70,7 +70,8 @@ module _ (remote : SocketAddr) (random : Stream) where
   no_datagram_there : ¬ Tells [] (event.DatagramIn Previous 1) (Ok answer.Done)
   no_datagram_there = λ told. told.0 tt
 
-  sent_overflows : Tells ((event.Transmit 0 (2 ^ 64 - 1) false, Ok answer.Transmitted) ∷ []) (event.Transmit 0 1 true) (Err refusal.Overflow)
+  sent_overflows : Tells ((event.Transmit 0 (2 ^ 64 - 1) false, Ok answer.Transmitted) ∷ []) (event.Transmit 0 1 true)
+      (Err refusal.Overflow)
   sent_overflows = omega arith
 
   -- ---- each packet counts on the path that it went out on
@@ -90,14 +91,14 @@ module _ (remote : SocketAddr) (random : Stream) where
   two_paths_told : TellsAll two_paths
   two_paths_told =
       tt
-      ▸ (unrefused, (λ h. h, (small refl, (fits refl refl, refl))))
-      ▸ (small refl, refl)
-      ▸ (unrefused, (λ h. h, (small refl, (fits refl refl, refl))))
-      ▸ refl
-      ▸ refl
-      ▸ (unrefused, (λ none. cc, refl))
-      ▸ refl
-      ▸ refl
+      ⊳ (unrefused, (λ h. h, (small refl, (fits refl refl, refl))))
+      ⊳ (small refl, refl)
+      ⊳ (unrefused, (λ h. h, (small refl, (fits refl refl, refl))))
+      ⊳ refl
+      ⊳ refl
+      ⊳ (unrefused, (λ none. cc, refl))
+      ⊳ refl
+      ⊳ refl
 
   counts_on_the_other_is_wrong : ¬ Tells (drop 5 two_paths) (event.InFlight Current) (Ok (answer.InFlight 1200 2))
   counts_on_the_other_is_wrong = λ told. let same : 1200 ≡ 700 = ap said told in omega (arith, same)
@@ -119,14 +120,14 @@ module _ (remote : SocketAddr) (random : Stream) where
   dropped_told : TellsAll dropped
   dropped_told =
       tt
-      ▸ (unrefused, (λ h. h, (small refl, (fits refl refl, refl))))
-      ▸ (small refl, refl)
-      ▸ (small refl, refl)
-      ▸ refl
-      ▸ (unrefused, (λ none. cc, refl))
-      ▸ refl
-      ▸ refl
-      ▸ tt
+      ⊳ (unrefused, (λ h. h, (small refl, (fits refl refl, refl))))
+      ⊳ (small refl, refl)
+      ⊳ (small refl, refl)
+      ⊳ refl
+      ⊳ (unrefused, (λ none. cc, refl))
+      ⊳ refl
+      ⊳ refl
+      ⊳ tt
 
   older_path_stays_is_wrong : ¬ Tells (drop 5 dropped) (event.InFlight Previous) (Ok (answer.InFlight 500 1))
   older_path_stays_is_wrong = λ told. let same : 500 ≡ 0 = ap said told in omega (arith, same)
@@ -142,3 +143,6 @@ module _ (remote : SocketAddr) (random : Stream) where
 
   fresh_takes_none : ¬ Tells [] (event.NewPath 0 remote true) (Err refusal.NoMemory)
   fresh_takes_none = λ told. unrefused told.1
+
+  current_is_there : ¬ Tells [] (event.Validated Current) (Err refusal.NoSuchPath)
+  current_is_there = λ told. told

@@ -1,4 +1,4 @@
--- Worked rows of the table of replies, computed: packets that come in. Each event of a script is told its right answer, and no wrong one.
+-- Worked rows of the table of replies, computed: packets that come in, right answers and wrong ones.
 use Rattle.std.proofs.Common.{◌-◌, ◌^◌, true, false, [], ◌∷◌, drop, None, Ok, Err, refl, arith, inl, inr, eq-or-lt_of_le, sym}
 use Rattle.std.specs.declared.net.socket_addr.SocketAddr.{SocketAddr}
 use Rattle.rand_core.specs.Stream.{Stream}
@@ -8,8 +8,8 @@ use Rattle.quic_recovery.specs.declared.event.Event.TheVariants as event
 use Rattle.quic_recovery.specs.declared.event.Answer.TheVariants as answer
 use Rattle.quic_recovery.specs.declared.event.Refusal.TheVariants as refusal
 use Rattle.quic_recovery.specs.Told.{Told}
-use Rattle.quic_recovery.proofs.RowStart.{ack_frame, RowEvent, RowReply, RowHistory, row_start, AllTold, ◌▸◌}
-use Rattle.quic_recovery.proofs.RowLaws.{unrefused, small, calm, at_first, starts, stays, in_turn, one_missing, patient, not_far, came_again, too_old}
+use Rattle.quic_recovery.proofs.RowStart.{ack_frame, RowEvent, RowReply, RowHistory, row_start, AllTold, ◌⊳◌}
+use Rattle.quic_recovery.proofs.RowLaws.{unrefused, small, calm, at_first, starts, stays, in_turn, leaves_a_gap, patient, not_far, came_again, too_old}
 
 module _ (remote : SocketAddr) (random : Stream) where
   abbrev Tells : RowHistory → RowEvent → RowReply → Type 0
@@ -32,9 +32,9 @@ module _ (remote : SocketAddr) (random : Stream) where
   arrivals_told : TellsAll arrivals
   arrivals_told =
       tt
-      ▸ (unrefused, (small refl, (inl (λ m came. absurd came), starts (at_first (in_turn 0 0 None (omega arith))))))
-      ▸ (unrefused, (small refl, came_again 0 (inl refl)))
-      ▸ (
+      ⊳ (unrefused, (small refl, (inl (λ m came. absurd came), starts (at_first (in_turn 0 0 None (omega arith))))))
+      ⊳ (unrefused, (small refl, came_again 0 (inl refl)))
+      ⊳ (
         unrefused,
         (
           small refl,
@@ -44,8 +44,8 @@ module _ (remote : SocketAddr) (random : Stream) where
           ),
         ),
       )
-      ▸ (unrefused, refl)
-      ▸ (unrefused, omega arith)
+      ⊳ (unrefused, refl)
+      ⊳ (unrefused, omega arith)
 
   -- ---- each space has numbers of its own; one that leaves a gap asks for an ACK at once
 
@@ -60,10 +60,10 @@ module _ (remote : SocketAddr) (random : Stream) where
   in_spaces_told : TellsAll in_spaces
   in_spaces_told =
       tt
-      ▸ (unrefused, (small refl, (inl (λ m came. absurd came), stays (λ all. all.2 (inr (inr (inl (refl, inr (one_missing (omega arith) (λ c. grind (arith, c)) (λ m c. grind (arith, c)))))))))))
-      ▸ (unrefused, (small refl, (inl (λ m came. absurd came), starts (at_first (in_turn 0 1 None (omega arith))))))
-      ▸ (unrefused, (small refl, (inl (λ m came. absurd came), stays (λ all. unrefused all.0))))
-      ▸ (unrefused, (small refl, (inl (λ m came. grind (arith, came)), stays (λ all. all.2 (inr (inr (inl (refl, inr (one_missing (omega arith) (λ c. grind (arith, c)) (λ m c. grind (arith, c)))))))))))
+      ⊳ (unrefused, (small refl, (inl (λ m came. absurd came), leaves_a_gap (omega arith) (λ c. grind (arith, c)) (λ m c. grind (arith, c)))))
+      ⊳ (unrefused, (small refl, (inl (λ m came. absurd came), starts (at_first (in_turn 0 1 None (omega arith))))))
+      ⊳ (unrefused, (small refl, (inl (λ m came. absurd came), stays (λ all. unrefused all.0))))
+      ⊳ (unrefused, (small refl, (inl (λ m c. grind (arith, c)), leaves_a_gap (omega arith) (λ c. grind (arith, c)) (λ m c. grind (arith, c)))))
 
   -- ---- the window ends 128 below the greatest number
 
@@ -78,10 +78,10 @@ module _ (remote : SocketAddr) (random : Stream) where
   window_told : TellsAll window
   window_told =
       tt
-      ▸ (unrefused, (small refl, (inl (λ m came. absurd came), stays (λ all. unrefused all.0))))
-      ▸ (unrefused, (small refl, too_old 300 (inl refl) (omega arith)))
-      ▸ (unrefused, (small refl, (inr (λ came. grind (arith, came), λ m came. grind (arith, came)), stays (λ all. unrefused all.0))))
-      ▸ (unrefused, (small refl, came_again 172 (inl refl)))
+      ⊳ (unrefused, (small refl, (inl (λ m came. absurd came), stays (λ all. unrefused all.0))))
+      ⊳ (unrefused, (small refl, too_old 300 (inl refl) (omega arith)))
+      ⊳ (unrefused, (small refl, (inr (λ c. grind (arith, c), λ m c. grind (arith, c)), stays (λ all. unrefused all.0))))
+      ⊳ (unrefused, (small refl, came_again 172 (inl refl)))
 
   -- ---- ACK_FREQUENCY: an ACK for four packets, and a reordering threshold of 2
 
@@ -97,11 +97,11 @@ module _ (remote : SocketAddr) (random : Stream) where
   asked_told : TellsAll asked
   asked_told =
       tt
-      ▸ (unrefused, (λ h. omega (arith, h.1), (λ on s. s, λ n. refl)))
-      ▸ (unrefused, (small refl, (inl (λ m came. absurd came), starts (at_first (patient 0)))))
-      ▸ (unrefused, (small refl, (inl (λ m came. grind (arith, came)), stays (λ all. all.1 (0, inr (refl, at_first (patient 0)))))))
-      ▸ (unrefused, (small refl, (inl (λ m came. grind (arith, came)), stays (λ all. all.1 (0, inl (inr (refl, at_first (patient 0))))))))
-      ▸ (unrefused, refl)
+      ⊳ (unrefused, (λ h. omega (arith, h.1), (λ on s. s, λ n. refl)))
+      ⊳ (unrefused, (small refl, (inl (λ m came. absurd came), starts (at_first (patient 0)))))
+      ⊳ (unrefused, (small refl, (inl (λ m c. grind (arith, c)), stays (λ all. all.1 (0, inr (refl, at_first (patient 0)))))))
+      ⊳ (unrefused, (small refl, (inl (λ m c. grind (arith, c)), stays (λ all. all.1 (0, inl (inr (refl, at_first (patient 0))))))))
+      ⊳ (unrefused, refl)
 
   -- 3 is missing, two below 5 but one below 4
   reordered : Tells asked (event.Received Data 3 5 true) (Ok (answer.New false))
@@ -133,7 +133,7 @@ module _ (remote : SocketAddr) (random : Stream) where
 
   near_enough : Tells asked (event.Received Data 3 4 true) (Ok (answer.New true))
   near_enough =
-      (unrefused, (small refl, (inl (λ m came. grind (arith, came)), starts (calm (λ s. s.1) (λ r. r) (not_far (inr (inl refl)))))))
+      (unrefused, (small refl, (inl (λ m c. grind (arith, c)), starts (calm (λ s. s.1) (λ r. r) (not_far (inr (inl refl)))))))
 
   -- ---- wrong answers
 

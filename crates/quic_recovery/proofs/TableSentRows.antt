@@ -9,7 +9,7 @@ use Rattle.quic_recovery.specs.declared.event.Event.TheVariants as event
 use Rattle.quic_recovery.specs.declared.event.Answer.TheVariants as answer
 use Rattle.quic_recovery.specs.declared.event.Refusal.TheVariants as refusal
 use Rattle.quic_recovery.specs.Told.{Told}
-use Rattle.quic_recovery.proofs.RowStart.{RowEvent, RowReply, RowHistory, row_start, AllTold, ◌▸◌}
+use Rattle.quic_recovery.proofs.RowStart.{RowEvent, RowReply, RowHistory, row_start, AllTold, ◌⊳◌}
 use Rattle.quic_recovery.proofs.RowLaws.{unrefused, small, fits, stays}
 
 module _ (remote : SocketAddr) (random : Stream) where
@@ -36,14 +36,14 @@ module _ (remote : SocketAddr) (random : Stream) where
   packets_told : TellsAll packets
   packets_told =
       tt
-      ▸ (unrefused, (λ h. h, (small refl, (fits refl refl, refl))))
-      ▸ (unrefused, (λ h. h, (small refl, (fits refl refl, refl))))
-      ▸ refl
-      ▸ (unrefused, refl)
-      ▸ refl
-      ▸ refl
-      ▸ (unrefused, refl)
-      ▸ tt
+      ⊳ (unrefused, (λ h. h, (small refl, (fits refl refl, refl))))
+      ⊳ (unrefused, (λ h. h, (small refl, (fits refl refl, refl))))
+      ⊳ refl
+      ⊳ (unrefused, refl)
+      ⊳ refl
+      ⊳ refl
+      ⊳ (unrefused, refl)
+      ⊳ tt
 
   silent_first_is_wrong : ¬ Tells [] (event.Send Initial 0 500 true None [] tt) (Ok (answer.Sent 1 None))
   silent_first_is_wrong = λ told. cc
@@ -51,7 +51,8 @@ module _ (remote : SocketAddr) (random : Stream) where
   small_overflow_is_wrong : ¬ Tells [] (event.Send Initial 0 500 true None [] tt) (Err refusal.Overflow)
   small_overflow_is_wrong = λ told. grind (arith, told.1.1.1)
 
-  large_overflow : Tells ((event.Send Data 0 (2 ^ 64 - 1) true None [] tt, Ok (answer.Sent 0 None)) ∷ []) (event.Send Initial 0 1 true None [] tt)
+  large_overflow : Tells ((event.Send Data 0 (2 ^ 64 - 1) true None [] tt, Ok (answer.Sent 0 None)) ∷ [])
+      (event.Send Initial 0 1 true None [] tt)
       (Err refusal.Overflow)
   large_overflow = (unrefused, (λ h. h, (small refl, inl (omega arith))))
 
@@ -84,11 +85,11 @@ module _ (remote : SocketAddr) (random : Stream) where
   queues_told : TellsAll queues
   queues_told =
       tt
-      ▸ (unrefused, (λ h. h, (small refl, (fits refl refl, refl))))
-      ▸ (unrefused, (stays (λ all. all.0), refl))
-      ▸ (unrefused, refl)
-      ▸ (unrefused, (λ none. cc, refl))
-      ▸ (unrefused, refl)
+      ⊳ (unrefused, (λ h. h, (small refl, (fits refl refl, refl))))
+      ⊳ (unrefused, (stays (λ all. all.0), refl))
+      ⊳ (unrefused, refl)
+      ⊳ (unrefused, (λ none. cc, refl))
+      ⊳ (unrefused, refl)
 
   moved_is_lost_is_wrong : ¬ Tells (drop 1 queues) (event.TakePending Data) (Ok (answer.Queue (7 ∷ 8 ∷ [])))
   moved_is_lost_is_wrong = λ told. cc
@@ -130,13 +131,13 @@ module _ (remote : SocketAddr) (random : Stream) where
   joined_told : TellsAll joined
   joined_told =
       tt
-      ▸ (unrefused, (λ h. h, (small refl, (fits refl refl, refl))))
-      ▸ (unrefused, (λ h. h, (small refl, (fits refl refl, refl))))
-      ▸ (unrefused, (λ h. h, (small refl, (fits refl refl, refl))))
-      ▸ (unrefused, (λ none. cc, refl))
-      ▸ (unrefused, (λ none. cc, refl))
-      ▸ (unrefused, (stays (λ all. all.0), refl))
-      ▸ (unrefused, refl)
+      ⊳ (unrefused, (λ h. h, (small refl, (fits refl refl, refl))))
+      ⊳ (unrefused, (λ h. h, (small refl, (fits refl refl, refl))))
+      ⊳ (unrefused, (λ h. h, (small refl, (fits refl refl, refl))))
+      ⊳ (unrefused, (λ none. cc, refl))
+      ⊳ (unrefused, (λ none. cc, refl))
+      ⊳ (unrefused, (stays (λ all. all.0), refl))
+      ⊳ (unrefused, refl)
 
   in_front_is_wrong : ¬ Tells (drop 1 joined) (event.TakePending Data) (Ok (answer.Queue (1 ∷ 2 ∷ 3 ∷ [])))
   in_front_is_wrong = λ told. cc

@@ -8,7 +8,7 @@ use Rattle.quic_recovery.specs.declared.event.Event.TheVariants as event
 use Rattle.quic_recovery.specs.declared.event.Answer.TheVariants as answer
 use Rattle.quic_recovery.specs.declared.event.Refusal.TheVariants as refusal
 use Rattle.quic_recovery.specs.Told.{Told}
-use Rattle.quic_recovery.proofs.RowStart.{RowEvent, RowReply, RowHistory, row_start, AllTold, ◌▸◌}
+use Rattle.quic_recovery.proofs.RowStart.{RowEvent, RowReply, RowHistory, row_start, AllTold, ◌⊳◌}
 use Rattle.quic_recovery.proofs.RowLaws.{unrefused, small, fits, said}
 
 module _ (remote : SocketAddr) (random : Stream) where
@@ -30,9 +30,9 @@ module _ (remote : SocketAddr) (random : Stream) where
   halved_told : TellsAll halved
   halved_told =
       tt
-      ▸ refl
-      ▸ refl
-      ▸ refl
+      ⊳ refl
+      ⊳ refl
+      ⊳ refl
 
   whole_window_is_wrong : ¬ Tells (drop 1 halved) (event.PacerCheck 0 12001) (Ok (answer.Delayed 22200))
   whole_window_is_wrong = λ told. let same : 22200 ≡ 44400 = ap said told in omega (arith, same)
@@ -53,10 +53,10 @@ module _ (remote : SocketAddr) (random : Stream) where
   sampled_told : TellsAll sampled
   sampled_told =
       tt
-      ▸ refl
-      ▸ refl
-      ▸ refl
-      ▸ refl
+      ⊳ refl
+      ⊳ refl
+      ⊳ refl
+      ⊳ refl
 
   initial_rtt_is_wrong : ¬ Tells (drop 3 sampled) (event.PacerCheck 0 12001) (Ok (answer.Delayed 22200))
   initial_rtt_is_wrong = λ told. let same : 22200 ≡ 64 = ap said told in omega (arith, same)
@@ -71,9 +71,9 @@ module _ (remote : SocketAddr) (random : Stream) where
   unpaced_told : TellsAll unpaced
   unpaced_told =
       tt
-      ▸ refl
-      ▸ refl
-      ▸ refl
+      ⊳ refl
+      ⊳ refl
+      ⊳ refl
 
   zero_rtt_delays_is_wrong : ¬ Tells (drop 2 unpaced) (event.PacerCheck 0 12001) (Ok (answer.Delayed 0))
   zero_rtt_delays_is_wrong = λ told. cc
@@ -95,11 +95,11 @@ module _ (remote : SocketAddr) (random : Stream) where
   grown_told : TellsAll grown
   grown_told =
       tt
-      ▸ (unrefused, (λ h. h, (small refl, (fits refl refl, refl))))
-      ▸ (unrefused, (small refl, (fits refl refl, refl)))
-      ▸ (unrefused, (λ none. cc, refl))
-      ▸ (unrefused, (λ none. cc, refl))
-      ▸ refl
+      ⊳ (unrefused, (λ h. h, (small refl, (fits refl refl, refl))))
+      ⊳ (unrefused, (small refl, (fits refl refl, refl)))
+      ⊳ (unrefused, (λ none. cc, refl))
+      ⊳ (unrefused, (λ none. cc, refl))
+      ⊳ refl
 
   probe_grows_nothing_is_wrong : ¬ Tells (drop 1 grown) (event.PacerCheck 0 13261) (Ok answer.Ready)
   probe_grows_nothing_is_wrong = λ told. cc
@@ -122,15 +122,18 @@ module _ (remote : SocketAddr) (random : Stream) where
   recoveries_told : TellsAll recoveries
   recoveries_told =
       tt
-      ▸ refl
-      ▸ refl
-      ▸ refl
-      ▸ refl
-      ▸ refl
-      ▸ refl
-      ▸ refl
-      ▸ refl
-      ▸ refl
+      ⊳ refl
+      ⊳ refl
+      ⊳ refl
+      ⊳ refl
+      ⊳ refl
+      ⊳ refl
+      ⊳ refl
+      ⊳ refl
+      ⊳ refl
 
   twice_in_a_recovery_is_wrong : ¬ Tells (drop 5 recoveries) (event.PacerCheck 0 12001) (Ok (answer.Delayed 88800))
   twice_in_a_recovery_is_wrong = λ told. let same : 88800 ≡ 44400 = ap said told in omega (arith, same)
+
+  sample_is_done : ¬ Tells [] (event.Sample 0 1000000) (Ok answer.Ready)
+  sample_is_done = λ told. cc
