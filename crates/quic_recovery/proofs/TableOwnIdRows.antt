@@ -1,0 +1,175 @@
+-- Worked rows of the table of replies, computed: ids of this end, and timers.
+use Rattle.std.proofs.Common.{ℕ, ◌<◌, ◌≤◌, ◌^◌, Bool, true, false, if◌then◌else◌, List, [], ◌∷◌, drop, map, length, replicate, None, Some, Ok, Err, refl, arith, unwrap_or, subst}
+use Rattle.std.specs.declared.net.socket_addr.SocketAddr.{SocketAddr}
+use Rattle.std.specs.Global.{Vec}
+use Rattle.rand_core.specs.Stream.{Stream}
+use Rattle.recovery_base.specs.Timers.{same_timer}
+use Rattle.recovery_base.specs.declared.below.ids.IssuedCid.{IssuedCid}
+use Rattle.recovery_base.specs.declared.timer.Timer.{Timer}
+use Rattle.recovery_base.specs.declared.timer.Timer.TheVariants.{Idle, Pacing}
+use Rattle.recovery_skips.specs.declared.filter.Skips.TheVariants.{Disabled}
+use Rattle.quic_recovery.specs.declared.event.Event.TheVariants as event
+use Rattle.quic_recovery.specs.declared.event.Answer.TheVariants as answer
+use Rattle.quic_recovery.specs.declared.event.Refusal.TheVariants as refusal
+use Rattle.quic_recovery.specs.Told.{Told}
+use Rattle.quic_recovery.proofs.RowStart.{RowEvent, RowReply, RowHistory, row_start, AllTold, ◌⊳◌}
+use Rattle.quic_recovery.proofs.RowLaws.{small, starts, stays, some_is_none, differ}
+
+module _ (remote : SocketAddr) (random : Stream) (given : Vec IssuedCid) where
+  abbrev Tells : RowHistory → RowEvent → RowReply → Type 0
+  Tells = Told (row_start remote random 8 Disabled)
+
+  abbrev TellsAll : RowHistory → Type 0
+  TellsAll = AllTold (row_start remote random 8 Disabled)
+
+  -- ---- ids of this end, whatever memory they lie in
+
+  abbrev numbered : List ℕ → List IssuedCid
+  numbered numbers = map (λ n. record { sequence = n; id = replicate 8 0; reset_token = replicate 16 0 }) numbers
+
+  abbrev issued : ℕ → (numbers : List ℕ) → length (numbered numbers) < 2 ^ 63 → RowEvent
+  issued now numbers few = event.IssueIds now (record given {
+    len = length (numbered numbers);
+    cap = length (numbered numbers);
+    items = numbered numbers;
+    ok = (refl, omega arith);
+    small = few;
+  })
+
+  abbrev own : RowHistory
+  own =
+      (issued 5 (4 ∷ []) (omega arith), Err refusal.BadRange)
+      ∷ (event.IdTimeout, Ok (answer.Flag false))
+      ∷ (event.PeerRetired 3 5, Err refusal.UnissuedCid)
+      ∷ (event.PeerRetired 0 5, Ok (answer.Flag true))
+      ∷ (event.IdTimeout, Ok (answer.Flag true))
+      ∷ (issued 0 (1 ∷ 2 ∷ []) (omega arith), Ok answer.Done)
+      ∷ []
+
+  own_told : TellsAll own
+  own_told =
+      tt
+      ⊳ (small refl, (λ other. other refl, refl))
+      ⊳ refl
+      ⊳ (λ h. omega (arith, h), (small refl, starts (omega arith)))
+      ⊳ (λ h. omega (arith, h), omega arith)
+      ⊳ refl
+      ⊳ (small refl, differ refl)
+
+  unretired_is_asked_for : ¬ Tells (drop 5 own) (event.IdTimeout) (Ok (answer.Flag false))
+  unretired_is_asked_for = λ told. cc
+
+  asked_again_is_wrong : ¬ Tells (drop 2 own) (event.IdTimeout) (Ok (answer.Flag true))
+  asked_again_is_wrong = λ told. cc
+
+  room_for_one_is_wrong : ¬ Tells (drop 4 own) (event.PeerRetired 0 2) (Ok (answer.Flag true))
+  room_for_one_is_wrong = λ told. omega (arith, told.1.1.0 refl)
+
+  unissued_is_retired_is_wrong : ¬ Tells (drop 3 own) (event.PeerRetired 3 5) (Ok (answer.Flag true))
+  unissued_is_retired_is_wrong = λ told. told.1.0 (omega arith)
+
+  ids_are_in_use : ¬ Tells [] (event.PeerRetired 0 5) (Err refusal.CidsNotInUse)
+  ids_are_in_use = λ told. omega (arith, told)
+
+  in_order_is_refused_is_wrong : ¬ Tells (drop 1 own) (issued 5 (3 ∷ []) (omega arith)) (Err refusal.BadRange)
+  in_order_is_refused_is_wrong = λ told. told.1 refl
+
+  ids_take_memory : Tells [] (issued 0 (1 ∷ []) (omega arith)) (Err refusal.NoMemory)
+  ids_take_memory = (small refl, (λ other. other refl, λ none. cc))
+
+  no_ids_take_none : ¬ Tells [] (issued 0 [] (omega arith)) (Err refusal.NoMemory)
+  no_ids_take_none = λ told. told.1.1 refl
+
+  no_ids_are_issued : Tells [] (issued 0 [] (omega arith)) (Ok answer.Done)
+  no_ids_are_issued = (small refl, (λ other. other refl, refl))
+
+  -- where ids have no bytes none is retired
+  none_in_use : Told (row_start remote random 0 Disabled) [] (event.PeerRetired 9 5) (Err refusal.CidsNotInUse)
+  none_in_use = refl
+
+  -- ---- ids of one moment have one deadline
+
+  abbrev deadlines : RowHistory
+  deadlines =
+      (event.IdTimeout, Ok (answer.Flag false))
+      ∷ (event.IdTimeout, Ok (answer.Flag true))
+      ∷ (issued 0 (3 ∷ []) (omega arith), Ok answer.Done)
+      ∷ (issued 0 (1 ∷ 2 ∷ []) (omega arith), Ok answer.Done)
+      ∷ []
+
+  deadlines_told : TellsAll deadlines
+  deadlines_told =
+      tt
+      ⊳ (small refl, (λ other. other refl, refl))
+      ⊳ (small refl, (λ other. other refl, refl))
+      ⊳ refl
+      ⊳ refl
+
+  -- ---- a number may be retired again
+
+  abbrev retired_twice : RowHistory
+  retired_twice =
+      (event.PeerRetired 0 0, Ok (answer.Flag false))
+      ∷ (event.PeerRetired 0 1, Ok (answer.Flag true))
+      ∷ []
+
+  retired_twice_told : TellsAll retired_twice
+  retired_twice_told =
+      tt
+      ⊳ (λ h. omega (arith, h), (small refl, starts (omega arith)))
+      ⊳ (λ h. omega (arith, h), (small refl, stays (small refl)))
+
+  -- ---- timers: Pacing is set to 20 and Idle to 50, and then Pacing is stopped
+
+  abbrev at_pacing : Timer → Bool
+  at_pacing kind = same_timer kind Pacing
+
+  abbrev at_idle : Timer → Bool
+  at_idle kind = same_timer kind Idle
+
+  from_20 : (pacing idle : Bool) → 20 ≤ unwrap_or (if pacing then Some 20 else (if idle then Some 50 else None)) 20
+  from_20 true idle = omega arith
+  from_20 false true = omega arith
+  from_20 false false = omega arith
+
+  from_50 : (pacing idle : Bool)
+      → 50 ≤ unwrap_or (if pacing then None else (if pacing then Some 20 else (if idle then Some 50 else None))) 50
+  from_50 true idle = omega arith
+  from_50 false true = omega arith
+  from_50 false false = omega arith
+
+  abbrev timers : RowHistory
+  timers =
+      (event.NextTimeout, Ok (answer.Timeout (Some 50)))
+      ∷ (event.StopTimer Pacing, Ok answer.Done)
+      ∷ (event.NextTimeout, Ok (answer.Timeout (Some 20)))
+      ∷ (event.SetTimer Pacing 20, Ok answer.Done)
+      ∷ (event.SetTimer Idle 50, Ok answer.Done)
+      ∷ (event.NextTimeout, Ok (answer.Timeout None))
+      ∷ []
+
+  timers_told : TellsAll timers
+  timers_told =
+      tt
+      ⊳ (λ kind. refl)
+      ⊳ refl
+      ⊳ refl
+      ⊳ ((Pacing, refl), λ kind time at. subst (λ m. 20 ≤ unwrap_or m 20) at (from_20 (at_pacing kind) (at_idle kind)))
+      ⊳ refl
+      ⊳ ((Idle, refl), λ kind time at. subst (λ m. 50 ≤ unwrap_or m 50) at (from_50 (at_pacing kind) (at_idle kind)))
+
+  later_is_wrong : ¬ Tells (drop 3 timers) (event.NextTimeout) (Ok (answer.Timeout (Some 50)))
+  later_is_wrong = λ told. omega (arith, told.1 Pacing 20 refl)
+
+  stopped_is_wrong : ¬ Tells (drop 1 timers) (event.NextTimeout) (Ok (answer.Timeout (Some 20)))
+  stopped_is_wrong = λ told.
+      let below = subst (λ m. 50 ≤ unwrap_or m 50) told.0.1 (from_50 (at_pacing told.0.0) (at_idle told.0.0)) in omega (arith, below)
+
+  none_is_wrong : ¬ Tells (drop 1 timers) (event.NextTimeout) (Ok (answer.Timeout None))
+  none_is_wrong = λ told. some_is_none (told Idle)
+
+  set_is_done : ¬ Tells [] (event.SetTimer Idle 50) (Ok (answer.Timeout (Some 50)))
+  set_is_done = λ told. cc
+
+  stop_is_done : ¬ Tells [] (event.StopTimer Idle) (Err refusal.NoMemory)
+  stop_is_done = λ told. told
