@@ -48,14 +48,20 @@ module _ {K : Type 0} (change : Path K → Path K) (keeps : (path : Path K) → 
   previous_marks (Some path) = ap (λ (m : PathMarks). Some m) (keeps path)
 
   pub both_marks : (current : Path K) (paths : OfPaths (Path K)) → current.marks ≡ paths.current.marks
-      → (let new : OfPaths (Path K) = record { current = current; previous = option_map change paths.previous } in paths_marks new) ≡ paths_marks paths
+      → (let new : OfPaths (Path K) = record {
+        current = current;
+        previous = option_map change paths.previous;
+      } in paths_marks new) ≡ paths_marks paths
   both_marks current paths same =
       let old = paths.previous in
       ap (λ (m : PathMarks). let all : OfPaths PathMarks = record {
         current = m;
         previous = option_map (λ path. path.marks) (option_map change old);
       } in all) same
-      ∙ ap (λ (o : Option PathMarks). let all : OfPaths PathMarks = record { current = paths.current.marks; previous = o } in all) (previous_marks old)
+      ∙ ap (λ (o : Option PathMarks). let all : OfPaths PathMarks = record {
+        current = paths.current.marks;
+        previous = o;
+      } in all) (previous_marks old)
 
 -- a path alone, as it is made
 pub fresh_first : {K : Type 0} (path : Path K) (paths : OfPaths (Path K))
@@ -68,10 +74,13 @@ fresh_first path paths is fresh =
 
 -- a space as it is made
 pub beside_made : (ecn : EcnCounts) (loss_time : Option ℕ) (offset : ℕ) → ecn ≡ no_ecn → loss_time ≡ None → offset ≡ 0
-    → (let found : Beside = record { ecn = ecn; loss_time = loss_time; crypto_offset = offset } in found) ≡ nothing_beside
+    → (let found : Beside = record { ecn = ecn; loss_time = loss_time; crypto_offset = offset } in found)
+    ≡ nothing_beside
 beside_made ecn loss_time offset no_counts no_loss none =
-    ap (λ (e : EcnCounts). let b : Beside = record { ecn = e; loss_time = loss_time; crypto_offset = offset } in b) no_counts
-    ∙ ap (λ (l : Option ℕ). let b : Beside = record { ecn = no_ecn; loss_time = l; crypto_offset = offset } in b) no_loss
+    ap (λ (e : EcnCounts). let b : Beside = record { ecn = e; loss_time = loss_time; crypto_offset = offset } in b)
+    no_counts
+    ∙ ap (λ (l : Option ℕ). let b : Beside = record { ecn = no_ecn; loss_time = l; crypto_offset = offset } in b)
+    no_loss
     ∙ ap (λ (o : ℕ). let b : Beside = record { ecn = no_ecn; loss_time = None; crypto_offset = o } in b) none
 
 module _ {P M S : Type 0} (words : QueueWords P S) where

@@ -43,7 +43,8 @@ sent_freely words false None is = (refl, refl)
 sent_freely words false (Some until) is = delayed_is_not_sent is
 
 -- a loss is no limit
-loss_in_turn : (own : Bool) (number bytes : ℕ) (old : Discovery) → IsInTurn (if own then loses_probe else loses number bytes) old
+loss_in_turn : (own : Bool) (number bytes : ℕ) (old : Discovery)
+    → IsInTurn (if own then loses_probe else loses number bytes) old
 loss_in_turn true number bytes old = tt
 loss_in_turn false number bytes old = tt
 
@@ -51,7 +52,8 @@ module _ {K P M : Type 0} (settings : PathSettings K) (known : Known K P M) wher
   abbrev IsInTurnNow : MtuCall → Type 0
   IsInTurnNow call = IsInTurn call known.paths.current.state.discovery
 
-  searched_allowed : (changes : Bool) (call : MtuCall) → IsInTurnNow call → AreAllowed settings known.paths (searched known changes call)
+  searched_allowed : (changes : Bool) (call : MtuCall) → IsInTurnNow call
+      → AreAllowed settings known.paths (searched known changes call)
   searched_allowed true call turn = (tt, (turn, tt))
   searched_allowed false call turn = (turn, tt)
 
@@ -76,13 +78,16 @@ module _ {K P M : Type 0} (settings : PathSettings K) (known : Known K P M) wher
       (data_allowed (is_data space) (is_path_probe space number known.paths.current.state)
       (acks_packet number packet.size) tt)
 
-  lost_allowed : (space : SpaceId) (number : ℕ) (packet : Option (Packet P M)) → AreAllowed settings known.paths (lost_search known space number packet)
+  lost_allowed : (space : SpaceId) (number : ℕ) (packet : Option (Packet P M))
+      → AreAllowed settings known.paths (lost_search known space number packet)
   lost_allowed space number None = tt
   lost_allowed space number (Some packet) =
       let old = known.paths.current.state.discovery in
-      data_allowed (is_data space) false (loss_call number packet.size old) (loss_in_turn (is_probe number old) number packet.size old)
+      data_allowed (is_data space) false (loss_call number packet.size old)
+      (loss_in_turn (is_probe number old) number packet.size old)
 
-module _ {K Q S M P : Type 0} (q : QueueMeaning Q S M P) (settings : PathSettings K) (heard : SpaceId → Heard) (known : Known K P M) where
+module _ {K Q S M P : Type 0} (q : QueueMeaning Q S M P) (settings : PathSettings K) (heard : SpaceId
+    → Heard) (known : Known K P M) where
   answer_allowed : (event : Event Q S M P) (answer : Answer Q) → ToldBy q settings.words heard known event (Ok answer)
       → AreAllowed settings known.paths (answered q known event answer).paths
   answer_allowed (Transmit now bytes true) Transmitted told =
@@ -102,11 +107,14 @@ module _ {K Q S M P : Type 0} (q : QueueMeaning Q S M P) (settings : PathSetting
   answer_allowed (EndAcks now app_limited largest) answer told = (tt, tt)
   answer_allowed (Acked space now number app_limited) answer told = acked_allowed settings known space now number
       app_limited (packet_at (tracked_known known space) number)
-  answer_allowed (Lost space number) answer told = lost_allowed settings known space number (packet_at (tracked_known known space) number)
+  answer_allowed (Lost space number) answer told =
+      lost_allowed settings known space number (packet_at (tracked_known known space) number)
   answer_allowed (PollMtu now) (Probe number size) told = (tt, (tt, tt))
   answer_allowed (PollMtu now) answer told = (tt, tt)
-  answer_allowed (PeerLimit size) answer told = (false_from_ne_true (is_searching_of known.paths.current.state.discovery) told.1.0, tt)
-  answer_allowed (LossesDone now) answer told = searched_allowed settings known (reports known.paths.current.state.discovery) (losses_end now) tt
+  answer_allowed (PeerLimit size) answer told =
+      (false_from_ne_true (is_searching_of known.paths.current.state.discovery) told.1.0, tt)
+  answer_allowed (LossesDone now) answer told =
+      searched_allowed settings known (reports known.paths.current.state.discovery) (losses_end now) tt
   answer_allowed (NewPath now remote is_fresh) answer told = (tt, tt)
   answer_allowed (ResetPath now) answer told = (tt, tt)
   answer_allowed DropPrevious answer told = (tt, tt)
@@ -117,7 +125,8 @@ module _ {K Q S M P : Type 0} (q : QueueMeaning Q S M P) (settings : PathSetting
   answer_allowed (AckFrequencyIn frame) answer told = tt
   answer_allowed event answer told = tt
 
-  refusal_allowed : (event : Event Q S M P) (refusal : Refusal) → AreAllowed settings known.paths (refused event refusal).paths
+  refusal_allowed : (event : Event Q S M P) (refusal : Refusal)
+      → AreAllowed settings known.paths (refused event refusal).paths
   refusal_allowed (AckFrequencyIn frame) DelayTooSmall = tt
   refusal_allowed (AckFrequencyIn frame) refusal = tt
   refusal_allowed event refusal = tt
@@ -133,18 +142,23 @@ module _ {F K Q S M P : Type 0} (beginning : Beginning F K Q S M P) (Kept : Hist
     (Holds : History Q S M P → Event Q S M P → Reply Q → Type 0) where
   pub throughout_kept : ((before : History Q S M P) (event : Event Q S M P) (reply : Reply Q)
       → Told beginning before event reply → Kept before → Kept ((event, reply) ∷ before))
-      → ((before : History Q S M P) (event : Event Q S M P) (reply : Reply Q) → Told beginning before event reply → Kept before → Holds before event reply)
+      → ((before : History Q S M P) (event : Event Q S M P) (reply : Reply Q) → Told beginning before event reply
+      → Kept before → Holds before event reply)
       → (before : History Q S M P) (events : List (Event Q S M P)) (replies : List (Reply Q))
       → ThroughoutFrom (Told beginning) before events replies → Kept before → ThroughoutFrom Holds before events replies
   throughout_kept keeps holds before [] [] told kept = tt
-  throughout_kept keeps holds before (event ∷ events) (reply ∷ replies) told kept =
-      (holds before event reply told.0 kept, throughout_kept keeps holds ((event, reply) ∷ before) events replies told.1 (keeps before event reply told.0 kept))
+  throughout_kept keeps holds before (event ∷ events) (reply ∷ replies) told kept = (
+    holds before event reply told.0 kept,
+    throughout_kept keeps holds ((event, reply) ∷ before) events replies told.1
+        (keeps before event reply told.0 kept),
+  )
   throughout_kept keeps holds before [] (reply ∷ replies) told kept = absurd told
   throughout_kept keeps holds before (event ∷ events) [] told kept = absurd told
 
 module _ {F K Q S M P : Type 0} (beginning : Beginning F K Q S M P) where
   -- an event keeps the bound
-  pub after_one : (before : History Q S M P) (event : Event Q S M P) (reply : Reply Q) → Told beginning before event reply
+  pub after_one : (before : History Q S M P) (event : Event Q S M P) (reply : Reply Q)
+      → Told beginning before event reply
       → OnEachPath IsWithinThreefold (pasts_of beginning before)
       → OnEachPath IsWithinThreefold (pasts_of beginning ((event, reply) ∷ before))
   after_one before event reply told within =

@@ -21,17 +21,20 @@ use Rattle.quic_recovery.proofs.DatagramLaws.{Flow, FlowsAgree, flows_at_first, 
 -- what the table answers is one of what the promise allows
 module _ {K : Type 0} (Q : Type 0) (words : ControllerWords K) where
   allows : (forbidden : Bool) (delay : Option ℕ)
-      → (let t : Answer Q = Transmitted in IsPassage false true forbidden (Ok (cond forbidden Blocked (delayed_or words t delay))))
+      → (let t : Answer Q = Transmitted in IsPassage false true forbidden
+      (Ok (cond forbidden Blocked (delayed_or words t delay))))
   allows true delay = refl
   allows false None = tt
   allows false (Some until) = tt
 
   fits : (now bytes : ℕ) (checked : Bool) (path : PathState K)
-      → (let answer : Answer Q = transmit_answer words now bytes checked path in IsPassage false checked (is_blocked path bytes) (Ok answer))
+      → (let answer : Answer Q = transmit_answer words now bytes checked path in IsPassage false checked
+      (is_blocked path bytes) (Ok answer))
   fits now bytes false path = refl
   fits now bytes true path = allows (is_blocked path bytes) (path_delay words now bytes path)
 
-module _ {Q : Type 0} (checked forbidden : Bool) (answer : Answer Q) (fine : IsPassage false checked forbidden (Ok answer)) (TooLarge : Type 0) where
+module _ {Q : Type 0} (checked forbidden : Bool) (answer : Answer Q)
+    (fine : IsPassage false checked forbidden (Ok answer)) (TooLarge : Type 0) where
   decide : (large : Bool) → (TooLarge → large ≡ true) → (large ≡ true → TooLarge) → (reply : Reply Q)
       → Refuses Overflow TooLarge (AlwaysAnswers (Is answer)) reply → IsPassage large checked forbidden reply
   decide true is to (Ok given) told = absurd (told.0 (to refl))
@@ -52,17 +55,22 @@ module _ {F K Q S M P : Type 0} (beginning : Beginning F K Q S M P) where
       (not f.validated && nat_lt (3 * f.came) (f.went + bytes)) reply in
       subst Verdict (sym agree.0)
       (decide checked (is_blocked path bytes) (transmit_answer beginning.words now bytes checked path)
-      (fits Q beginning.words now bytes checked path) (2 ^ 64 ≤ path.sent + bytes) large (le-leb (2 ^ 64) (path.sent + bytes))
+      (fits Q beginning.words now bytes checked path) (2 ^ 64 ≤ path.sent + bytes) large
+      (le-leb (2 ^ 64) (path.sent + bytes))
       (leb-true (2 ^ 64) (path.sent + bytes)) reply told)
 
-  blocked_told : (before : History Q S M P) (event : Event Q S M P) (reply : Reply Q) → Told beginning before event reply
+  blocked_told : (before : History Q S M P) (event : Event Q S M P) (reply : Reply Q)
+      → Told beginning before event reply
       → FlowsAgree beginning before → BlocksExactly beginning.config.validated before event reply
-  blocked_told before (Transmit now bytes checked) reply told agree = transmit_told before now bytes checked reply told agree
+  blocked_told before (Transmit now bytes checked) reply told agree =
+      transmit_told before now bytes checked reply told agree
   blocked_told before event reply told agree = tt
 
   -- throughout a run
   pub blocks_exactly : (events : List (Event Q S M P)) (replies : List (Reply Q))
-      → Throughout (Told beginning) events replies → Throughout (BlocksExactly beginning.config.validated) events replies
+      → Throughout (Told beginning) events replies
+      → Throughout (BlocksExactly beginning.config.validated) events replies
   blocks_exactly events replies told =
-      throughout_kept beginning (FlowsAgree beginning) (BlocksExactly beginning.config.validated) (flows_after beginning)
+      throughout_kept beginning (FlowsAgree beginning) (BlocksExactly beginning.config.validated)
+      (flows_after beginning)
       blocked_told [] events replies told (flows_at_first beginning)

@@ -37,7 +37,8 @@ discovery_untold limit config None = discovery_disabled_untold _ _
 discovery_untold limit config (Some settings) = discovery_made_untold _ _ limit settings
 
 -- as the settings of paths make it
-first_untold : {F : Type 0} (allowed : Bool) (limit : Option ℕ) (config : TransportConfig F) → IsUntold (first_discovery allowed limit config)
+first_untold : {F : Type 0} (allowed : Bool) (limit : Option ℕ) (config : TransportConfig F)
+    → IsUntold (first_discovery allowed limit config)
 first_untold allowed limit config = discovery_untold limit config (cond allowed config.mtu_discovery_config None)
 
 module _ {F K Q S M P : Type 0} (beginning : Beginning F K Q S M P) where
@@ -45,12 +46,14 @@ module _ {F K Q S M P : Type 0} (beginning : Beginning F K Q S M P) where
   untold_in : (history : History Q S M P) → WasUntold (pasts_of beginning history).current
   untold_in history =
       let config = beginning.config in
-      let made : (limit : Option ℕ) → IsUntold ((settings_of beginning).discovery limit) = λ limit. first_untold config.allow_mtud limit config.transport in
+      let made : (limit : Option ℕ) → IsUntold ((settings_of beginning).discovery limit) =
+      λ limit. first_untold config.allow_mtud limit config.transport in
       untold_by (settings_of beginning) made (first_path beginning) (made None) (logs_of beginning history).paths
 
   -- the answer to the end of losses is what its detection reports
   abbrev reports_there : History Q S M P → Bool
-  reports_there before = let past = (pasts_of beginning before).current in reports (discovery_by past.making.discovery past.searched)
+  reports_there before = let past =
+      (pasts_of beginning before).current in reports (discovery_by past.making.discovery past.searched)
 
   -- ---- a report comes at four
 
@@ -93,7 +96,8 @@ module _ {F K Q S M P : Type 0} (beginning : Beginning F K Q S M P) where
       → NeedsFourBursts beginning before (LossesDone now) (Ok (BlackHole hole))
   needs_by before now once true is =
       let past = (pasts_of beginning before).current in
-      let apart = apart_once past.making.discovery past.searched (λ number. omega (arith, fates_depart beginning number before, once number)) in
+      let apart = apart_once past.making.discovery past.searched
+      (λ number. omega (arith, fates_depart beginning number before, once number)) in
       four_stand past.making.discovery (untold_in before) past.searched apart is
   needs_by before now once false is = tt
 
@@ -111,5 +115,6 @@ module _ {F K Q S M P : Type 0} (beginning : Beginning F K Q S M P) where
       → Throughout (Told beginning) events replies → Throughout (NeedsFourBursts beginning) events replies
   needs_four events replies told =
       throughout_kept beginning (AllTracked beginning) (NeedsFourBursts beginning) (keeps_tracked beginning)
-      (λ before event reply here all. needs_one before event reply here (leave_once before (one_fate beginning before all) Data))
+      (λ before event reply here all.
+      needs_one before event reply here (leave_once before (one_fate beginning before all) Data))
       [] events replies told (none_tracked beginning)

@@ -19,9 +19,9 @@ use Rattle.quic_recovery.specs.Known.{Known, known_by, number_in, packet_now}
 use Rattle.quic_recovery.specs.Logs.{onto}
 use Rattle.quic_recovery.specs.Promises.Acknowledged.{largest_in}
 use Rattle.quic_recovery.specs.Told.{Told}
-use Rattle.quic_recovery.proofs.DepartureLaws.{is_new, sent_in, tracked as is_there}
+use Rattle.quic_recovery.proofs.SearchSteps.{found_packet as is_there}
 use Rattle.quic_recovery.proofs.FieldLaws.{IsSaid, said_found, said_moved, said_sent, said_without}
-use Rattle.quic_recovery.proofs.TrackedLaws.{one_space, probe_number}
+use Rattle.quic_recovery.proofs.TrackedLaws.{is_new, one_space, probe_number, sent_in}
 
 -- the largest number whose ACK a packet carries
 abbrev carried_by : {P M : Type 0} → Packet P M → Option ℕ

@@ -26,7 +26,8 @@ use Rattle.quic_recovery.specs.Entries.{found_in, logs_of}
 use Rattle.quic_recovery.specs.History.{Beginning, History, Reply, Throughout, history}
 use Rattle.quic_recovery.specs.Known.{Known, known_by, number_in, packet_now}
 use Rattle.quic_recovery.specs.Logs.{onto}
-use Rattle.quic_recovery.specs.Promises.Contents.{AddsUp, LosesNothing, outgoing, held, gone, carried}
+use Rattle.quic_recovery.specs.Promises.Contents.{LosesNothing, outgoing, held, gone, carried}
+use Rattle.quic_recovery.specs.Promises.Measures.{AddsUp}
 use Rattle.quic_recovery.specs.Told.{Told}
 use Rattle.quic_recovery.proofs.Runs.{kept_after}
 use Rattle.quic_recovery.proofs.TrackedLaws.{one_space, sent_in}
@@ -42,7 +43,8 @@ module _ {P M S : Type 0} (words : QueueWords P S) (measure : P → ℕ) (adds :
   carried_at packets n = measure (contents_or words.empty (packet_at packets n))
 
   -- a packet leaves with what it carries
-  sum_leaves : (packets : Packets P M) (n : ℕ) → sum_by carries (without packets n) + carried_at packets n ≡ sum_by carries packets
+  sum_leaves : (packets : Packets P M) (n : ℕ) → sum_by carries (without packets n) + carried_at packets n
+      ≡ sum_by carries packets
   sum_leaves packets n = go (packet_at packets n) refl
     where
       go : (found : Option (Packet P M)) → packet_at packets n ≡ found
@@ -55,15 +57,18 @@ module _ {P M S : Type 0} (words : QueueWords P S) (measure : P → ℕ) (adds :
 
   -- a packet carries something else
   sum_replaced : (packets : Packets P M) (n : ℕ) (packet other : Packet P M) → packet_at packets n ≡ Some packet
-      → sum_by carries (replaced n (Some other) packets) + measure packet.retransmits ≡ sum_by carries packets + measure other.retransmits
+      → sum_by carries (replaced n (Some other) packets) + measure packet.retransmits ≡ sum_by carries packets
+      + measure other.retransmits
   sum_replaced [] n packet other found = no_packet packet found
   sum_replaced (entry ∷ packets) n packet other found =
       go (is_at (nat_cmp n) entry.0) found (λ there. sum_replaced packets n packet other there)
     where
       go : (b : Bool) → cond b (Some entry.1) (packet_at packets n) ≡ Some packet
           → (packet_at packets n ≡ Some packet
-          → sum_by carries (replaced n (Some other) packets) + measure packet.retransmits ≡ sum_by carries packets + measure other.retransmits)
-          → sum_by carries (cond b ((entry.0, other) ∷ packets) (entry ∷ replaced n (Some other) packets)) + measure packet.retransmits
+          → sum_by carries (replaced n (Some other) packets) + measure packet.retransmits ≡ sum_by carries packets
+          + measure other.retransmits)
+          → sum_by carries (cond b ((entry.0, other) ∷ packets) (entry ∷ replaced n (Some other) packets))
+          + measure packet.retransmits
           ≡ sum_by carries (entry ∷ packets) + measure other.retransmits
       go true is later =
           let cons = sum_by-cons carries entry packets in
@@ -84,7 +89,8 @@ module _ {P M S : Type 0} (words : QueueWords P S) (measure : P → ℕ) (adds :
 
   -- a lost packet's contents wait
   loses_none : (pending : P) (packets : Packets P M) (n : ℕ)
-      → sum_by carries (without packets n) + measure (joined_with words pending (packet_at packets n)) ≡ sum_by carries packets + measure pending
+      → sum_by carries (without packets n) + measure (joined_with words pending (packet_at packets n)) ≡ sum_by carries
+      packets + measure pending
   loses_none pending packets n =
       let left = sum_leaves packets n in
       let waits = joins pending (packet_at packets n) in
@@ -92,14 +98,16 @@ module _ {P M S : Type 0} (words : QueueWords P S) (measure : P → ℕ) (adds :
 
   -- what a probe finds waits
   moves_none : (pending : P) (found : ProbeFound) (sent : Sent P M)
-      → sum_by carries (sent_moved words.empty found sent).tracked + measure (joined_found words pending found sent.tracked)
+      → sum_by carries (sent_moved words.empty found sent).tracked
+      + measure (joined_found words pending found sent.tracked)
       ≡ sum_by carries sent.tracked + measure pending
   moves_none pending pending_stands sent = refl
   moves_none pending nothing_found sent = refl
   moves_none pending (moves n) sent = go (packet_at sent.tracked n) refl
     where
       go : (found : Option (Packet P M)) → packet_at sent.tracked n ≡ found
-          → sum_by carries (replaced n (option_map (with_contents words.empty) found) sent.tracked) + measure (joined_with words pending found)
+          → sum_by carries (replaced n (option_map (with_contents words.empty) found) sent.tracked)
+          + measure (joined_with words pending found)
           ≡ sum_by carries sent.tracked + measure pending
       go None absent = refl
       go (Some packet) found =
@@ -120,7 +128,8 @@ module _ {P M S : Type 0} (words : QueueWords P S) (measure : P → ℕ) (adds :
 
 module _ {F K Q S M P : Type 0} (beginning : Beginning F K Q S M P) (before : History Q S M P) (measure : P → ℕ)
     (adds : AddsUp beginning.queue.words measure) (space : SpaceId)
-    (same : outgoing beginning measure space before ≡ held beginning measure space before + gone beginning measure space before) where
+    (same : outgoing beginning measure space before ≡ held beginning measure space before + gone beginning measure space
+    before) where
   abbrev log : List (SpaceEntry P M)
   log = (logs_of beginning before).spaces space
 
@@ -142,7 +151,8 @@ module _ {F K Q S M P : Type 0} (beginning : Beginning F K Q S M P) (before : Hi
   abbrev held_after : Bool → SpaceEntry P M → ℕ
   held_after b entry = held_by (onto (cond b (Some entry) None) log)
 
-  stays : (b : Bool) (entry : SpaceEntry P M) → held_by (entry ∷ log) ≡ held_by log → outgoing_now ≡ held_after b entry + gone_now
+  stays : (b : Bool) (entry : SpaceEntry P M) → held_by (entry ∷ log) ≡ held_by log
+      → outgoing_now ≡ held_after b entry + gone_now
   stays true entry keeps = go (held_by (entry ∷ log)) (held_by log) keeps same
     where
       go : (after now : ℕ) → after ≡ now → outgoing_now ≡ now + gone_now → outgoing_now ≡ after + gone_now
@@ -160,11 +170,13 @@ module _ {F K Q S M P : Type 0} (beginning : Beginning F K Q S M P) (before : Hi
       go : (out now gone : ℕ) → out ≡ now + gone → out ≡ now + (0 + gone)
       go out now gone same = omega (arith, same)
 
-  goes : (b : Bool) (entry : SpaceEntry P M) (out left : ℕ) → (b ≡ true → held_by (entry ∷ log) + left ≡ held_by log + out)
+  goes : (b : Bool) (entry : SpaceEntry P M) (out left : ℕ)
+      → (b ≡ true → held_by (entry ∷ log) + left ≡ held_by log + out)
       → cond b out 0 + outgoing_now ≡ held_after b entry + (cond b left 0 + gone_now)
   goes true entry out left changes = go outgoing_now (held_by (entry ∷ log)) (held_by log) gone_now (changes refl) same
     where
-      go : (before after now gone : ℕ) → after + left ≡ now + out → before ≡ now + gone → out + before ≡ after + (left + gone)
+      go : (before after now gone : ℕ) → after + left ≡ now + out → before ≡ now + gone
+          → out + before ≡ after + (left + gone)
       go before after now gone changes same = omega (arith, changes, same)
   goes false entry out left changes = go outgoing_now (held_by log) gone_now same
     where
@@ -182,20 +194,24 @@ module _ {F K Q S M P : Type 0} (beginning : Beginning F K Q S M P) (before : Hi
 
   -- a packet goes out, and another one is perhaps forgotten
   sends_more : (k : ℕ) (packet : Packet P M) (forgotten : Option ℕ) → forgotten ≡ forgotten_by sent packet
-      → held_by (sends k packet ∷ log) + carried beginning measure space forgotten before ≡ held_by log + measure packet.retransmits
+      → held_by (sends k packet ∷ log) + carried beginning measure space forgotten before ≡ held_by log
+      + measure packet.retransmits
   sends_more k packet forgotten is =
       let sum = sum-sent_onto (carries words measure adds) sent.last k packet sent.tracked in
       let left = ap (λ f. gone_by (carries words measure adds) (entry_at sent.tracked f)) (sym is) ∙ go forgotten in
       plain _ _ _ _ _ _ sum left
     where
-      go : (f : Option ℕ) → gone_by (carries words measure adds) (entry_at sent.tracked f) ≡ carried beginning measure space f before
+      go : (f : Option ℕ) → gone_by (carries words measure adds) (entry_at sent.tracked f) ≡ carried beginning measure
+          space f before
       go None = refl
       go (Some n) = forgets words measure adds sent.tracked n
 
-      plain : (after now forgot left more waits : ℕ) → after + forgot ≡ now + more → forgot ≡ left → (after + waits) + left ≡ (now + waits) + more
+      plain : (after now forgot left more waits : ℕ) → after + forgot ≡ now + more → forgot ≡ left
+          → (after + waits) + left ≡ (now + waits) + more
       plain after now forgot left more waits sum same = omega (arith, sum, same)
 
-  goes_told : (there : SpaceId) (packet : Packet P M) (forgotten : Option ℕ) → forgotten ≡ forgotten_by (known.spaces there).sent packet
+  goes_told : (there : SpaceId) (packet : Packet P M) (forgotten : Option ℕ)
+      → forgotten ≡ forgotten_by (known.spaces there).sent packet
       → cond (same_space there space) (measure packet.retransmits) 0 + outgoing_now
       ≡ held_after (same_space there space) (sends (number_in known there) packet)
       + (cond (same_space there space) (carried beginning measure space forgotten before) 0 + gone_now)
@@ -236,9 +252,11 @@ module _ {F K Q S M P : Type 0} (beginning : Beginning F K Q S M P) (before : Hi
       plain none held nothing = omega (arith, nothing)
 
   abbrev Balanced : History Q S M P → Type 0
-  Balanced after = outgoing beginning measure space after ≡ held beginning measure space after + gone beginning measure space after
+  Balanced after = outgoing beginning measure space after ≡ held beginning measure space after + gone beginning measure
+      space after
 
-  answer_keeps : (event : Event Q S M P) (answer : Answer Q) → Told beginning before event (Ok answer) → Balanced ((event, Ok answer) ∷ before)
+  answer_keeps : (event : Event Q S M P) (answer : Answer Q) → Told beginning before event (Ok answer)
+      → Balanced ((event, Ok answer) ∷ before)
   answer_keeps (Send there now size eliciting largest queue frames) (answers.Sent number forgotten) told =
       let packet = packet_now known now size eliciting largest (beginning.queue.contents queue) frames in
       let is = told.1.1.1.1 in
@@ -254,13 +272,16 @@ module _ {F K Q S M P : Type 0} (beginning : Beginning F K Q S M P) (before : Hi
   answer_keeps (DiscardSpace there) answer told = leaves (same_space there space) emptied _ (λ at. empties)
   answer_keeps (TakePending there) (answers.Queue queue) told =
       leaves (same_space there space) takes_pending _
-      (λ at. hands_out _ (ap measure (told.1 ∙ ap (λ s. pending_by words ((logs_of beginning before).spaces s)) (one_space there space at))))
+      (λ at. hands_out _ (ap measure (told.1
+      ∙ ap (λ s. pending_by words ((logs_of beginning before).spaces s)) (one_space there space at))))
   answer_keeps (TakePending there) answer told = absurd told.1
   answer_keeps (QueueProbe there immediate streams) answer told =
       let found = found_in known words streams there in
       stays (same_space there space) (probes immediate found) (moves_none words measure adds pending found sent)
-  answer_keeps (Received there now number eliciting) (New arm) told = stays (same_space there space) (heard now number eliciting) refl
-  answer_keeps (Received there now number eliciting) answer told = stays (same_space there space) (heard_again number) refl
+  answer_keeps (Received there now number eliciting) (New arm) told =
+      stays (same_space there space) (heard now number eliciting) refl
+  answer_keeps (Received there now number eliciting) answer told =
+      stays (same_space there space) (heard_again number) refl
   answer_keeps (AckFrequencyIn frame) (Flag true) told = stays (same_space Data space) (asked frame) refl
   answer_keeps (AckFrequencyIn frame) (Flag false) told = same
   answer_keeps (AckFrequencyIn frame) answer told = same
@@ -278,7 +299,8 @@ module _ {F K Q S M P : Type 0} (beginning : Beginning F K Q S M P) (before : Hi
   refusal_keeps (AckFrequencyIn frame) refusal = same
   refusal_keeps event refusal = same
 
-  reply_keeps : (event : Event Q S M P) (reply : Reply Q) → Told beginning before event reply → Balanced ((event, reply) ∷ before)
+  reply_keeps : (event : Event Q S M P) (reply : Reply Q) → Told beginning before event reply
+      → Balanced ((event, reply) ∷ before)
   reply_keeps event (Ok answer) told = answer_keeps event answer told
   reply_keeps event (Err refusal) told = refusal_keeps event refusal
 
@@ -288,11 +310,14 @@ module _ {F K Q S M P : Type 0} (beginning : Beginning F K Q S M P) where
   keeps : (before : History Q S M P) (event : Event Q S M P) (reply : Reply Q) → Told beginning before event reply
       → LosesNothing beginning before → LosesNothing beginning ((event, reply) ∷ before)
   keeps before event reply told before_it =
-      λ measure adds space. reply_keeps beginning before measure adds space (before_it measure adds space) event reply told
+      λ measure adds space. reply_keeps beginning before measure adds space (before_it measure adds space) event reply
+      told
 
   nothing_yet : LosesNothing beginning []
   nothing_yet = λ measure adds space. let none = adds.empty in omega (arith, none)
 
-  pub loses_nothing : (events : List (Event Q S M P)) (replies : List (Reply Q)) → Throughout (Told beginning) events replies
+  pub loses_nothing : (events : List (Event Q S M P)) (replies : List (Reply Q))
+      → Throughout (Told beginning) events replies
       → LosesNothing beginning (history events replies)
-  loses_nothing events replies told = kept_after (Told beginning) (LosesNothing beginning) keeps [] events replies told nothing_yet
+  loses_nothing events replies told =
+      kept_after (Told beginning) (LosesNothing beginning) keeps [] events replies told nothing_yet

@@ -1,5 +1,5 @@
--- Worked rows of the promise that contents are neither lost nor doubled, computed: with the right answers it comes out, and with a wrong one it
--- does not.
+-- Worked rows of the promise that contents are neither lost nor doubled, computed: with the right answers it comes out,
+-- and with a wrong one it does not.
 use Rattle.std.proofs.Common.{◌≡◌, ℕ, ◌+◌, ◌==◌, true, false, [], ◌∷◌, None, Some, Ok, Err, refl, arith}
 use Rattle.rand_core.specs.Stream.{Stream}
 use Rattle.recovery_base.specs.declared.below.SpaceId.TheVariants.{Initial, Handshake}
@@ -10,7 +10,8 @@ use Rattle.quic_recovery.specs.declared.event.Event.TheVariants as event
 use Rattle.quic_recovery.specs.declared.event.Answer.TheVariants as answer
 use Rattle.quic_recovery.specs.declared.event.Refusal.TheVariants as refusal
 use Rattle.quic_recovery.specs.History.{Beginning, History, begins, queue_meaning}
-use Rattle.quic_recovery.specs.Promises.Contents.{AddsUp, LosesNothing, outgoing, held, gone}
+use Rattle.quic_recovery.specs.Promises.Contents.{LosesNothing, outgoing, held, gone}
+use Rattle.quic_recovery.specs.Promises.Measures.{AddsUp}
 
 -- contents that are numbers of bytes, which are joined by adding them
 abbrev words : QueueWords ℕ (Unit {0})
@@ -22,7 +23,8 @@ bytes n = n
 adds : AddsUp words bytes
 adds = record { empty = refl; joined = λ p r. refl }
 
-module _ (F K M : Type 0) (built : F → ℕ → ℕ → K) (controller : ControllerWords K) (config : RecoveryConfig F) (random : Stream) (frames : M) where
+module _ (F K M : Type 0) (built : F → ℕ → ℕ → K) (controller : ControllerWords K) (config : RecoveryConfig F)
+    (random : Stream) (frames : M) where
   abbrev start : Beginning F K ℕ (Unit {0}) M ℕ
   start = begins built controller (queue_meaning (λ n. n) words frames) config 0 random
 

@@ -63,7 +63,8 @@ gone_with b (Some m) gone n = (b && m == n) || gone n
 module _ {P M : Type 0} (weigh : ℕ → Bool → ℕ) (generation : ℕ) where
   abbrev weigh_in : (ℕ → Bool) → ℕ × Packet P M → ℕ
   weigh_in gone entry =
-      if entry.1.path_generation == generation then (if gone entry.0 then 0 else weigh entry.1.size entry.1.ack_eliciting) else 0
+      if entry.1.path_generation == generation then (if gone entry.0 then 0 else weigh entry.1.size
+      entry.1.ack_eliciting) else 0
 
   abbrev sum_in : (ℕ → Bool) → Packets P M → ℕ
   sum_in gone packets = sum_by (weigh_in gone) packets
@@ -79,17 +80,21 @@ module _ {P M : Type 0} (weigh : ℕ → Bool → ℕ) (generation : ℕ) where
 
   module _ (gone : ℕ → Bool) (number : ℕ) where
     -- of another number it is all the same
-    other_number : (entry : ℕ × Packet P M) → (number == entry.0) ≡ false → weigh_in (gone_too gone number) entry ≡ weigh_in gone entry
+    other_number : (entry : ℕ × Packet P M) → (number == entry.0) ≡ false
+        → weigh_in (gone_too gone number) entry ≡ weigh_in gone entry
     other_number entry other =
-        ap (λ b. cond (entry.1.path_generation == generation) (cond (b || gone entry.0) 0 (weigh entry.1.size entry.1.ack_eliciting)) 0) other
+        ap (λ b. cond (entry.1.path_generation == generation)
+        (cond (b || gone entry.0) 0 (weigh entry.1.size entry.1.ack_eliciting)) 0) other
 
     that_number : (entry : ℕ × Packet P M) → (number == entry.0) ≡ true → weigh_in (gone_too gone number) entry ≡ 0
     that_number entry is =
-        ap (λ b. cond (entry.1.path_generation == generation) (cond (b || gone entry.0) 0 (weigh entry.1.size entry.1.ack_eliciting)) 0) is
+        ap (λ b. cond (entry.1.path_generation == generation)
+        (cond (b || gone entry.0) 0 (weigh entry.1.size entry.1.ack_eliciting)) 0) is
         ∙ nothing_either (entry.1.path_generation == generation)
 
     -- a number that is not there
-    sum_of_others : (packets : Packets P M) → times number packets ≡ 0 → sum_in (gone_too gone number) packets ≡ sum_in gone packets
+    sum_of_others : (packets : Packets P M) → times number packets ≡ 0
+        → sum_in (gone_too gone number) packets ≡ sum_in gone packets
     sum_of_others [] none = refl
     sum_of_others (entry ∷ packets) none =
         let stands = sum_by-cons (λ (e : ℕ × Packet P M). one_if_same e.0 number) entry packets in
@@ -101,13 +106,15 @@ module _ {P M : Type 0} (weigh : ℕ → Bool → ℕ) (generation : ℕ) where
         omega (arith, cons, cons_too, later, same)
 
     -- the packet of a number, where it stands there once at most
-    sum_without : (packets : Packets P M) → times number packets ≤ 1 → sum_in gone (without packets number) ≡ sum_in (gone_too gone number) packets
+    sum_without : (packets : Packets P M) → times number packets ≤ 1
+        → sum_in gone (without packets number) ≡ sum_in (gone_too gone number) packets
     sum_without [] once = refl
     sum_without (entry ∷ packets) once = go (is_at (nat_cmp number) entry.0) refl (sum_without packets)
       where
         go : (b : Bool) → is_at (nat_cmp number) entry.0 ≡ b
             → (times number packets ≤ 1 → sum_in gone (without packets number) ≡ sum_in (gone_too gone number) packets)
-            → sum_in gone (cond b packets (entry ∷ without packets number)) ≡ sum_in (gone_too gone number) (entry ∷ packets)
+            → sum_in gone (cond b packets (entry ∷ without packets number)) ≡ sum_in (gone_too gone number)
+            (entry ∷ packets)
         go true at later =
             let stands = sum_by-cons (λ (e : ℕ × Packet P M). one_if_same e.0 number) entry packets in
             let cons_too = sum_by-cons (weigh_in (gone_too gone number)) entry packets in
@@ -132,14 +139,16 @@ module _ {P M : Type 0} (weigh : ℕ → Bool → ℕ) (generation : ℕ) where
   -- a packet goes out
   sum_sent : (sent : Sent P M) (gone : ℕ → Bool) (number : ℕ) (packet : Packet P M) (forgotten : Option ℕ)
       → forgotten ≡ forgotten_by sent packet → ((m : ℕ) → times m sent.tracked ≤ 1)
-      → sum_in gone (sent_more number packet sent).tracked ≡ sum_in (λ n. gone_with true forgotten gone n) sent.tracked + weigh_in gone (number, packet)
+      → sum_in gone (sent_more number packet sent).tracked ≡ sum_in (λ n. gone_with true forgotten gone n) sent.tracked
+      + weigh_in gone (number, packet)
   sum_sent sent gone number packet forgotten is once =
       let push = sum_by_push (weigh_in gone) (without_some sent.tracked (forgotten_by sent packet)) (number, packet) in
       let same = ap (λ f. sum_in gone (without_some sent.tracked f)) is in
       let left = go forgotten in
       omega (arith, push, same, left)
     where
-      go : (f : Option ℕ) → sum_in gone (without_some sent.tracked f) ≡ sum_in (λ n. gone_with true f gone n) sent.tracked
+      go : (f : Option ℕ) → sum_in gone (without_some sent.tracked f) ≡ sum_in (λ n. gone_with true f gone n)
+          sent.tracked
       go None = refl
       go (Some m) = sum_without gone m sent.tracked (once m)
 
@@ -147,7 +156,8 @@ module _ {P M : Type 0} (weigh : ℕ → Bool → ℕ) (generation : ℕ) where
       → sum_in gone sent.tracked ≡ sum_in gone (sent_moved empty found sent).tracked
   sum_moved sent gone empty pending_stands = refl
   sum_moved sent gone empty nothing_found = refl
-  sum_moved sent gone empty (moves number) = sym (sum-carrying sent.tracked number (weigh_in gone) empty (λ m packet. refl))
+  sum_moved sent gone empty (moves number) =
+      sym (sum-carrying sent.tracked number (weigh_in gone) empty (λ m packet. refl))
 
 -- ---- over all spaces
 
@@ -155,7 +165,8 @@ spaces_same : (f g : SpaceId → ℕ) → ((space : SpaceId) → f space ≡ g s
 spaces_same f g same = let a = same Initial in let b = same Handshake in let c = same Data in omega (arith, a, b, c)
 
 spaces_more : (f g more : SpaceId → ℕ) (there : SpaceId)
-    → ((space : SpaceId) → g space ≡ f space + cond (same_space there space) (more space) 0) → more there + over_spaces f ≡ over_spaces g
+    → ((space : SpaceId) → g space ≡ f space + cond (same_space there space) (more space) 0)
+    → more there + over_spaces f ≡ over_spaces g
 spaces_more f g more Initial each =
     let a : g Initial ≡ f Initial + more Initial = each Initial in
     let b : g Handshake ≡ f Handshake + 0 = each Handshake in
@@ -177,9 +188,11 @@ none_more b x y is = let nothing = nothing_either b in omega (arith, nothing, is
 -- what spaces track weighs as much as the history says, whatever numbers are gone
 abbrev Counts : {F K Q S M P : Type 0} → Beginning F K Q S M P → History Q S M P → Type 0
 Counts beginning history = (weigh : ℕ → Bool → ℕ) (generation : ℕ) (gone : SpaceId → ℕ → Bool)
-    → sum_on weigh generation gone history ≡ over_spaces (λ space. sum_in weigh generation (gone space) (sent_in beginning history space).tracked)
+    → sum_on weigh generation gone history ≡ over_spaces
+    (λ space. sum_in weigh generation (gone space) (sent_in beginning history space).tracked)
 
-module _ {F K Q S M P : Type 0} (beginning : Beginning F K Q S M P) (before : History Q S M P) (all : AllTracked beginning before)
+module _ {F K Q S M P : Type 0} (beginning : Beginning F K Q S M P) (before : History Q S M P)
+    (all : AllTracked beginning before)
     (same : Counts beginning before) (weigh : ℕ → Bool → ℕ) (generation : ℕ) (gone : SpaceId → ℕ → Bool) where
   abbrev log : SpaceId → List (SpaceEntry P M)
   log = (logs_of beginning before).spaces
@@ -211,19 +224,23 @@ module _ {F K Q S M P : Type 0} (beginning : Beginning F K Q S M P) (before : Hi
 
   -- an entry of a space that keeps the sum
   stays : (there : SpaceId) (entry : SpaceEntry P M)
-      → ((space : SpaceId) → sum_of space (sent space) ≡ sum_of space (sent_by beginning.queue.words (entry ∷ log space)))
+      → ((space : SpaceId) → sum_of space (sent space) ≡ sum_of space
+      (sent_by beginning.queue.words (entry ∷ log space)))
       → cond is_path 0 0 + sum_on weigh generation gone before ≡ over_spaces (sum_after (only there entry))
-  stays there entry keeps = nothing ∙ spaces_same _ (sum_after (only there entry)) (λ space. go space (same_space there space))
+  stays there entry keeps =
+      nothing ∙ spaces_same _ (sum_after (only there entry)) (λ space. go space (same_space there space))
     where
       go : (space : SpaceId) (b : Bool)
-          → sum_of space (sent space) ≡ sum_of space (sent_by beginning.queue.words (onto (cond b (Some entry) None) (log space)))
+          → sum_of space (sent space) ≡ sum_of space
+          (sent_by beginning.queue.words (onto (cond b (Some entry) None) (log space)))
       go space true = keeps space
       go space false = refl
 
   -- one number of a space is gone too
   leaves_one : (there : SpaceId) (number : ℕ) (entry : SpaceEntry P M)
       → ((space : SpaceId) → sent_by beginning.queue.words (entry ∷ log space) ≡ sent_less number (sent space))
-      → cond is_path 0 0 + sum_on weigh generation (λ space n. (same_space there space && number == n) || gone space n) before
+      → cond is_path 0 0 + sum_on weigh generation (λ space n. (same_space there space && number == n) || gone space n)
+      before
       ≡ over_spaces (sum_after (only there entry))
   leaves_one there number entry less =
       none_more is_path _ _ (same weigh generation (λ space n. (same_space there space && number == n) || gone space n)
@@ -232,11 +249,13 @@ module _ {F K Q S M P : Type 0} (beginning : Beginning F K Q S M P) (before : Hi
       go : (space : SpaceId) (b : Bool)
           → sum_in weigh generation (λ n. (b && number == n) || gone space n) (sent space).tracked
           ≡ sum_of space (sent_by beginning.queue.words (onto (cond b (Some entry) None) (log space)))
-      go space true = sym (ap (sum_of space) (less space) ∙ sum_without weigh generation (gone space) number (sent space).tracked (once space number))
+      go space true = sym (ap (sum_of space) (less space)
+          ∙ sum_without weigh generation (gone space) number (sent space).tracked (once space number))
       go space false = refl
 
   -- a whole space is gone
-  leaves_all : (there : SpaceId) → cond is_path 0 0 + sum_on weigh generation (λ space n. same_space there space || gone space n) before
+  leaves_all : (there : SpaceId)
+      → cond is_path 0 0 + sum_on weigh generation (λ space n. same_space there space || gone space n) before
       ≡ over_spaces (sum_after (only there emptied))
   leaves_all there =
       none_more is_path _ _ (same weigh generation (λ space n. same_space there space || gone space n)
@@ -256,30 +275,36 @@ module _ {F K Q S M P : Type 0} (beginning : Beginning F K Q S M P) (before : Hi
       some_same e = cc
 
   goes_out : (there : SpaceId) (number : ℕ) (packet : Packet P M) (forgotten : Option ℕ)
-      → number ≡ number_in known there → forgotten ≡ forgotten_by (sent there) packet → packet.path_generation ≡ known.paths.current.generation
+      → number ≡ number_in known there → forgotten ≡ forgotten_by (sent there) packet
+      → packet.path_generation ≡ known.paths.current.generation
       → cond is_path (cond (gone there number) 0 (weigh packet.size packet.ack_eliciting)) 0
       + sum_on weigh generation (λ space n. gone_with (same_space there space) forgotten (gone space) n) before
       ≡ over_spaces (sum_after (only there (sends (number_in known there) packet)))
   goes_out there number packet forgotten is forgets on_path =
       let k = number_in known there in
       let entry : SpaceEntry P M = sends k packet in
-      let weighs = ap (λ n. cond (n == generation) (cond (gone there number) 0 (weigh packet.size packet.ack_eliciting)) 0)
+      let weighs = ap (λ n. cond (n == generation) (cond (gone there number) 0 (weigh packet.size packet.ack_eliciting))
+      0)
       (made_now ∙ sym on_path)
       ∙ ap (λ n. weigh_in weigh generation (gone there) (n, packet)) is in
       let rest = same weigh generation (λ space n. gone_with (same_space there space) forgotten (gone space) n) in
-      let sums = spaces_more (λ space. sum_in weigh generation (λ n. gone_with (same_space there space) forgotten (gone space) n) (sent space).tracked)
+      let sums = spaces_more
+      (λ space. sum_in weigh generation (λ n. gone_with (same_space there space) forgotten (gone space) n)
+      (sent space).tracked)
       (sum_after (only there entry)) (λ space. weigh_in weigh generation (gone space) (k, packet)) there
       (λ space. go space (same_space there space) refl) in
       omega (arith, weighs, rest, sums)
     where
       go : (space : SpaceId) (b : Bool) → same_space there space ≡ b
-          → sum_of space (sent_by beginning.queue.words (onto (cond b (Some (sends (number_in known there) packet)) None) (log space)))
+          → sum_of space (sent_by beginning.queue.words
+          (onto (cond b (Some (sends (number_in known there) packet)) None) (log space)))
           ≡ sum_in weigh generation (λ n. gone_with b forgotten (gone space) n) (sent space).tracked
           + cond b (weigh_in weigh generation (gone space) (number_in known there, packet)) 0
       go space true at =
           let forgets_here : forgotten ≡ forgotten_by (sent space) packet
           = subst (λ s. forgotten ≡ forgotten_by (sent s) packet) (one_space there space at) forgets in
-          sum_sent weigh generation (sent space) (gone space) (number_in known there) packet forgotten forgets_here (once space)
+          sum_sent weigh generation (sent space) (gone space) (number_in known there) packet forgotten forgets_here
+          (once space)
       go space false at = others forgotten
         where
           others : (f : Option ℕ) → sum_of space (sent space)
@@ -291,7 +316,8 @@ module _ {F K Q S M P : Type 0} (beginning : Beginning F K Q S M P) (before : Hi
   Answered event answer = sum_on weigh generation gone ((event, Ok answer) ∷ before)
       ≡ over_spaces (sum_after (answered beginning.queue known event answer).spaces)
 
-  answer_counts : (event : Event Q S M P) (answer : Answer Q) → Told beginning before event (Ok answer) → Answered event answer
+  answer_counts : (event : Event Q S M P) (answer : Answer Q) → Told beginning before event (Ok answer)
+      → Answered event answer
   answer_counts (Send there now size eliciting largest queue frames) (answers.Sent number None) told =
       let packet = packet_now known now size eliciting largest (beginning.queue.contents queue) frames in
       let is = told.1.1.1.1 in
@@ -306,10 +332,12 @@ module _ {F K Q S M P : Type 0} (beginning : Beginning F K Q S M P) (before : Hi
       let is = probe_number beginning.queue known now _ number size told.1.1 in
       goes_out Data number packet None is refl refl
   answer_counts (PollMtu now) answer told = nothing
-  answer_counts (Acked there now number app_limited) answer told = leaves_one there number (acknowledged number) (λ space. refl)
+  answer_counts (Acked there now number app_limited) answer told =
+      leaves_one there number (acknowledged number) (λ space. refl)
   answer_counts (Lost there number) answer told = leaves_one there number (loses number) (λ space. refl)
   answer_counts (DiscardSpace there) answer told = leaves_all there
-  answer_counts (Received there now number eliciting) (New arm) told = stays there (heard now number eliciting) (λ space. refl)
+  answer_counts (Received there now number eliciting) (New arm) told =
+      stays there (heard now number eliciting) (λ space. refl)
   answer_counts (Received there now number eliciting) answer told = stays there (heard_again number) (λ space. refl)
   answer_counts (AckFrequencyIn frame) (Flag true) told = stays Data (asked frame) (λ space. refl)
   answer_counts (AckFrequencyIn frame) (Flag false) told = nothing
@@ -319,7 +347,8 @@ module _ {F K Q S M P : Type 0} (beginning : Beginning F K Q S M P) (before : Hi
   answer_counts (Ecn there newly counts) answer told = stays there (feeds_back counts) (λ space. refl)
   answer_counts (QueueProbe there immediate streams) answer told =
       let found = found_in known beginning.queue.words streams there in
-      stays there (probes immediate found) (λ space. sum_moved weigh generation (sent space) (gone space) beginning.queue.words.empty found)
+      stays there (probes immediate found) (λ space. sum_moved weigh generation (sent space) (gone space)
+      beginning.queue.words.empty found)
   answer_counts (TakePending there) answer told = stays there takes_pending (λ space. refl)
   answer_counts (Transmit now bytes true) Transmitted told = nothing
   answer_counts (Transmit now bytes true) (Delayed until) told = nothing
@@ -328,13 +357,15 @@ module _ {F K Q S M P : Type 0} (beginning : Beginning F K Q S M P) (before : Hi
   answer_counts event answer told = nothing
 
   refusal_counts : (event : Event Q S M P) (refusal : Refusal)
-      → sum_on weigh generation gone ((event, Err refusal) ∷ before) ≡ over_spaces (sum_after (refused event refusal).spaces)
+      → sum_on weigh generation gone ((event, Err refusal) ∷ before) ≡ over_spaces
+      (sum_after (refused event refusal).spaces)
   refusal_counts (AckFrequencyIn frame) DelayTooSmall = nothing
   refusal_counts (AckFrequencyIn frame) refusal = nothing
   refusal_counts event refusal = nothing
 
   reply_counts : (event : Event Q S M P) (reply : Reply Q) → Told beginning before event reply
-      → sum_on weigh generation gone ((event, reply) ∷ before) ≡ over_spaces (sum_after (entries_of beginning.queue known event reply).spaces)
+      → sum_on weigh generation gone ((event, reply) ∷ before) ≡ over_spaces
+      (sum_after (entries_of beginning.queue known event reply).spaces)
   reply_counts event (Ok answer) told = answer_counts event answer told
   reply_counts event (Err refusal) told = refusal_counts event refusal
 
@@ -356,7 +387,8 @@ module _ {F K Q S M P : Type 0} (beginning : Beginning F K Q S M P) where
     known_then = known_by beginning (logs_of beginning before)
 
     eliciting_same : (generation : ℕ) (packets : Packets P M)
-        → sum_in (λ size eliciting. if eliciting then 1 else 0) generation (λ n. false) packets ≡ sum_by (eliciting_in generation) packets
+        → sum_in (λ size eliciting. if eliciting then 1 else 0) generation (λ n. false) packets
+        ≡ sum_by (eliciting_in generation) packets
     eliciting_same generation [] = refl
     eliciting_same generation (entry ∷ packets) =
         let weighs = weigh_in (λ size eliciting. if eliciting then 1 else 0) generation (λ n. false) in
@@ -390,7 +422,8 @@ module _ {F K Q S M P : Type 0} (beginning : Beginning F K Q S M P) where
         ∙ ap (λ n. Ok (answers.InFlight n
         (over_spaces (λ space. sum_by (eliciting_in path.generation) (sent_in beginning before space).tracked))))
         (sym (bytes_same path.generation))
-        ∙ ap (λ n. Ok (answers.InFlight (total (λ size eliciting. size) path.generation before) n)) (sym (count_same path.generation))
+        ∙ ap (λ n. Ok (answers.InFlight (total (λ size eliciting. size) path.generation before) n))
+        (sym (count_same path.generation))
     tally (Some path) (Err NoMemory) told = absurd told
     tally (Some path) (Err refusal) told = absurd told
 

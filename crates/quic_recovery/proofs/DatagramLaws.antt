@@ -46,7 +46,8 @@ same_flow validated checked came came2 went went2 comes goes =
 
 -- by its past in the logs
 abbrev pub flow_of : {K : Type 0} → PathPast K → Flow
-flow_of past = flow past.validated (list_all (λ transmission. transmission.checked) past.transmissions) (total past.datagrams)
+flow_of past = flow past.validated (list_all (λ transmission. transmission.checked) past.transmissions)
+    (total past.datagrams)
     (total_transmitted past.transmissions)
 
 module _ {Q S M P : Type 0} where
@@ -58,8 +59,10 @@ module _ {Q S M P : Type 0} where
   flow_on first name history = flow_by (is_validated first name history) (datagrams_on name history)
 
   -- a datagram came in
-  came_more : (validated : Bool) (here : History Q S M P) (name : PathName) (bytes : ℕ) (reply : Reply Q) (old : Flow) → flow_by validated here ≡ old
-      → flow_by validated ((DatagramIn name bytes, reply) ∷ here) ≡ flow old.validated old.checked (old.came + bytes) old.went
+  came_more : (validated : Bool) (here : History Q S M P) (name : PathName) (bytes : ℕ) (reply : Reply Q) (old : Flow)
+      → flow_by validated here ≡ old
+      → flow_by validated ((DatagramIn name bytes, reply) ∷ here) ≡ flow old.validated old.checked (old.came + bytes)
+      old.went
   came_more validated here name bytes reply old same =
       let comes = sum_by-cons bytes_in (DatagramIn name bytes, reply) here in
       let goes = sum_by-cons bytes_out (DatagramIn name bytes, reply) here in
@@ -68,12 +71,15 @@ module _ {Q S M P : Type 0} where
       ∙ ap (λ (f : Flow). flow f.validated f.checked (f.came + bytes) f.went) same
 
   -- one went out
-  went_more : (validated : Bool) (here : History Q S M P) (now bytes : ℕ) (checked : Bool) (reply : Reply Q) (old : Flow) → flow_by validated here ≡ old
-      → flow_by validated ((Transmit now bytes checked, reply) ∷ here) ≡ flow old.validated (checked && old.checked) old.came (old.went + bytes)
+  went_more : (validated : Bool) (here : History Q S M P) (now bytes : ℕ) (checked : Bool) (reply : Reply Q)
+      (old : Flow) → flow_by validated here ≡ old
+      → flow_by validated ((Transmit now bytes checked, reply) ∷ here) ≡ flow old.validated (checked && old.checked)
+      old.came (old.went + bytes)
   went_more validated here now bytes checked reply old same =
       let comes = sum_by-cons bytes_in (Transmit now bytes checked, reply) here in
       let goes = sum_by-cons bytes_out (Transmit now bytes checked, reply) here in
-      same_flow validated (checked && list_all is_checked here) _ (sum_by bytes_in here) _ (sum_by bytes_out here + bytes)
+      same_flow validated (checked && list_all is_checked here) _ (sum_by bytes_in here) _
+      (sum_by bytes_out here + bytes)
       (omega (arith, comes)) (omega (arith, goes))
       ∙ ap (λ (f : Flow). flow f.validated (checked && f.checked) f.came (f.went + bytes)) same
 
@@ -106,7 +112,8 @@ module _ {K : Type 0} (settings : PathSettings K) (first : PathMaking K) where
   abbrev flows_in : List PathsEntry → OfPaths Flow
   flows_in log = each_path flow_of (pasts_by settings first log)
 
-  quiet_one : (entry : PathEntry) → IsQuiet entry → (log : List PathsEntry) → flows_in (on Current entry ∷ log) ≡ flows_in log
+  quiet_one : (entry : PathEntry) → IsQuiet entry → (log : List PathsEntry)
+      → flows_in (on Current entry ∷ log) ≡ flows_in log
   quiet_one (samples delay rtt) quiet log = refl
   quiet_one (tells call) quiet log = refl
   quiet_one (searches call) quiet log = refl
@@ -119,7 +126,8 @@ module _ {K : Type 0} (settings : PathSettings K) (first : PathMaking K) where
 
   quiet_all : (entries log : List PathsEntry) → AreQuiet entries → flows_in (entries ++ log) ≡ flows_in log
   quiet_all [] log quiet = refl
-  quiet_all (on Current entry ∷ earlier) log quiet = quiet_one entry quiet.0 (earlier ++ log) ∙ quiet_all earlier log quiet.1
+  quiet_all (on Current entry ∷ earlier) log quiet = quiet_one entry quiet.0 (earlier ++ log)
+      ∙ quiet_all earlier log quiet.1
   quiet_all (on Previous entry ∷ earlier) log quiet = absurd quiet
   quiet_all (moves following ∷ earlier) log quiet = absurd quiet
   quiet_all (drops_previous ∷ earlier) log quiet = absurd quiet
@@ -129,7 +137,8 @@ module _ {K P M : Type 0} (known : Known K P M) where
   searched_quiet true call = (tt, (tt, tt))
   searched_quiet false call = (tt, tt)
 
-  data_quiet : (is_data : Bool) (changes : Bool) (call : MtuCall) → AreQuiet (cond is_data (searched known changes call) [])
+  data_quiet : (is_data : Bool) (changes : Bool) (call : MtuCall)
+      → AreQuiet (cond is_data (searched known changes call) [])
   data_quiet true changes call = searched_quiet changes call
   data_quiet false changes call = tt
 
@@ -143,11 +152,14 @@ module _ {K P M : Type 0} (known : Known K P M) where
   acked_quiet space now number app_limited None = tt
   acked_quiet space now number app_limited (Some packet) =
       acked_with (is_own known packet && packet.ack_eliciting) _ (acked_search known space number (Some packet))
-      (data_quiet (is_data space) (is_path_probe space number known.paths.current.state) (acks_packet number packet.size))
+      (data_quiet (is_data space) (is_path_probe space number known.paths.current.state)
+      (acks_packet number packet.size))
 
-  lost_quiet : (space : SpaceId) (number : ℕ) (packet : Option (Packet P M)) → AreQuiet (lost_search known space number packet)
+  lost_quiet : (space : SpaceId) (number : ℕ) (packet : Option (Packet P M))
+      → AreQuiet (lost_search known space number packet)
   lost_quiet space number None = tt
-  lost_quiet space number (Some packet) = data_quiet (is_data space) false (loss_call number packet.size known.paths.current.state.discovery)
+  lost_quiet space number (Some packet) =
+      data_quiet (is_data space) false (loss_call number packet.size known.paths.current.state.discovery)
 
 -- ---- the table
 
@@ -170,7 +182,9 @@ module _ {F K Q S M P : Type 0} (beginning : Beginning F K Q S M P) (earlier : H
   module _ (same : AreFlows first earlier (flows log)) where
     -- what is no datagram on a path
     quietly : (entries : List PathsEntry) → AreQuiet entries → AreFlows first earlier (flows (entries ++ log))
-    quietly entries quiet = subst (AreFlows first earlier) (sym (quiet_all (settings_of beginning) (first_path beginning) entries log quiet)) same
+    quietly entries quiet =
+        subst (AreFlows first earlier)
+        (sym (quiet_all (settings_of beginning) (first_path beginning) entries log quiet)) same
 
     -- ---- on the previous path, where it lives
 
@@ -180,7 +194,8 @@ module _ {F K Q S M P : Type 0} (beginning : Beginning F K Q S M P) (earlier : H
     abbrev here : History Q S M P
     here = datagrams_on Previous earlier
 
-    came_previous : (bytes : ℕ) (answer : Answer Q) (Replies : PathKnown K → Reply Q → Type 0) (past : Option (PathPast K))
+    came_previous : (bytes : ℕ) (answer : Answer Q) (Replies : PathKnown K → Reply Q
+        → Type 0) (past : Option (PathPast K))
         → OnPath (option_map (known_of (settings_of beginning)) past) Replies (Ok answer)
         → IsFlowWhereLives validated_so_far here (option_map flow_of past)
         → IsFlowWhereLives validated_so_far ((DatagramIn Previous bytes, Ok answer) ∷ here)
@@ -203,23 +218,37 @@ module _ {F K Q S M P : Type 0} (beginning : Beginning F K Q S M P) (earlier : H
     moved now remote true answer = (refl, same.0)
     moved now remote false answer = (refl, same.0)
 
-    went_unchecked : (now bytes : ℕ) → AreFlows first ((Transmit now bytes false, Ok Transmitted) ∷ earlier) (flows (on_current (transmits bytes) ∷ log))
-    went_unchecked now bytes =
-        (went_more (is_validated first Current earlier) (datagrams_on Current earlier) now bytes false (Ok Transmitted) (flow_of pasts.current) same.0, same.1)
+    went_unchecked : (now bytes : ℕ)
+        → AreFlows first ((Transmit now bytes false, Ok Transmitted) ∷ earlier)
+        (flows (on_current (transmits bytes) ∷ log))
+    went_unchecked now bytes = (
+      went_more (is_validated first Current earlier) (datagrams_on Current earlier) now bytes false (Ok Transmitted)
+          (flow_of pasts.current) same.0,
+      same.1,
+    )
 
     answer_flows : (event : Event Q S M P) (answer : Answer Q) → Told beginning earlier event (Ok answer)
-        → AreFlows first ((event, Ok answer) ∷ earlier) (flows ((answered beginning.queue known event answer).paths ++ log))
-    answer_flows (DatagramIn Current bytes) answer told =
-        (came_more (is_validated first Current earlier) (datagrams_on Current earlier) Current bytes (Ok answer) (flow_of pasts.current) same.0, same.1)
-    answer_flows (DatagramIn Previous bytes) answer told = (same.0, came_previous bytes answer _ pasts.previous told same.1)
+        → AreFlows first ((event, Ok answer) ∷ earlier)
+        (flows ((answered beginning.queue known event answer).paths ++ log))
+    answer_flows (DatagramIn Current bytes) answer told = (
+      came_more (is_validated first Current earlier) (datagrams_on Current earlier) Current bytes (Ok answer)
+          (flow_of pasts.current) same.0,
+      same.1,
+    )
+    answer_flows (DatagramIn Previous bytes) answer told =
+        (same.0, came_previous bytes answer _ pasts.previous told same.1)
     answer_flows (Validated Current) answer told = (ap (λ (f : Flow). flow true f.checked f.came f.went) same.0, same.1)
     answer_flows (Validated Previous) answer told = (same.0, validated_previous answer _ pasts.previous told same.1)
-    answer_flows (Transmit now bytes true) Transmitted told =
-        (went_more (is_validated first Current earlier) (datagrams_on Current earlier) now bytes true (Ok Transmitted) (flow_of pasts.current) same.0, same.1)
+    answer_flows (Transmit now bytes true) Transmitted told = (
+      went_more (is_validated first Current earlier) (datagrams_on Current earlier) now bytes true (Ok Transmitted)
+          (flow_of pasts.current) same.0,
+      same.1,
+    )
     answer_flows (Transmit now bytes true) (Delayed until) told = same
     answer_flows (Transmit now bytes true) answer told = same
     answer_flows (Transmit now bytes false) answer told =
-        subst (λ a. AreFlows first ((Transmit now bytes false, Ok a) ∷ earlier) (flows (on_current (transmits bytes) ∷ log)))
+        subst (λ a. AreFlows first ((Transmit now bytes false, Ok a) ∷ earlier)
+        (flows (on_current (transmits bytes) ∷ log)))
         (sym told.1) (went_unchecked now bytes)
     answer_flows (NewPath now remote is_fresh) answer told = moved now remote is_fresh answer
     answer_flows DropPrevious answer told = (same.0, refl)
@@ -231,11 +260,13 @@ module _ {F K Q S M P : Type 0} (beginning : Beginning F K Q S M P) (earlier : H
     answer_flows (ResetPath now) answer told = same
     answer_flows (Acked space now number app_limited) answer told = quietly _ (acked_quiet known space now number
         app_limited (packet_at (tracked_known known space) number))
-    answer_flows (Lost space number) answer told = quietly _ (lost_quiet known space number (packet_at (tracked_known known space) number))
+    answer_flows (Lost space number) answer told =
+        quietly _ (lost_quiet known space number (packet_at (tracked_known known space) number))
     answer_flows (PollMtu now) (Probe number size) told = same
     answer_flows (PollMtu now) answer told = same
     answer_flows (PeerLimit size) answer told = same
-    answer_flows (LossesDone now) answer told = quietly _ (searched_quiet known (reports known.paths.current.state.discovery) (losses_end now))
+    answer_flows (LossesDone now) answer told =
+        quietly _ (searched_quiet known (reports known.paths.current.state.discovery) (losses_end now))
     answer_flows (Received space now number eliciting) (New arm) told = same
     answer_flows (Received space now number eliciting) answer told = same
     answer_flows (AckFrequencyIn frame) (Flag true) told = same
@@ -267,6 +298,7 @@ module _ {F K Q S M P : Type 0} (beginning : Beginning F K Q S M P) where
   pub flows_at_first : FlowsAgree []
   flows_at_first = (refl, refl)
 
-  pub flows_after : (before : History Q S M P) (event : Event Q S M P) (reply : Reply Q) → Told beginning before event reply
+  pub flows_after : (before : History Q S M P) (event : Event Q S M P) (reply : Reply Q)
+      → Told beginning before event reply
       → FlowsAgree before → FlowsAgree ((event, reply) ∷ before)
   flows_after before event reply told same = reply_flows beginning before same event reply told

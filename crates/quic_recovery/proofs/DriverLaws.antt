@@ -50,7 +50,8 @@ module _ {P M S : Type 0} (words : QueueWords P S) where
   -- one space changes, and the others stay
   pub spaces_step : (entry : SpaceEntry P M) (spaces : Spaces P M) (changed : SpaceId) (there : Space P M)
       → SpaceStep words entry (space_of changed spaces) there
-      → (space : SpaceId) → StepBy (SpaceStep words) (here changed space entry) (space_of space spaces) (space_of space (with_space spaces changed there))
+      → (space : SpaceId) → StepBy (SpaceStep words) (here changed space entry) (space_of space spaces)
+      (space_of space (with_space spaces changed there))
   spaces_step entry spaces Initial there change Initial = change
   spaces_step entry spaces Initial there change Handshake = refl
   spaces_step entry spaces Initial there change Data = refl
@@ -125,10 +126,12 @@ module _ {K Q S M P : Type 0} (q : QueueMeaning Q S M P) (old : Parts K P M) (sp
   }
 
   pub received_changes : (receipt : Result Receipt ReceiveError)
-      → ReceiveReply (heard_of (space_of space old.spaces)) (counts_of (acks_of (space_of space old.spaces))) number ack_eliciting receipt
+      → ReceiveReply (heard_of (space_of space old.spaces)) (counts_of (acks_of (space_of space old.spaces))) number
+      ack_eliciting receipt
       → IfOk receipt (λ r. SpaceStep q.words (came now number ack_eliciting r) (space_of space old.spaces) there)
       → OnErr receipt (there ≡ space_of space old.spaces)
-      → Changes {M = M} q old (Received space now number ack_eliciting) (reply_to receipt) (record old { spaces = with_space old.spaces space there })
+      → Changes {M = M} q old (Received space now number ack_eliciting) (reply_to receipt)
+      (record old { spaces = with_space old.spaces space there })
   received_changes (Ok (New arm)) is step kept = record {
     told = (fails _ live, ((λ most. absurd (omega (arith, is.0))), is.1));
     steps = space_changes q.words old space (heard now number ack_eliciting) there old.skipping [] old.paths step
@@ -144,7 +147,8 @@ module _ {K Q S M P : Type 0} (q : QueueMeaning Q S M P) (old : Parts K P M) (sp
     refused = tt;
   }
   received_changes (Err error) is step kept =
-      kept_changes error is (ap (λ (spaces : Spaces P M). record old { spaces = spaces }) (with_same_space old.spaces space there kept))
+      kept_changes error is (ap (λ (spaces : Spaces P M). record old { spaces = spaces })
+      (with_same_space old.spaces space there kept))
 
 -- what a received packet changes leaves the tracked packets, and the greatest ack-eliciting number was received
 pub received_keeps : {P M S : Type 0} (words : QueueWords P S) (now number : ℕ) (ack_eliciting : Bool)
@@ -174,24 +178,31 @@ received_keeps words now number ack_eliciting (Err refused) old new come step ke
 module _ {K Q S M P : Type 0} (q : QueueMeaning Q S M P) (old : Parts K P M) (space : SpaceId) (now size : ℕ)
     (ack_eliciting : Bool) (largest_acked : Option ℕ) (queue : Q) (frames : M) where
   abbrev packet_then : Packet P M
-  packet_then = packet_sent (generation_of old.paths.current.ledger) now size ack_eliciting largest_acked (q.contents queue) frames
+  packet_then = packet_sent (generation_of old.paths.current.ledger) now size ack_eliciting largest_acked
+      (q.contents queue) frames
 
-  pub sent_changes : (there : Space P M) (skipping : Skipping) (paths : OfPaths (Path K)) (number : ℕ) (forgotten : Option ℕ)
+  pub sent_changes : (there : Space P M) (skipping : Skipping) (paths : OfPaths (Path K)) (number : ℕ)
+      (forgotten : Option ℕ)
       → is_discarded space old.discarded ≡ false → (¬ IsTooLarge largest_acked)
       → number_in (known_to old) space < 2 ^ 62 → (¬ Overflows (current_in_flight (known_to old)) packet_then)
       → number ≡ number_in (known_to old) space
       → forgotten ≡ forgotten_number (tracking_of (space_of space old.spaces)).last_eliciting packet_then
       (tracked_by old.spaces space)
       → SpaceStep q.words (sends (number_in (known_to old) space) packet_then) (space_of space old.spaces) there
-      → SkippingStep (here space Data (sends (number_in (known_to old) space) packet_then)) (next_number_of (space_of Data old.spaces)) old.skipping skipping
+      → SkippingStep (here space Data (sends (number_in (known_to old) space) packet_then))
+      (next_number_of (space_of Data old.spaces)) old.skipping skipping
       → PathsStep old.settings (on_current (tells (sends_bytes now size (number_in (known_to old) space))) ∷ [])
       (paths_known old.paths) (paths_known paths) → paths_marks paths ≡ paths_marks old.paths
       → Changes q old (Send space now size ack_eliciting largest_acked queue frames) (Ok (Sent number forgotten))
       (record old { spaces = with_space old.spaces space there; skipping = skipping; paths = paths })
-  sent_changes there skipping paths number forgotten live small left fits is_next is_forgotten step skips told marked = record {
-    told = (fails _ live, (small, ((λ most. absurd (omega (arith, most, left))), (fits, ap₂ (λ n f. Sent n f) is_next is_forgotten))));
-    steps = space_changes q.words old space (sends (number_in (known_to old) space) packet_then) there skipping
-        (on_current (tells (sends_bytes now size (number_in (known_to old) space))) ∷ []) paths step skips told;
-    marks = marked;
-    refused = tt;
-  }
+  sent_changes there skipping paths number forgotten live small left fits is_next is_forgotten step skips told marked =
+      record {
+        told = (
+          fails _ live,
+          (small, ((λ most. absurd (omega (arith, most, left))), (fits, ap₂ (λ n f. Sent n f) is_next is_forgotten))),
+        );
+        steps = space_changes q.words old space (sends (number_in (known_to old) space) packet_then) there skipping
+            (on_current (tells (sends_bytes now size (number_in (known_to old) space))) ∷ []) paths step skips told;
+        marks = marked;
+        refused = tt;
+      }

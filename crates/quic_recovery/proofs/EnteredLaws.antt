@@ -25,7 +25,8 @@ use Rattle.quic_recovery.specs.Told.{Told, ProbeOutReply}
 use Rattle.quic_recovery.proofs.SearchSaid.{EntersAsTold, data_packet, entries_on, of_packet}
 use Rattle.quic_recovery.proofs.AmplificationLaws.{throughout_kept}
 
-module _ {K P M : Type 0} (settings : PathSettings K) (first : PathMaking K) (log : List PathsEntry) (known : Known K P M) where
+module _ {K P M : Type 0} (settings : PathSettings K) (first : PathMaking K) (log : List PathsEntry)
+    (known : Known K P M) where
   -- the entries on the path in use, once all this happened too
   abbrev entries_with : List PathsEntry → List MtuEntry
   entries_with entries = entries_on (pasts_by settings first (entries ++ log)).current
@@ -61,12 +62,15 @@ module _ {K P M : Type 0} (settings : PathSettings K) (first : PathMaking K) (lo
   acked_seen space.Initial now number app_limited None = refl
   acked_seen space.Handshake now number app_limited None = refl
   acked_seen space.Data now number app_limited None = refl
-  acked_seen space.Initial now number app_limited (Some packet) = acked_with (is_own known packet && packet.ack_eliciting) _ []
-  acked_seen space.Handshake now number app_limited (Some packet) = acked_with (is_own known packet && packet.ack_eliciting) _ []
+  acked_seen space.Initial now number app_limited (Some packet) =
+      acked_with (is_own known packet && packet.ack_eliciting) _ []
+  acked_seen space.Handshake now number app_limited (Some packet) =
+      acked_with (is_own known packet && packet.ack_eliciting) _ []
   acked_seen space.Data now number app_limited (Some packet) =
       let probed = is_path_probe space.Data number known.paths.current.state in
       let call = acks_packet number packet.size in
-      acked_with (is_own known packet && packet.ack_eliciting) _ (searched known probed call) ∙ searched_seen probed call
+      acked_with (is_own known packet && packet.ack_eliciting) _ (searched known probed call)
+      ∙ searched_seen probed call
 
   lost_seen : (own : Bool) (number bytes : ℕ)
       → entries_with (searched known false (if own then loses_probe else loses number bytes))
@@ -84,9 +88,11 @@ module _ {K P M : Type 0} (settings : PathSettings K) (first : PathMaking K) (lo
 
   lost_data_seen : (number : ℕ) (packet : Option (Packet P M)) →
       entries_with (lost_search known space.Data number packet)
-      ≡ of_packet (λ bytes. if is_path_probe space.Data number known.paths.current.state then probe_lost else lost number bytes) packet ++ before
+      ≡ of_packet (λ bytes. if is_path_probe space.Data number known.paths.current.state then probe_lost else lost
+      number bytes) packet ++ before
   lost_data_seen number None = refl
-  lost_data_seen number (Some packet) = lost_seen (is_path_probe space.Data number known.paths.current.state) number packet.size
+  lost_data_seen number (Some packet) =
+      lost_seen (is_path_probe space.Data number known.paths.current.state) number packet.size
 
 module _ {F K Q S M P : Type 0} (beginning : Beginning F K Q S M P) (past : History Q S M P) where
   abbrev known : Known K P M
@@ -108,8 +114,10 @@ module _ {F K Q S M P : Type 0} (beginning : Beginning F K Q S M P) (past : Hist
       let entries = entries_on (pasts_of beginning past).current in
       subst (IsEntered (PollMtu now)) (sym told.1) (ap (λ p. poll_entry now known.numbers.next p ∷ entries) is)
 
-  answered_entered : (event : Event Q S M P) (given : Answer Q) → Told beginning past event (Ok given) → IsEntered event given
-  answered_entered (PollMtu now) given told = polled now given (poll_of now known.paths.current.state.discovery) refl told.1.1
+  answered_entered : (event : Event Q S M P) (given : Answer Q) → Told beginning past event (Ok given)
+      → IsEntered event given
+  answered_entered (PollMtu now) given told =
+      polled now given (poll_of now known.paths.current.state.discovery) refl told.1.1
   answered_entered (PeerLimit size) given told = refl
   answered_entered (Acked space.Initial now number app_limited) given told =
       acked_seen (settings_of beginning) (first_path beginning) log known space.Initial now number app_limited
@@ -118,17 +126,22 @@ module _ {F K Q S M P : Type 0} (beginning : Beginning F K Q S M P) (past : Hist
       acked_seen (settings_of beginning) (first_path beginning) log known space.Handshake now number app_limited
       (packet_at (tracked_known known space.Handshake) number)
   answered_entered (Acked space.Data now number app_limited) given told =
-      acked_seen (settings_of beginning) (first_path beginning) log known space.Data now number app_limited (data_packet beginning past number)
+      acked_seen (settings_of beginning) (first_path beginning) log known space.Data now number app_limited
+      (data_packet beginning past number)
   answered_entered (Lost space.Initial number) given told =
-      lost_unseen (settings_of beginning) (first_path beginning) log known space.Initial number (packet_at (tracked_known known space.Initial) number) refl
+      lost_unseen (settings_of beginning) (first_path beginning) log known space.Initial number
+      (packet_at (tracked_known known space.Initial) number) refl
   answered_entered (Lost space.Handshake number) given told =
-      lost_unseen (settings_of beginning) (first_path beginning) log known space.Handshake number (packet_at (tracked_known known space.Handshake) number) refl
+      lost_unseen (settings_of beginning) (first_path beginning) log known space.Handshake number
+      (packet_at (tracked_known known space.Handshake) number) refl
   answered_entered (Lost space.Data number) given told =
       subst (IsEntered (Lost space.Data number)) (sym told.1.1)
-      (lost_data_seen (settings_of beginning) (first_path beginning) log known number (data_packet beginning past number))
+      (lost_data_seen (settings_of beginning) (first_path beginning) log known number
+      (data_packet beginning past number))
   answered_entered (LossesDone now) given told =
       subst (IsEntered (LossesDone now)) (sym told)
-      (searched_seen (settings_of beginning) (first_path beginning) log known (reports known.paths.current.state.discovery) (losses_end now))
+      (searched_seen (settings_of beginning) (first_path beginning) log known
+      (reports known.paths.current.state.discovery) (losses_end now))
   answered_entered (ResetPath now) given told = refl
   answered_entered (NewPath now remote true) given told = refl
   answered_entered (NewPath now remote false) given told = refl
@@ -154,7 +167,8 @@ module _ {F K Q S M P : Type 0} (beginning : Beginning F K Q S M P) (past : Hist
   refused_entered (AckFrequencyIn frame) refusal = refl
   refused_entered event refusal = refl
 
-  entered_one : (event : Event Q S M P) (reply : Reply Q) → Told beginning past event reply → EntersAsTold beginning past event reply
+  entered_one : (event : Event Q S M P) (reply : Reply Q) → Told beginning past event reply
+      → EntersAsTold beginning past event reply
   entered_one event (Ok given) told = answered_entered event given told
   entered_one event (Err refusal) told = refused_entered event refusal
 

@@ -41,12 +41,14 @@ module _ {K P M : Type 0} (known : Known K P M) (number : ℕ) where
   told_if true call = refl
   told_if false call = refl
 
-  acked_entry_tells : (now : ℕ) (app_limited : Bool) (packet : Option (Packet P M)) → told_in number (acked_entry known now app_limited packet) ≡ 0
+  acked_entry_tells : (now : ℕ) (app_limited : Bool) (packet : Option (Packet P M))
+      → told_in number (acked_entry known now app_limited packet) ≡ 0
   acked_entry_tells now app_limited None = refl
   acked_entry_tells now app_limited (Some packet) = told_if (is_own known packet && packet.ack_eliciting) _
 
   -- a lost probe has no fate, and another packet has one
-  lost_tells : (probe : Bool) (other bytes : ℕ) → fate number (cond probe loses_probe (loses_packet other bytes)) ≤ one_if_same other number
+  lost_tells : (probe : Bool) (other bytes : ℕ) → fate number (cond probe loses_probe (loses_packet other bytes))
+      ≤ one_if_same other number
   lost_tells true other bytes = omega arith
   lost_tells false other bytes = omega arith
 
@@ -54,12 +56,21 @@ module _ {K P M : Type 0} (known : Known K P M) (number : ℕ) where
 
   -- what is told of an acknowledged packet
   acked_departs : (space : SpaceId) (now other : ℕ) (app_limited : Bool) (packet : Option (Packet P M))
-      → told_in number (acked_entry known now app_limited packet ++ acked_search known space other packet) ≤ leaves_data space other number
+      → told_in number (acked_entry known now app_limited packet ++ acked_search known space other packet) ≤ leaves_data
+      space other number
   acked_departs space now other app_limited None = omega arith
   acked_departs Initial now other app_limited (Some packet) =
-      omega (arith, told-append number (acked_entry known now app_limited (Some packet)) [], acked_entry_tells now app_limited (Some packet))
+      omega (
+        arith,
+        told-append number (acked_entry known now app_limited (Some packet)) [],
+        acked_entry_tells now app_limited (Some packet),
+      )
   acked_departs Handshake now other app_limited (Some packet) =
-      omega (arith, told-append number (acked_entry known now app_limited (Some packet)) [], acked_entry_tells now app_limited (Some packet))
+      omega (
+        arith,
+        told-append number (acked_entry known now app_limited (Some packet)) [],
+        acked_entry_tells now app_limited (Some packet),
+      )
   acked_departs Data now other app_limited (Some packet) =
       let seen = searched known (is_path_probe Data other known.paths.current.state) (acks_packet other packet.size) in
       omega (
@@ -78,62 +89,72 @@ module _ {K P M : Type 0} (known : Known K P M) (number : ℕ) where
   lost_departs Handshake other (Some packet) = omega arith
   lost_departs Data other (Some packet) =
       let discovery = known.paths.current.state.discovery in
-      omega (arith, searched_tells false (loss_call other packet.size discovery), lost_tells (is_probe other discovery) other packet.size)
+      omega (
+        arith,
+        searched_tells false (loss_call other packet.size discovery),
+        lost_tells (is_probe other discovery) other packet.size,
+      )
 
-module _ {K Q S M P : Type 0} (q : QueueMeaning Q S M P) (known : Known K P M) (number : ℕ) (earlier : History Q S M P) where
-  -- what is told of a number by an event's entries, it left by the event
-  abbrev Departs : Entries P M → Event Q S M P × Reply Q → Type 0
-  Departs entries happened =
-      told_in number entries.paths + departures_of Data number earlier ≤ departures_of Data number (happened ∷ earlier)
+module _ {K Q S M P : Type 0} (q : QueueMeaning Q S M P) (known : Known K P M) (number : ℕ) (earlier : History Q S M P)
+  where
+    -- what is told of a number by an event's entries, it left by the event
+    abbrev Departs : Entries P M → Event Q S M P × Reply Q → Type 0
+    Departs entries happened =
+        told_in number entries.paths + departures_of Data number earlier ≤ departures_of Data number
+        (happened ∷ earlier)
 
-  -- by each event
-  answer_departs : (event : Event Q S M P) (answer : Answer Q) → Departs (answered q known event answer) (event, Ok answer)
-  answer_departs (Acked space now other app_limited) answer =
-      let departs = acked_departs known number space now other app_limited (packet_at (tracked_known known space) other) in
-      omega (arith, departs)
-  answer_departs (Lost space other) answer =
-      let departs = lost_departs known number space other (packet_at (tracked_known known space) other) in
-      omega (arith, departs)
-  answer_departs (LossesDone now) answer = omega (arith, searched_tells known number (reports known.paths.current.state.discovery) (losses_end now))
-  answer_departs (PollMtu now) (Probe other size) = omega arith
-  answer_departs (PollMtu now) answer = omega arith
-  answer_departs (PeerLimit size) answer = omega arith
-  answer_departs (Transmit now bytes true) Transmitted = omega arith
-  answer_departs (Transmit now bytes true) (Delayed until) = omega arith
-  answer_departs (Transmit now bytes true) answer = omega arith
-  answer_departs (Transmit now bytes false) answer = omega arith
-  answer_departs (Send space now size eliciting largest queue frames) answer = omega arith
-  answer_departs (DatagramIn Current bytes) answer = omega arith
-  answer_departs (DatagramIn Previous bytes) answer = omega arith
-  answer_departs (Validated Current) answer = omega arith
-  answer_departs (Validated Previous) answer = omega arith
-  answer_departs (Sample delay rtt) answer = omega arith
-  answer_departs (PacerCheck now bytes) answer = omega arith
-  answer_departs (Congestion now sent persistent bytes) answer = omega arith
-  answer_departs (EndAcks now app_limited largest) answer = omega arith
-  answer_departs (NewPath now remote is_fresh) answer = omega arith
-  answer_departs (ResetPath now) answer = omega arith
-  answer_departs DropPrevious answer = omega arith
-  answer_departs (Received space now other eliciting) (New arm) = omega arith
-  answer_departs (Received space now other eliciting) answer = omega arith
-  answer_departs (AckFrequencyIn frame) (Flag true) = omega arith
-  answer_departs (AckFrequencyIn frame) (Flag false) = omega arith
-  answer_departs (AckFrequencyIn frame) answer = omega arith
-  answer_departs event answer = omega arith
+    -- by each event
+    answer_departs : (event : Event Q S M P) (answer : Answer Q)
+        → Departs (answered q known event answer) (event, Ok answer)
+    answer_departs (Acked space now other app_limited) answer =
+        let departs = acked_departs known number space now other app_limited
+        (packet_at (tracked_known known space) other) in
+        omega (arith, departs)
+    answer_departs (Lost space other) answer =
+        let departs = lost_departs known number space other (packet_at (tracked_known known space) other) in
+        omega (arith, departs)
+    answer_departs (LossesDone now) answer =
+        omega (arith, searched_tells known number (reports known.paths.current.state.discovery) (losses_end now))
+    answer_departs (PollMtu now) (Probe other size) = omega arith
+    answer_departs (PollMtu now) answer = omega arith
+    answer_departs (PeerLimit size) answer = omega arith
+    answer_departs (Transmit now bytes true) Transmitted = omega arith
+    answer_departs (Transmit now bytes true) (Delayed until) = omega arith
+    answer_departs (Transmit now bytes true) answer = omega arith
+    answer_departs (Transmit now bytes false) answer = omega arith
+    answer_departs (Send space now size eliciting largest queue frames) answer = omega arith
+    answer_departs (DatagramIn Current bytes) answer = omega arith
+    answer_departs (DatagramIn Previous bytes) answer = omega arith
+    answer_departs (Validated Current) answer = omega arith
+    answer_departs (Validated Previous) answer = omega arith
+    answer_departs (Sample delay rtt) answer = omega arith
+    answer_departs (PacerCheck now bytes) answer = omega arith
+    answer_departs (Congestion now sent persistent bytes) answer = omega arith
+    answer_departs (EndAcks now app_limited largest) answer = omega arith
+    answer_departs (NewPath now remote is_fresh) answer = omega arith
+    answer_departs (ResetPath now) answer = omega arith
+    answer_departs DropPrevious answer = omega arith
+    answer_departs (Received space now other eliciting) (New arm) = omega arith
+    answer_departs (Received space now other eliciting) answer = omega arith
+    answer_departs (AckFrequencyIn frame) (Flag true) = omega arith
+    answer_departs (AckFrequencyIn frame) (Flag false) = omega arith
+    answer_departs (AckFrequencyIn frame) answer = omega arith
+    answer_departs event answer = omega arith
 
-  -- and by a refused one
-  refusal_departs : (event : Event Q S M P) (refusal : Refusal) → Departs (refused event refusal) (event, Err refusal)
-  refusal_departs (AckFrequencyIn frame) DelayTooSmall = omega arith
-  refusal_departs (AckFrequencyIn frame) refusal = omega arith
-  refusal_departs event refusal = omega arith
+    -- and by a refused one
+    refusal_departs : (event : Event Q S M P) (refusal : Refusal) → Departs (refused event refusal) (event, Err refusal)
+    refusal_departs (AckFrequencyIn frame) DelayTooSmall = omega arith
+    refusal_departs (AckFrequencyIn frame) refusal = omega arith
+    refusal_departs event refusal = omega arith
 
-  event_departs : (event : Event Q S M P) (reply : Reply Q) → Departs (entries_of q known event reply) (event, reply)
-  event_departs event (Ok answer) = answer_departs event answer
-  event_departs event (Err refusal) = refusal_departs event refusal
+    event_departs : (event : Event Q S M P) (reply : Reply Q) → Departs (entries_of q known event reply) (event, reply)
+    event_departs event (Ok answer) = answer_departs event answer
+    event_departs event (Err refusal) = refusal_departs event refusal
 
 module _ {F K Q S M P : Type 0} (beginning : Beginning F K Q S M P) (number : ℕ) where
   -- so by a whole history
-  told_departs : (history : History Q S M P) → told_in number (logs_of beginning history).paths ≤ departures_of Data number history
+  told_departs : (history : History Q S M P)
+      → told_in number (logs_of beginning history).paths ≤ departures_of Data number history
   told_departs [] = omega arith
   told_departs (happened ∷ earlier) =
       let logs = logs_of beginning earlier in

@@ -1,4 +1,5 @@
--- Worked rows of the promise that each number has one fate, computed: of a right history each number has one, and of a wrong one some has not.
+-- Worked rows of the promise that each number has one fate, computed: of a right history each number has one, and of a
+-- wrong one some has not.
 use Rattle.std.proofs.Common.{◌≡◌, true, false, [], ◌∷◌, None, Some, Ok, Err, refl, arith}
 use Rattle.recovery_base.specs.declared.below.SpaceId.TheVariants.{Initial, Data}
 use Rattle.quic_recovery.specs.declared.event.Event.TheVariants as event

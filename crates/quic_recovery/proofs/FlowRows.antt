@@ -50,7 +50,8 @@ module _ (Q S M P : Type 0) (remote : SocketAddr) where
   never_unchecked = λ e. cc
 
   -- a fresh path begins with nothing
-  fresh_path : BlocksExactly true ((event.NewPath 8 remote true, Ok answer.Done) ∷ little) (event.Transmit 9 1 true) (Ok answer.Blocked)
+  fresh_path : BlocksExactly true ((event.NewPath 8 remote true, Ok answer.Done) ∷ little) (event.Transmit 9 1 true)
+      (Ok answer.Blocked)
   fresh_path = refl
 
 module _ (Q S M P : Type 0) (queue : Q) (frames : M) (remote : SocketAddr) where
@@ -91,9 +92,11 @@ module _ (Q S M P : Type 0) (queue : Q) (frames : M) (remote : SocketAddr) where
   no_such_path = λ e. cc
 
   -- a packet that is forgotten or in a space that was discarded counts no longer
-  forgotten : CountsInFlight ((event.Send Data 6 7 false None queue frames, Ok (answer.Sent 2 (Some 0))) ∷ two_sent) (event.InFlight Current)
+  forgotten : CountsInFlight ((event.Send Data 6 7 false None queue frames, Ok (answer.Sent 2 (Some 0))) ∷ two_sent)
+      (event.InFlight Current)
       (Ok (answer.InFlight 1207 1))
   forgotten = refl
 
-  discarded : CountsInFlight ((event.DiscardSpace Data, Ok answer.Done) ∷ two_sent) (event.InFlight Current) (Ok (answer.InFlight 0 0))
+  discarded : CountsInFlight ((event.DiscardSpace Data, Ok answer.Done) ∷ two_sent) (event.InFlight Current)
+      (Ok (answer.InFlight 0 0))
   discarded = refl

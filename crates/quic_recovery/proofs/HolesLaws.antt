@@ -41,7 +41,8 @@ ResetsTo least (reset mtu min_mtu ∷ earlier) = (min_mtu ≡ least) × ResetsTo
 ResetsTo least (entry ∷ earlier) = ResetsTo least earlier
 
 -- so it is in use
-least_in_use : (made : Discovery) (least : ℕ) (entries : List MtuEntry) → made.bursts.min_mtu ≡ least → ResetsTo least entries
+least_in_use : (made : Discovery) (least : ℕ) (entries : List MtuEntry) → made.bursts.min_mtu ≡ least
+    → ResetsTo least entries
     → min_mtu_in_use made entries ≡ least
 least_in_use made least [] is resets = is
 least_in_use made least (reset mtu min_mtu ∷ earlier) is resets = resets.0
@@ -60,14 +61,20 @@ module _ {Q S M P : Type 0} (least : ℕ) where
 
   module _ (history : History Q S M P) (entries : List MtuEntry) (tied : TiedTo history entries) where
     acked_tied : (now number bytes : ℕ) (app_limited : Bool) → bytes ≡ size_of history number
-        → TiedTo ((Acked space.Data now number app_limited, Ok (answer.Acked (is_some (size_at number (probe_in_flight entries))))) ∷ history)
+        → TiedTo ((
+          Acked space.Data now number app_limited,
+          Ok (answer.Acked (is_some (size_at number (probe_in_flight entries)))),
+        ) ∷ history)
         (acked number bytes ∷ entries)
     acked_tied now number bytes app_limited same = let is_own = is_some (size_at number (probe_in_flight entries)) in (
       tied.0,
-      ap₂ (λ (size : ℕ) (bursts : List (List Loss)). if is_some (size_at number (probe_in_flight entries)) then [] else filter (is_above size) bursts)
+      ap₂ (λ (size : ℕ) (bursts : List (List Loss)). if is_some (size_at number (probe_in_flight entries)) then []
+          else filter (is_above size) bursts)
           (sym same) tied.1,
-      ap₂ (λ (size : ℕ) (bursts : List (List Loss)). if is_own || nat_lt least size then [] else bursts) (sym same) tied.2,
-      ap₂ (λ (size : ℕ) (numbers : List ℕ). if is_own || nat_lt least size then number ∷ numbers else numbers) (sym same) tied.3,
+      ap₂ (λ (size : ℕ) (bursts : List (List Loss)). if is_own || nat_lt least size then [] else bursts) (sym same)
+          tied.2,
+      ap₂ (λ (size : ℕ) (numbers : List ℕ). if is_own || nat_lt least size then number ∷ numbers else numbers)
+          (sym same) tied.3,
       tied.4,
     )
 
@@ -79,7 +86,8 @@ module _ {Q S M P : Type 0} (least : ℕ) where
     ends number run = if follows number run then [] else if_any run
 
     lost_tied : (number bytes : ℕ) (probe : Bool) → bytes ≡ size_of history number
-        → TiedTo ((Lost space.Data number, Ok (answer.Lost probe)) ∷ history) ((if probe then probe_lost else lost number bytes) ∷ entries)
+        → TiedTo ((Lost space.Data number, Ok (answer.Lost probe)) ∷ history)
+        ((if probe then probe_lost else lost number bytes) ∷ entries)
     lost_tied number bytes true same = tied
     lost_tied number bytes false same = (
       ap₂ (λ (size : ℕ) (run : List Loss). longer (record { number = number; bytes = size }) run) (sym same) tied.0,
@@ -90,7 +98,8 @@ module _ {Q S M P : Type 0} (least : ℕ) where
     )
 
     ended_tied : (now : ℕ) (hole : Bool)
-        → TiedTo ((LossesDone now, Ok (answer.BlackHole hole)) ∷ history) ((if hole then reported now else losses_over) ∷ entries)
+        → TiedTo ((LossesDone now, Ok (answer.BlackHole hole)) ∷ history)
+        ((if hole then reported now else losses_over) ∷ entries)
     ended_tied now true = (refl, refl, refl, tied.3, tied.4)
     ended_tied now false = (
       refl,
@@ -122,7 +131,8 @@ module _ {F K Q S M P : Type 0} (beginning : Beginning F K Q S M P) where
     abbrev After : Event Q S M P → Answer Q → List MtuEntry → Type 0
     After event given entries = TiedTo least ((event, Ok given) ∷ history) entries
 
-    answer_tied : (event : Event Q S M P) (given : Answer Q) → Facts beginning history event (Ok given) → Tied ((event, Ok given) ∷ history)
+    answer_tied : (event : Event Q S M P) (given : Answer Q) → Facts beginning history event (Ok given)
+        → Tied ((event, Ok given) ∷ history)
     answer_tied (PollMtu now) (answer.Probe number size) facts =
         turned (After (PollMtu now) (answer.Probe number size)) facts.entered tied
     answer_tied (PollMtu now) answer.NoProbe facts = turned (After (PollMtu now) answer.NoProbe) facts.entered tied
@@ -130,38 +140,50 @@ module _ {F K Q S M P : Type 0} (beginning : Beginning F K Q S M P) where
     answer_tied (PeerLimit size) given facts = turned (After (PeerLimit size) given) facts.entered tied
     answer_tied (Acked space.Data now number app_limited) given facts =
         acked_as beginning history (After (Acked space.Data now number app_limited)) now number app_limited given facts
-        (λ packet found. acked_tied least history before tied now number packet.size app_limited (size_known history sized number packet found))
+        (λ packet found. acked_tied least history before tied now number packet.size app_limited
+        (size_known history sized number packet found))
     answer_tied (Acked space.Initial now number app_limited) given facts =
-        seen_as (After (Acked space.Initial now number app_limited)) given (answer.Acked false) _ before facts.tells facts.entered tied
+        seen_as (After (Acked space.Initial now number app_limited)) given (answer.Acked false) _ before facts.tells
+        facts.entered tied
     answer_tied (Acked space.Handshake now number app_limited) given facts =
-        seen_as (After (Acked space.Handshake now number app_limited)) given (answer.Acked false) _ before facts.tells facts.entered tied
+        seen_as (After (Acked space.Handshake now number app_limited)) given (answer.Acked false) _ before facts.tells
+        facts.entered tied
     answer_tied (Lost space.Data number) given facts =
         lost_as beginning history (After (Lost space.Data number)) number given facts
-        (λ packet found. lost_tied least history before tied number packet.size _ (size_known history sized number packet found))
+        (λ packet found. lost_tied least history before tied number packet.size _
+        (size_known history sized number packet found))
     answer_tied (Lost space.Initial number) given facts =
         seen_as (After (Lost space.Initial number)) given (answer.Lost false) _ before facts.tells facts.entered tied
     answer_tied (Lost space.Handshake number) given facts =
         seen_as (After (Lost space.Handshake number)) given (answer.Lost false) _ before facts.tells facts.entered tied
     answer_tied (LossesDone now) given facts =
         ended_as beginning history (After (LossesDone now)) now given facts (ended_tied least history before tied now)
-    answer_tied (ResetPath now) given facts = turned (After (ResetPath now) given) facts.entered (refl, refl, refl, tied.3, (refl, tied.4))
+    answer_tied (ResetPath now) given facts =
+        turned (After (ResetPath now) given) facts.entered (refl, refl, refl, tied.3, (refl, tied.4))
     answer_tied (NewPath now remote true) given facts =
         turned (After (NewPath now remote true) given) facts.entered (refl, refl, refl, refl, tt)
-    answer_tied (NewPath now remote false) given facts = turned (After (NewPath now remote false) given) facts.entered tied
+    answer_tied (NewPath now remote false) given facts =
+        turned (After (NewPath now remote false) given) facts.entered tied
     answer_tied event given facts = turned (After event given) facts.entered tied
 
-    refused_tied : (event : Event Q S M P) (refusal : Refusal) → Facts beginning history event (Err refusal) → Tied ((event, Err refusal) ∷ history)
-    refused_tied (NewPath now remote true) refusal facts = subst (TiedTo least ((NewPath now remote true, Err refusal) ∷ history)) (sym facts.entered) tied
-    refused_tied (NewPath now remote false) refusal facts = subst (TiedTo least ((NewPath now remote false, Err refusal) ∷ history)) (sym facts.entered) tied
+    refused_tied : (event : Event Q S M P) (refusal : Refusal) → Facts beginning history event (Err refusal)
+        → Tied ((event, Err refusal) ∷ history)
+    refused_tied (NewPath now remote true) refusal facts =
+        subst (TiedTo least ((NewPath now remote true, Err refusal) ∷ history)) (sym facts.entered) tied
+    refused_tied (NewPath now remote false) refusal facts =
+        subst (TiedTo least ((NewPath now remote false, Err refusal) ∷ history)) (sym facts.entered) tied
     refused_tied (Acked space.Data now number app_limited) refusal facts =
         turned (TiedTo least ((Acked space.Data now number app_limited, Err refusal) ∷ history)) facts.entered tied
     refused_tied (Acked space.Initial now number app_limited) refusal facts =
         turned (TiedTo least ((Acked space.Initial now number app_limited, Err refusal) ∷ history)) facts.entered tied
     refused_tied (Acked space.Handshake now number app_limited) refusal facts =
         turned (TiedTo least ((Acked space.Handshake now number app_limited, Err refusal) ∷ history)) facts.entered tied
-    refused_tied (Lost space.Data number) refusal facts = turned (TiedTo least ((Lost space.Data number, Err refusal) ∷ history)) facts.entered tied
-    refused_tied (Lost space.Initial number) refusal facts = turned (TiedTo least ((Lost space.Initial number, Err refusal) ∷ history)) facts.entered tied
-    refused_tied (Lost space.Handshake number) refusal facts = turned (TiedTo least ((Lost space.Handshake number, Err refusal) ∷ history)) facts.entered tied
+    refused_tied (Lost space.Data number) refusal facts =
+        turned (TiedTo least ((Lost space.Data number, Err refusal) ∷ history)) facts.entered tied
+    refused_tied (Lost space.Initial number) refusal facts =
+        turned (TiedTo least ((Lost space.Initial number, Err refusal) ∷ history)) facts.entered tied
+    refused_tied (Lost space.Handshake number) refusal facts =
+        turned (TiedTo least ((Lost space.Handshake number, Err refusal) ∷ history)) facts.entered tied
     refused_tied event refusal facts = subst (TiedTo least ((event, Err refusal) ∷ history)) (sym facts.entered) tied
 
   -- ---- what is kept
@@ -184,12 +206,14 @@ module _ {F K Q S M P : Type 0} (beginning : Beginning F K Q S M P) where
     pub sized : Sized beginning history
     pub made : IsMadeLeast history
 
-  pub kept_after : (history : History Q S M P) (event : Event Q S M P) (reply : Reply Q) → Facts beginning history event reply → Kept history
+  pub kept_after : (history : History Q S M P) (event : Event Q S M P) (reply : Reply Q)
+      → Facts beginning history event reply → Kept history
       → Kept ((event, reply) ∷ history)
   kept_after history event reply facts kept = record {
     tied = go reply facts;
     sized = sized_after beginning history event reply facts.told kept.sized;
-    made = ap (λ made. made.bursts.min_mtu) (is_made beginning history event reply) ∙ made_least history event reply kept.made;
+    made = ap (λ made. made.bursts.min_mtu) (is_made beginning history event reply)
+        ∙ made_least history event reply kept.made;
   }
     where
       go : (reply : Reply Q) → Facts beginning history event reply → Tied ((event, reply) ∷ history)
@@ -202,16 +226,20 @@ module _ {F K Q S M P : Type 0} (beginning : Beginning F K Q S M P) where
       record {
         tied = (refl, refl, refl, refl, tt);
         sized = tt;
-        made = least_with None config.transport (if config.allow_mtud then config.transport.mtu_discovery_config else None);
+        made = least_with None config.transport (if config.allow_mtud then config.transport.mtu_discovery_config
+            else None);
       }
 
-  pub least_known : (history : History Q S M P) → Kept history → min_mtu_in_use (made_in beginning history) (entered_so_far beginning history) ≡ least
-  least_known history kept = least_in_use (made_in beginning history) least (entered_so_far beginning history) kept.made kept.tied.4
+  pub least_known : (history : History Q S M P) → Kept history
+      → min_mtu_in_use (made_in beginning history) (entered_so_far beginning history) ≡ least
+  least_known history kept = least_in_use (made_in beginning history) least (entered_so_far beginning history) kept.made
+      kept.tied.4
 
   -- ---- what is promised
 
   holes_one : (history : History Q S M P) (event : Event Q S M P) (reply : Reply Q)
-      → Facts beginning history event reply × (NeedsFourBursts beginning history event reply × ComesAtFourBursts beginning history event reply)
+      → Facts beginning history event reply
+      × (NeedsFourBursts beginning history event reply × ComesAtFourBursts beginning history event reply)
       → Kept history → Kept ((event, reply) ∷ history) → ReportsAtFour least history event reply
   holes_one history (LossesDone now) reply known kept after =
       let entries = entered_so_far beginning history in
@@ -224,19 +252,25 @@ module _ {F K Q S M P : Type 0} (beginning : Beginning F K Q S M P) where
       let standing_same = ap₂ all kept.tied.1 kept.tied.0 in
       let unanswered_same = ap₂ all kept.tied.2 kept.tied.0 in (
         λ reports. subst (Stand least) (sym standing_same)
-            (subst (λ size. Stand size (all (entries_.standing entries) (entries_.open_run entries))) is (subst Needed reports known.1.0)),
+            (subst (λ size. Stand size (all (entries_.standing entries) (entries_.open_run entries))) is
+            (subst Needed reports known.1.0)),
         λ four. known.1.1
-            (subst (λ size. Force size (entries_.larger_acked size entries) (all (entries_.unanswered size entries) (entries_.open_run entries))) (sym is)
-            (subst (λ numbers. Force least numbers (all (entries_.unanswered least entries) (entries_.open_run entries))) kept.tied.3
+            (subst (λ size. Force size (entries_.larger_acked size entries)
+            (all (entries_.unanswered size entries) (entries_.open_run entries))) (sym is)
+            (subst (λ numbers. Force least numbers
+            (all (entries_.unanswered least entries) (entries_.open_run entries))) kept.tied.3
             (subst (Force least (larger_acked least history)) unanswered_same four))),
       )
   holes_one history event reply known kept after = tt
 
   -- throughout a run
-  pub holes_told : (events : List (Event Q S M P)) (replies : List (Reply Q)) → Throughout (Told beginning) events replies
+  pub holes_told : (events : List (Event Q S M P)) (replies : List (Reply Q))
+      → Throughout (Told beginning) events replies
       → Throughout (ReportsAtFour least) events replies
   holes_told events replies told =
-      throughout_by _ (ReportsAtFour least) Kept (λ history event reply known kept. kept_after history event reply known.0 kept) holes_one [] events replies
+      throughout_by _ (ReportsAtFour least) Kept (λ history event reply known kept.
+      kept_after history event reply known.0 kept) holes_one [] events replies
       (throughout_both (Facts beginning) _ [] events replies (facts beginning events replies told)
-      (throughout_both (NeedsFourBursts beginning) (ComesAtFourBursts beginning) [] events replies (needs_four beginning events replies told)
+      (throughout_both (NeedsFourBursts beginning) (ComesAtFourBursts beginning) [] events replies
+      (needs_four beginning events replies told)
       (comes_at_four beginning events replies told))) kept_first

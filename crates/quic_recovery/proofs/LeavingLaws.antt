@@ -118,9 +118,13 @@ module _ {K Q S M P : Type 0} (q : QueueMeaning Q S M P) (old : Parts K P M) (sp
       (paths_known paths) in
       let entries = acked_entry known now app_limited (packet_at (tracked_by old.spaces space) number)
       ++ acked_search known space number (packet_at (tracked_by old.spaces space) number) in
-      let path_step = subst Stepped (sym found) (ap (λ (p : OfPaths (Path K)). paths_known p) is ∙ acked_path old space number packet now app_limited) in
+      let path_step = subst Stepped (sym found) (ap (λ (p : OfPaths (Path K)). paths_known p) is
+      ∙ acked_path old space number packet now app_limited) in
       record {
-        told = (fails _ live, ((λ none. some_is_not_none packet (sym found ∙ none)), ap (λ b. answer.Acked b) is_probe));
+        told = (
+          fails _ live,
+          ((λ none. some_is_not_none packet (sym found ∙ none)), ap (λ b. answer.Acked b) is_probe),
+        );
         steps = space_changes q.words old space (acknowledged number) there old.skipping entries paths step
             (skips_nothing space (acknowledged number) _ old.skipping refl) path_step;
         marks = ap (λ (p : OfPaths (Path K)). paths_marks p) is
@@ -133,12 +137,15 @@ module _ {K Q S M P : Type 0} (q : QueueMeaning Q S M P) (old : Parts K P M) (sp
   pub lost_changes : (lost : Packet P M) → lost ≡ with_contents q.words.empty packet
       → SpaceStep q.words (loses number) (space_of space old.spaces) there
       → paths ≡ paths_losing space number lost old.paths
-      → Changes {M = M} q old (Lost space number) (Ok (answer.Lost probe)) (record old { spaces = with_space old.spaces space there; paths = paths })
+      → Changes {M = M} q old (Lost space number) (Ok (answer.Lost probe))
+      (record old { spaces = with_space old.spaces space there; paths = paths })
   lost_changes lost emptied step is =
       let known = known_to old in
-      let Stepped : Option (Packet P M) → Type 0 = λ p. PathsStep old.settings (lost_search known space number p) (paths_known old.paths) (paths_known paths) in
+      let Stepped : Option (Packet P M) → Type 0 =
+      λ p. PathsStep old.settings (lost_search known space number p) (paths_known old.paths) (paths_known paths) in
       let same = ap (λ (p : Packet P M). paths_losing space number p old.paths) emptied in
-      let path_step = subst Stepped (sym found) (ap (λ (p : OfPaths (Path K)). paths_known p) (is ∙ same) ∙ lost_path old space number packet) in
+      let path_step = subst Stepped (sym found) (ap (λ (p : OfPaths (Path K)). paths_known p) (is ∙ same)
+      ∙ lost_path old space number packet) in
       record {
         told = (fails _ live, ((λ none. some_is_not_none packet (sym found ∙ none)), ap (λ b. answer.Lost b) is_probe));
         steps = space_changes q.words old space (loses number) there old.skipping

@@ -67,13 +67,16 @@ module _ {F K Q S M P : Type 0} (beginning : Beginning F K Q S M P) where
     previous = λ path is. on_path path (balanced.previous path is);
   }
     where
-      on_path : (path : Path K) → IsBalancedOn spaces path.ledger → counters_of path.ledger ≡ in_flight_on (known_by beginning logs) (path_known path)
-      on_path path sums = sums ∙ ap (λ (tracked : SpaceId → Packets P M). in_flight (generation_of path.ledger) tracked) (tracked_same logs spaces left)
+      on_path : (path : Path K) → IsBalancedOn spaces path.ledger
+          → counters_of path.ledger ≡ in_flight_on (known_by beginning logs) (path_known path)
+      on_path path sums = sums ∙ ap (λ (tracked : SpaceId → Packets P M). in_flight (generation_of path.ledger) tracked)
+          (tracked_same logs spaces left)
 
   -- ---- what is known
 
   abbrev space_known : Bool → AckCounts → Sent P M → Queued P → SpaceKnown P M
-  space_known discarded counts sent queued = record { discarded = discarded; counts = counts; sent = sent; queued = queued }
+  space_known discarded counts sent queued =
+      record { discarded = discarded; counts = counts; sent = sent; queued = queued }
 
   abbrev numbered : ℕ → Option ℕ → Numbering
   numbered next skipped = record { next = next; skipped = skipped }
@@ -84,12 +87,16 @@ module _ {F K Q S M P : Type 0} (beginning : Beginning F K Q S M P) where
   numbering_same logs state left =
       let skips = beginning.config.skips in
       let n = (sent_by beginning.queue.words (logs.spaces Data)).next in
-      let there : next_number_of (space_of Data state.spaces) ≡ n = ap (λ (s : Sent P M). s.next) (left.spaces Data).sent in
+      let there : next_number_of (space_of Data state.spaces) ≡ n =
+      ap (λ (s : Sent P M). s.next) (left.spaces Data).sent in
       ap (λ (m : ℕ). numbered (number_by state.skipping.filter m) state.skipping.filter.last) there
-      ∙ ap (λ (m : ℕ). numbered m state.skipping.filter.last) (number_at skips beginning.random n state.skipping left.skipping)
-      ∙ ap (λ (o : Option ℕ). numbered (numbering_by beginning n).next o) (last_at skips beginning.random n state.skipping left.skipping)
+      ∙ ap (λ (m : ℕ). numbered m state.skipping.filter.last)
+      (number_at skips beginning.random n state.skipping left.skipping)
+      ∙ ap (λ (o : Option ℕ). numbered (numbering_by beginning n).next o)
+      (last_at skips beginning.random n state.skipping left.skipping)
 
-  pub known_same : (logs : Logs P M) (state : Parts K P M) → LeftBy beginning logs state → known_to state ≡ known_by beginning logs
+  pub known_same : (logs : Logs P M) (state : Parts K P M) → LeftBy beginning logs state
+      → known_to state ≡ known_by beginning logs
   known_same logs state left =
       ap (λ (s : SpaceId → SpaceKnown P M). record old { spaces = s }) (fun_ext spaces)
       ∙ ap (λ (n : Numbering). record k₁ { numbers = n }) (numbering_same logs state left)
@@ -132,8 +139,10 @@ module _ {F K Q S M P : Type 0} (beginning : Beginning F K Q S M P) where
           let there = space_of space state.spaces in
           let log = logs.spaces space in
           ap (λ d. space_known d (counts_of (acks_of there)) (sent_of there) (queued_of there)) (left.discarded space)
-          ∙ ap (λ (c : AckCounts). space_known (was_discarded space logs.discarded) c (sent_of there) (queued_of there)) (left.spaces space).acks.counts
-          ∙ ap (λ (s : Sent P M). space_known (was_discarded space logs.discarded) (counts_by log) s (queued_of there)) (left.spaces space).sent
+          ∙ ap (λ (c : AckCounts). space_known (was_discarded space logs.discarded) c (sent_of there) (queued_of there))
+          (left.spaces space).acks.counts
+          ∙ ap (λ (s : Sent P M). space_known (was_discarded space logs.discarded) (counts_by log) s (queued_of there))
+          (left.spaces space).sent
           ∙ ap (λ (u : Queued P). space_known (was_discarded space logs.discarded) (counts_by log)
           (sent_by beginning.queue.words log) u) (left.spaces space).queued
 
@@ -149,7 +158,8 @@ module _ {F K Q S M P : Type 0} (beginning : Beginning F K Q S M P) where
       subst Holds (known_same beginning logs old left) changes
 
 -- a queue that is moved leaves the numbers as they are
-moved_next : {P M : Type 0} (empty : P) (found : ProbeFound) (sent : Sent P M) → (sent_moved empty found sent).next ≡ sent.next
+moved_next : {P M : Type 0} (empty : P) (found : ProbeFound) (sent : Sent P M)
+    → (sent_moved empty found sent).next ≡ sent.next
 moved_next empty pending_stands sent = refl
 moved_next empty (moves number) sent = refl
 moved_next empty nothing_found sent = refl
@@ -159,7 +169,9 @@ module _ {F K Q S M P : Type 0} (beginning : Beginning F K Q S M P) where
   skipping_law : (entry : Option (SpaceEntry P M)) (log : List (SpaceEntry P M)) (n : ℕ) (old new : Skipping)
       → n ≡ (sent_by beginning.queue.words log).next
       → old ≡ skipping_at beginning.config.skips beginning.random (sent_by beginning.queue.words log).next
-      → SkippingStep entry n old new → new ≡ skipping_at beginning.config.skips beginning.random (sent_by beginning.queue.words (onto entry log)).next
+      → SkippingStep entry n old new
+      → new ≡ skipping_at beginning.config.skips beginning.random
+      (sent_by beginning.queue.words (onto entry log)).next
   skipping_law (Some (sends number packet)) log n old new next left step =
       (allocated beginning.config.skips beginning.random n number old new
       (left ∙ ap (skipping_at beginning.config.skips beginning.random) (sym next)) step.0 step.1).1
@@ -184,14 +196,19 @@ module _ {F K Q S M P : Type 0} (beginning : Beginning F K Q S M P) where
   left_after logs entries old new left steps balanced = record {
     settings = steps.settings ∙ left.settings;
     spaces = spaces;
-    beside = λ space. beside_stays beginning.queue.words (entries.spaces space) _ _ (steps.spaces space) ∙ left.beside space;
-    discarded = left_by DiscardedStep DiscardedLeft discarded_law entries.discarded logs.discarded _ _ left.discarded steps.discarded;
+    beside = λ space. beside_stays beginning.queue.words (entries.spaces space) _ _ (steps.spaces space)
+        ∙ left.beside space;
+    discarded = left_by DiscardedStep DiscardedLeft discarded_law entries.discarded logs.discarded _ _ left.discarded
+        steps.discarded;
     skipping = skipping_law (entries.spaces Data) (logs.spaces Data) (next_number_of (space_of Data old.spaces))
         old.skipping new.skipping (ap (λ (s : Sent P M). s.next) (left.spaces Data).sent) left.skipping steps.skipping;
-    frequency = left_by RequestStep (FrequencyLeft first) (request_law first) entries.requests logs.requests _ _ left.frequency steps.frequency;
+    frequency = left_by RequestStep (FrequencyLeft first) (request_law first) entries.requests logs.requests _ _
+        left.frequency steps.frequency;
     timers = left_by TimerStep TimersLeft timer_law entries.timers logs.timers _ _ left.timers steps.timers;
-    remote_ids = left_by RemoteStep (RemoteIdsLeft initial) (remote_law initial) entries.remote_ids logs.remote_ids _ _ left.remote_ids steps.remote_ids;
-    local_ids = left_by LocalStep (LocalIdsLeft ids) (local_law ids) entries.local_ids logs.local_ids _ _ left.local_ids steps.local_ids;
+    remote_ids = left_by RemoteStep (RemoteIdsLeft initial) (remote_law initial) entries.remote_ids logs.remote_ids _ _
+        left.remote_ids steps.remote_ids;
+    local_ids = left_by LocalStep (LocalIdsLeft ids) (local_law ids) entries.local_ids logs.local_ids _ _ left.local_ids
+        steps.local_ids;
     paths = paths;
     limits = left_by LimitStep (λ log limit. limit ≡ last_limit log) (λ size log old_limit new_limit same step. step)
         entries.limits logs.limits _ _ left.limits steps.limits;
@@ -207,7 +224,9 @@ module _ {F K Q S M P : Type 0} (beginning : Beginning F K Q S M P) where
       ids : FirstIds
       ids = first_ids beginning
 
-      spaces : (space : SpaceId) → SpaceLeft beginning.queue.words beginning.start ((logs_with entries logs).spaces space) (space_of space new.spaces)
+      spaces : (space : SpaceId)
+          → SpaceLeft beginning.queue.words beginning.start ((logs_with entries logs).spaces space)
+          (space_of space new.spaces)
       spaces space = left_by (SpaceStep beginning.queue.words) (SpaceLeft beginning.queue.words beginning.start)
           (space_law beginning.queue.words beginning.start) (entries.spaces space) (logs.spaces space) _ _
           (left.spaces space) (steps.spaces space)
@@ -217,8 +236,10 @@ module _ {F K Q S M P : Type 0} (beginning : Beginning F K Q S M P) where
 
       paths : PathsLeft (settings_of beginning) path (logs_with entries logs).paths (paths_known new.paths)
       paths =
-          let Step : PathSettings K → Type 0 = λ settings. PathsStep settings entries.paths (paths_known old.paths) (paths_known new.paths) in
-          paths_law (settings_of beginning) path entries.paths logs.paths _ _ left.paths (subst Step left.settings steps.paths)
+          let Step : PathSettings K → Type 0 =
+          λ settings. PathsStep settings entries.paths (paths_known old.paths) (paths_known new.paths) in
+          paths_law (settings_of beginning) path entries.paths logs.paths _ _ left.paths
+          (subst Step left.settings steps.paths)
 
 -- ---- a fresh start
 

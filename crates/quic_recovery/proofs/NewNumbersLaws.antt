@@ -101,13 +101,15 @@ module _ (Numbers : ℕ → Type 0) (came : List ℕ) (same : (m : ℕ) → In m
   new_from (inl exceeds) =
       or_first _ _ (all_from (λ m. nat_lt m n) came (λ m there. lt-ltb m n (exceeds m ((same m).0 there))))
   new_from (inr other) =
-      joined (list_all (λ m. nat_lt m n) came) _ _ (false_from_ne_true _ (λ member. other.0 ((same n).0 (member_to n came member))))
+      joined (list_all (λ m. nat_lt m n) came) _ _
+      (false_from_ne_true _ (λ member. other.0 ((same n).0 (member_to n came member))))
       (all_from (λ m. nat_le m (n + 128)) came (λ m there. le-leb m (n + 128) (other.1 m ((same m).0 there))))
 
   new_to : is_new came n ≡ true → IsNew Numbers n
   new_to e = go (parts (list_all (λ m. nat_lt m n) came) (list_any (nat_eq n) came) _ e)
     where
-      go : (list_all (λ m. nat_lt m n) came ≡ true) ⊎ ((list_any (nat_eq n) came ≡ false) × (list_all (λ m. nat_le m (n + 128)) came ≡ true))
+      go : (list_all (λ m. nat_lt m n) came ≡ true)
+          ⊎ ((list_any (nat_eq n) came ≡ false) × (list_all (λ m. nat_le m (n + 128)) came ≡ true))
           → IsNew Numbers n
       go (inl all) = inl (λ m in_set. ltb-true m n (all_to _ came all m ((same m).1 in_set)))
       go (inr other) =
@@ -145,7 +147,8 @@ module _ {P M : Type 0} (came : List ℕ) (log : List (SpaceEntry P M)) (alike :
   arrive true false n entry is first = cc
   arrive false true n entry is first = cc
 
-module _ {K Q S M P : Type 0} (q : QueueMeaning Q S M P) (known : Known K P M) (earlier : History Q S M P) (space : SpaceId) where
+module _ {K Q S M P : Type 0} (q : QueueMeaning Q S M P) (known : Known K P M) (earlier : History Q S M P)
+    (space : SpaceId) where
   module _ (log : List (SpaceEntry P M)) (alike : Alike (came_in space earlier) log) where
     answer_came : (event : Event Q S M P) (answer : Answer Q)
         → Alike (came_in space ((event, Ok answer) ∷ earlier)) (onto ((answered q known event answer).spaces space) log)
@@ -187,7 +190,8 @@ module _ {K Q S M P : Type 0} (q : QueueMeaning Q S M P) (known : Known K P M) (
 
   module _ (log : List SpaceId) (same : is_discarded space earlier ≡ was_discarded space log) where
     answer_drops : (event : Event Q S M P) (answer : Answer Q)
-        → is_discarded space ((event, Ok answer) ∷ earlier) ≡ was_discarded space (onto (answered q known event answer).discarded log)
+        → is_discarded space ((event, Ok answer) ∷ earlier) ≡ was_discarded space
+        (onto (answered q known event answer).discarded log)
     answer_drops (DiscardSpace there) answer = ap (λ b. same_space there space || b) same
     answer_drops (Received there now number eliciting) (New arm) = same
     answer_drops (Received there now number eliciting) answer = same
@@ -203,13 +207,15 @@ module _ {K Q S M P : Type 0} (q : QueueMeaning Q S M P) (known : Known K P M) (
     answer_drops event answer = same
 
     refusal_drops : (event : Event Q S M P) (refusal : Refusal)
-        → is_discarded space ((event, Err refusal) ∷ earlier) ≡ was_discarded space (onto (refused event refusal).discarded log)
+        → is_discarded space ((event, Err refusal) ∷ earlier) ≡ was_discarded space
+        (onto (refused event refusal).discarded log)
     refusal_drops (AckFrequencyIn frame) DelayTooSmall = same
     refusal_drops (AckFrequencyIn frame) refusal = same
     refusal_drops event refusal = same
 
     reply_drops : (event : Event Q S M P) (reply : Reply Q)
-        → is_discarded space ((event, reply) ∷ earlier) ≡ was_discarded space (onto (entries_of q known event reply).discarded log)
+        → is_discarded space ((event, reply) ∷ earlier) ≡ was_discarded space
+        (onto (entries_of q known event reply).discarded log)
     reply_drops event (Ok answer) = answer_drops event answer
     reply_drops event (Err refusal) = refusal_drops event refusal
 
@@ -219,14 +225,16 @@ module _ {F K Q S M P : Type 0} (beginning : Beginning F K Q S M P) where
   all_came [] space = λ m. (λ there. there, λ there. there)
   all_came (happened ∷ earlier) space =
       let logs = logs_of beginning earlier in
-      reply_came beginning.queue (known_by beginning logs) earlier space (logs.spaces space) (all_came earlier space) happened.0 happened.1
+      reply_came beginning.queue (known_by beginning logs) earlier space (logs.spaces space) (all_came earlier space)
+      happened.0 happened.1
 
   pub all_dropped : (history : History Q S M P) (space : SpaceId)
       → is_discarded space history ≡ was_discarded space (logs_of beginning history).discarded
   all_dropped [] space = refl
   all_dropped (happened ∷ earlier) space =
       let logs = logs_of beginning earlier in
-      reply_drops beginning.queue (known_by beginning logs) earlier space logs.discarded (all_dropped earlier space) happened.0 happened.1
+      reply_drops beginning.queue (known_by beginning logs) earlier space logs.discarded (all_dropped earlier space)
+      happened.0 happened.1
 
 -- ---- the verdict
 
@@ -265,7 +273,8 @@ module _ {Q P M : Type 0} (known : SpaceKnown P M) (heard : Heard) (number : ℕ
 
 module _ {F K Q S M P : Type 0} (beginning : Beginning F K Q S M P) where
   received_told : (history : History Q S M P) (space : SpaceId) (now number : ℕ) (eliciting : Bool) (reply : Reply Q)
-      → Told beginning history (Received space now number eliciting) reply → CallsNew history (Received space now number eliciting) reply
+      → Told beginning history (Received space now number eliciting) reply
+      → CallsNew history (Received space now number eliciting) reply
   received_told history space now number eliciting reply told =
       let logs = logs_of beginning history in
       let heard = heard_by beginning.queue.words (logs.spaces space) in

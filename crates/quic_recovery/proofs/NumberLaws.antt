@@ -32,7 +32,8 @@ number_known state Handshake = refl
 number_known state Data = refl
 
 -- a number is given out: of 1-RTT packets, the skips go on behind it
-pub number_skips : {P M : Type 0} (spaces : Spaces P M) (space : SpaceId) (number : ℕ) (packet : Packet P M) (old new : Skipping)
+pub number_skips : {P M : Type 0} (spaces : Spaces P M) (space : SpaceId) (number : ℕ) (packet : Packet P M)
+    (old new : Skipping)
     → number ≡ number_behind old.filter space (next_number_of (space_of space spaces))
     → new ≡ skipping_behind space (next_number_of (space_of space spaces)) old
     → SkippingStep (here space Data (sends number packet)) (next_number_of (space_of Data spaces)) old new

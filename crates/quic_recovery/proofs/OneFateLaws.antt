@@ -34,7 +34,8 @@ module _ {Q S M P : Type 0} (space : SpaceId) (n : ℕ) where
   departures_are [] = refl
   departures_are ((Acked there now number app_limited, Ok answer) ∷ earlier) =
       acked_too (same_space there space && number == n) _ _ _ (departures_are earlier)
-  departures_are ((Lost there number, Ok answer) ∷ earlier) = lost_too (same_space there space && number == n) _ _ _ (departures_are earlier)
+  departures_are ((Lost there number, Ok answer) ∷ earlier) =
+      lost_too (same_space there space && number == n) _ _ _ (departures_are earlier)
   departures_are (happened ∷ earlier) = departures_are earlier
 
 pub leave_once : {Q S M P : Type 0} (history : History Q S M P) → HaveOneFate history → LeaveOnceEach history
@@ -52,7 +53,9 @@ module _ {F K Q S M P : Type 0} (beginning : Beginning F K Q S M P) where
   pub one_fate : (history : History Q S M P) → AllTracked beginning history → HaveOneFate history
   one_fate history all = λ space n. ((all space n).once, (all space n).adds)
 
-  pub have_one_fate : (events : List (Event Q S M P)) (replies : List (Reply Q)) → Throughout (Told beginning) events replies
+  pub have_one_fate : (events : List (Event Q S M P)) (replies : List (Reply Q))
+      → Throughout (Told beginning) events replies
       → HaveOneFate (history events replies)
   have_one_fate events replies told = one_fate (history events replies)
-      (kept_after (Told beginning) (AllTracked beginning) (keeps_tracked beginning) [] events replies told (none_tracked beginning))
+      (kept_after (Told beginning) (AllTracked beginning) (keeps_tracked beginning) [] events replies told
+      (none_tracked beginning))

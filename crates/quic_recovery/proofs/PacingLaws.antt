@@ -24,7 +24,8 @@ use Rattle.quic_recovery.specs.Told.{Told, delayed_or}
 use Rattle.quic_recovery.proofs.AmplificationLaws.{is_allowed, throughout_kept}
 
 -- a pacer whose checked transmissions had passed keeps its rate
-keeps_pace : {K : Type 0} (past : PathPast K) → HavePassedOn past → AreChecked past.pacing → KeepsRate (bucket_of past.making.pacer) past.pacing
+keeps_pace : {K : Type 0} (past : PathPast K) → HavePassedOn past → AreChecked past.pacing
+    → KeepsRate (bucket_of past.making.pacer) past.pacing
 keeps_pace past passed checked = keeps_rate (bucket_of past.making.pacer) past.pacing refl checked passed
 
 module _ {F K Q S M P : Type 0} (beginning : Beginning F K Q S M P) where
@@ -43,7 +44,8 @@ module _ {F K Q S M P : Type 0} (beginning : Beginning F K Q S M P) where
 
   -- what the pacer of the path in use answers to a call
   abbrev delay_there : History Q S M P → ℕ → ℕ → Option ℕ
-  delay_there before now bytes = path_delay beginning.words now bytes (state_of (settings_of beginning) (pasts_of beginning before).current)
+  delay_there before now bytes =
+      path_delay beginning.words now bytes (state_of (settings_of beginning) (pasts_of beginning before).current)
 
   -- what holds of each call and its answer holds at each event
   module _ (Holds : PathPast K → PacerCall → Option ℕ → Type 0) where
@@ -53,14 +55,17 @@ module _ {F K Q S M P : Type 0} (beginning : Beginning F K Q S M P) where
     checks_by before now bytes None by = by
     checks_by before now bytes (Some until) by = by
 
-    transmits_by : (before : History Q S M P) (now bytes : ℕ) (blocked : Bool) (given : Option ℕ) → OnCall beginning Holds before now bytes given
-        → AtCalls beginning Holds before (Transmit now bytes true) (Ok (cond blocked Blocked (delayed_or beginning.words Transmitted given)))
+    transmits_by : (before : History Q S M P) (now bytes : ℕ) (blocked : Bool) (given : Option ℕ)
+        → OnCall beginning Holds before now bytes given
+        → AtCalls beginning Holds before (Transmit now bytes true)
+        (Ok (cond blocked Blocked (delayed_or beginning.words Transmitted given)))
     transmits_by before now bytes true given by = tt
     transmits_by before now bytes false None by = by
     transmits_by before now bytes false (Some until) by = by
 
     at_calls : (before : History Q S M P) (event : Event Q S M P) (reply : Reply Q) → Told beginning before event reply
-        → ((now bytes : ℕ) → OnCall beginning Holds before now bytes (delay_there before now bytes)) → AtCalls beginning Holds before event reply
+        → ((now bytes : ℕ) → OnCall beginning Holds before now bytes (delay_there before now bytes))
+        → AtCalls beginning Holds before event reply
     at_calls before (PacerCheck now bytes) (Ok answer) told holds =
         let D : Answer Q → Type 0 = λ a. AtCalls beginning Holds before (PacerCheck now bytes) (Ok a) in
         subst D (sym told) (checks_by before now bytes (delay_there before now bytes) (holds now bytes))
@@ -88,7 +93,8 @@ module _ {F K Q S M P : Type 0} (beginning : Beginning F K Q S M P) where
   passes_one before event reply told passed =
       let past = (pasts_of beginning before).current in
       at_calls (λ past. PassesBehind (bucket_of past.making.pacer) past.pacing) before event reply told
-      (λ now bytes. passes_behind (bucket_of past.making.pacer) past.pacing (pacer_call beginning.words (state_of (settings_of beginning) past) now bytes))
+      (λ now bytes. passes_behind (bucket_of past.making.pacer) past.pacing
+      (pacer_call beginning.words (state_of (settings_of beginning) past) now bytes))
 
   -- and when it was named, where there is room
   named_one : (before : History Q S M P) (event : Event Q S M P) (reply : Reply Q) → Told beginning before event reply
@@ -96,7 +102,8 @@ module _ {F K Q S M P : Type 0} (beginning : Beginning F K Q S M P) where
   named_one before event reply told passed =
       let past = (pasts_of beginning before).current in
       at_calls (λ past. PassesAtMoment (bucket_of past.making.pacer) past.pacing) before event reply told
-      (λ now bytes. passes_at_moment (bucket_of past.making.pacer) past.pacing (pacer_call beginning.words (state_of (settings_of beginning) past) now bytes))
+      (λ now bytes. passes_at_moment (bucket_of past.making.pacer) past.pacing
+      (pacer_call beginning.words (state_of (settings_of beginning) past) now bytes))
 
   -- after an event each pacer keeps its rate
   pace_one : (before : History Q S M P) (event : Event Q S M P) (reply : Reply Q) → Told beginning before event reply

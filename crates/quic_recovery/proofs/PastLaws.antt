@@ -48,7 +48,8 @@ use Rattle.quic_recovery.proofs.TimeoutsLaws.{timers_told}
 use Rattle.quic_recovery.proofs.ToldLaws.{told_by_logs}
 use Rattle.quic_recovery.proofs.TurnsLaws.{turns_told}
 
-module _ {Q S M C : Type 0} (P H : History Q S M C → Event Q S M C → Reply Q → Type 0) (event : Event Q S M C) (reply : Reply Q) where
+module _ {Q S M C : Type 0} (P H : History Q S M C → Event Q S M C → Reply Q → Type 0) (event : Event Q S M C)
+    (reply : Reply Q) where
   -- what holds throughout with one event more holds at that event
   last_of : (before : History Q S M C) (events : List (Event Q S M C)) (replies : List (Reply Q))
       → ThroughoutFrom P before events replies → ThroughoutFrom H before (events ++ event ∷ []) (replies ++ reply ∷ [])
@@ -73,7 +74,8 @@ module _ {F K Q S M P : Type 0} (beginning : Beginning F K Q S M P) where
       let all = throughout_push (Told beginning) event reply [] past.events past.replies came.told here in
       let longer = history_from-push (Told beginning) event reply [] past.events past.replies came.told in
       let entries = entries_of beginning.queue (known_by beginning logs) event reply in
-      let last : (H : History Q S M P → Event Q S M P → Reply Q → Type 0) → Throughout H events replies → H before event reply = λ H holds.
+      let last : (H : History Q S M P → Event Q S M P → Reply Q → Type 0) → Throughout H events replies
+      → H before event reply = λ H holds.
       last_of (Told beginning) H event reply [] past.events past.replies came.told holds in
       let Leaves : History Q S M P → Type 0 = λ h. Left beginning h new in
       let Fate : History Q S M P → Type 0 = HaveOneFate in
@@ -114,29 +116,32 @@ module _ {F K Q S M P : Type 0} (beginning : Beginning F K Q S M P) where
         };
       }
 
-module _ {F K Q S M P : Type 0} (built : F → ℕ → ℕ → K) (words : ControllerWords K) (queue : QueueMeaning Q S M P) (old : Parts K P M)
-    (event : Event Q S M P) (reply : Reply Q) (new : Parts K P M) (on : GoesOn built words queue old event reply new) where
-  -- from a past by which it came here it went on
-  went : CameSomehow built words queue old → WentOn built words queue old event reply new
-  went by = record { origin = by; goes = on by.config by.start by.random by.past by.came }
+module _ {F K Q S M P : Type 0} (built : F → ℕ → ℕ → K) (words : ControllerWords K) (queue : QueueMeaning Q S M P)
+    (old : Parts K P M)
+    (event : Event Q S M P) (reply : Reply Q) (new : Parts K P M) (on : GoesOn built words queue old event reply new)
+  where
+    -- from a past by which it came here it went on
+    went : CameSomehow built words queue old → WentOn built words queue old event reply new
+    went by = record { origin = by; goes = on by.config by.start by.random by.past by.came }
 
-  pub went_on : ∥ CameSomehow built words queue old ∥₁ → ∥ WentOn built words queue old event reply new ∥₁
-  went_on by = ∥∥₁_map by went
+    pub went_on : ∥ CameSomehow built words queue old ∥₁ → ∥ WentOn built words queue old event reply new ∥₁
+    went_on by = ∥∥₁_map by went
 
-  -- and came on
-  came_on : CameSomehow built words queue old → CameSomehow built words queue new
-  came_on by = record {
-    config = by.config;
-    start = by.start;
-    random = by.random;
-    past = more by.past event reply;
-    came = (on by.config by.start by.random by.past by.came).came;
-  }
+    -- and came on
+    came_on : CameSomehow built words queue old → CameSomehow built words queue new
+    came_on by = record {
+      config = by.config;
+      start = by.start;
+      random = by.random;
+      past = more by.past event reply;
+      came = (on by.config by.start by.random by.past by.came).came;
+    }
 
-  pub still_came : ∥ CameSomehow built words queue old ∥₁ → ∥ CameSomehow built words queue new ∥₁
-  still_came by = ∥∥₁_map by came_on
+    pub still_came : ∥ CameSomehow built words queue old ∥₁ → ∥ CameSomehow built words queue new ∥₁
+    still_came by = ∥∥₁_map by came_on
 
-module _ {F K Q S M P : Type 0} (built : F → ℕ → ℕ → K) (words : ControllerWords K) (queue : QueueMeaning Q S M P) (old new : Parts K P M)
+module _ {F K Q S M P : Type 0} (built : F → ℕ → ℕ → K) (words : ControllerWords K) (queue : QueueMeaning Q S M P)
+    (old new : Parts K P M)
     (stays : StaysOn built words queue old new) where
   stays_by : CameSomehow built words queue old → CameSomehow built words queue new
   stays_by by = record {

@@ -36,7 +36,8 @@ use Rattle.quic_recovery.proofs.DriverLaws.{spaces_step, skips_nothing}
 -- ---- packets leave the paths: what is known of a path holds no counters
 
 -- packets that leave a path leave its generation
-generation_without : {P M : Type 0} (packets : Packets P M) (ledger : PathLedger) → generation_of (ledger_without packets ledger) ≡ generation_of ledger
+generation_without : {P M : Type 0} (packets : Packets P M) (ledger : PathLedger)
+    → generation_of (ledger_without packets ledger) ≡ generation_of ledger
 generation_without [] ledger = refl
 generation_without (entry ∷ packets) ledger = generation_without packets (after_leaving ledger entry.1)
 
@@ -46,24 +47,28 @@ module _ {K P M : Type 0} (packets : Packets P M) where
   known_without path = ap (λ g. record { generation = g; state = path.state }) (generation_without packets path.ledger)
 
   -- the same of a path that may live
-  previous_without : (path : Option (Path K)) → option_map path_known (option_map (on_ledger (ledger_without packets)) path) ≡ option_map path_known path
+  previous_without : (path : Option (Path K))
+      → option_map path_known (option_map (on_ledger (ledger_without packets)) path) ≡ option_map path_known path
   previous_without None = refl
   previous_without (Some path) = ap (λ known. Some known) (known_without path)
 
   -- what is known of all paths stays
   pub paths_known_without : (paths : OfPaths (Path K)) → paths_known (paths_without packets paths) ≡ paths_known paths
   paths_known_without paths =
-      let both : PathKnown K → Option (PathKnown K) → OfPaths (PathKnown K) = λ current previous. record { current = current; previous = previous } in
+      let both : PathKnown K → Option (PathKnown K) → OfPaths (PathKnown K) =
+      λ current previous. record { current = current; previous = previous } in
       ap₂ both (known_without paths.current) (previous_without paths.previous)
 
 -- ---- a space is discarded
 
 module _ {K Q S M P : Type 0} (q : QueueMeaning Q S M P) (old : Parts K P M) (space : SpaceId) where
   -- its packets leave it and the paths, nothing is to be sent again, and it is noted
-  pub discard_changes : (there : Space P M) (discarded : DiscardedSpaces) (paths : OfPaths (Path K)) → is_discarded space old.discarded ≡ false
+  pub discard_changes : (there : Space P M) (discarded : DiscardedSpaces) (paths : OfPaths (Path K))
+      → is_discarded space old.discarded ≡ false
       → there ≡ space_discards q.words (space_of space old.spaces) → DiscardedStep space old.discarded discarded
       → paths ≡ paths_without (tracked_by old.spaces space) old.paths
-      → Changes {M = M} q old (DiscardSpace space) (Ok Done) (record old { spaces = with_space old.spaces space there; discarded = discarded; paths = paths })
+      → Changes {M = M} q old (DiscardSpace space) (Ok Done)
+      (record old { spaces = with_space old.spaces space there; discarded = discarded; paths = paths })
   discard_changes there discarded paths live empty noted left = record {
     told = (fails _ live, refl);
     steps = record {
@@ -75,7 +80,8 @@ module _ {K Q S M P : Type 0} (q : QueueMeaning Q S M P) (old : Parts K P M) (sp
       timers = refl;
       remote_ids = refl;
       local_ids = refl;
-      paths = ap (λ (p : OfPaths (Path K)). paths_known p) left ∙ paths_known_without (tracked_by old.spaces space) old.paths;
+      paths = ap (λ (p : OfPaths (Path K)). paths_known p) left
+          ∙ paths_known_without (tracked_by old.spaces space) old.paths;
       limits = refl;
     };
     marks = ap (λ (p : OfPaths (Path K)). paths_marks p) left
@@ -91,7 +97,8 @@ module _ (First Second Third Fourth One Other : Type 0) (none : ¬ Second) (alik
   pub but_second : (first second third fourth : Bool)
       → MatchBool first First ((¬ First) × MatchBool second Second
       ((¬ Second) × MatchBool third Third ((¬ Third) × MatchBool fourth Fourth ((¬ Fourth) × One))))
-      → MatchBool first First ((¬ First) × MatchBool third Third ((¬ Third) × MatchBool fourth Fourth ((¬ Fourth) × Other)))
+      → MatchBool first First
+      ((¬ First) × MatchBool third Third ((¬ Third) × MatchBool fourth Fourth ((¬ Fourth) × Other)))
   but_second true second third fourth is = is
   but_second false true third fourth is = absurd (none is.1)
   but_second false false true fourth is = (is.0, is.1.1)
@@ -131,7 +138,8 @@ module _ {K Q S M P : Type 0} (q : QueueMeaning Q S M P) (old then : Parts K P M
       (number_in known Data) (probe_of carried) (Err refusal) in
       let Out : Option ℕ → Type 0 = λ due. InSpace (known.spaces Data)
       (Refuses NumbersExhausted (2 ^ 62 ≤ known.numbers.next) (ProbeOutReply q known now due)) (Err refusal) in
-      let sent_as : Answer Q = Sent (number_in known Data) (forgotten_by (known.spaces Data).sent (probe_of nothing_carried)) in
+      let sent_as : Answer Q =
+      Sent (number_in known Data) (forgotten_by (known.spaces Data).sent (probe_of nothing_carried)) in
       record {
         told = subst Out (sym due) (but_second _ _ _ (Over nothing_carried) _ _ (λ large. large)
             (refused_alike (Unit {0}) (λ answer. answer ≡ sent_as) (λ answer. answer ≡ Probe known.numbers.next size)
@@ -147,8 +155,10 @@ module _ {K Q S M P : Type 0} (q : QueueMeaning Q S M P) (old then : Parts K P M
   -- once it is sent the search goes on from where it was asked
   pub probe_changes : (number : ℕ) (discovery : Discovery) (path : Path K) (answer : Answer Q)
       → number ≡ number_in known Data → discovery ≡ discovery_after (polls now number) old.paths.current.state.discovery
-      → path ≡ on_state (with_discovery discovery) then.paths.current → Changes {M = M} q old (Send Data now size true None queue frames) (Ok answer) then
-      → Changes {M = M} q old (PollMtu now) (Ok (Probe number size)) (record then { paths = record then.paths { current = path } })
+      → path ≡ on_state (with_discovery discovery) then.paths.current
+      → Changes {M = M} q old (Send Data now size true None queue frames) (Ok answer) then
+      → Changes {M = M} q old (PollMtu now) (Ok (Probe number size))
+      (record then { paths = record then.paths { current = path } })
   probe_changes number discovery path answer is polled goes_on sent =
       let Out : Option ℕ → Type 0 = λ due. ProbeOutReply q known now due (Ok (Probe number size)) in
       let Fitting : P × M → Type 0 = λ carried. ¬ Over carried in
@@ -160,7 +170,16 @@ module _ {K Q S M P : Type 0} (q : QueueMeaning Q S M P) (old then : Parts K P M
       let seen : Discovery → OfPaths (PathKnown K) → OfPaths (PathKnown K) = λ found all. record all
       { current = record all.current { state = with_discovery found all.current.state } } in
       record {
-        told = (sent.told.0, (sent.told.1.1.0, subst Out (sym due) (subst Fitting carries_nothing sent.told.1.1.1.0, ap (λ n. Probe n size) is)));
+        told = (
+          sent.told.0,
+          (
+            sent.told.1.1.0,
+            subst Out (sym due) (
+              subst Fitting carries_nothing sent.told.1.1.1.0,
+              ap (λ n. Probe n size) is,
+            ),
+          ),
+        );
         steps = record {
           settings = steps.settings;
           spaces = steps.spaces;
@@ -174,6 +193,7 @@ module _ {K Q S M P : Type 0} (q : QueueMeaning Q S M P) (old then : Parts K P M
               goes_on ∙ ap (seen discovery) steps.paths ∙ ap (λ found. seen found told) polled;
           limits = steps.limits;
         };
-        marks = ap (λ (p : Path K). let all : OfPaths (Path K) = record then.paths { current = p } in paths_marks all) goes_on ∙ sent.marks;
+        marks = ap (λ (p : Path K). let all : OfPaths (Path K) = record then.paths { current = p } in paths_marks all)
+            goes_on ∙ sent.marks;
         refused = tt;
       }

@@ -40,7 +40,8 @@ pub stays_as : {P M : Type 0} (like old new : Space P M) → new ≡ like → St
 stays_as {P} {M} like old new same stays = let Holds : Space P M → Type 0 = Stays old in subst Holds (sym same) stays
 
 module _ {K P M : Type 0} (spaces : Spaces P M) (paths : OfPaths (Path K)) (balanced : AreBalanced spaces paths) where
-  pub stays_balanced : (space : SpaceId) (here : Space P M) → Stays (space_of space spaces) here → AreBalanced (with_space spaces space here) paths
+  pub stays_balanced : (space : SpaceId) (here : Space P M) → Stays (space_of space spaces) here
+      → AreBalanced (with_space spaces space here) paths
   stays_balanced space here stays =
       kept spaces paths balanced space here (ap (λ (t : Tracking P M). t.packets) stays.tracking)
       (coherent_kept (space_of space spaces) here (balanced.coherent space)
@@ -65,7 +66,8 @@ pub fed_back_stays : {P M S A B : Type 0} (words : QueueWords P S) (counts : Ecn
     → Stays old new
 fed_back_stays words counts (Ok answer) old new step same = stays_as (record old { ecn_feedback = counts }) old new step
     (record { tracking = refl; next = refl; acks = refl; dedup = refl })
-fed_back_stays words counts (Err error) old new step same = stays_as old old new same (record { tracking = refl; next = refl; acks = refl; dedup = refl })
+fed_back_stays words counts (Err error) old new step same =
+    stays_as old old new same (record { tracking = refl; next = refl; acks = refl; dedup = refl })
 
 -- a refusal for which a space is put back as it was
 pub put_back : {K Q S M P : Type 0} (q : QueueMeaning Q S M P) (old : Parts K P M) (event : Event Q S M P)
@@ -75,7 +77,8 @@ pub put_back : {K Q S M P : Type 0} (q : QueueMeaning Q S M P) (old : Parts K P 
     → Changes q old event (Err refusal) (record old { spaces = with_space old.spaces space there })
 put_back {K} {Q} {S} {M} {P} q old event refusal space there same is_nothing told =
     let new : Parts K P M = record old { spaces = with_space old.spaces space there } in
-    let kept : new ≡ old = ap (λ (spaces : Spaces P M). record old { spaces = spaces }) (with_same_space old.spaces space there same) in
+    let kept : new ≡ old =
+    ap (λ (spaces : Spaces P M). record old { spaces = spaces }) (with_same_space old.spaces space there same) in
     let Stepped : Entries P M → Type 0 = λ entries. Steps q.words entries old new in
     record {
       told = told;
@@ -94,7 +97,8 @@ both false b is = absurd (no is)
     no e = cc
 
 lies_in : (low high n : ℕ) → IsTrue (nat_le low n && nat_le n high) → (low ≤ n) × (n ≤ high)
-lies_in low high n is = let tests = both (nat_le low n) (nat_le n high) is in (leb-true low n tests.0, leb-true n high tests.1)
+lies_in low high n is = let tests =
+    both (nat_le low n) (nat_le n high) is in (leb-true low n tests.0, leb-true n high tests.1)
 
 lies_there : (low high n : ℕ) → (low ≤ n) × (n ≤ high) → IsTrue (nat_le low n && nat_le n high)
 lies_there low high n is = ap (λ (b : Bool). b && nat_le n high) (le-leb low n is.0) ∙ le-leb n high is.1
@@ -105,13 +109,17 @@ module _ {K P M : Type 0} (known : Known K P M) (range : RangeInclusive ℕ) (lo
   -- where the range is whole, it holds what lies between its ends
   holds_between : (n : ℕ) → range_holds range n ≡ (nat_le low n && nat_le n high)
   holds_between n =
-      ap (λ (b : Bool). nat_le (range_inclusive_start range) n && cond b (nat_lt n (range_inclusive_end range)) (nat_le n (range_inclusive_end range))) whole
-      ∙ ap (λ (m : ℕ). nat_le m n && nat_le n (range_inclusive_end range)) start ∙ ap (λ (m : ℕ). nat_le low n && nat_le n m) end
+      ap (λ (b : Bool). nat_le (range_inclusive_start range) n && cond b (nat_lt n (range_inclusive_end range))
+      (nat_le n (range_inclusive_end range))) whole
+      ∙ ap (λ (m : ℕ). nat_le m n && nat_le n (range_inclusive_end range)) start
+      ∙ ap (λ (m : ℕ). nat_le low n && nat_le n m) end
 
-  pub skip_acked : (space : SpaceId) → AcksSkip space range known.numbers.skipped → IsSomeAnd (skipped_in known space) (λ s. (low ≤ s) × (s ≤ high))
+  pub skip_acked : (space : SpaceId) → AcksSkip space range known.numbers.skipped
+      → IsSomeAnd (skipped_in known space) (λ s. (low ≤ s) × (s ≤ high))
   skip_acked Data acks = go known.numbers.skipped acks.holds
     where
-      go : (last : Option ℕ) → IsSomeAnd last (λ s. IsTrue (range_holds range s)) → IsSomeAnd last (λ s. (low ≤ s) × (s ≤ high))
+      go : (last : Option ℕ) → IsSomeAnd last (λ s. IsTrue (range_holds range s))
+          → IsSomeAnd last (λ s. (low ≤ s) × (s ≤ high))
       go None is = is
       go (Some s) is = lies_in low high s (sym (holds_between s) ∙ is)
   skip_acked Initial acks = absurd (no_data acks.in_data)
@@ -123,10 +131,12 @@ module _ {K P M : Type 0} (known : Known K P M) (range : RangeInclusive ℕ) (lo
       no_data : Handshake ≡ Data → ⊥
       no_data e = cc
 
-  pub acks_skip : (space : SpaceId) → IsSomeAnd (skipped_in known space) (λ s. (low ≤ s) × (s ≤ high)) → AcksSkip space range known.numbers.skipped
+  pub acks_skip : (space : SpaceId) → IsSomeAnd (skipped_in known space) (λ s. (low ≤ s) × (s ≤ high))
+      → AcksSkip space range known.numbers.skipped
   acks_skip Data is = record { in_data = refl; holds = go known.numbers.skipped is }
     where
-      go : (last : Option ℕ) → IsSomeAnd last (λ s. (low ≤ s) × (s ≤ high)) → IsSomeAnd last (λ s. IsTrue (range_holds range s))
+      go : (last : Option ℕ) → IsSomeAnd last (λ s. (low ≤ s) × (s ≤ high))
+          → IsSomeAnd last (λ s. IsTrue (range_holds range s))
       go None is = is
       go (Some s) is = holds_between s ∙ lies_there low high s is
   acks_skip Initial is = absurd is

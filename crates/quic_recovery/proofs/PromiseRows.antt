@@ -54,7 +54,8 @@ module _ (Q S M P : Type 0) where
   first_set_is_wrong : ¬ TellsTimers timers event.NextTimeout (Ok (answer.Timeout (Some 20)))
   first_set_is_wrong = λ e. cc
 
-  both_set : TellsTimers ((event.SetTimer Pacing 30, Ok answer.Done) ∷ timers) event.NextTimeout (Ok (answer.Timeout (Some 30)))
+  both_set : TellsTimers ((event.SetTimer Pacing 30, Ok answer.Done) ∷ timers) event.NextTimeout
+      (Ok (answer.Timeout (Some 30)))
   both_set = refl
 
   -- ---- packets leave once: number 4 of 1-RTT packets was acknowledged, and 5 of Initial ones was lost

@@ -10,10 +10,12 @@ use Rattle.quic_recovery.specs.Replies.{same_refusal, Refuses, Answers}
 pub refuses_alike : {Q : Type 0} (refusal : Refusal) (Cause Reason : Type 0) (Otherwise Else : Reply Q → Type 0)
     → Cause ↔ Reason → ((reply : Reply Q) → Otherwise reply → Else reply)
     → (reply : Reply Q) → Refuses refusal Cause Otherwise reply → Refuses refusal Reason Else reply
-refuses_alike refusal Cause Reason Otherwise Else same others (Ok answer) told = (λ reason. told.0 (same.1 reason), others (Ok answer) told.1)
+refuses_alike refusal Cause Reason Otherwise Else same others (Ok answer) told =
+    (λ reason. told.0 (same.1 reason), others (Ok answer) told.1)
 refuses_alike refusal Cause Reason Otherwise Else same others (Err given) told = go (same_refusal given refusal) told
   where
-    go : (b : Bool) → MatchBool b Cause ((¬ Cause) × Otherwise (Err given)) → MatchBool b Reason ((¬ Reason) × Else (Err given))
+    go : (b : Bool) → MatchBool b Cause ((¬ Cause) × Otherwise (Err given))
+        → MatchBool b Reason ((¬ Reason) × Else (Err given))
     go true cause = same.0 cause
     go false other = (λ reason. other.0 (same.1 reason), others (Err given) other.1)
 

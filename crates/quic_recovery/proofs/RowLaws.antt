@@ -64,7 +64,8 @@ pub leaves_a_gap : {Started Required : Type 0} {Numbers : ℕ → Type 0} {high 
     → ((m : ℕ) → Numbers m → m ≤ 129)
     → IsTrue false ↔ (IsTrue true × (¬ Started) × ¬ (Required ⊎ ((1 < 1) ⊎ IsOutOfOrder Numbers 1 None 0 high high)))
 leaves_a_gap below lacks window =
-    stays (λ all. all.2 (inr (inr (inl (refl, inr (1, (omega arith, below, (lacks, window), λ m low less missing. low)))))))
+    stays (λ all. all.2 (inr
+    (inr (inl (refl, inr (1, (omega arith, below, (lacks, window), λ m low less missing. low)))))))
 
 -- three may come without an ACK, and nothing was acknowledged yet
 pub patient : {Numbers : ℕ → Type 0} (number : ℕ) → ¬ ((3 < 1) ⊎ IsOutOfOrder Numbers 2 None 0 number number)
@@ -105,8 +106,10 @@ pub taken : {a b c d limit low least most : ℕ} {Told : Type 0} → nat_lt a li
 taken first second third fourth told = (small first, (small second, (small third, (small fourth, told))))
 
 -- a frame moves the active number to the least one that is held
-pub moves : {held : Table} {active low start end : ℕ} {token : List ℕ} (next : ℕ) (id : List ℕ) → nat_lt active low ≡ true
-    → start ≡ active → end ≡ min next (active + 8) → held next ≡ Some (id, Some token) → ((m : ℕ) → m < next → held m ≡ None)
+pub moves : {held : Table} {active low start end : ℕ} {token : List ℕ} (next : ℕ) (id : List ℕ)
+    → nat_lt active low ≡ true
+    → start ≡ active → end ≡ min next (active + 8) → held next ≡ Some (id, Some token)
+    → ((m : ℕ) → m < next → held m ≡ None)
     → (active < low) × (start ≡ active) × (n : ℕ) × IsLeastHeld held 0 n × (end ≡ min n (active + 8))
     × ((given : List ℕ) × (held n ≡ Some (given, Some token)))
 moves {held} {active} {low} next id above starts ends is gone = (

@@ -1,4 +1,5 @@
--- How the runs of worked rows begin: with the settings of the replay program, over NewReno and queues of numbered items.
+-- How the runs of worked rows begin: with the settings of the replay program, over NewReno and queues of numbered
+-- items.
 use Rattle.std.proofs.Common.{ℕ, ◌*◌, ◌^◌, ◌++◌, false, true, List, [], ◌∷◌, ◌==◌, length, replicate, Some}
 use Rattle.std.specs.declared.net.socket_addr.SocketAddr.{SocketAddr}
 use Rattle.rand_core.specs.Stream.{Stream}
@@ -16,7 +17,12 @@ use Rattle.quic_recovery.specs.Told.{Told}
 
 -- numbered items; those that come are put behind those that were there
 abbrev pub item_words : QueueWords (List ℕ) (Unit {0})
-item_words = record { empty = []; joined = λ items others. items ++ others; is_empty = λ items streams. length items == 0 }
+item_words = record {
+  empty = [];
+  joined = λ items others. items ++ others;
+  is_empty = λ items streams.
+      length items == 0;
+}
 
 abbrev pub items : QueueMeaning (List ℕ) (Unit {0}) (Unit {0}) (List ℕ)
 items = queue_meaning (λ queue. queue) item_words tt

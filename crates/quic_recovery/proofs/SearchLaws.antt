@@ -51,20 +51,24 @@ none_is_no_probe e = cc
 pub bound_in : (o : Option MtuDiscoveryConfig) (values : List Val) → Is (row (the_type the_row)) o values
     → ForSome o (λ settings. settings.upper_bound < 2 ^ 16)
 bound_in None values is = λ settings none. absurd (cc)
-bound_in (Some own) values is = λ settings some. subst (λ (s : MtuDiscoveryConfig). s.upper_bound < 2 ^ 16) (some_same some) is.1.1.1.1.0.1.1.1.0.1
+bound_in (Some own) values is =
+    λ settings some. subst (λ (s : MtuDiscoveryConfig). s.upper_bound < 2 ^ 16) (some_same some) is.1.1.1.1.0.1.1.1.0.1
 
 -- what holds of the settings holds where they are used
-pub where_allowed : {A : Type 0} (P : A → Type 0) (allowed : Bool) (o : Option A) → ForSome o P → ForSome (if allowed then o else None) P
+pub where_allowed : {A : Type 0} (P : A → Type 0) (allowed : Bool) (o : Option A) → ForSome o P
+    → ForSome (if allowed then o else None) P
 where_allowed P true o holds = holds
 where_allowed P false o holds = λ x is. absurd (cc)
 
 module _ {K Q S M P : Type 0} (q : QueueMeaning Q S M P) (known : Known K P M) (now : ℕ) where
   -- a poll that gives none is not answered by a probe
-  unanswered : {A : Type 0} (answer : Option ℕ) (number size : ℕ) → answer ≡ None → ProbeOutReply q known now answer (Ok (Probe number size)) → A
+  unanswered : {A : Type 0} (answer : Option ℕ) (number size : ℕ) → answer ≡ None
+      → ProbeOutReply q known now answer (Ok (Probe number size)) → A
   unanswered None number size none told = no_probe_is_none told
   unanswered (Some own) number size none told = absurd (cc)
 
-module _ {K Q S M P : Type 0} (q : QueueMeaning Q S M P) (known : Known K P M) (settings : MtuDiscoveryConfig) (now next : ℕ) (earlier : List MtuEntry) where
+module _ {K Q S M P : Type 0} (q : QueueMeaning Q S M P) (known : Known K P M) (settings : MtuDiscoveryConfig)
+    (now next : ℕ) (earlier : List MtuEntry) where
   -- a poll that is answered by a probe gives one
   probe_out : (answer : Option ℕ) (number size : ℕ) → ProbeOutReply q known now answer (Ok (Probe number size))
       → ProbesInSearch settings (poll_entry now next answer ∷ earlier)
@@ -84,12 +88,14 @@ module _ {F K Q S M P : Type 0} (beginning : Beginning F K Q S M P) where
   abbrev IsSearched : PathPast K → Type 0
   IsSearched = IsPathSearchedBy (discovery_settings beginning)
 
-  fresh_is : (limit : Option ℕ) → IsSearchedBy (discovery_settings beginning) ((settings_of beginning).discovery limit) []
+  fresh_is : (limit : Option ℕ) → IsSearchedBy (discovery_settings beginning) ((settings_of beginning).discovery limit)
+      []
   fresh_is limit = first_searched beginning.config.allow_mtud limit beginning.config.transport
 
   -- so is the first one
   first_is : OnEachPath IsSearched (pasts_by (settings_of beginning) (first_path beginning) [])
-  first_is = searched_at_first (settings_of beginning) (discovery_settings beginning) fresh_is (first_path beginning) (fresh_is None)
+  first_is = searched_at_first (settings_of beginning) (discovery_settings beginning) fresh_is (first_path beginning)
+      (fresh_is None)
 
 module _ {F K Q S M P : Type 0} (beginning : Beginning F K Q S M P) where
   -- each path that lives is
@@ -112,9 +118,13 @@ module _ {F K Q S M P : Type 0} (beginning : Beginning F K Q S M P) where
         → AreSearched before → SearchesFew beginning before event reply
     few_one before event reply told searched = λ settings is change. (
         let after = searched_one before event reply told searched in
-        let few : (past : PathPast K) → IsPathSearchedBy (discovery_settings beginning) past → TakesFew (entries_on past) = λ past by.
-        search_takes_few past.making.discovery settings by.untold (by.settings_are ∙ is) change (small settings is) past.searched in
-        (few (pasts_of beginning ((event, reply) ∷ before)).current after.0, λ past lives. few past (after.1 past lives))
+        let few : (past : PathPast K) → IsPathSearchedBy (discovery_settings beginning) past
+        → TakesFew (entries_on past) = λ past by.
+        search_takes_few past.making.discovery settings by.untold (by.settings_are ∙ is) change (small settings is)
+        past.searched in (
+          few (pasts_of beginning ((event, reply) ∷ before)).current after.0,
+          λ past lives. few past (after.1 past lives),
+        )
         )
 
     ends_one : (before : History Q S M P) (event : Event Q S M P) (reply : Reply Q) → Told beginning before event reply
@@ -126,8 +136,10 @@ module _ {F K Q S M P : Type 0} (beginning : Beginning F K Q S M P) where
         let by = searched.0 in
         let next = known.numbers.next in
         let outside = limits_outside_after made by.untold (polls now next) past.searched tt by.outside in
-        none_out beginning.queue known settings now next (entries_on past) made (poll_of now (state_of (settings_of beginning) past).discovery) told.1.1
-        (search_ends_near made settings by.untold (by.settings_are ∙ is) change (small settings is) (polls now next ∷ past.searched) outside)
+        none_out beginning.queue known settings now next (entries_on past) made
+        (poll_of now (state_of (settings_of beginning) past).discovery) told.1.1
+        (search_ends_near made settings by.untold (by.settings_are ∙ is) change (small settings is)
+        (polls now next ∷ past.searched) outside)
         )
     ends_one before event reply told searched = tt
 
@@ -138,7 +150,9 @@ module _ {F K Q S M P : Type 0} (beginning : Beginning F K Q S M P) where
 
     pub ends : (events : List (Event Q S M P)) (replies : List (Reply Q)) → Throughout (Told beginning) events replies
         → Throughout (EndsNear beginning) events replies
-    ends events replies told = throughout_kept beginning AreSearched (EndsNear beginning) searched_one ends_one [] events replies told (first_is beginning)
+    ends events replies told =
+        throughout_kept beginning AreSearched (EndsNear beginning) searched_one ends_one [] events replies told
+        (first_is beginning)
 
   probes_one : (before : History Q S M P) (event : Event Q S M P) (reply : Reply Q) → Told beginning before event reply
       → AreSearched before → ProbesInTurn beginning before event reply
@@ -160,7 +174,8 @@ module _ {F K Q S M P : Type 0} (beginning : Beginning F K Q S M P) where
       go (Some settings) is =
           let next = known.numbers.next in
           probe_out beginning.queue known settings now next (entries_on past) answer number size told.1.1
-          (probes_in_search past.making.discovery settings searched.0.untold (searched.0.settings_are ∙ is) (polls now next ∷ past.searched))
+          (probes_in_search past.making.discovery settings searched.0.untold (searched.0.settings_are
+          ∙ is) (polls now next ∷ past.searched))
   probes_one before event reply told searched = tt
 
   -- a search runs on the path in use exactly where its entries say so
@@ -176,7 +191,8 @@ module _ {F K Q S M P : Type 0} (beginning : Beginning F K Q S M P) where
 
   -- the packet that is a probe by the state is the one in flight by the entries
   probe_same : (before : History Q S M P) → AreSearched before → (space : SpaceId) (number : ℕ)
-      → is_path_probe space number (state_of (settings_of beginning) (pasts_of beginning before).current) ≡ is_in_flight beginning before space number
+      → is_path_probe space number (state_of (settings_of beginning) (pasts_of beginning before).current) ≡ is_in_flight
+      beginning before space number
   probe_same before searched space number =
       let past = (pasts_of beginning before).current in
       ap (λ probe. is_data space && probe) (is_probe_by past.making.discovery searched.0.untold past.searched number)
@@ -185,15 +201,18 @@ module _ {F K Q S M P : Type 0} (beginning : Beginning F K Q S M P) where
       → AreSearched before → TellsProbes beginning before event reply
   tells_one before (Acked space now number app_limited) (Ok given) told searched = told.1.1
       ∙ ap (λ probe. answer.Acked probe) (probe_same before searched space number)
-  tells_one before (Lost space number) (Ok given) told searched = told.1.1 ∙ ap (λ probe. answer.Lost probe) (probe_same before searched space number)
+  tells_one before (Lost space number) (Ok given) told searched =
+      told.1.1 ∙ ap (λ probe. answer.Lost probe) (probe_same before searched space number)
   tells_one before event reply told searched = tt
 
   mtu_one : (before : History Q S M P) (event : Event Q S M P) (reply : Reply Q) → Told beginning before event reply
       → AreSearched before → MtuByEntries beginning before event reply
   mtu_one before event reply told searched =
       let after = searched_one before event reply told searched in
-      let past = (pasts_of beginning ((event, reply) ∷ before)).current in
-      (mtu_by past.making.discovery after.0.untold past.searched, λ past lives. mtu_by past.making.discovery (after.1 past lives).untold past.searched)
+      let past = (pasts_of beginning ((event, reply) ∷ before)).current in (
+        mtu_by past.making.discovery after.0.untold past.searched,
+        λ past lives. mtu_by past.making.discovery (after.1 past lives).untold past.searched,
+      )
 
   pub probes : (events : List (Event Q S M P)) (replies : List (Reply Q)) → Throughout (Told beginning) events replies
       → Throughout (ProbesInTurn beginning) events replies
@@ -207,8 +226,12 @@ module _ {F K Q S M P : Type 0} (beginning : Beginning F K Q S M P) where
 
   pub tells : (events : List (Event Q S M P)) (replies : List (Reply Q)) → Throughout (Told beginning) events replies
       → Throughout (TellsProbes beginning) events replies
-  tells events replies told = throughout_kept beginning AreSearched (TellsProbes beginning) searched_one tells_one [] events replies told (first_is beginning)
+  tells events replies told =
+      throughout_kept beginning AreSearched (TellsProbes beginning) searched_one tells_one [] events replies told
+      (first_is beginning)
 
   pub mtu : (events : List (Event Q S M P)) (replies : List (Reply Q)) → Throughout (Told beginning) events replies
       → Throughout (MtuByEntries beginning) events replies
-  mtu events replies told = throughout_kept beginning AreSearched (MtuByEntries beginning) searched_one mtu_one [] events replies told (first_is beginning)
+  mtu events replies told =
+      throughout_kept beginning AreSearched (MtuByEntries beginning) searched_one mtu_one [] events replies told
+      (first_is beginning)

@@ -56,12 +56,14 @@ module _ {F K Q S M P : Type 0} (beginning : Beginning F K Q S M P) where
       entries_on (pasts_of beginning ((event, Ok given) ∷ history)).current
       ≡ entered history event given ++ entries_on (pasts_of beginning history).current
   EntersAsTold history event (Err refusal) =
-      entries_on (pasts_of beginning ((event, Err refusal) ∷ history)).current ≡ entries_on (pasts_of beginning history).current
+      entries_on (pasts_of beginning ((event, Err refusal) ∷ history)).current ≡ entries_on
+      (pasts_of beginning history).current
 
   -- after an event, the MTU in use on each path that lives is the one that its entries say
   abbrev pub MtuByEntries : History Q S M P → Event Q S M P → Reply Q → Type 0
   MtuByEntries history event reply =
-      OnEachPath (λ past. (state_of (settings_of beginning) past).discovery.mtu ≡ mtu_in_use past.making.discovery (entries_on past))
+      OnEachPath (λ past. (state_of (settings_of beginning) past).discovery.mtu ≡ mtu_in_use past.making.discovery
+      (entries_on past))
       (pasts_of beginning ((event, reply) ∷ history))
 
   -- what the search on the path in use was told and answered before
@@ -78,18 +80,21 @@ module _ {F K Q S M P : Type 0} (beginning : Beginning F K Q S M P) where
   -- the packet of 1-RTT keys of this number is the probe in flight: one from the poll that gave it until it is
   -- acknowledged or lost, or until a report or a reset
   abbrev pub is_in_flight : History Q S M P → SpaceId → ℕ → Bool
-  is_in_flight history space number = is_data space && is_some (size_at number (probe_in_flight (entered_so_far history)))
+  is_in_flight history space number =
+      is_data space && is_some (size_at number (probe_in_flight (entered_so_far history)))
 
   -- a packet that is acknowledged or lost is answered to be a probe exactly where it is the one in flight
   abbrev pub TellsProbes : History Q S M P → Event Q S M P → Reply Q → Type 0
-  TellsProbes history (Acked space now number app_limited) (Ok given) = given ≡ answer.Acked (is_in_flight history space number)
+  TellsProbes history (Acked space now number app_limited) (Ok given) =
+      given ≡ answer.Acked (is_in_flight history space number)
   TellsProbes history (Lost space number) (Ok given) = given ≡ answer.Lost (is_in_flight history space number)
   TellsProbes history event reply = Unit {0}
 
   -- after an event, the search that runs on each path that lives has taken at most 16 sizes and 48 probes
   abbrev pub SearchesFew : History Q S M P → Event Q S M P → Reply Q → Type 0
   SearchesFew history event reply =
-      WhereSearched beginning (λ settings. OnEachPath (λ past. TakesFew (entries_on past)) (pasts_of beginning ((event, reply) ∷ history)))
+      WhereSearched beginning (λ settings. OnEachPath (λ past. TakesFew (entries_on past))
+      (pasts_of beginning ((event, reply) ∷ history)))
 
   -- a poll that is answered by a probe comes where paths are searched; it finds a search that runs, or begins one that
   -- is due, and no probe in flight

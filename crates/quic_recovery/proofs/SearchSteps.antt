@@ -77,7 +77,7 @@ module _ {F K Q S M P : Type 0} (beginning : Beginning F K Q S M P) where
 -- ---- events whose answer says what they are
 
 -- the packet that was found
-found_packet : {P M : Type 0} (found : Option (Packet P M)) → ¬ (found ≡ None) → (packet : Packet P M)
+pub found_packet : {P M : Type 0} (found : Option (Packet P M)) → ¬ (found ≡ None) → (packet : Packet P M)
     × (found ≡ Some packet)
 found_packet None there = absurd (there refl)
 found_packet (Some packet) there = (packet, refl)

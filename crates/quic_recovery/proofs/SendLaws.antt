@@ -30,8 +30,10 @@ use Rattle.quic_recovery.proofs.DriverLaws.{sent_changes}
 use Rattle.quic_recovery.proofs.NumberLaws.{number_above, number_known, number_skips}
 
 -- the paths where a packet was sent, and another is perhaps forgotten for it, as the controller is told
-abbrev pub paths_telling : {K P M : Type 0} → Packet P M → Space P M → (PathState K → PathState K) → OfPaths (Path K) → OfPaths (Path K)
-paths_telling packet there change paths = on_path_of Current (on_state change) (paths_after_sending packet (forgotten_entry packet (tracking_of there)) paths)
+abbrev pub paths_telling : {K P M : Type 0} → Packet P M → Space P M → (PathState K → PathState K) → OfPaths (Path K)
+    → OfPaths (Path K)
+paths_telling packet there change paths =
+    on_path_of Current (on_state change) (paths_after_sending packet (forgotten_entry packet (tracking_of there)) paths)
 
 module _ {K P M : Type 0} (spaces : Spaces P M) (paths : OfPaths (Path K)) (balanced : AreBalanced spaces paths)
     (space : SpaceId) (number : ℕ) (packet : Packet P M) (own : packet.path_generation
@@ -42,7 +44,8 @@ module _ {K P M : Type 0} (spaces : Spaces P M) (paths : OfPaths (Path K)) (bala
 
   pub sent_balanced : (here : Space P M) (then : OfPaths (Path K)) → (¬ IsTooLarge packet.largest_acked)
       → here ≡ space_sends number packet (space_of space spaces)
-      → then ≡ paths_after_sending packet (forgotten_entry packet (tracking_of (space_of space spaces))) paths → AreBalanced (with_space spaces space here) then
+      → then ≡ paths_after_sending packet (forgotten_entry packet (tracking_of (space_of space spaces))) paths
+      → AreBalanced (with_space spaces space here) then
   sent_balanced here then small is counts =
       let Come : Space P M → Type 0 = HasGreatestCome in
       let Balanced : OfPaths (Path K) → Type 0 = AreBalanced (with_space spaces space here) in
@@ -50,12 +53,14 @@ module _ {K P M : Type 0} (spaces : Spaces P M) (paths : OfPaths (Path K)) (bala
       (ap tracking_of is) (ap next_number_of is) (subst Come (sym is) (balanced.coherent space).received))
 
 -- what is known of the paths then: the controller was told
-module _ {K P M : Type 0} (packet : Packet P M) (there : Space P M) (change : PathState K → PathState K) (paths : OfPaths (Path K)) where
+module _ {K P M : Type 0} (packet : Packet P M) (there : Space P M) (change : PathState K → PathState K)
+    (paths : OfPaths (Path K)) where
   abbrev forgotten : Option (ℕ × Packet P M)
   forgotten = forgotten_entry packet (tracking_of there)
 
   abbrev known_as : ℕ → Option (PathKnown K) → OfPaths (PathKnown K)
-  known_as generation previous = record { current = record { generation = generation; state = change paths.current.state }; previous = previous }
+  known_as generation previous =
+      record { current = record { generation = generation; state = change paths.current.state }; previous = previous }
 
   previous_known : (previous : Option (Path K))
       → option_map path_known (option_map (on_ledger (λ ledger. after_forgetting ledger forgotten)) previous)
@@ -89,12 +94,16 @@ module _ {K Q S M P : Type 0} (q : QueueMeaning Q S M P) (old : Parts K P M)
   abbrev here_then : Space P M
   here_then = space_of space old.spaces
 
-  pub send_changes : (generation number : ℕ) (there : Space P M) (skipping : Skipping) (paths : OfPaths (Path K)) (forgotten : Option ℕ)
-      → generation ≡ generation_of old.paths.current.ledger → number ≡ number_behind old.skipping.filter space (next_number_of here_then) → number < 2 ^ 62
+  pub send_changes : (generation number : ℕ) (there : Space P M) (skipping : Skipping) (paths : OfPaths (Path K))
+      (forgotten : Option ℕ)
+      → generation ≡ generation_of old.paths.current.ledger
+      → number ≡ number_behind old.skipping.filter space (next_number_of here_then) → number < 2 ^ 62
       → (¬ Overflows (counters_of old.paths.current.ledger) (packet_at_generation generation))
       → forgotten ≡ entry_number (forgotten_entry (packet_at_generation generation) (tracking_of here_then))
-      → there ≡ space_sends number (packet_at_generation generation) here_then → skipping ≡ skipping_behind space (next_number_of here_then) old.skipping
-      → paths ≡ paths_telling (packet_at_generation generation) here_then (after_telling old.settings.words (sends_bytes now size number)) old.paths
+      → there ≡ space_sends number (packet_at_generation generation) here_then
+      → skipping ≡ skipping_behind space (next_number_of here_then) old.skipping
+      → paths ≡ paths_telling (packet_at_generation generation) here_then
+      (after_telling old.settings.words (sends_bytes now size number)) old.paths
       → Changes q old (Send space now size ack_eliciting largest_acked queue frames) (Ok (Sent number forgotten))
       (record old { spaces = with_space old.spaces space there; skipping = skipping; paths = paths })
   send_changes generation number there skipping paths forgotten own is left fits gone sends draws tells =
@@ -123,17 +132,20 @@ module _ {K Q S M P : Type 0} (q : QueueMeaning Q S M P) (old : Parts K P M)
           let is_known = is ∙ number_known old space in
           let small_number : number_in (known_to old) space < 2 ^ 62 = omega (arith, is_known, left) in
           let above = number_above old.skipping.filter space (next_number_of here_then) in
-          let above_known : next_number_of here_then ≤ number_in (known_to old) space = omega (arith, above, is, is_known) in
+          let above_known : next_number_of here_then ≤ number_in (known_to old) space =
+          omega (arith, above, is, is_known) in
           let step = sends ∙ ap (λ (n : ℕ). space_sends n packet here_then) is_known in
           let told = ap (λ (p : OfPaths (Path K)). paths_known p) tells
           ∙ telling_known packet here_then (after_telling old.settings.words (sends_bytes now size number))
           old.paths
           ∙ ap (λ (n : ℕ). known_as packet here_then (after_telling old.settings.words (sends_bytes now size n))
           old.paths (generation_of old.paths.current.ledger) (option_map path_known old.paths.previous)) is_known in
-          sent_changes q old space now size ack_eliciting largest_acked queue frames there skipping paths number forgotten live small small_number
+          sent_changes q old space now size ack_eliciting largest_acked queue frames there skipping paths number
+          forgotten live small small_number
           (subst Fits balanced.current fits) is_known (gone ∙ entry_number_of (tracking_of here_then).last_eliciting
           packet (packets_of here_then)) (above_known, step)
-          (number_skips old.spaces space (number_in (known_to old) space) packet old.skipping skipping (sym (number_known old space)) draws) told
+          (number_skips old.spaces space (number_in (known_to old) space) packet old.skipping skipping
+          (sym (number_known old space)) draws) told
           (ap (λ (p : OfPaths (Path K)). paths_marks p) tells
           ∙ telling_marks (packet_at_generation (generation_of old.paths.current.ledger)) here_then
           (after_telling old.settings.words (sends_bytes now size number)) old.paths)

@@ -149,7 +149,8 @@ module _ (remote : SocketAddr) (random : Stream) where
   corrupted_is_kept_is_wrong = λ told. cc
 
   bleached_is_wrong : ¬ Tells (drop 2 marked) (ecn 1 2 1 0) (Err (refusal.Ecn (text (codes "ECN bleaching"))))
-  bleached_is_wrong = λ told. let same : 14 ≡ 13 = ap (λ words. length (unwrap_or words [])) told.1 in omega (arith, same)
+  bleached_is_wrong = λ told. let same : 14 ≡ 13 =
+      ap (λ words. length (unwrap_or words [])) told.1 in omega (arith, same)
 
   more_marks_is_no_is_wrong : ¬ Tells (drop 1 marked) (ecn 1 2 0 1) (Ok (answer.Flag false))
   more_marks_is_no_is_wrong = λ told. cc

@@ -22,7 +22,12 @@ module _ (remote : SocketAddr) (random : Stream) where
   TellsAll = AllTold (row_start remote random 8 Disabled)
 
   abbrev frame : ℕ → ℕ → ℕ → NewConnectionId
-  frame n low byte = record { sequence = n; retire_prior_to = low; id = replicate 8 byte; reset_token = replicate 16 byte }
+  frame n low byte = record {
+    sequence = n;
+    retire_prior_to = low;
+    id = replicate 8 byte;
+    reset_token = replicate 16 byte;
+  }
 
   -- these numbers are to be retired, and the token of the active id is then of this byte
   abbrev retires : ℕ → ℕ → ℕ → Answer (List ℕ)
@@ -46,16 +51,27 @@ module _ (remote : SocketAddr) (random : Stream) where
   peers_told =
       tt
       ⊳ taken refl refl refl refl (λ not. not tt, omega arith)
-      ⊳ taken refl refl refl refl (λ not. not tt, moves 2 (replicate 8 7) refl refl refl refl (λ m less. grind (arith, nat_tests, less)))
-      ⊳ (refl, record { bound = omega arith; is_held = refl; least = λ m low less. absurd (omega (arith, low, less)) }, (replicate 8 8, refl))
+      ⊳ taken refl refl refl refl (
+        λ not. not tt,
+        moves 2 (replicate 8 7) refl refl refl refl (λ m less. grind (arith, nat_tests, less)),
+      )
+      ⊳ (
+        refl,
+        record { bound = omega arith; is_held = refl; least = λ m low less. absurd (omega (arith, low, less)) },
+        (replicate 8 8, refl),
+      )
       ⊳ (λ n above. grind (arith, nat_tests, above))
-      ⊳ taken refl refl refl refl (λ not. not tt, moves 1000000 (replicate 8 9) refl refl refl refl (λ m less. grind (arith, nat_tests, less)))
+      ⊳ taken refl refl refl refl (
+        λ not. not tt,
+        moves 1000000 (replicate 8 9) refl refl refl refl (λ m less. grind (arith, nat_tests, less)),
+      )
       ⊳ (λ e. omega (arith, e))
       ⊳ (small refl, omega arith)
 
   ends_late_is_wrong : ¬ Tells (drop 6 peers) (event.NewId (frame 3 1 8)) (Ok (retires 0 3 8))
   unfolding remote_ids_with first_held
-  ends_late_is_wrong = λ told. let given = told.1.1.1.1.1 in some_is_none (given.3.least 2 (omega arith) (omega (arith, given.4)))
+  ends_late_is_wrong = λ told. let given =
+      told.1.1.1.1.1 in some_is_none (given.3.least 2 (omega arith) (omega (arith, given.4)))
 
   retired_stays_is_wrong : ¬ Tells (drop 6 peers) (event.NewId (frame 3 1 8)) (Ok (answer.Retire None))
   unfolding remote_ids_with first_held
@@ -103,8 +119,14 @@ module _ (remote : SocketAddr) (random : Stream) where
       ⊳ taken refl refl refl refl (λ not. not tt, omega arith)
       ⊳ (small refl, (small refl, (small refl, omega arith)))
       ⊳ taken refl refl refl refl (λ same. differ refl same.0)
-      ⊳ taken refl refl refl refl (λ not. not (refl, refl), moves 7 (replicate 8 1) refl refl refl refl (λ m less. grind (arith, nat_tests, less)))
-      ⊳ taken refl refl refl refl (λ not. not tt, moves 2000 (replicate 8 3) refl refl refl refl (λ m less. grind (arith, nat_tests, less)))
+      ⊳ taken refl refl refl refl (
+        λ not. not (refl, refl),
+        moves 7 (replicate 8 1) refl refl refl refl (λ m less. grind (arith, nat_tests, less)),
+      )
+      ⊳ taken refl refl refl refl (
+        λ not. not tt,
+        moves 2000 (replicate 8 3) refl refl refl refl (λ m less. grind (arith, nat_tests, less)),
+      )
 
   other_id_is_taken_is_wrong : ¬ Tells (drop 6 conflicts) (event.NewId (frame 0 0 7)) (Ok (answer.Retire None))
   unfolding remote_ids_with first_held
@@ -133,8 +155,15 @@ module _ (remote : SocketAddr) (random : Stream) where
   unfolding remote_ids_with first_held
   far_told =
       tt
-      ⊳ taken refl refl refl refl (λ not. not tt, moves 1000000 (replicate 8 9) refl refl refl refl (λ m less. grind (arith, nat_tests, less)))
-      ⊳ taken refl refl refl refl (λ not. not tt, moves (2 ^ 62 - 1) (replicate 8 9) refl refl refl refl (λ m less. grind (arith, nat_tests, less)))
+      ⊳ taken refl refl refl refl (
+        λ not. not tt,
+        moves 1000000 (replicate 8 9) refl refl refl refl (λ m less. grind (arith, nat_tests, less)),
+      )
+      ⊳ taken refl refl refl refl (
+        λ not. not tt,
+        moves (2 ^ 62 - 1) (replicate 8 9) refl refl refl refl
+            (λ m less. grind (arith, nat_tests, less)),
+      )
       ⊳ omega arith
       ⊳ (small refl, (small refl, omega arith))
       ⊳ (λ n above. grind (arith, nat_tests, above))

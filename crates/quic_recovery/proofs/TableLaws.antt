@@ -56,12 +56,17 @@ same_test A a b is_a is_b = one_bool a b (λ t. is_b.1 (is_a.0 t)) (λ t. is_a.1
 
 abbrev of_number : ℕ → Refusal
 of_number n =
-    if n == 1 then refusal.NoMemory else if n == 2 then refusal.NumberTooLarge else if n == 3 then refusal.NumbersExhausted else
-    if n == 4 then refusal.NotTracked else if n == 5 then refusal.SpaceDiscarded else if n == 6 then refusal.NoSuchPath else
+    if n == 1 then refusal.NoMemory else if n == 2 then refusal.NumberTooLarge else if n ==
+    3 then refusal.NumbersExhausted else
+    if n == 4 then refusal.NotTracked else if n == 5 then refusal.SpaceDiscarded else if n == 6 then refusal.NoSuchPath
+    else
     if n == 7 then refusal.Searching else if n == 8 then refusal.ZeroMtu else if n == 9 then refusal.Overflow else
-    if n == 10 then refusal.Retired else if n == 11 then refusal.ExceedsLimit else if n == 12 then refusal.BadRetirePriorTo else
-    if n == 13 then refusal.CidsNotInUse else if n == 14 then refusal.UnissuedCid else if n == 15 then refusal.DelayTooSmall else
-    if n == 16 then refusal.SkippedAcked else if n == 18 then refusal.NotInitialId else if n == 19 then refusal.BadRange else refusal.Conflict
+    if n == 10 then refusal.Retired else if n == 11 then refusal.ExceedsLimit else if n ==
+    12 then refusal.BadRetirePriorTo else
+    if n == 13 then refusal.CidsNotInUse else if n == 14 then refusal.UnissuedCid else if n ==
+    15 then refusal.DelayTooSmall else
+    if n == 16 then refusal.SkippedAcked else if n == 18 then refusal.NotInitialId else if n == 19 then refusal.BadRange
+    else refusal.Conflict
 
 named : (e : Refusal) → (refusal_number e == 17) ≡ false → e ≡ of_number (refusal_number e)
 named refusal.NoMemory no_text = refl
@@ -116,7 +121,8 @@ pub not_held : (entry : Option (List ℕ × Option (List ℕ))) → IsSome entry
 not_held None some none = cc
 not_held (Some entry) some none = none-some entry (sym none)
 
-pub least_held : (held : Table) (low one other : ℕ) → IsLeastHeld held low one → IsLeastHeld held low other → one ≡ other
+pub least_held : (held : Table) (low one other : ℕ) → IsLeastHeld held low one → IsLeastHeld held low other
+    → one ≡ other
 least_held held low one other is_one is_other =
     omega (arith, not_before one other is_one is_other, not_before other one is_other is_one)
   where
@@ -127,7 +133,8 @@ module _ {Q S M P : Type 0} (q : QueueMeaning Q S M P) where
   -- of two replies that may be given, neither of which says that memory was refused, both are the same
   abbrev Decides : (Reply Q → Type 0) → Type 0
   Decides Replies =
-      (one other : Reply Q) → one ≢ Err refusal.NoMemory → other ≢ Err refusal.NoMemory → Replies one → Replies other → SameReply q.contents one other
+      (one other : Reply Q) → one ≢ Err refusal.NoMemory → other ≢ Err refusal.NoMemory → Replies one → Replies other
+      → SameReply q.contents one other
 
   abbrev Agree : (Answer Q → Type 0) → Type 0
   Agree IsAnswer = (one other : Answer Q) → IsAnswer one → IsAnswer other → SameAnswer q.contents one other
@@ -193,7 +200,8 @@ module _ {Q S M P : Type 0} (q : QueueMeaning Q S M P) where
   on_path : {K : Type 0} (path : Option (PathKnown K)) (Replies : PathKnown K → Reply Q → Type 0)
       → ((there : PathKnown K) → Decides (Replies there)) → Decides (OnPath path Replies)
   on_path None Replies decides =
-      refuses_decide refusal.NoSuchPath (Unit {0}) (λ reply. ⊥) refl (λ one other here there told_one told_other. absurd told_one)
+      refuses_decide refusal.NoSuchPath (Unit {0}) (λ reply. ⊥) refl (λ one other here there told_one told_other.
+      absurd told_one)
   on_path (Some path) Replies decides = decides path
 
   -- ---- answers
@@ -266,7 +274,8 @@ module _ {Q S M P : Type 0} (q : QueueMeaning Q S M P) where
   same_token held n one other has_one has_other =
       let entry : List ℕ × Option (List ℕ) = (has_one.0, Some one) in
       let too : List ℕ × Option (List ℕ) = (has_other.0, Some other) in
-      same_Some one other (ap (λ (e : List ℕ × Option (List ℕ)). e.1) (same_Some entry too (sym has_one.1 ∙ has_other.1)))
+      same_Some one other (ap (λ (e : List ℕ × Option (List ℕ)). e.1)
+      (same_Some entry too (sym has_one.1 ∙ has_other.1)))
 
   abbrev retires : ℕ → ℕ → List ℕ → Answer Q
   retires start end token = answer.Retire (Some (record { start = start; end = end }, token))
@@ -277,7 +286,8 @@ module _ {Q S M P : Type 0} (q : QueueMeaning Q S M P) where
   same_range held one other next last start end same has_one has_other =
       let Has : ℕ → Type 0 = λ n. HasToken held n one.1 in
       let token = same_token held last one.1 other.1 (subst Has same has_one) has_other in
-      ap (λ s. retires s one.0.end one.1) start ∙ ap (λ e. retires other.0.start e one.1) end ∙ ap (λ t. retires other.0.start other.0.end t) token
+      ap (λ s. retires s one.0.end one.1) start ∙ ap (λ e. retires other.0.start e one.1) end
+      ∙ ap (λ t. retires other.0.start other.0.end t) token
 
   -- none above the active one is held, and yet one is
   none_next : (ids : RemoteIds) (n : ℕ) → ((m : ℕ) → ids.active < m → ids.held m ≡ None)
@@ -296,7 +306,8 @@ module _ {Q S M P : Type 0} (q : QueueMeaning Q S M P) where
       let last = is_other.2 in
       let same = least_held held 0 next last is_one.3 is_other.3 in
       same_range held one other next last (is_one.1 ∙ sym is_other.1)
-      (is_one.4 ∙ ap (λ n. min n (ids.active + active_connection_id_limit)) same ∙ sym is_other.4) same is_one.5 is_other.5
+      (is_one.4 ∙ ap (λ n. min n (ids.active + active_connection_id_limit)) same ∙ sym is_other.4) same is_one.5
+      is_other.5
   frame_agree ids frame (answer.Retire one) other is_one is_other = absurd is_other
   frame_agree ids frame one other is_one is_other = absurd is_one
 
@@ -323,9 +334,11 @@ module _ {Q S M P : Type 0} (q : QueueMeaning Q S M P) where
   probe_out : {K : Type 0} (known : Known K P M) (now : ℕ) (due : Option ℕ) → Decides (ProbeOutReply q known now due)
   probe_out known now None = is_decided answer.NoProbe
   probe_out known now (Some size) =
-      refuses_decide refusal.Overflow _ _ refl (answers_decide (Unit {0}) _ (is_agree (answer.Probe known.numbers.next size)))
+      refuses_decide refusal.Overflow _ _ refl
+      (answers_decide (Unit {0}) _ (is_agree (answer.Probe known.numbers.next size)))
 
-  pub decides : {K : Type 0} (words : ControllerWords K) (heard : SpaceId → Heard) (known : Known K P M) (event : Event Q S M P)
+  pub decides : {K : Type 0} (words : ControllerWords K) (heard : SpaceId → Heard) (known : Known K P M)
+      (event : Event Q S M P)
       → Decides (ToldBy q words heard known event)
   decides words heard known (Received space now number eliciting) =
       in_space (known.spaces space) _ (refuses_decide refusal.NumberTooLarge _ _ refl
@@ -348,7 +361,8 @@ module _ {Q S M P : Type 0} (q : QueueMeaning Q S M P) where
   decides words heard known NextId = always_decide _ (next_agree known.remote_ids)
   decides words heard known (InitialId id) = refuses_decide refusal.NotInitialId _ _ refl (is_decided answer.Done)
   decides words heard known (IssueIds now ids) =
-      refuses_decide refusal.NumberTooLarge _ _ refl (refuses_decide refusal.BadRange _ _ refl (answers_decide _ _ (is_agree answer.Done)))
+      refuses_decide refusal.NumberTooLarge _ _ refl
+      (refuses_decide refusal.BadRange _ _ refl (answers_decide _ _ (is_agree answer.Done)))
   decides words heard known IdTimeout = is_decided (timeout_answer known.local_ids)
   decides words heard known (PeerRetired sequence limit) =
       refuses_decide refusal.CidsNotInUse _ _ refl (refuses_decide refusal.UnissuedCid _ _ refl
@@ -371,7 +385,9 @@ module _ {Q S M P : Type 0} (q : QueueMeaning Q S M P) where
   decides words heard known (Congestion now sent persistent bytes) = is_decided answer.Done
   decides words heard known (EndAcks now app_limited largest) = is_decided answer.Done
   decides words heard known (PollMtu now) =
-      in_space (known.spaces Data) _ (refuses_decide refusal.NumbersExhausted _ _ refl (probe_out known now (poll_of now known.paths.current.state.discovery)))
+      in_space (known.spaces Data) _
+      (refuses_decide refusal.NumbersExhausted _ _ refl
+      (probe_out known now (poll_of now known.paths.current.state.discovery)))
   decides words heard known (PeerLimit size) =
       refuses_decide refusal.ZeroMtu _ _ refl (refuses_decide refusal.Searching _ _ refl (is_decided answer.Done))
   decides words heard known (LossesDone now) = is_decided _
@@ -404,14 +420,16 @@ module _ {K P M : Type 0} (known : Known K P M) where
   in_flight_known : (paths : OfPaths (Path K)) → InFlightLeft known paths
       → each_path (λ path. counters_of path.ledger) paths ≡ each_path (in_flight_on known) (paths_known paths)
   in_flight_known paths left =
-      let both : Counters → Option Counters → OfPaths Counters = λ current previous. record { current = current; previous = previous } in
+      let both : Counters → Option Counters → OfPaths Counters =
+      λ current previous. record { current = current; previous = previous } in
       ap₂ both left.current (previous_in_flight paths.previous left.previous)
 
   in_flight_alike : (one other : OfPaths (Path K)) → InFlightLeft known one → InFlightLeft known other
       → paths_known one ≡ paths_known other
       → each_path (λ path. counters_of path.ledger) one ≡ each_path (λ path. counters_of path.ledger) other
   in_flight_alike one other left too same =
-      in_flight_known one left ∙ ap (λ (all : OfPaths (PathKnown K)). each_path (in_flight_on known) all) same ∙ sym (in_flight_known other too)
+      in_flight_known one left ∙ ap (λ (all : OfPaths (PathKnown K)). each_path (in_flight_on known) all) same
+      ∙ sym (in_flight_known other too)
 
 module _ {F K Q S M P : Type 0} (beginning : Beginning F K Q S M P) (history : History Q S M P) where
   pub one_reply_to : (event : Event Q S M P) (one other : Reply Q) → Told beginning history event one

@@ -163,7 +163,8 @@ module _ (remote : SocketAddr) (random : Stream) (given : Vec IssuedCid) where
 
   stopped_is_wrong : ¬ Tells (drop 1 timers) (event.NextTimeout) (Ok (answer.Timeout (Some 20)))
   stopped_is_wrong = λ told.
-      let below = subst (λ m. 50 ≤ unwrap_or m 50) told.0.1 (from_50 (at_pacing told.0.0) (at_idle told.0.0)) in omega (arith, below)
+      let below = subst (λ m. 50 ≤ unwrap_or m 50) told.0.1 (from_50 (at_pacing told.0.0) (at_idle told.0.0)) in omega
+      (arith, below)
 
   none_is_wrong : ¬ Tells (drop 1 timers) (event.NextTimeout) (Ok (answer.Timeout None))
   none_is_wrong = λ told. some_is_none (told Idle)

@@ -60,10 +60,25 @@ module _ (remote : SocketAddr) (random : Stream) where
   in_spaces_told : TellsAll in_spaces
   in_spaces_told =
       tt
-      ⊳ (unrefused, (small refl, (inl (λ m came. absurd came), leaves_a_gap (omega arith) (λ c. grind (arith, c)) (λ m c. grind (arith, c)))))
+      ⊳ (
+        unrefused,
+        (
+          small refl,
+          (inl (λ m came. absurd came), leaves_a_gap (omega arith) (λ c. grind (arith, c)) (λ m c. grind (arith, c))),
+        ),
+      )
       ⊳ (unrefused, (small refl, (inl (λ m came. absurd came), starts (at_first (in_turn 0 1 None (omega arith))))))
       ⊳ (unrefused, (small refl, (inl (λ m came. absurd came), stays (λ all. unrefused all.0))))
-      ⊳ (unrefused, (small refl, (inl (λ m c. grind (arith, c)), leaves_a_gap (omega arith) (λ c. grind (arith, c)) (λ m c. grind (arith, c)))))
+      ⊳ (
+        unrefused,
+        (
+          small refl,
+          (
+            inl (λ m c. grind (arith, c)),
+            leaves_a_gap (omega arith) (λ c. grind (arith, c)) (λ m c. grind (arith, c)),
+          ),
+        ),
+      )
 
   -- ---- the window ends 128 below the greatest number
 
@@ -80,7 +95,13 @@ module _ (remote : SocketAddr) (random : Stream) where
       tt
       ⊳ (unrefused, (small refl, (inl (λ m came. absurd came), stays (λ all. unrefused all.0))))
       ⊳ (unrefused, (small refl, too_old 300 (inl refl) (omega arith)))
-      ⊳ (unrefused, (small refl, (inr (λ c. grind (arith, c), λ m c. grind (arith, c)), stays (λ all. unrefused all.0))))
+      ⊳ (
+        unrefused,
+        (
+          small refl,
+          (inr (λ c. grind (arith, c), λ m c. grind (arith, c)), stays (λ all. unrefused all.0)),
+        ),
+      )
       ⊳ (unrefused, (small refl, came_again 172 (inl refl)))
 
   -- ---- ACK_FREQUENCY: an ACK for four packets, and a reordering threshold of 2
@@ -99,8 +120,20 @@ module _ (remote : SocketAddr) (random : Stream) where
       tt
       ⊳ (unrefused, (λ h. omega (arith, h.1), (λ on s. s, λ n. refl)))
       ⊳ (unrefused, (small refl, (inl (λ m came. absurd came), starts (at_first (patient 0)))))
-      ⊳ (unrefused, (small refl, (inl (λ m c. grind (arith, c)), stays (λ all. all.1 (0, inr (refl, at_first (patient 0)))))))
-      ⊳ (unrefused, (small refl, (inl (λ m c. grind (arith, c)), stays (λ all. all.1 (0, inl (inr (refl, at_first (patient 0))))))))
+      ⊳ (
+        unrefused,
+        (
+          small refl,
+          (inl (λ m c. grind (arith, c)), stays (λ all. all.1 (0, inr (refl, at_first (patient 0))))),
+        ),
+      )
+      ⊳ (
+        unrefused,
+        (
+          small refl,
+          (inl (λ m c. grind (arith, c)), stays (λ all. all.1 (0, inl (inr (refl, at_first (patient 0)))))),
+        ),
+      )
       ⊳ (unrefused, refl)
 
   -- 3 is missing, two below 5 but one below 4
@@ -121,7 +154,8 @@ module _ (remote : SocketAddr) (random : Stream) where
                 omega arith,
                 omega arith,
                 (λ c. grind (arith, c), λ m c. grind (arith, c)),
-                λ m low high missing. elim (eq-or-lt_of_le low) [ inl two ↦ absurd (missing.0 (inr (inl (sym two)))) | inr more ↦ more ],
+                λ m low high missing.
+                    elim (eq-or-lt_of_le low) [ inl two ↦ absurd (missing.0 (inr (inl (sym two)))) | inr more ↦ more ],
               ),
               omega arith,
             ),
@@ -132,15 +166,21 @@ module _ (remote : SocketAddr) (random : Stream) where
   )
 
   near_enough : Tells asked (event.Received Data 3 4 true) (Ok (answer.New true))
-  near_enough =
-      (unrefused, (small refl, (inl (λ m c. grind (arith, c)), starts (calm (λ s. s.1) (λ r. r) (not_far (inr (inl refl)))))))
+  near_enough = (
+    unrefused,
+    (
+      small refl,
+      (inl (λ m c. grind (arith, c)), starts (calm (λ s. s.1) (λ r. r) (not_far (inr (inl refl))))),
+    ),
+  )
 
   -- ---- wrong answers
 
   one_too_large_is_wrong : ¬ Tells (drop 1 arrivals) (event.Received Data 7 (2 ^ 62) true) (Ok (answer.New true))
   one_too_large_is_wrong = λ told. told.1.0 (omega arith)
 
-  largest_is_refused_is_wrong : ¬ Tells (drop 1 arrivals) (event.Received Data 7 (2 ^ 62 - 1) true) (Err refusal.NumberTooLarge)
+  largest_is_refused_is_wrong : ¬ Tells (drop 1 arrivals) (event.Received Data 7 (2 ^ 62 - 1) true)
+      (Err refusal.NumberTooLarge)
   largest_is_refused_is_wrong = λ told. omega (arith, told.1)
 
   first_is_no_duplicate : ¬ Tells [] (event.Received Data 0 0 true) (Ok answer.Duplicate)

@@ -100,7 +100,8 @@ module _ (remote : SocketAddr) (random : Stream) where
   standing_takes_none : ¬ Tells (drop 3 queues) (event.QueueProbe Data false tt) (Err refusal.NoMemory)
   standing_takes_none = λ told. told.1
 
-  ping_is_other : ¬ Tells [] (event.QueueProbe Data false tt) (Ok (answer.Sendable (record { acks = false; other = false })))
+  ping_is_other : ¬ Tells [] (event.QueueProbe Data false tt)
+      (Ok (answer.Sendable (record { acks = false; other = false })))
   ping_is_other = λ told. cc
 
   joins_take_memory : Tells (drop 2 queues) (event.Lost Data 0) (Err refusal.NoMemory)

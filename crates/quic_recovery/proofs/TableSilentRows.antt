@@ -1,4 +1,5 @@
--- Worked rows of the table of replies: of silent packets 1001 are tracked at most, and the first of them is forgotten first.
+-- Worked rows of the table of replies: of silent packets 1001 are tracked at most, and the first of them is forgotten
+-- first.
 use Rattle.std.proofs.Common.{◌≡◌, ℕ, zero, suc, ◌+◌, ◌*◌, ◌≤◌, ◌^◌, ◌++◌, false, nat_lt, if◌then◌else◌, IsTrue, List, [], ◌∷◌, length, sum_by, Option, None, Some, Ok, refl, sym, ap, ap₂, inl, inr, ◌⊎◌, unwrap_or, ◌∙◌, subst, arith, add-one}
 use Rattle.std.proofs.lemmas.Bool.{le-ltb, lt-ltb}
 use Rattle.std.proofs.lemmas.List.{length-append}
@@ -40,7 +41,8 @@ all_silent : (n : ℕ) → silent_above None (tracked n) ≡ tracked n
 unfolding tracked
 all_silent zero = refl
 all_silent (suc n) =
-    filter-append (is_silent_above None) (tracked n) ((n, silent) ∷ []) ∙ ap (λ ps. ps ++ (n, silent) ∷ []) (all_silent n)
+    filter-append (is_silent_above None) (tracked n) ((n, silent) ∷ [])
+    ∙ ap (λ ps. ps ++ (n, silent) ∷ []) (all_silent n)
 
 as_many : (n : ℕ) → length (tracked n) ≡ n
 unfolding tracked
@@ -133,7 +135,12 @@ module _ (remote : SocketAddr) (random : Stream) where
       ≡ record { next = suc n; last = None; tracked = tracked (suc n) }
   unfolding tracked
   sent_one n few =
-      ap₂ (λ k forgotten. record { next = k; last = None; tracked = without_some (tracked n) forgotten ++ (n, silent) ∷ [] })
+      ap₂ (λ k forgotten. record {
+        next = k;
+        last = None;
+        tracked = without_some (tracked n) forgotten ++ (n, silent)
+            ∷ [];
+      })
       (add-one n) (none_forgotten n few)
 
   after : (n : ℕ) → n ≤ 1001 → After n
@@ -181,7 +188,8 @@ module _ (remote : SocketAddr) (random : Stream) where
   number_now n now = next_number (sent_by item_words ((logs n).spaces Data)).next ∙ ap (λ s. s.next) now.sent
 
   room : (n : ℕ) → n ≤ 1001
-      → ¬ ((2 ^ 64 ≤ (counters 0 [] [] (tracked n)).bytes + 40) ⊎ (2 ^ 64 ≤ (counters 0 [] [] (tracked n)).ack_eliciting + 0))
+      → ¬ ((2 ^ 64 ≤ (counters 0 [] [] (tracked n)).bytes + 40)
+      ⊎ (2 ^ 64 ≤ (counters 0 [] [] (tracked n)).ack_eliciting + 0))
   room n few (inl many) = let bytes = bytes_tracked n in omega (arith, few, many, bytes)
   room n few (inr often) = let none = none_elicit n in omega (arith, often, none)
 
@@ -197,7 +205,8 @@ module _ (remote : SocketAddr) (random : Stream) where
           (
             λ large. omega (arith, few, number, large),
             (
-              λ over. room n few (subst (λ c. (2 ^ 64 ≤ c.bytes + 40) ⊎ (2 ^ 64 ≤ c.ack_eliciting + 0)) (in_flight_now n now) over),
+              λ over. room n few (subst (λ c. (2 ^ 64 ≤ c.bytes + 40) ⊎ (2 ^ 64 ≤ c.ack_eliciting + 0))
+                  (in_flight_now n now) over),
               sym (ap₂ answer.Sent number (ap (λ s. forgotten_silent s.last s.tracked) now.sent ∙ is)),
             ),
           ),
@@ -221,7 +230,8 @@ module _ (remote : SocketAddr) (random : Stream) where
 
   one_is_wrong : ¬ Tells (silents 1001) send (Ok (answer.Sent 1001 (Some 1)))
   one_is_wrong = λ told.
-      let same : ◌≡◌ {A = ℕ} 0 1 = ap (λ given. unwrap_or (forgotten_in given) 0) (zero_is_forgotten.1.1.1.1 ∙ sym told.1.1.1.1) in
+      let same : ◌≡◌ {A = ℕ} 0 1 =
+      ap (λ given. unwrap_or (forgotten_in given) 0) (zero_is_forgotten.1.1.1.1 ∙ sym told.1.1.1.1) in
       omega (arith, same)
 
   too_early_is_wrong : ¬ Tells (silents 1000) send (Ok (answer.Sent 1000 (Some 0)))
@@ -248,24 +258,32 @@ module _ (remote : SocketAddr) (random : Stream) where
       flight (counters first initial handshake
       (sent_more (number_from Disabled random sent.next) (packet_sent first 0 40 false None [] tt) sent).tracked)
 
-  flight_behind : flight_then 0 [] [] (record { next = 1001; last = None; tracked = tracked 1001 }) ≡ answer.InFlight 40040 0
+  flight_behind : flight_then 0 [] [] (record { next = 1001; last = None; tracked = tracked 1001 }) ≡ answer.InFlight
+      40040 0
   flight_behind =
-      ap (λ k. flight (counters 0 [] [] (sent_more k silent (record { next = 1001; last = None; tracked = tracked 1001 })).tracked))
+      ap (λ k. flight (counters 0 [] []
+      (sent_more k silent (record { next = 1001; last = None; tracked = tracked 1001 })).tracked))
       (next_number 1001)
       ∙ (ap (λ ps. flight (counters 0 [] [] ps)) packets_behind
       ∙ ap₂ answer.InFlight
-      (ap (λ b. 0 + 0 + b) (sum_by-append (size_in 0) (behind 1000) ((1001, silent) ∷ []) ∙ ap (λ b. b + 40) (bytes_behind 1000)))
-      (ap (λ e. 0 + 0 + e) (sum_by-append (eliciting_in 0) (behind 1000) ((1001, silent) ∷ []) ∙ ap (λ e. e + 0) (none_behind 1000))))
+      (ap (λ b. 0 + 0 + b) (sum_by-append (size_in 0) (behind 1000) ((1001, silent) ∷ [])
+      ∙ ap (λ b. b + 40) (bytes_behind 1000)))
+      (ap (λ e. 0 + 0 + e) (sum_by-append (eliciting_in 0) (behind 1000) ((1001, silent) ∷ [])
+      ∙ ap (λ e. e + 0) (none_behind 1000))))
 
-  behind_it : Tells ((send, Ok (answer.Sent 1001 (Some 0))) ∷ silents 1001) (event.InFlight Current) (Ok (answer.InFlight 40040 0))
+  behind_it : Tells ((send, Ok (answer.Sent 1001 (Some 0))) ∷ silents 1001) (event.InFlight Current)
+      (Ok (answer.InFlight 40040 0))
   behind_it =
       let now = after 1001 (omega arith) in
       let sent = sent_by item_words ((logs 1001).spaces Data) in
       sym (ap (λ first. flight_then first ((logs 1001).spaces Initial) ((logs 1001).spaces Handshake) sent) now.first
       ∙ (ap (λ log. flight_then 0 log ((logs 1001).spaces Handshake) sent) now.initial
-      ∙ (ap (λ log. flight_then 0 [] log sent) now.handshake ∙ (ap (λ s. flight_then 0 [] [] s) now.sent ∙ flight_behind))))
+      ∙ (ap (λ log. flight_then 0 [] log sent) now.handshake
+      ∙ (ap (λ s. flight_then 0 [] [] s) now.sent ∙ flight_behind))))
 
   -- not 1002 packets
-  forgotten_in_flight_is_wrong : ¬ Tells ((send, Ok (answer.Sent 1001 (Some 0))) ∷ silents 1001) (event.InFlight Current)
+  forgotten_in_flight_is_wrong : ¬ Tells ((send, Ok (answer.Sent 1001 (Some 0))) ∷ silents 1001)
+      (event.InFlight Current)
       (Ok (answer.InFlight 40080 0))
-  forgotten_in_flight_is_wrong = λ told. let same : 40080 ≡ 40040 = ap said (told ∙ sym behind_it) in omega (arith, same)
+  forgotten_in_flight_is_wrong = λ told. let same : 40080 ≡ 40040 =
+      ap said (told ∙ sym behind_it) in omega (arith, same)

@@ -38,25 +38,32 @@ to_past past bounded = λ unproved checked. bounded unproved
 module _ {K Q S M P : Type 0} where
   -- of the previous path, where it lives; one that does not live has no datagrams
   from_previous : (validated : Bool) (here : History Q S M P) (past : Option (PathPast K))
-      → IsFlowWhereLives validated here (option_map flow_of past) → ForSome past IsWithinThreefold → IsBounded (flow_by validated here)
-  from_previous validated here None is within = subst (λ h. IsBounded (flow_by validated h)) (sym is) (λ unproved checked. omega arith)
+      → IsFlowWhereLives validated here (option_map flow_of past) → ForSome past IsWithinThreefold
+      → IsBounded (flow_by validated here)
+  from_previous validated here None is within =
+      subst (λ h. IsBounded (flow_by validated h)) (sym is) (λ unproved checked. omega arith)
   from_previous validated here (Some past) is within = subst IsBounded (sym is) (from_past past (within past refl))
 
   to_previous : (validated : Bool) (here : History Q S M P) (past : Option (PathPast K))
-      → IsFlowWhereLives validated here (option_map flow_of past) → IsBounded (flow_by validated here) → ForSome past IsWithinThreefold
+      → IsFlowWhereLives validated here (option_map flow_of past) → IsBounded (flow_by validated here)
+      → ForSome past IsWithinThreefold
   to_previous validated here None is bounded = λ past none. none_is_some none
   to_previous validated here (Some past) is bounded =
       λ other some. subst IsWithinThreefold (some_same some) (to_past past (subst IsBounded is bounded))
 
-  module _ (first : Bool) (history : History Q S M P) (pasts : OfPaths (PathPast K)) (same : AreFlows first history (each_path flow_of pasts)) where
+  module _ (first : Bool) (history : History Q S M P) (pasts : OfPaths (PathPast K))
+      (same : AreFlows first history (each_path flow_of pasts)) where
     by_events : OnEachPath IsWithinThreefold pasts → SendsThreefold first history
     by_events within Current = subst IsBounded (sym same.0) (from_past pasts.current within.0)
-    by_events within Previous = from_previous (is_validated first Previous history) (datagrams_on Previous history) pasts.previous same.1 within.1
+    by_events within Previous =
+        from_previous (is_validated first Previous history) (datagrams_on Previous history) pasts.previous same.1
+        within.1
 
     by_pasts : SendsThreefold first history → OnEachPath IsWithinThreefold pasts
     by_pasts sends = (
       to_past pasts.current (subst IsBounded same.0 (sends Current)),
-      to_previous (is_validated first Previous history) (datagrams_on Previous history) pasts.previous same.1 (sends Previous),
+      to_previous (is_validated first Previous history) (datagrams_on Previous history) pasts.previous same.1
+          (sends Previous),
     )
 
 module _ {F K Q S M P : Type 0} (beginning : Beginning F K Q S M P) where
@@ -65,17 +72,20 @@ module _ {F K Q S M P : Type 0} (beginning : Beginning F K Q S M P) where
 
   keeps : (before : History Q S M P) (event : Event Q S M P) (reply : Reply Q) → Told beginning before event reply
       → Kept before → Kept ((event, reply) ∷ before)
-  keeps before event reply told kept = (flows_after beginning before event reply told kept.0, after_one beginning before event reply told kept.1)
+  keeps before event reply told kept =
+      (flows_after beginning before event reply told kept.0, after_one beginning before event reply told kept.1)
 
   holds : (before : History Q S M P) (event : Event Q S M P) (reply : Reply Q) → Told beginning before event reply
       → Kept before → KeepsThreefold beginning.config.validated before event reply
   holds before event reply told kept =
       let after = keeps before event reply told kept in
-      by_events beginning.config.validated ((event, reply) ∷ before) (pasts_of beginning ((event, reply) ∷ before)) after.0 after.1
+      by_events beginning.config.validated ((event, reply) ∷ before) (pasts_of beginning ((event, reply) ∷ before))
+      after.0 after.1
 
   -- throughout a run
   pub sends_threefold : (events : List (Event Q S M P)) (replies : List (Reply Q))
-      → Throughout (Told beginning) events replies → Throughout (KeepsThreefold beginning.config.validated) events replies
+      → Throughout (Told beginning) events replies
+      → Throughout (KeepsThreefold beginning.config.validated) events replies
   sends_threefold events replies told =
       throughout_kept beginning Kept (KeepsThreefold beginning.config.validated) keeps holds [] events replies told
       (flows_at_first beginning, within_at_first (settings_of beginning) (first_path beginning))

@@ -24,7 +24,8 @@ use Rattle.quic_recovery.specs.Promises.Timeouts.{earlier_of, every_timer, least
 module _ {K Q S M P : Type 0} (q : QueueMeaning Q S M P) (known : Known K P M) (earlier : History Q S M P)
     (log : List TimerEntry) (timer : Timer) (same : moment_of earlier timer ≡ last_set timer log) where
   answer_same : (event : Event Q S M P) (answer : Answer Q)
-      → moment_of ((event, Ok answer) ∷ earlier) timer ≡ last_set timer (onto (answered q known event answer).timers log)
+      → moment_of ((event, Ok answer) ∷ earlier) timer ≡ last_set timer
+      (onto (answered q known event answer).timers log)
   answer_same (SetTimer other time) answer = ap (λ o. if same_timer timer other then Some time else o) same
   answer_same (StopTimer other) answer = ap (λ o. if same_timer timer other then None else o) same
   answer_same (Received space now number eliciting) (New arm) = same
@@ -57,7 +58,8 @@ module _ {F K Q S M P : Type 0} (beginning : Beginning F K Q S M P) where
   all_same [] timer = refl
   all_same (happened ∷ earlier) timer =
       let logs = logs_of beginning earlier in
-      reply_same beginning.queue (known_by beginning logs) earlier logs.timers timer (all_same earlier timer) happened.0 happened.1
+      reply_same beginning.queue (known_by beginning logs) earlier logs.timers timer (all_same earlier timer) happened.0
+      happened.1
 
 -- ---- the least of them
 

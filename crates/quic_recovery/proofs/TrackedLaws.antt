@@ -1,4 +1,5 @@
--- A packet is tracked by its space exactly where the history says so; and each number that was given out, once at most, has one fate.
+-- A packet is tracked by its space exactly where the history says so; and each number that was given out, once at most,
+-- has one fate.
 use Rattle.std.proofs.Common.{◌≡◌, ◌≤◌, ◌+◌, ℕ, ◌==◌, ◌&&◌, ◌||◌, not, Bool, true, false, cond, List, [], ◌∷◌, Option, None, Some, Ok, Err, refl, sym, ap, subst, arith}
 use Rattle.std.specs.Prelude.{is_some, sum_by}
 use Rattle.std.specs.BTreeMap.{is_at}
@@ -77,7 +78,8 @@ abbrev Adds : ℕ → Bool → ℕ → Type 0
 Adds given tracked departed = given ≡ more_if tracked departed
 
 -- it is given out, or another one is, and perhaps it is forgotten
-adds_sent : (here forgotten tracked : Bool) (given departed : ℕ) → Adds given tracked departed → (here ≡ true → given ≡ 0)
+adds_sent : (here forgotten tracked : Bool) (given departed : ℕ) → Adds given tracked departed
+    → (here ≡ true → given ≡ 0)
     → (forgotten ≡ true → tracked ≡ true)
     → Adds (more_if here given) (here || (not forgotten && tracked)) (more_if forgotten departed)
 adds_sent true forgotten true given departed adds new there = let none = new refl in absurd (omega (arith, adds, none))
@@ -96,7 +98,8 @@ none_sent true given other none = cc
 none_sent false given other none = none
 
 -- it leaves, where it is the one that does
-adds_less : (here tracked : Bool) (count given departed : ℕ) → count + cond here 1 0 ≡ cond tracked 1 0 → Adds given tracked departed
+adds_less : (here tracked : Bool) (count given departed : ℕ) → count + cond here 1 0 ≡ cond tracked 1 0
+    → Adds given tracked departed
     → Adds given (not here && tracked) (more_if here departed)
 adds_less true true count given departed sum adds = adds
 adds_less true false count given departed sum adds = absurd (omega (arith, sum))
@@ -111,8 +114,8 @@ untracked true given departed adds none = absurd (omega (arith, adds, none))
 untracked false given departed adds none = refl
 
 module _ {P M : Type 0} (n : ℕ) where
-  -- the number stands there once where it is tracked, and else not; it was given out once at most, and not yet from the next one on;
-  -- and where it was it is tracked, or gone
+  -- the number stands there once where it is tracked, and else not; it was given out once at most, and not yet from the
+  -- next one on; and where it was it is tracked, or gone
   pub record Tracks (sent : Sent P M) (tracked : Bool) (given departed : ℕ) : Type 0 where
     pub same : times n sent.tracked ≡ cond tracked 1 0
     pub adds : Adds given tracked departed
@@ -159,7 +162,8 @@ module _ {P M : Type 0} (n : ℕ) where
           grind (arith, nat_tests, one, same)
 
   -- what is forgotten stands there
-  least_counts : (last : Option ℕ) (packets : Packets P M) → least_number (silent_above last packets) ≡ Some n → 1 ≤ times n packets
+  least_counts : (last : Option ℕ) (packets : Packets P M) → least_number (silent_above last packets) ≡ Some n
+      → 1 ≤ times n packets
   least_counts last [] is = cc
   least_counts last (entry ∷ packets) is = go (is_silent_above last entry) is (least_counts last packets)
     where
@@ -178,17 +182,21 @@ module _ {P M : Type 0} (n : ℕ) where
           let there = later is in
           omega (arith, cons, there)
 
-  forgotten_stands : (sent : Sent P M) (packet : Packet P M) → is_it n (forgotten_by sent packet) ≡ true → 1 ≤ times n sent.tracked
+  forgotten_stands : (sent : Sent P M) (packet : Packet P M) → is_it n (forgotten_by sent packet) ≡ true
+      → 1 ≤ times n sent.tracked
   forgotten_stands sent packet is = eliciting packet.ack_eliciting is
     where
-      silent : (f : Option ℕ) → forgotten_silent sent.last sent.tracked ≡ f → is_it n f ≡ true → 1 ≤ times n sent.tracked
+      silent : (f : Option ℕ) → forgotten_silent sent.last sent.tracked ≡ f → is_it n f ≡ true
+          → 1 ≤ times n sent.tracked
       silent None e is = cc
       silent (Some m) e is =
           let same : m ≡ n = grind (arith, nat_tests, is) in
           let least = is_forgotten sent.last sent.tracked m e in
-          least_counts sent.last sent.tracked (subst (λ k. least_number (silent_above sent.last sent.tracked) ≡ Some k) same least)
+          least_counts sent.last sent.tracked (subst (λ k. least_number (silent_above sent.last sent.tracked) ≡ Some k)
+          same least)
 
-      eliciting : (b : Bool) → is_it n (cond b None (forgotten_silent sent.last sent.tracked)) ≡ true → 1 ≤ times n sent.tracked
+      eliciting : (b : Bool) → is_it n (cond b None (forgotten_silent sent.last sent.tracked)) ≡ true
+          → 1 ≤ times n sent.tracked
       eliciting true is = cc
       eliciting false is = silent (forgotten_silent sent.last sent.tracked) refl is
 
@@ -211,7 +219,8 @@ module _ {P M : Type 0} (n : ℕ) where
           adds = adds_sent (number == n) forgotten tracked given departed here.adds none
               (λ is. stands_tracked tracked _ here.same (forgotten_stands sent packet is));
           once = once_sent (number == n) given here.once none;
-          late = λ late. none_sent (number == n) given (grind (arith, nat_tests, late)) (here.late (omega (arith, late, new)));
+          late = λ late. none_sent (number == n) given (grind (arith, nat_tests, late))
+              (here.late (omega (arith, late, new)));
         }
 
     -- a tracked packet leaves
@@ -220,7 +229,8 @@ module _ {P M : Type 0} (n : ℕ) where
     taken_tracks number there =
         let sum = sum-without (λ entry. one_if_same entry.0 n) sent.tracked number there.0 there.1 in
         let was = here.same in
-        let left : times n (sent_less number sent).tracked + cond (number == n) 1 0 ≡ cond tracked 1 0 = omega (arith, sum, was) in
+        let left : times n (sent_less number sent).tracked + cond (number == n) 1 0 ≡ cond tracked 1 0 =
+        omega (arith, sum, was) in
         record {
           same = one_less n (number == n) tracked _ left;
           adds = adds_less (number == n) tracked _ given departed left here.adds;
@@ -262,14 +272,16 @@ abbrev pub sent_in : {F K Q S M P : Type 0} → Beginning F K Q S M P → Histor
 sent_in beginning history space = sent_by beginning.queue.words ((logs_of beginning history).spaces space)
 
 -- the number that is given out was not given out before
-is_new : {F K Q S M P : Type 0} (beginning : Beginning F K Q S M P) (before : History Q S M P) (space : SpaceId)
+pub is_new : {F K Q S M P : Type 0} (beginning : Beginning F K Q S M P) (before : History Q S M P) (space : SpaceId)
     → (sent_in beginning before space).next ≤ number_in (known_by beginning (logs_of beginning before)) space
 is_new beginning before Initial = omega arith
 is_new beginning before Handshake = omega arith
-is_new beginning before Data = number_from_above beginning.config.skips beginning.random (sent_in beginning before Data).next
+is_new beginning before Data =
+    number_from_above beginning.config.skips beginning.random (sent_in beginning before Data).next
 
 -- a packet that was found is there
-pub is_there : {P M : Type 0} (found : Option (Packet P M)) → ¬ (found ≡ None) → (packet : Packet P M) × (found ≡ Some packet)
+pub is_there : {P M : Type 0} (found : Option (Packet P M)) → ¬ (found ≡ None)
+    → (packet : Packet P M) × (found ≡ Some packet)
 is_there None there = absurd (there refl)
 is_there (Some packet) there = (packet, refl)
 
@@ -288,31 +300,37 @@ probe_number q known now (Some due) number size told = let is = told.1 in cc
 -- how often a number of a space is gone
 abbrev departed_in : {Q S M P : Type 0} → SpaceId → ℕ → History Q S M P → ℕ
 departed_in space n history =
-    times_in (is_acked space n) history + times_in (is_lost space n) history + times_in (is_forgotten_in space n) history
+    times_in (is_acked space n) history + times_in (is_lost space n) history + times_in (is_forgotten_in space n)
+    history
     + times_in (is_discarded space n) history
 
 -- one more, by each of the four ways
 module _ (acked lost forgotten discarded : ℕ) where
-  acked_more : (one : Bool) → more_if one (acked + lost + forgotten + discarded) ≡ more_if one acked + lost + forgotten + discarded
+  acked_more : (one : Bool) → more_if one (acked + lost + forgotten + discarded) ≡ more_if one acked + lost + forgotten
+      + discarded
   acked_more true = omega arith
   acked_more false = refl
 
-  lost_more : (one : Bool) → more_if one (acked + lost + forgotten + discarded) ≡ acked + more_if one lost + forgotten + discarded
+  lost_more : (one : Bool) → more_if one (acked + lost + forgotten + discarded) ≡ acked + more_if one lost + forgotten
+      + discarded
   lost_more true = omega arith
   lost_more false = refl
 
-  forgotten_more : (one : Bool) → more_if one (acked + lost + forgotten + discarded) ≡ acked + lost + more_if one forgotten + discarded
+  forgotten_more : (one : Bool) → more_if one (acked + lost + forgotten + discarded) ≡ acked + lost + more_if one
+      forgotten + discarded
   forgotten_more true = omega arith
   forgotten_more false = refl
 
-  discarded_more : (one : Bool) → more_if one (acked + lost + forgotten + discarded) ≡ acked + lost + forgotten + more_if one discarded
+  discarded_more : (one : Bool) → more_if one (acked + lost + forgotten + discarded) ≡ acked + lost + forgotten
+      + more_if one discarded
   discarded_more true = omega arith
   discarded_more false = refl
 
 -- the number is where the history says
 abbrev TracksIn : {F K Q S M P : Type 0} → Beginning F K Q S M P → History Q S M P → SpaceId → ℕ → Type 0
 TracksIn beginning history space n =
-    Tracks n (sent_in beginning history space) (is_tracked space n history) (times_in (is_given space n) history) (departed_in space n history)
+    Tracks n (sent_in beginning history space) (is_tracked space n history) (times_in (is_given space n) history)
+    (departed_in space n history)
 
 module _ {F K Q S M P : Type 0} (beginning : Beginning F K Q S M P) (before : History Q S M P) (space : SpaceId) (n : ℕ)
     (here : TracksIn beginning before space n) where
@@ -359,7 +377,8 @@ module _ {F K Q S M P : Type 0} (beginning : Beginning F K Q S M P) (before : Hi
   goes false out entry first = here
 
   goes_for : (b out left : Bool) (entry : SpaceEntry P M)
-      → (b ≡ true → After (Some entry) (out || (not left && tracked_now)) (more_if out given_now) (more_if left departed_now))
+      → (b ≡ true → After (Some entry) (out || (not left && tracked_now)) (more_if out given_now)
+      (more_if left departed_now))
       → After (cond b (Some entry) None) ((b && out) || (not (b && left) && tracked_now)) (more_if (b && out) given_now)
       (more_if (b && left) departed_now)
   goes_for true out left entry first = first refl
@@ -371,7 +390,8 @@ module _ {F K Q S M P : Type 0} (beginning : Beginning F K Q S M P) (before : Hi
   takes true left entry first = first refl
   takes false left entry first = here
 
-  empties : (b : Bool) → After (cond b (Some emptied) None) (not b && tracked_now) given_now (more_if (b && tracked_now) departed_now)
+  empties : (b : Bool) → After (cond b (Some emptied) None) (not b && tracked_now) given_now
+      (more_if (b && tracked_now) departed_now)
   empties true = record { same = refl; adds = here.adds; once = here.once; late = here.late }
   empties false = here
 
@@ -385,7 +405,8 @@ module _ {F K Q S M P : Type 0} (beginning : Beginning F K Q S M P) (before : Hi
       let at = one_space there space is in
       let k = number_in known there in
       let entry : SpaceEntry P M = sends k packet in
-      let Goes : ℕ → Option ℕ → Type 0 = λ m f. After (Some entry) (m == n || (not (is_it n f) && tracked_now)) (more_if (m == n) given_now)
+      let Goes : ℕ → Option ℕ → Type 0 =
+      λ m f. After (Some entry) (m == n || (not (is_it n f) && tracked_now)) (more_if (m == n) given_now)
       (more_if (is_it n f) departed_now) in
       let new : (sent_in beginning before space).next ≤ k = subst (λ s. (sent_in beginning before s).next ≤ k) at
       (is_new beginning before there) in
@@ -408,10 +429,12 @@ module _ {F K Q S M P : Type 0} (beginning : Beginning F K Q S M P) (before : Hi
   abbrev Answered : Event Q S M P → Answer Q → Type 0
   Answered event answer =
       let after : History Q S M P = (event, Ok answer) ∷ before in
-      After ((answered beginning.queue known event answer).spaces space) (is_tracked space n after) (times_in (is_given space n) after)
+      After ((answered beginning.queue known event answer).spaces space) (is_tracked space n after)
+      (times_in (is_given space n) after)
       (departed_in space n after)
 
-  answer_tracks : (event : Event Q S M P) (answer : Answer Q) → Told beginning before event (Ok answer) → Answered event answer
+  answer_tracks : (event : Event Q S M P) (answer : Answer Q) → Told beginning before event (Ok answer)
+      → Answered event answer
   answer_tracks (Acked there now number app_limited) answer told =
       let b = same_space there space in
       let entry : SpaceEntry P M = acknowledged number in
@@ -462,7 +485,8 @@ module _ {F K Q S M P : Type 0} (beginning : Beginning F K Q S M P) (before : Hi
   answer_tracks (QueueProbe there immediate streams) answer told =
       let found = found_in known beginning.queue.words streams there in
       stays (same_space there space) (probes immediate found)
-      (moved_tracks n (sent_in beginning before space) tracked_now given_now departed_now here beginning.queue.words.empty found)
+      (moved_tracks n (sent_in beginning before space) tracked_now given_now departed_now here
+      beginning.queue.words.empty found)
   answer_tracks (TakePending there) answer told = stays (same_space there space) takes_pending here
   answer_tracks (Transmit now bytes true) Transmitted told = here
   answer_tracks (Transmit now bytes true) (Delayed until) told = here

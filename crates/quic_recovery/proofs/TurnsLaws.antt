@@ -31,7 +31,8 @@ abbrev IsLast : ℕ → Option MtuProbe → Type 0
 IsLast number None = Unit {0}
 IsLast number (Some probe) = number ≡ probe.number
 
-last_unless : (last number : ℕ) (flight : Option MtuProbe) → IsLast last flight → IsLast last (unless_number number flight)
+last_unless : (last number : ℕ) (flight : Option MtuProbe) → IsLast last flight
+    → IsLast last (unless_number number flight)
 last_unless last number None is = tt
 last_unless last number (Some probe) is = go (number == probe.number)
   where
@@ -64,13 +65,16 @@ module _ {F K Q S M P : Type 0} (beginning : Beginning F K Q S M P) where
         → IsNumbered ((event, Ok given) ∷ history)
     answer_numbered (PollMtu now) (answer.Probe number size) facts =
         turned (After (PollMtu now) (answer.Probe number size)) facts.entered refl
-    answer_numbered (PollMtu now) answer.NoProbe facts = turned (After (PollMtu now) answer.NoProbe) facts.entered numbered
+    answer_numbered (PollMtu now) answer.NoProbe facts =
+        turned (After (PollMtu now) answer.NoProbe) facts.entered numbered
     answer_numbered (PollMtu now) given facts = turned (After (PollMtu now) given) facts.entered numbered
     answer_numbered (Acked space.Data now number app_limited) given facts =
         acked_as beginning history (After (Acked space.Data now number app_limited)) now number app_limited given facts
-        (λ packet found. last_unless (last_number history) number (probe_in_flight (entered_so_far beginning history)) numbered)
+        (λ packet found. last_unless (last_number history) number (probe_in_flight (entered_so_far beginning history))
+        numbered)
     answer_numbered (Lost space.Data number) given facts =
-        lost_as beginning history (After (Lost space.Data number)) number given facts (λ packet found. lost_one number packet.size _)
+        lost_as beginning history (After (Lost space.Data number)) number given facts
+        (λ packet found. lost_one number packet.size _)
       where
         lost_one : (number bytes : ℕ) (probe : Bool) → After (Lost space.Data number) (answer.Lost probe)
             ((if probe then probe_lost else lost number bytes) ∷ entered_so_far beginning history)
@@ -84,13 +88,16 @@ module _ {F K Q S M P : Type 0} (beginning : Beginning F K Q S M P) where
         ended_one true = tt
         ended_one false = numbered
     answer_numbered (ResetPath now) given facts = turned (After (ResetPath now) given) facts.entered tt
-    answer_numbered (NewPath now remote true) given facts = turned (After (NewPath now remote true) given) facts.entered tt
+    answer_numbered (NewPath now remote true) given facts =
+        turned (After (NewPath now remote true) given) facts.entered tt
     answer_numbered (NewPath now remote false) given facts =
         turned (After (NewPath now remote false) given) facts.entered numbered
     answer_numbered (Acked space.Initial now number app_limited) given facts =
-        seen_as (After (Acked space.Initial now number app_limited)) given (answer.Acked false) _ _ facts.tells facts.entered numbered
+        seen_as (After (Acked space.Initial now number app_limited)) given (answer.Acked false) _ _ facts.tells
+        facts.entered numbered
     answer_numbered (Acked space.Handshake now number app_limited) given facts =
-        seen_as (After (Acked space.Handshake now number app_limited)) given (answer.Acked false) _ _ facts.tells facts.entered numbered
+        seen_as (After (Acked space.Handshake now number app_limited)) given (answer.Acked false) _ _ facts.tells
+        facts.entered numbered
     answer_numbered (Lost space.Initial number) given facts =
         seen_as (After (Lost space.Initial number)) given (answer.Lost false) _ _ facts.tells facts.entered numbered
     answer_numbered (Lost space.Handshake number) given facts =
@@ -116,7 +123,8 @@ module _ {F K Q S M P : Type 0} (beginning : Beginning F K Q S M P) where
     abbrev entries : List MtuEntry
     entries = entered_so_far beginning history
 
-    probe_same : (there : SpaceId) (number : ℕ) → is_in_flight beginning history there number ≡ is_probe there number history
+    probe_same : (there : SpaceId) (number : ℕ)
+        → is_in_flight beginning history there number ≡ is_probe there number history
     probe_same space.Initial number = refl
     probe_same space.Handshake number = refl
     probe_same space.Data number =
@@ -128,21 +136,25 @@ module _ {F K Q S M P : Type 0} (beginning : Beginning F K Q S M P) where
 
     turn_of : (now number size : ℕ) (by : Option MtuDiscoveryConfig) → discovery_settings beginning ≡ by
         → IsSomeAnd by (λ settings. ProbesInSearch settings (probed now number size ∷ entries))
-        → (flies history ≡ false) × IsSomeAnd by (λ settings. (runs history || is_due (next settings history) now) ≡ true)
+        → (flies history ≡ false)
+        × IsSomeAnd by (λ settings. (runs history || is_due (next settings history) now) ≡ true)
     turn_of now number size None is inside = absurd inside
     turn_of now number size (Some settings) is inside = (
       kept.few.0 ∙ quiet (probe_in_flight entries) inside.0,
-      ap₂ (λ (r : Bool) (n : Option ℕ). r || is_due n now) (runs_same history entries kept.few) (kept.searched settings is).tied.3
+      ap₂ (λ (r : Bool) (n : Option ℕ). r || is_due n now) (runs_same history entries kept.few)
+          (kept.searched settings is).tied.3
           ∙ inside.1,
     )
 
     turns_one : (event : Event Q S M P) (reply : Reply Q)
         → IsKnownOf beginning history event reply × ProbesInTurn beginning history event reply
         → SearchesInTurn beginning history event reply
-    turns_one (PollMtu now) (Ok (answer.Probe number size)) known = turn_of now number size (discovery_settings beginning) refl known.1
+    turns_one (PollMtu now) (Ok (answer.Probe number size)) known =
+        turn_of now number size (discovery_settings beginning) refl known.1
     turns_one (Acked there now number app_limited) (Ok given) known =
         known.0.0.tells ∙ ap (λ probe. answer.Acked probe) (probe_same there number)
-    turns_one (Lost there number) (Ok given) known = known.0.0.tells ∙ ap (λ probe. answer.Lost probe) (probe_same there number)
+    turns_one (Lost there number) (Ok given) known =
+        known.0.0.tells ∙ ap (λ probe. answer.Lost probe) (probe_same there number)
     turns_one (PeerLimit size) (Ok given) known = runs_same history entries kept.few ∙ known.0.1.0
     turns_one (PeerLimit size) (Err Searching) known = runs_same history entries kept.few ∙ known.0.1.0
     turns_one event reply known = tt
@@ -155,7 +167,8 @@ module _ {F K Q S M P : Type 0} (beginning : Beginning F K Q S M P) where
       → (events : List (Event Q S M P)) (replies : List (Reply Q))
       → Throughout (Told beginning) events replies → Throughout (SearchesInTurn beginning) events replies
   turns_told small events replies told =
-      throughout_by (λ history event reply. IsKnownOf beginning history event reply × ProbesInTurn beginning history event reply)
+      throughout_by (λ history event reply. IsKnownOf beginning history event reply
+      × ProbesInTurn beginning history event reply)
       (SearchesInTurn beginning) AllKept
       (λ history event reply known kept. (
         kept_after beginning history event reply known.0 kept.0,

@@ -114,7 +114,8 @@ first_ids beginning = record {
 
 -- how all paths are made
 abbrev pub settings_of : {F K Q S M P : Type 0} → Beginning F K Q S M P → PathSettings K
-settings_of beginning = path_settings beginning.built beginning.words beginning.config.allow_mtud beginning.config.transport
+settings_of beginning =
+    path_settings beginning.built beginning.words beginning.config.allow_mtud beginning.config.transport
 
 -- the first path
 abbrev pub first_path : {F K Q S M P : Type 0} → Beginning F K Q S M P → PathMaking K

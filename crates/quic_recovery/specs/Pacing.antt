@@ -19,7 +19,8 @@ use Rattle.quic_recovery.specs.Known.{settings_of}
 
 -- a call of a path's pacer is answered by the balance: it is delayed until this moment, or it is not
 abbrev pub IsByBalance : {K : Type 0} → PathPast K → PacerCall → Option ℕ → Type 0
-IsByBalance past call given = AreChecked (asked call ∷ past.pacing) → DelaysBy (bucket_of past.making.pacer) past.pacing call given
+IsByBalance past call given = AreChecked (asked call ∷ past.pacing)
+    → DelaysBy (bucket_of past.making.pacer) past.pacing call given
 
 -- until when, where the answer is that it is delayed
 abbrev pub delay_in : {Q : Type 0} → Answer Q → Option ℕ

@@ -83,10 +83,11 @@ module _ {F K Q S M P : Type 0} (beginning : Beginning F K Q S M P) where
     pub to_acknowledge : KeepsToAcknowledge beginning ((event, reply) ∷ before)
 
   -- from a past to that past with one event more
-  pub record GoesOnFrom (past : Past Q S M P) (event : Event Q S M P) (reply : Reply Q) (new : Parts K P M) : Type 0 where
-    pub history : history_of (more past event reply) ≡ (event, reply) ∷ history_of past
-    pub keeps : Keeps (history_of past) event reply
-    pub came : Came (more past event reply) new
+  pub record GoesOnFrom (past : Past Q S M P) (event : Event Q S M P) (reply : Reply Q) (new : Parts K P M) : Type 0
+    where
+      pub history : history_of (more past event reply) ≡ (event, reply) ∷ history_of past
+      pub keeps : Keeps (history_of past) event reply
+      pub came : Came (more past event reply) new
 
 -- whatever the beginning and the past by which the recovery came here
 module _ {F K Q S M P : Type 0} (built : F → ℕ → ℕ → K) (words : ControllerWords K) (queue : QueueMeaning Q S M P) where
@@ -106,7 +107,8 @@ module _ {F K Q S M P : Type 0} (built : F → ℕ → ℕ → K) (words : Contr
   -- from there it went on
   pub record WentOn (old : Parts K P M) (event : Event Q S M P) (reply : Reply Q) (new : Parts K P M) : Type 0 where
     pub origin : CameSomehow old
-    pub goes : GoesOnFrom (begins built words queue origin.config origin.start origin.random) origin.past event reply new
+    pub goes : GoesOnFrom (begins built words queue origin.config origin.start origin.random) origin.past event reply
+        new
 
   -- it is all the same for its past
   abbrev pub StaysOn : Parts K P M → Parts K P M → Type 0
@@ -119,11 +121,15 @@ module _ {F Q R C K S M P : Type 0} {f : _} {c : _} {q : _} {m : _} {r : _} wher
   abbrev pub HasCome : Recovery F Q R C K S M P f c q m r → Type 0
   HasCome recovery = CameSomehow f.built c.words (queue_meaning q.contents q.words q.blank) (parts_of recovery)
 
-  abbrev pub Goes : Recovery F Q R C K S M P f c q m r → Event Q S M P → Reply Q → Recovery F Q R C K S M P f c q m r → Type 0
-  Goes old event reply new = GoesOn f.built c.words (queue_meaning q.contents q.words q.blank) (parts_of old) event reply (parts_of new)
+  abbrev pub Goes : Recovery F Q R C K S M P f c q m r → Event Q S M P → Reply Q → Recovery F Q R C K S M P f c q m r
+      → Type 0
+  Goes old event reply new =
+      GoesOn f.built c.words (queue_meaning q.contents q.words q.blank) (parts_of old) event reply (parts_of new)
 
-  abbrev pub Went : Recovery F Q R C K S M P f c q m r → Event Q S M P → Reply Q → Recovery F Q R C K S M P f c q m r → Type 0
-  Went old event reply new = WentOn f.built c.words (queue_meaning q.contents q.words q.blank) (parts_of old) event reply (parts_of new)
+  abbrev pub Went : Recovery F Q R C K S M P f c q m r → Event Q S M P → Reply Q → Recovery F Q R C K S M P f c q m r
+      → Type 0
+  Went old event reply new =
+      WentOn f.built c.words (queue_meaning q.contents q.words q.blank) (parts_of old) event reply (parts_of new)
 
   abbrev pub Stays : Recovery F Q R C K S M P f c q m r → Recovery F Q R C K S M P f c q m r → Type 0
   Stays old new = StaysOn f.built c.words (queue_meaning q.contents q.words q.blank) (parts_of old) (parts_of new)

@@ -1,5 +1,5 @@
--- Promises of events and answers: each is read without any other. Three name the table on one side: what is held of contents (Contents),
--- when an ACK is required (Duty), and what is to be acknowledged (Acknowledged).
+-- Promises of events and answers: each is read without any other. Three name the table on one side: what is held of
+-- contents (Contents), when an ACK is required (Duty), and what is to be acknowledged (Acknowledged).
 pub mod Acknowledged
 pub mod Blocked
 pub mod Bursts
@@ -11,6 +11,7 @@ pub mod Fates
 pub mod Few
 pub mod GivenIds
 pub mod Holes
+pub mod Measures
 pub mod Mtu
 pub mod Near
 pub mod NewNumbers

@@ -68,7 +68,8 @@ pub record LooksAlike {K P M : Type 0} (one other : Parts K P M) : Type 0 where
   pub spaces : (space : SpaceId) → SpacesAlike (space_of space one.spaces) (space_of space other.spaces)
   pub discarded : (space : SpaceId) → is_discarded space one.discarded ≡ is_discarded space other.discarded
   pub paths : paths_known one.paths ≡ paths_known other.paths
-  pub in_flight : each_path (λ path. counters_of path.ledger) one.paths ≡ each_path (λ path. counters_of path.ledger) other.paths
+  pub in_flight : each_path (λ path. counters_of path.ledger) one.paths ≡ each_path (λ path. counters_of path.ledger)
+      other.paths
   pub peer_limit : one.peer_limit ≡ other.peer_limit
   pub skipping : one.skipping ≡ other.skipping
   pub frequency : one.frequency ≡ other.frequency
@@ -81,13 +82,15 @@ pub record LooksAlike {K P M : Type 0} (one other : Parts K P M) : Type 0 where
 module _ {F K Q S M P : Type 0} (built : F → ℕ → ℕ → K) (words : ControllerWords K) (queue : QueueMeaning Q S M P) where
   -- two replies that may be given to one event after one history are the same, unless memory was refused
   abbrev pub DecidesReplies : Type 0
-  DecidesReplies = (config : RecoveryConfig F) (start : ℕ) (random : Stream) (history : History Q S M P) (event : Event Q S M P) (one other : Reply Q) →
+  DecidesReplies = (config : RecoveryConfig F) (start : ℕ) (random : Stream) (history : History Q S M P)
+      (event : Event Q S M P) (one other : Reply Q) →
       let beginning = begins built words queue config start random in
       Told beginning history event one → Told beginning history event other → one ≢ Err NoMemory → other ≢ Err NoMemory
       → SameReply queue.contents one other
 
   -- two states that one history may leave look alike
   abbrev pub DecidesStates : Type 0
-  DecidesStates = (config : RecoveryConfig F) (start : ℕ) (random : Stream) (history : History Q S M P) (one other : Parts K P M) →
+  DecidesStates = (config : RecoveryConfig F) (start : ℕ) (random : Stream) (history : History Q S M P)
+      (one other : Parts K P M) →
       let beginning = begins built words queue config start random in
       Left beginning history one → Left beginning history other → LooksAlike one other

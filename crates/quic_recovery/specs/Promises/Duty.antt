@@ -1,5 +1,5 @@
--- The duty to acknowledge (RFC 9000, 13.2.1): while an ack-eliciting packet waits, an ACK is required at once, or the timer for a late one
--- was started since the last. When an ACK is required is said by the table (`IsRequired`).
+-- The duty to acknowledge (RFC 9000, 13.2.1): while an ack-eliciting packet waits, an ACK is required at once, or the
+-- timer for a late one was started since the last. When an ACK is required is said by the table (`IsRequired`).
 use Rattle.std.specs.Prelude.{◌≡◌, ◌⊎◌, Bool, true, false, not, ◌&&◌, ◌||◌, [], ◌∷◌, Ok}
 use Rattle.recovery_base.specs.declared.below.SpaceId.{SpaceId}
 use Rattle.recovery_base.specs.Spaces.{same_space}
@@ -25,7 +25,8 @@ module _ {Q S M P : Type 0} (space : SpaceId) where
   -- by the answers the timer was started since
   abbrev pub timer_starts : History Q S M P → Bool
   timer_starts [] = false
-  timer_starts ((Received there now n eliciting, Ok (New true)) ∷ earlier) = same_space there space || timer_starts earlier
+  timer_starts ((Received there now n eliciting, Ok (New true)) ∷ earlier) =
+      same_space there space || timer_starts earlier
   timer_starts (happened ∷ earlier) = not (acknowledges happened) && timer_starts earlier
 
 module _ {F K Q S M P : Type 0} (beginning : Beginning F K Q S M P) where

@@ -1,5 +1,5 @@
--- One fate (RFC 9002, A.1, A.7, A.10 and 6.4): a number is given out once at most, and each one that was is exactly one of these: tracked,
--- acknowledged, lost, forgotten, discarded with its space.
+-- One fate (RFC 9002, A.1, A.7, A.10 and 6.4): a number is given out once at most, and each one that was is exactly one
+-- of these: tracked, acknowledged, lost, forgotten, discarded with its space.
 use Rattle.std.specs.Prelude.{◌≡◌, ℕ, ◌+◌, ◌≤◌, ◌==◌, Bool, false, ◌&&◌, [], ◌∷◌, Some, Ok, if◌then◌else◌}
 use Rattle.recovery_base.specs.declared.below.SpaceId.{SpaceId}
 use Rattle.recovery_base.specs.Spaces.{same_space}

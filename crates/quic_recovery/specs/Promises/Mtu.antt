@@ -19,8 +19,7 @@ module _ {Q S M P : Type 0} where
   limit ((PeerLimit size, Ok given) ∷ earlier) = Some size
   limit (happened ∷ earlier) = limit earlier
 
-  -- paths begin with the first MTU, and a report leaves the least; where none is searched, no limit is kept for those
-  -- to come
+  -- paths begin with the first MTU, and a report leaves the least; where paths are not searched, no limit is kept
   abbrev pub mtu : Bool → ℕ → ℕ → History Q S M P → ℕ
   mtu searched first least [] = first
   mtu searched first least ((Acked space now number app_limited, Ok (answer.Acked true)) ∷ earlier) = last_probe earlier
@@ -28,7 +27,8 @@ module _ {Q S M P : Type 0} where
   mtu searched first least ((LossesDone now, Ok (answer.BlackHole true)) ∷ earlier) = least
   mtu searched first least ((ResetPath now, Ok given) ∷ earlier) =
       within first (if searched then Some (limit_or_greatest (limit earlier)) else None)
-  mtu searched first least ((NewPath now remote true, Ok given) ∷ earlier) = within first (if searched then limit earlier else None)
+  mtu searched first least ((NewPath now remote true, Ok given) ∷ earlier) =
+      within first (if searched then limit earlier else None)
   mtu searched first least (happened ∷ earlier) = mtu searched first least earlier
 
   -- the history up to the move to the path in use
@@ -37,14 +37,14 @@ module _ {Q S M P : Type 0} where
   before_move ((NewPath now remote is_fresh, Ok given) ∷ earlier) = earlier
   before_move (happened ∷ earlier) = before_move earlier
 
-module _ {F K Q S M P : Type 0} (beginning : Beginning F K Q S M P) where
+module _ {F K Q S M P : Type 0} (run : Beginning F K Q S M P) where
   abbrev pub mtu_in_use : History Q S M P → ℕ
-  mtu_in_use = mtu (is_some (discovery_settings beginning)) (initial_mtu_of beginning.config.transport) beginning.config.transport.min_mtu
+  mtu_in_use =
+      let config = run.config.transport in mtu (is_some (discovery_settings run)) (initial_mtu_of config) config.min_mtu
 
   -- after an event the path in use has it, and so has the one before, where it lives, that of when it was left
   abbrev pub UsesMtu : History Q S M P → Event Q S M P → Reply Q → Type 0
   UsesMtu history event reply =
-      let now = (event, reply) ∷ history in
-      let paths = (known_by beginning (logs_of beginning now)).paths in
+      let now = (event, reply) ∷ history in let paths = (known_by run (logs_of run now)).paths in
       (paths.current.state.discovery.mtu ≡ mtu_in_use now)
       × ForSome paths.previous (λ path. path.state.discovery.mtu ≡ mtu_in_use (before_move now))

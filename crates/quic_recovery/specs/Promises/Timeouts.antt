@@ -10,7 +10,8 @@ use Rattle.quic_recovery.specs.declared.event.Answer.TheVariants.{Timeout, Done}
 use Rattle.quic_recovery.specs.History.{History, Reply}
 
 abbrev pub every_timer : List Timer
-every_timer = LossDetection ∷ Idle ∷ Close ∷ KeyDiscard ∷ PathValidation ∷ KeepAlive ∷ Pacing ∷ PushNewCid ∷ MaxAckDelay ∷ []
+every_timer = LossDetection ∷ Idle ∷ Close ∷ KeyDiscard ∷ PathValidation ∷ KeepAlive ∷ Pacing ∷ PushNewCid ∷ MaxAckDelay
+    ∷ []
 
 -- the earlier of a moment and another, where there is one
 abbrev pub earlier_of : ℕ → Option ℕ → ℕ

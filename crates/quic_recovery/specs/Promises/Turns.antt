@@ -31,8 +31,10 @@ module _ {F K Q S M P : Type 0} (beginning : Beginning F K Q S M P) where
   abbrev pub SearchesInTurn : History Q S M P → Event Q S M P → Reply Q → Type 0
   SearchesInTurn history (PollMtu now) (Ok (answer.Probe number size)) =
       (is_in_flight history ≡ false)
-      × IsSomeAnd (discovery_settings beginning) (λ settings. (runs history || is_due (next settings history) now) ≡ true)
-  SearchesInTurn history (Acked space now number app_limited) (Ok given) = given ≡ answer.Acked (is_probe space number history)
+      × IsSomeAnd (discovery_settings beginning) (λ settings. (runs history || is_due (next settings history) now)
+      ≡ true)
+  SearchesInTurn history (Acked space now number app_limited) (Ok given) =
+      given ≡ answer.Acked (is_probe space number history)
   SearchesInTurn history (Lost space number) (Ok given) = given ≡ answer.Lost (is_probe space number history)
   SearchesInTurn history (PeerLimit size) (Ok given) = runs history ≡ false
   SearchesInTurn history (PeerLimit size) (Err Searching) = runs history ≡ true

@@ -5,4 +5,5 @@ use Rattle.quic_recovery.proofs.laws.one_state.Goals as goal
 pub returns : goal.returns
 returns g c = λ config start random history.
     let queues = queue_meaning g.Q.RetransmitQueue.contents g.Q.RetransmitQueue.words g.Q.RetransmitQueue.blank in
-    one_state_left (begins g.F.ControllerFactory.built g.F.Controller.Controller.words queues config start random) history
+    one_state_left (begins g.F.ControllerFactory.built g.F.Controller.Controller.words queues config start random)
+    history

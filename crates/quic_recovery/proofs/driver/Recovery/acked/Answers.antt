@@ -17,28 +17,35 @@ pub on_packet_acked-probe-requires : goal.on_packet_acked-probe-requires
 on_packet_acked-probe-requires g c =
     let found = ap (λ (s : Space _ _). packet_at (packets_of s) c.args.number) (sym c.index_mut-here.ensures.value)
     ∙ sym c.take.ensures.packet ∙ c.in-Some.is in
-    counted c.args.self.now.spaces c.args.self.now.paths c.args.self.now.balanced c.args.space c.args.number c.in-Some.packet found
+    counted c.args.self.now.spaces c.args.self.now.paths c.args.self.now.balanced c.args.space c.args.number
+    c.in-Some.packet found
 
 pub on_acked-requires : goal.on_acked-requires
 on_acked-requires g c =
     let found = ap (λ (s : Space _ _). packet_at (packets_of s) c.args.number) (sym c.index_mut-here.ensures.value)
     ∙ sym c.take.ensures.packet ∙ c.in-Some.is in
-    acknowledging_found _ (c.args.self.now.balanced.coherent c.args.space).acknowledging c.args.number c.in-Some.packet found
+    acknowledging_found _ (c.args.self.now.balanced.coherent c.args.space).acknowledging c.args.number c.in-Some.packet
+    found
 
 pub invariant_of-self-2 : goal.invariant_of-self-2
 invariant_of-self-2 g c =
     let balanced = c.args.self.now.balanced in
     let there = c.index_mut-here.ensures.value in
-    let found = ap (λ (s : Space _ _). packet_at (packets_of s) c.args.number) (sym there) ∙ sym c.take.ensures.packet ∙ c.in-Some.is in
+    let found = ap (λ (s : Space _ _). packet_at (packets_of s) c.args.number) (sym there) ∙ sym c.take.ensures.packet
+    ∙ c.in-Some.is in
     let tracking = ap tracking_of c.on_acked.ensures.others ∙ ap tracking_of c.take.ensures.after
     ∙ ap (λ (s : Space _ _). after_taking c.args.number (tracking_of s)) there in
-    let next = ap next_number_of c.on_acked.ensures.others ∙ ap next_number_of c.take.ensures.after ∙ ap next_number_of there in
+    let next = ap next_number_of c.on_acked.ensures.others ∙ ap next_number_of c.take.ensures.after
+    ∙ ap next_number_of there in
     let Holds : Space _ _ → Type 0 = HasGreatestCome in
-    let came = subst Holds (sym (c.take.ensures.after ∙ ap (space_takes c.args.number) there)) (balanced.coherent c.args.space).received in
-    let come = acked_greatest c.args.number c.in-Some.packet c.take.new.self c.on_acked.new.self came c.on_acked.ensures.subtracts c.on_acked.ensures.others in
+    let came = subst Holds (sym (c.take.ensures.after ∙ ap (space_takes c.args.number) there))
+    (balanced.coherent c.args.space).received in
+    let come = acked_greatest c.args.number c.in-Some.packet c.take.new.self c.on_acked.new.self came
+    c.on_acked.ensures.subtracts c.on_acked.ensures.others in
     let coherent = coherent_taken (space_of c.args.space c.args.self.now.spaces) c.on_acked.new.self
     (balanced.coherent c.args.space) come c.args.number tracking next in
-    let Sums : OfPaths (Path _) → Type 0 = AreBalanced (with_space c.args.self.now.spaces c.args.space c.on_acked.new.self) in
+    let Sums : OfPaths (Path _) → Type 0 =
+    AreBalanced (with_space c.args.self.now.spaces c.args.space c.on_acked.new.self) in
     record {
       balanced = subst Sums (sym c.on_packet_acked-probe.ensures.after)
           (acked c.args.self.now.spaces c.args.self.now.paths balanced c.args.space c.args.number c.in-Some.packet
@@ -50,9 +57,11 @@ invariant_of-self-2 g c =
 pub returns : goal.returns
 returns g c =
     let there = c.index_mut-here.ensures.value in
-    let found = ap (λ (s : Space _ _). packet_at (packets_of s) c.args.number) (sym there) ∙ sym c.take.ensures.packet ∙ c.in-Some.is in
+    let found = ap (λ (s : Space _ _). packet_at (packets_of s) c.args.number) (sym there) ∙ sym c.take.ensures.packet
+    ∙ c.in-Some.is in
     let taken = c.take.ensures.after ∙ ap (space_takes c.args.number) there in
-    let R : Space _ _ → Type 0 = λ s. SubtractsLargest c.in-Some.packet.largest_acked (acks_of s) (acks_of c.on_acked.new.self) in
+    let R : Space _ _ → Type 0 =
+    λ s. SubtractsLargest c.in-Some.packet.largest_acked (acks_of s) (acks_of c.on_acked.new.self) in
     acked_changes (queue_meaning g.Q.RetransmitQueue.contents g.Q.RetransmitQueue.words g.Q.RetransmitQueue.blank)
     (parts_of c.args.self.now) c.args.space c.args.number c.in-Some.packet c.on_acked.new.self
     c.on_packet_acked-probe.new.self c.on_packet_acked-probe.result (sym c.if-contains.ensures) found

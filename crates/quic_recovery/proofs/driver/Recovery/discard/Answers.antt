@@ -23,11 +23,13 @@ invariant_of-self-2 g c =
     ∙ ap (space_hands_out words) (c.forget_all.ensures.space ∙ ap (λ (s : Space _ _). space_empties s) there) in
     let Holds : Space _ _ → Type 0 = HasGreatestCome in
     let come = subst Holds (sym empty) (balanced.coherent c.args.space).received in
-    let coherent = coherent_emptied old here (balanced.coherent c.args.space) come (ap tracking_of empty) (ap next_number_of empty) in
+    let coherent = coherent_emptied old here (balanced.coherent c.args.space) come (ap tracking_of empty)
+    (ap next_number_of empty) in
     let left = c.forget_all.ensures.paths ∙ ap (λ (s : Space _ _). paths_without (packets_of s) now.paths) there in
     let Balanced : OfPaths (Path _) → Type 0 = AreBalanced (with_space now.spaces c.args.space here) in
     record {
-      balanced = subst Balanced (sym left) (emptied now.spaces now.paths balanced c.args.space here (ap packets_of empty) coherent);
+      balanced = subst Balanced (sym left)
+          (emptied now.spaces now.paths balanced c.args.space here (ap packets_of empty) coherent);
       limited = now.limited;
     }
 
@@ -36,7 +38,8 @@ returns g c =
     let words = g.Q.RetransmitQueue.words in
     let now = parts_of c.args.self.now in
     let there = c.index_mut-here.ensures.value in
-    let empty = c.take_pending.ensures.step ∙ ap (space_hands_out words) (c.forget_all.ensures.space ∙ ap (λ (s : Space _ _). space_empties s) there) in
+    let empty = c.take_pending.ensures.step
+    ∙ ap (space_hands_out words) (c.forget_all.ensures.space ∙ ap (λ (s : Space _ _). space_empties s) there) in
     let left = c.forget_all.ensures.paths ∙ ap (λ (s : Space _ _). paths_without (packets_of s) now.paths) there in
     discard_changes (queue_meaning g.Q.RetransmitQueue.contents words g.Q.RetransmitQueue.blank) now c.args.space
     c.take_pending.new.self c.insert.new.self c.forget_all.new.self

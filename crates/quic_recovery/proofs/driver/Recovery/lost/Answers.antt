@@ -19,7 +19,8 @@ on_packet_lost-probe-requires g c =
     let empty = g.Q.RetransmitQueue.words.empty in
     let handed = ap (λ (s : Space _ _). option_map (with_contents empty) (packet_at (packets_of s) c.args.number))
     (sym c.index_mut.ensures.value) ∙ sym c.in-Ok-Some.ensures.packet ∙ c.in-Ok-Some.field-0-is in
-    lost_counted_on c.args.self.now.spaces c.args.self.now.paths c.args.self.now.balanced c.args.space c.args.number empty c.in-Ok-Some.packet handed
+    lost_counted_on c.args.self.now.spaces c.args.self.now.paths c.args.self.now.balanced c.args.space c.args.number
+    empty c.in-Ok-Some.packet handed
 
 pub invariant_of-self : goal.invariant_of-self
 invariant_of-self g c =
@@ -32,7 +33,8 @@ invariant_of-self g c =
     let Coherent : Space _ _ → Type 0 = IsCoherent in
     let coherent = subst Coherent (sym left) (coherent_lost words (space_of c.args.space c.args.self.now.spaces)
     (balanced.coherent c.args.space) c.args.number) in
-    let Sums : OfPaths (Path _) → Type 0 = AreBalanced (with_space c.args.self.now.spaces c.args.space c.lose.new.self) in
+    let Sums : OfPaths (Path _) → Type 0 =
+    AreBalanced (with_space c.args.self.now.spaces c.args.space c.lose.new.self) in
     record {
       balanced = subst Sums (sym c.on_packet_lost-probe.ensures.after)
           (lost c.args.self.now.spaces c.args.self.now.paths balanced c.args.space c.args.number c.in-Ok-Some.packet

@@ -23,9 +23,11 @@ returns-clause-left g c =
     let words = g.Q.RetransmitQueue.words in
     let random = g.R.Rng.stream c.args.rng in
     let queues = queue_meaning g.Q.RetransmitQueue.contents words g.Q.RetransmitQueue.blank in
-    let beginning = begins g.F.ControllerFactory.built g.F.Controller.Controller.words queues c.args.config c.args.now random in
+    let beginning = begins g.F.ControllerFactory.built g.F.Controller.Controller.words queues c.args.config c.args.now
+    random in
     let made = c.new-2.ensures in
-    let balanced = balanced_first c.new-2.result c.first_path.result c.new-4.result c.new-4.ensures made.packets made.acks c.first_path.ensures.ledger in
+    let balanced = balanced_first c.new-2.result c.first_path.result c.new-4.result c.new-4.ensures made.packets
+    made.acks c.first_path.ensures.ledger in
     let spaces : (space : SpaceId) → SpaceLeft words c.args.now [] (space_of space c.new-2.result) = λ space.
     fresh_space words c.args.now _ (made.numbers space) (made.acks space) (made.packets space) (made.next space)
     (made.received space) (made.kept space) (made.queued space) in
@@ -35,13 +37,15 @@ returns-clause-left g c =
       beside = λ space. beside_made _ _ _ (made.ecn space) (made.loss_time space) (made.crypto_offset space);
       discarded = search rules;
       skipping = c.with_skips-filter.ensures;
-      paths = paths_first beginning c.first_path.result c.new-4.result c.new-4.ensures c.first_path.ensures.ledger (c.first_path.ensures.state random);
+      paths = paths_first beginning c.first_path.result c.new-4.result c.new-4.ensures c.first_path.ensures.ledger
+          (c.first_path.ensures.state random);
       limits = refl;
       in_flight = in_flight_law beginning no_logs c.new-2.result c.new-4.result spaces balanced;
       frequency = c.new-5.ensures;
       timers = search rules;
       remote_ids = record { same = search rules; window = search rules };
-      local_ids = local_ids_first (first_ids beginning) c.in_ok-local_cid_state.local_cid_state c.in_ok-local_cid_state.ensures.ids;
+      local_ids = local_ids_first (first_ids beginning) c.in_ok-local_cid_state.local_cid_state
+          c.in_ok-local_cid_state.ensures.ids;
     }
 
 -- by no event; the upper bound of a search is a `u16`

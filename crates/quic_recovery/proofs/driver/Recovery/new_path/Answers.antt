@@ -18,7 +18,8 @@ pub returns-in-Err : goal.returns-in-Err
 returns-in-Err g c =
     let now = c.args.self.now in
     let room : generation_of now.paths.current.ledger + 1 < 2 ^ 64 = search (rules, c.in-Some.ensures) in
-    let event : Event g.row.Q.Denot g.row.Q-Streams.Denot g.row.Q-Meta.Denot g.row.Q-Contents.Denot = NewPath c.args.now c.args.remote c.args.fresh in
+    let event : Event g.row.Q.Denot g.row.Q-Streams.Denot g.row.Q-Meta.Denot g.row.Q-Contents.Denot =
+    NewPath c.args.now c.args.remote c.args.fresh in
     record {
       told = ((λ most. absurd (omega (arith, most, room))), search (rules, c.if-fresh.false));
       steps = nothing_changes g.Q.RetransmitQueue.words (parts_of now) (parts_of now) refl;
@@ -36,6 +37,7 @@ invariant_of-self g c =
     let next : c.in-Some.generation ≡ generation_of now.paths.current.ledger + 1 = search (rules, c.in-Some.ensures) in
     let Balanced : OfPaths (Path _) → Type 0 = AreBalanced now.spaces in
     record {
-      balanced = subst Balanced (sym c.move_to.ensures) (moved now.spaces now.paths now.balanced c.if-fresh.path (ledger ∙ ap fresh_ledger next));
+      balanced = subst Balanced (sym c.move_to.ensures) (moved now.spaces now.paths now.balanced c.if-fresh.path (ledger
+          ∙ ap fresh_ledger next));
       limited = now.limited;
     }

@@ -32,4 +32,7 @@ returns g c =
     let Moved : Space _ _ → Type 0 = λ s. Moves (probe_found words c.args.streams s.pending (packets_of s)) in
     put_back (queue_meaning g.Q.RetransmitQueue.contents words g.Q.RetransmitQueue.blank) (parts_of c.args.self.now)
     (QueueProbe c.args.space c.args.immediate_ack c.args.streams) NoMemory c.args.space c.queue_probe.new.self
-    (c.in-Err.ensures.err ∙ c.index_mut.ensures.value) refl (fails _ (sym c.if-contains.ensures), subst Moved c.index_mut.ensures.value c.in-Err.ensures.moves)
+    (c.in-Err.ensures.err ∙ c.index_mut.ensures.value) refl (
+      fails _ (sym c.if-contains.ensures),
+      subst Moved c.index_mut.ensures.value c.in-Err.ensures.moves,
+    )

@@ -47,16 +47,20 @@ invariant_of-self-2 g c =
     c.in-Ok.ensures.forgotten ∙ ap (λ (s : Space _ _). paths_after_sending packet
     (forgotten_entry packet (tracking_of s)) paths) there in
     let spaces = with_space c.args.self.now.spaces c.args.space c.on_sent.new.self in
-    let counted = paths_after_sending packet (forgotten_entry packet (tracking_of (space_of c.args.space c.args.self.now.spaces))) paths in
-    let change = after_telling g.F.Controller.Controller.words (sends_bytes c.args.now c.from.result c.number_behind-number.result) in
-    let tells = c.on_sent-2.ensures ∙ ap (λ (all : OfPaths (Path _)). on_path_of Current (on_state change) all) counts in
+    let counted = paths_after_sending packet
+    (forgotten_entry packet (tracking_of (space_of c.args.space c.args.self.now.spaces))) paths in
+    let change = after_telling g.F.Controller.Controller.words
+    (sends_bytes c.args.now c.from.result c.number_behind-number.result) in
+    let tells = c.on_sent-2.ensures ∙ ap (λ (all : OfPaths (Path _)). on_path_of Current (on_state change) all)
+    counts in
     let Sums : OfPaths (Path _) → Type 0 = AreBalanced spaces in
     record {
       balanced = subst Sums (sym tells) (on_state_kept spaces counted
           (sent_balanced c.args.self.now.spaces paths c.args.self.now.balanced c.args.space
           c.number_behind-number.result packet c.generation.ensures
           (omega (arith, next, behind, c.number_behind-number.ensures))
-          c.on_sent.new.self counted (λ large. fails _ (c.if-is_too_large.false) (c.is_too_large.ensures.1 large)) is refl) Current change);
+          c.on_sent.new.self counted (λ large. fails _ (c.if-is_too_large.false) (c.is_too_large.ensures.1 large)) is
+          refl) Current change);
       limited = c.args.self.now.limited;
     }
 
@@ -76,7 +80,8 @@ returns g c =
     (after_number c.number_behind-number.result s)) c.in-Ok.ensures.space
     ∙ ap (space_sends c.number_behind-number.result packet) there in
     let gone = c.in-Ok.ensures.forgotten ∙ ap (λ (s : Space _ _). forgotten_entry packet (tracking_of s)) there in
-    let counts = c.in-Ok.ensures.paths ∙ ap (λ (gone : Option (ℕ × Packet _ _)). paths_after_sending packet gone old.paths) gone in
+    let counts = c.in-Ok.ensures.paths
+    ∙ ap (λ (gone : Option (ℕ × Packet _ _)). paths_after_sending packet gone old.paths) gone in
     let tells = c.on_sent-2.ensures
     ∙ ap (λ (n : ℕ). on_path_of Current (on_state (after_telling words
     (sends_bytes c.args.now n c.number_behind-number.result))) c.sent.new.self) c.from.ensures
@@ -87,5 +92,7 @@ returns g c =
     c.args.queue c.args.stream_frames
     (sym c.if-contains.ensures) (λ large. fails _ (c.if-is_too_large.false) (c.is_too_large.ensures.1 large))
     c.generation.result c.number_behind-number.result c.on_sent.new.self _ _ c.number_of.result
-    c.generation.ensures number (omega (arith, c.if-number-ge-NUMBER_LIMIT.false)) (λ over. ok_is_no_err _ _ (c.in-Ok.ensures.overflow.1 over))
-    (c.number_of.ensures ∙ ap entry_number gone) is (c.give_out.ensures ∙ ap (λ (n : ℕ). skipping_behind c.args.space n old.skipping) next) tells
+    c.generation.ensures number (omega (arith, c.if-number-ge-NUMBER_LIMIT.false))
+    (λ over. ok_is_no_err _ _ (c.in-Ok.ensures.overflow.1 over))
+    (c.number_of.ensures ∙ ap entry_number gone) is (c.give_out.ensures
+    ∙ ap (λ (n : ℕ). skipping_behind c.args.space n old.skipping) next) tells

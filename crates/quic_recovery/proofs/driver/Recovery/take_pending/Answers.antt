@@ -9,7 +9,9 @@ invariant_of-self g c =
     let there = space_of c.args.space c.args.self.now.spaces in
     let same = c.take_pending.ensures.step ∙ ap (space_hands_out words) c.index_mut.ensures.value in
     record {
-      balanced = stays_balanced c.args.self.now.spaces c.args.self.now.paths c.args.self.now.balanced c.args.space c.take_pending.new.self
-          (stays_as (space_hands_out words there) there c.take_pending.new.self same (record { tracking = refl; next = refl; acks = refl; dedup = refl }));
+      balanced = stays_balanced c.args.self.now.spaces c.args.self.now.paths c.args.self.now.balanced c.args.space
+          c.take_pending.new.self
+          (stays_as (space_hands_out words there) there c.take_pending.new.self same
+          (record { tracking = refl; next = refl; acks = refl; dedup = refl }));
       limited = c.args.self.now.limited;
     }

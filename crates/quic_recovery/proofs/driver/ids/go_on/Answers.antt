@@ -9,15 +9,18 @@ use Rattle.quic_recovery.proofs.driver.ids.go_on.Goals as goal
 number_at : (first i : ℕ) (ids : List IssuedCid) (other : IssuedCid) → i < length ids
     → map (λ id. id.sequence) ids ≡ range_with_len first (length ids) → (get_or ids i other).sequence ≡ first + i
 number_at first i ids other inside run =
-    sym (get_or-map (λ id. id.sequence) ids i other 0 inside) ∙ ap (λ (ns : List ℕ). get_or ns i 0) run ∙ get_or-range_with_len first (length ids) i 0 inside
+    sym (get_or-map (λ id. id.sequence) ids i other 0 inside) ∙ ap (λ (ns : List ℕ). get_or ns i 0) run
+    ∙ get_or-range_with_len first (length ids) i 0 inside
 
 numbers_go_on : (first : ℕ) (ids : List IssuedCid)
     → ((i : ℕ) → i < length ids → get_or (map (λ id. id.sequence) ids) i 0 ≡ first + i)
     → map (λ id. id.sequence) ids ≡ range_with_len first (length ids)
 numbers_go_on first ids each =
     let long = length-map ids (λ (id : IssuedCid). id.sequence) in
-    ext_get_or 0 (map (λ id. id.sequence) ids) (range_with_len first (length ids)) (long ∙ sym (length-range_with_len first (length ids)))
-    (λ i inside. let within : i < length ids = omega (arith, inside, long) in each i within ∙ sym (get_or-range_with_len first (length ids) i 0 within))
+    ext_get_or 0 (map (λ id. id.sequence) ids) (range_with_len first (length ids)) (long
+    ∙ sym (length-range_with_len first (length ids)))
+    (λ i inside. let within : i < length ids = omega (arith, inside, long) in each i within
+    ∙ sym (get_or-range_with_len first (length ids) i 0 within))
 
 false_fails : IsTrue false → ⊥
 false_fails holds = cc
@@ -35,8 +38,10 @@ pub loop-id-preserved : goal.loop-id-preserved
 loop-id-preserved c = record {
   next = let next = c.loop-id.invariant.next in omega (arith, next);
   run = λ i below.
-      let before : i < c.loop-id.id-index → get_or (map (λ id. id.sequence) c.args.ids.now) i 0 ≡ c.args.first + i = c.loop-id.invariant.run i in
-      let here : get_or (map (λ id. id.sequence) c.args.ids.now) c.loop-id.id-index 0 ≡ c.args.first + c.loop-id.id-index =
+      let before : i < c.loop-id.id-index → get_or (map (λ id. id.sequence) c.args.ids.now) i 0 ≡ c.args.first + i =
+      c.loop-id.invariant.run i in
+      let here : get_or (map (λ id. id.sequence) c.args.ids.now) c.loop-id.id-index 0 ≡ c.args.first
+      + c.loop-id.id-index =
       get_or-map (λ id. id.sequence) c.args.ids.now c.loop-id.id-index c.id-item.result 0 c.loop-id-test.true
       ∙ ap (λ (id : IssuedCid). id.sequence) (sym c.id-item.is) ∙ c.if-id-next.false ∙ c.loop-id.invariant.next in
       grind (arith, before, here, below);
@@ -45,5 +50,6 @@ loop-id-preserved c = record {
 pub returns : goal.returns
 returns c =
     let ends : c.loop-id.id-index ≡ length c.args.ids.now = search rules in
-    let all = numbers_go_on c.args.first c.args.ids.now (λ i below. c.loop-id.invariant.run i (omega (arith, ends, below))) in
+    let all = numbers_go_on c.args.first c.args.ids.now
+    (λ i below. c.loop-id.invariant.run i (omega (arith, ends, below))) in
     (λ _. all, λ _. refl)
