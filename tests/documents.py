@@ -1,6 +1,6 @@
 #!/usr/bin/env python3
 """Reads the README and the documents: each link leads to a file, each name in backquotes stands in a source, and each clause of run is named in
-the README and in docs/PROVED.md. Names of others (the crate that this follows, the toolchain's own, patterns) are listed here."""
+the README and in docs/PROMISES.md. Names of others (the crate that this follows, the toolchain's own, patterns) are listed here."""
 import pathlib
 import re
 import sys
@@ -68,7 +68,7 @@ def main():
     for file in documents:
         text = (ROOT / file).read_text()
         found = list(faults_in(file, text, words))
-        if file.name in ("README.md", "PROVED.md"):
+        if file.name in ("README.md", "PROMISES.md"):
             found += [f"{file}: the clause `{it}` of run is not named" for it in clauses if f"`{it}`" not in text]
         if file.name == "README.md" and text.count("\n") > README_LINES:
             found.append(f"{file}: {text.count(chr(10))} lines, and not at most {README_LINES}")
