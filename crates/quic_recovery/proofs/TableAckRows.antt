@@ -11,7 +11,7 @@ use Rattle.quic_recovery.specs.declared.event.Answer.TheVariants as answer
 use Rattle.quic_recovery.specs.declared.event.Refusal.TheVariants as refusal
 use Rattle.quic_recovery.specs.Told.{Told}
 use Rattle.quic_recovery.proofs.RowStart.{ack_frame, RowEvent, RowReply, RowHistory, row_start, AllTold, ◌⊳◌}
-use Rattle.quic_recovery.proofs.RowLaws.{unrefused, small, fits, calm, at_first, starts, stays, in_turn, one_run}
+use Rattle.quic_recovery.proofs.RowLaws.{unrefused, small, fits, calm, at_first, starts, stays, in_turn, one_run, unlike, uneven, some_is_none}
 
 module _ (remote : SocketAddr) (random : Stream) where
   abbrev Tells : RowHistory → RowEvent → RowReply → Type 0
@@ -103,7 +103,7 @@ module _ (remote : SocketAddr) (random : Stream) where
       )
 
   late_is_done : ¬ Tells [] (event.AckDelayTimeout Data) (Ok (answer.Flag true))
-  late_is_done = λ told. cc
+  late_is_done = λ told. unlike told.1 refl
 
   no_ack_is_wrong : ¬ Tells (drop 4 late) (event.QueueProbe Data false tt)
       (Ok (answer.Sendable (record { acks = false; other = true })))
@@ -146,13 +146,13 @@ module _ (remote : SocketAddr) (random : Stream) where
       ⊳ (unrefused, (refl, refl))
 
   corrupted_is_kept_is_wrong : ¬ Tells (drop 2 marked) (ecn 1 2 1 0) (Ok (answer.Flag false))
-  corrupted_is_kept_is_wrong = λ told. cc
+  corrupted_is_kept_is_wrong = λ told. some_is_none told.1.0
 
   bleached_is_wrong : ¬ Tells (drop 2 marked) (ecn 1 2 1 0) (Err (refusal.Ecn (text (codes "ECN bleaching"))))
   bleached_is_wrong = λ told. let same : 14 ≡ 13 = ap (λ words. length (unwrap_or words [])) told.1 in omega (arith, same)
 
   more_marks_is_no_is_wrong : ¬ Tells (drop 1 marked) (ecn 1 2 0 1) (Ok (answer.Flag false))
-  more_marks_is_no_is_wrong = λ told. cc
+  more_marks_is_no_is_wrong = λ told. unlike told.1.1 refl
 
   -- ---- ranges of acknowledged numbers, first with no skips
 
@@ -205,7 +205,7 @@ module _ (remote : SocketAddr) (random : Stream) where
       ⊳ (unrefused, (small refl, (small refl, (λ h. h, refl))))
 
   skipped_is_given_is_wrong : ¬ SkipsTells [] (event.Send Data 0 1 true None [] tt) (Ok (answer.Sent 0 None))
-  skipped_is_given_is_wrong = λ told. cc
+  skipped_is_given_is_wrong = λ told. uneven told.1.1.1.1 refl
 
   skipped_passes_is_wrong : ¬ SkipsTells (drop 2 skipped) (event.CheckAck Data 0 0) (Ok answer.Done)
   skipped_passes_is_wrong = λ told. told.1.1.1.0 holds_zero
