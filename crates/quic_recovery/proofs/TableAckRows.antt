@@ -1,5 +1,5 @@
 -- Worked rows of the table of replies, computed: requests of ACKs, late ACKs, ECN, and acknowledged ranges.
-use Rattle.std.proofs.Common.{◌≡◌, ℕ, ◌≤◌, ◌^◌, true, false, List, [], ◌∷◌, drop, None, Some, Ok, Err, IsSomeAnd, refl, arith, inl, inr, sym, subst, ap, codes, length, unwrap_or, Bor, if◌then◌else◌}
+use Rattle.std.proofs.Common.{ltb-true, ◌≡◌, ℕ, ◌≤◌, ◌^◌, true, false, List, [], ◌∷◌, drop, None, Some, Ok, Err, IsSomeAnd, refl, arith, inl, inr, sym, subst, ap, codes, length, unwrap_or, Bor, if◌then◌else◌}
 use Rattle.std.specs.declared.net.socket_addr.SocketAddr.{SocketAddr}
 use Rattle.rand_core.specs.Stream.{Stream}
 use Rattle.recovery_base.specs.declared.below.SpaceId.TheVariants.{Initial, Data}
@@ -118,6 +118,74 @@ module _ (remote : SocketAddr) (random : Stream) where
       ),
     ),
   ))
+
+  -- ---- where the peer knows of the ACK, none waits
+
+  abbrev known : RowHistory
+  known =
+      (event.QueueProbe Data false tt, Ok (answer.Sendable (record { acks = false; other = true })))
+      ∷ (event.Acked Data 0 0 false, Ok (answer.Acked false))
+      ∷ (event.Send Data 0 1 true (Some 0) [] tt, Ok (answer.Sent 0 None))
+      ∷ (event.AckDelayTimeout Data, Ok answer.Done)
+      ∷ (event.Received Data 0 0 true, Ok (answer.New true))
+      ∷ []
+
+  known_told : TellsAll known
+  known_told =
+      tt
+      ⊳ (unrefused, (small refl, (inl (λ m came. absurd came), starts (at_first (in_turn 0 0 None (omega arith))))))
+      ⊳ (unrefused, refl)
+      ⊳ (unrefused, (small refl, (small refl, (fits refl refl, refl))))
+      ⊳ (unrefused, (some_is_none, refl))
+      ⊳ (
+        unrefused,
+        (
+          stays (λ all.
+              elim all.1.1.0.0 [ inl zero ↦ (let above = ltb-true 0 all.1.0 all.1.1.1 in omega (arith, zero, above)) | inr none ↦ none ]),
+          refl,
+        ),
+      )
+
+  -- ---- the second packet that elicits an ACK requires one at once
+
+  abbrev twice : RowHistory
+  twice =
+      (event.QueueProbe Data false tt, Ok (answer.Sendable (record { acks = true; other = true })))
+      ∷ (event.Received Data 1 1 true, Ok (answer.New false))
+      ∷ (event.Received Data 0 0 true, Ok (answer.New true))
+      ∷ []
+
+  twice_told : TellsAll twice
+  twice_told =
+      tt
+      ⊳ (unrefused, (small refl, (inl (λ m came. absurd came), starts (at_first (in_turn 0 0 None (omega arith))))))
+      ⊳ (
+        unrefused,
+        (
+          small refl,
+          (
+            inl (λ m c. grind (arith, c)),
+            stays (λ all. all.1 (0, inr (refl, at_first (in_turn 0 0 None (omega arith))))),
+          ),
+        ),
+      )
+      ⊳ (
+        unrefused,
+        (
+          starts (
+            inr (refl, inl (omega arith)),
+            (
+              1,
+              (
+                inl refl,
+                one_run _ 1 (λ m end.
+                    elim end.1.0 [ inl one ↦ one | inr old ↦ absurd (grind (arith, old.0, end.0)) ]),
+              ),
+            ),
+          ),
+          refl,
+        ),
+      )
 
   -- ---- counts of ECN
 

@@ -2,7 +2,7 @@
 use Rattle.std.proofs.Common.{◌-◌, ◌^◌, inl, true, false, [], ◌∷◌, drop, None, Ok, Err, refl, arith}
 use Rattle.std.specs.declared.net.socket_addr.SocketAddr.{SocketAddr}
 use Rattle.rand_core.specs.Stream.{Stream}
-use Rattle.recovery_base.specs.declared.below.SpaceId.TheVariants.{Data}
+use Rattle.recovery_base.specs.declared.below.SpaceId.TheVariants.{Initial, Data}
 use Rattle.recovery_skips.specs.declared.filter.Skips.TheVariants.{Disabled}
 use Rattle.quic_recovery.specs.declared.event.Event.TheVariants as event
 use Rattle.quic_recovery.specs.declared.event.Answer.TheVariants as answer
@@ -247,3 +247,25 @@ module _ (remote : SocketAddr) (random : Stream) where
 
   no_probe_is_wrong : ¬ Tells ((event.PeerLimit 1200, Ok answer.Done) ∷ full) (event.PollMtu 0) (Err refusal.Overflow)
   no_probe_is_wrong = λ told. told.1.1
+
+  -- ---- a packet of the same number in another space is no probe
+
+  abbrev other_space : RowHistory
+  other_space =
+      (event.PollMtu 0, Ok (answer.Probe 1 1389))
+      ∷ (event.Acked Data 0 0 false, Ok (answer.Acked true))
+      ∷ (event.PollMtu 0, Ok answer.NoProbe)
+      ∷ (event.Acked Initial 0 0 false, Ok (answer.Acked false))
+      ∷ (event.PollMtu 0, Ok (answer.Probe 0 1326))
+      ∷ (event.Send Initial 0 1 true None [] tt, Ok (answer.Sent 0 None))
+      ∷ []
+
+  other_space_told : TellsAll other_space
+  other_space_told =
+      tt
+      ⊳ (unrefused, (λ h. h, (small refl, (fits refl refl, refl))))
+      ⊳ (unrefused, (small refl, (fits refl refl, refl)))
+      ⊳ (unrefused, (some_is_none, refl))
+      ⊳ (unrefused, (small refl, refl))
+      ⊳ (unrefused, (some_is_none, refl))
+      ⊳ (unrefused, (small refl, (fits refl refl, refl)))

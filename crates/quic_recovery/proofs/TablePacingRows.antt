@@ -148,3 +148,39 @@ module _ (remote : SocketAddr) (random : Stream) where
       tt
       ⊳ refl
       ⊳ refl
+
+  -- ---- what is delayed brings the pacer the tokens of half an RTT
+
+  abbrev brings_tokens : RowHistory
+  brings_tokens =
+      (event.PacerCheck 0 1200, Ok answer.Ready)
+      ∷ (event.Transmit 133200000 12000 true, Ok (answer.Delayed 266400000))
+      ∷ (event.Transmit 0 1200 true, Ok answer.Transmitted)
+      ∷ (event.Transmit 0 1200 true, Ok answer.Transmitted)
+      ∷ (event.Transmit 0 1200 true, Ok answer.Transmitted)
+      ∷ (event.Transmit 0 1200 true, Ok answer.Transmitted)
+      ∷ (event.Transmit 0 1200 true, Ok answer.Transmitted)
+      ∷ (event.Transmit 0 1200 true, Ok answer.Transmitted)
+      ∷ (event.Transmit 0 1200 true, Ok answer.Transmitted)
+      ∷ (event.Transmit 0 1200 true, Ok answer.Transmitted)
+      ∷ (event.Transmit 0 1200 true, Ok answer.Transmitted)
+      ∷ (event.Transmit 0 1200 true, Ok answer.Transmitted)
+      ∷ (event.Validated Current, Ok answer.Done)
+      ∷ []
+
+  brings_tokens_told : TellsAll brings_tokens
+  brings_tokens_told =
+      tt
+      ⊳ refl
+      ⊳ (small refl, refl)
+      ⊳ (small refl, refl)
+      ⊳ (small refl, refl)
+      ⊳ (small refl, refl)
+      ⊳ (small refl, refl)
+      ⊳ (small refl, refl)
+      ⊳ (small refl, refl)
+      ⊳ (small refl, refl)
+      ⊳ (small refl, refl)
+      ⊳ (small refl, refl)
+      ⊳ (small refl, refl)
+      ⊳ refl

@@ -146,3 +146,23 @@ module _ (remote : SocketAddr) (random : Stream) where
 
   current_is_there : ¬ Tells [] (event.Validated Current) (Err refusal.NoSuchPath)
   current_is_there = λ told. told
+
+  -- ---- what is not checked counts too
+
+  abbrev unchecked : RowHistory
+  unchecked =
+      (event.Transmit 0 0 true, Ok answer.Blocked)
+      ∷ (event.Transmit 0 1 false, Ok answer.Transmitted)
+      ∷ (event.PacerCheck 0 0, Ok answer.Ready)
+      ∷ (event.Transmit 0 1 true, Ok answer.Blocked)
+      ∷ (event.Transmit 0 0 true, Ok answer.Transmitted)
+      ∷ []
+
+  unchecked_told : TellsAll unchecked
+  unchecked_told =
+      tt
+      ⊳ (small refl, refl)
+      ⊳ (small refl, refl)
+      ⊳ refl
+      ⊳ (small refl, refl)
+      ⊳ (small refl, refl)

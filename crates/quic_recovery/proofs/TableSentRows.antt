@@ -141,3 +141,31 @@ module _ (remote : SocketAddr) (random : Stream) where
 
   in_front_is_wrong : ¬ Tells (drop 1 joined) (event.TakePending Data) (Ok (answer.Queue (1 ∷ 2 ∷ 3 ∷ [])))
   in_front_is_wrong = λ told. differ refl told.1
+
+  -- ---- a PING stays marked
+
+  abbrev marked : RowHistory
+  marked =
+      (event.QueueProbe Data false tt, Ok (answer.Sendable (record { acks = false; other = true })))
+      ∷ (event.TakePending Data, Ok (answer.Queue []))
+      ∷ (event.QueueProbe Data false tt, Ok (answer.Sendable (record { acks = false; other = true })))
+      ∷ []
+
+  marked_told : TellsAll marked
+  marked_told =
+      tt
+      ⊳ (unrefused, (stays (λ all. all.0), refl))
+      ⊳ (unrefused, refl)
+      ⊳ (unrefused, (stays (λ all. all.0), refl))
+
+  -- ---- and an ACK at once is asked for
+
+  abbrev at_once : RowHistory
+  at_once =
+      (event.QueueProbe Data true tt, Ok (answer.Sendable (record { acks = false; other = true })))
+      ∷ []
+
+  at_once_told : TellsAll at_once
+  at_once_told =
+      tt
+      ⊳ (unrefused, (stays (λ all. all.0), refl))

@@ -137,3 +137,53 @@ module _ (remote : SocketAddr) (random : Stream) where
 
   sample_is_done : ¬ Tells [] (event.Sample 0 1000000) (Ok answer.Ready)
   sample_is_done = λ told. unlike told refl
+
+  -- ---- a packet of another path, or one that elicits no ACK, grows nothing
+
+  abbrev another_path : RowHistory
+  another_path =
+      (event.PacerCheck 0 12001, Ok (answer.Delayed 22200))
+      ∷ (event.Acked Data 3 0 false, Ok (answer.Acked false))
+      ∷ (event.NewPath 0 remote false, Ok answer.Done)
+      ∷ (event.Send Data 1 1200 true None [] tt, Ok (answer.Sent 0 None))
+      ∷ []
+
+  another_path_told : TellsAll another_path
+  another_path_told =
+      tt
+      ⊳ (unrefused, (λ h. h, (small refl, (fits refl refl, refl))))
+      ⊳ (small refl, refl)
+      ⊳ (unrefused, (some_is_none, refl))
+      ⊳ refl
+
+  abbrev silent : RowHistory
+  silent =
+      (event.PacerCheck 0 12001, Ok (answer.Delayed 22200))
+      ∷ (event.Acked Data 3 0 false, Ok (answer.Acked false))
+      ∷ (event.Send Data 1 1200 false None [] tt, Ok (answer.Sent 0 None))
+      ∷ []
+
+  silent_told : TellsAll silent
+  silent_told =
+      tt
+      ⊳ (unrefused, (λ h. h, (small refl, (fits refl refl, refl))))
+      ⊳ (unrefused, (some_is_none, refl))
+      ⊳ refl
+
+  -- ---- persistent congestion leaves a window of two packets, of the size that a probe found
+
+  abbrev two_packets_left : RowHistory
+  two_packets_left =
+      (event.PacerCheck 0 13261, Ok (answer.Delayed 126670588))
+      ∷ (event.Congestion 2 1 true 0, Ok answer.Done)
+      ∷ (event.Acked Data 0 0 false, Ok (answer.Acked true))
+      ∷ (event.PollMtu 0, Ok (answer.Probe 0 1326))
+      ∷ []
+
+  two_packets_left_told : TellsAll two_packets_left
+  two_packets_left_told =
+      tt
+      ⊳ (unrefused, (small refl, (fits refl refl, refl)))
+      ⊳ (unrefused, (some_is_none, refl))
+      ⊳ refl
+      ⊳ refl
