@@ -1,5 +1,5 @@
 -- What the proofs of worked rows cite: when the timer for a late ACK starts, and which numbers are new.
-use Rattle.std.proofs.Common.{◌≡◌, ℕ, ◌+◌, ◌<◌, ◌≤◌, ◌^◌, ◌↔◌, ◌⊎◌, true, false, List, IsTrue, IsSome, min, nat_lt, ltb-true, [], ◌∷◌, Option, None, Some, refl, arith, inl, inr, lt_irrefl, get_or, nat_eq, ap, sym, subst}
+use Rattle.std.proofs.Common.{◌≡◌, ◌∙◌, ℕ, Bool, not, true≢false, ◌+◌, ◌<◌, ◌≤◌, ◌^◌, ◌↔◌, ◌⊎◌, true, false, List, IsTrue, IsSome, min, nat_lt, ltb-true, [], ◌∷◌, Option, None, Some, refl, arith, inl, inr, lt_irrefl, get_or, nat_eq, ap, sym, subst}
 use Rattle.std.proofs.lemmas.Bool.{eqb-false}
 use Rattle.recovery_acks.specs.Acks.{IsOutOfOrder}
 use Rattle.recovery_acks.specs.Runs.{Ascend, AtMost}
@@ -22,12 +22,36 @@ pub fits : {bytes eliciting : ℕ} → nat_lt bytes (2 ^ 64) ≡ true → nat_lt
 fits few rare (inl many) = small few many
 fits few rare (inr often) = small rare often
 
--- what is told of a moment, of a size or of bytes in flight
+-- what is told of a moment, of a size, of bytes in flight or of a number
 abbrev pub said : {Q : Type 0} → Answer Q → ℕ
 said (answer.Delayed until) = until
 said (answer.Probe number size) = size
 said (answer.InFlight bytes eliciting) = bytes
+said (answer.Sent number forgotten) = number
 said other = 0
+
+-- an answer of two
+abbrev pub says_yes : {Q : Type 0} → Answer Q → Bool
+says_yes (answer.Acked probe) = probe
+says_yes (answer.Lost probe) = probe
+says_yes (answer.BlackHole found) = found
+says_yes (answer.Flag holds) = holds
+says_yes (answer.Probe number size) = true
+says_yes (answer.Timeout moment) = true
+says_yes answer.Transmitted = true
+says_yes answer.Ready = true
+says_yes other = false
+
+not_opposite : (b : Bool) → ¬ (b ≡ not b)
+not_opposite true same = true≢false same
+not_opposite false same = true≢false (sym same)
+
+-- answers are not the same where they are of two and opposite, or say other numbers
+pub unlike : {Q : Type 0} {one other : Answer Q} → one ≡ other → ¬ (says_yes one ≡ not (says_yes other))
+unlike {one = one} {other = other} same opposite = not_opposite (says_yes other) (sym (ap says_yes same) ∙ opposite)
+
+pub uneven : {Q : Type 0} {one other : Answer Q} → one ≡ other → ¬ (nat_eq (said one) (said other) ≡ false)
+uneven same apart = eqb-false _ _ apart (ap said same)
 
 pub some_is_none : {A : Type 0} {x : A} → ¬ (Some x ≡ None)
 some_is_none h = cc

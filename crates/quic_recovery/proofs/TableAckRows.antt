@@ -1,5 +1,5 @@
 -- Worked rows of the table of replies, computed: requests of ACKs, late ACKs, ECN, and acknowledged ranges.
-use Rattle.std.proofs.Common.{◌≡◌, ℕ, ◌≤◌, ◌^◌, true, false, List, [], ◌∷◌, drop, None, Some, Ok, Err, IsSomeAnd, refl, arith, inl, inr, sym, subst, ap, codes, length, unwrap_or, Bor, if◌then◌else◌}
+use Rattle.std.proofs.Common.{ltb-true, ◌≡◌, ℕ, ◌≤◌, ◌^◌, true, false, List, [], ◌∷◌, drop, None, Some, Ok, Err, IsSomeAnd, refl, arith, inl, inr, sym, subst, ap, codes, length, unwrap_or, Bor, if◌then◌else◌}
 use Rattle.std.specs.declared.net.socket_addr.SocketAddr.{SocketAddr}
 use Rattle.rand_core.specs.Stream.{Stream}
 use Rattle.recovery_base.specs.declared.below.SpaceId.TheVariants.{Initial, Data}
@@ -11,7 +11,7 @@ use Rattle.quic_recovery.specs.declared.event.Answer.TheVariants as answer
 use Rattle.quic_recovery.specs.declared.event.Refusal.TheVariants as refusal
 use Rattle.quic_recovery.specs.Told.{Told}
 use Rattle.quic_recovery.proofs.RowStart.{ack_frame, RowEvent, RowReply, RowHistory, row_start, AllTold, ◌⊳◌}
-use Rattle.quic_recovery.proofs.RowLaws.{unrefused, small, fits, calm, at_first, starts, stays, in_turn, one_run}
+use Rattle.quic_recovery.proofs.RowLaws.{unrefused, small, fits, calm, at_first, starts, stays, in_turn, one_run, unlike, uneven, some_is_none}
 
 module _ (remote : SocketAddr) (random : Stream) where
   abbrev Tells : RowHistory → RowEvent → RowReply → Type 0
@@ -103,7 +103,7 @@ module _ (remote : SocketAddr) (random : Stream) where
       )
 
   late_is_done : ¬ Tells [] (event.AckDelayTimeout Data) (Ok (answer.Flag true))
-  late_is_done = λ told. cc
+  late_is_done = λ told. unlike told.1 refl
 
   no_ack_is_wrong : ¬ Tells (drop 4 late) (event.QueueProbe Data false tt)
       (Ok (answer.Sendable (record { acks = false; other = true })))
@@ -118,6 +118,77 @@ module _ (remote : SocketAddr) (random : Stream) where
       ),
     ),
   ))
+
+  -- ---- where the peer knows of the ACK, none waits
+
+  abbrev known : RowHistory
+  known =
+      (event.QueueProbe Data false tt, Ok (answer.Sendable (record { acks = false; other = true })))
+      ∷ (event.Acked Data 0 0 false, Ok (answer.Acked false))
+      ∷ (event.Send Data 0 1 true (Some 0) [] tt, Ok (answer.Sent 0 None))
+      ∷ (event.AckDelayTimeout Data, Ok answer.Done)
+      ∷ (event.Received Data 0 0 true, Ok (answer.New true))
+      ∷ []
+
+  known_told : TellsAll known
+  known_told =
+      tt
+      ⊳ (unrefused, (small refl, (inl (λ m came. absurd came), starts (at_first (in_turn 0 0 None (omega arith))))))
+      ⊳ (unrefused, refl)
+      ⊳ (unrefused, (small refl, (small refl, (fits refl refl, refl))))
+      ⊳ (unrefused, (some_is_none, refl))
+      ⊳ (
+        unrefused,
+        (
+          stays (λ all.
+              elim all.1.1.0.0 [
+                | inl zero ↦ (let above = ltb-true 0 all.1.0 all.1.1.1 in omega (arith, zero, above))
+                | inr none ↦ none
+              ]),
+          refl,
+        ),
+      )
+
+  -- ---- the second packet that elicits an ACK requires one at once
+
+  abbrev twice : RowHistory
+  twice =
+      (event.QueueProbe Data false tt, Ok (answer.Sendable (record { acks = true; other = true })))
+      ∷ (event.Received Data 1 1 true, Ok (answer.New false))
+      ∷ (event.Received Data 0 0 true, Ok (answer.New true))
+      ∷ []
+
+  twice_told : TellsAll twice
+  twice_told =
+      tt
+      ⊳ (unrefused, (small refl, (inl (λ m came. absurd came), starts (at_first (in_turn 0 0 None (omega arith))))))
+      ⊳ (
+        unrefused,
+        (
+          small refl,
+          (
+            inl (λ m c. grind (arith, c)),
+            stays (λ all. all.1 (0, inr (refl, at_first (in_turn 0 0 None (omega arith))))),
+          ),
+        ),
+      )
+      ⊳ (
+        unrefused,
+        (
+          starts (
+            inr (refl, inl (omega arith)),
+            (
+              1,
+              (
+                inl refl,
+                one_run _ 1 (λ m end.
+                    elim end.1.0 [ inl one ↦ one | inr old ↦ absurd (grind (arith, old.0, end.0)) ]),
+              ),
+            ),
+          ),
+          refl,
+        ),
+      )
 
   -- ---- counts of ECN
 
@@ -146,14 +217,14 @@ module _ (remote : SocketAddr) (random : Stream) where
       ⊳ (unrefused, (refl, refl))
 
   corrupted_is_kept_is_wrong : ¬ Tells (drop 2 marked) (ecn 1 2 1 0) (Ok (answer.Flag false))
-  corrupted_is_kept_is_wrong = λ told. cc
+  corrupted_is_kept_is_wrong = λ told. some_is_none told.1.0
 
   bleached_is_wrong : ¬ Tells (drop 2 marked) (ecn 1 2 1 0) (Err (refusal.Ecn (text (codes "ECN bleaching"))))
   bleached_is_wrong = λ told. let same : 14 ≡ 13 =
       ap (λ words. length (unwrap_or words [])) told.1 in omega (arith, same)
 
   more_marks_is_no_is_wrong : ¬ Tells (drop 1 marked) (ecn 1 2 0 1) (Ok (answer.Flag false))
-  more_marks_is_no_is_wrong = λ told. cc
+  more_marks_is_no_is_wrong = λ told. unlike told.1.1 refl
 
   -- ---- ranges of acknowledged numbers, first with no skips
 
@@ -206,7 +277,7 @@ module _ (remote : SocketAddr) (random : Stream) where
       ⊳ (unrefused, (small refl, (small refl, (λ h. h, refl))))
 
   skipped_is_given_is_wrong : ¬ SkipsTells [] (event.Send Data 0 1 true None [] tt) (Ok (answer.Sent 0 None))
-  skipped_is_given_is_wrong = λ told. cc
+  skipped_is_given_is_wrong = λ told. uneven told.1.1.1.1 refl
 
   skipped_passes_is_wrong : ¬ SkipsTells (drop 2 skipped) (event.CheckAck Data 0 0) (Ok answer.Done)
   skipped_passes_is_wrong = λ told. told.1.1.1.0 holds_zero

@@ -1,15 +1,15 @@
 -- Worked rows of the table of replies, computed: searches for the MTU, and black holes.
-use Rattle.std.proofs.Common.{◌≡◌, ◌-◌, ◌^◌, inl, true, false, [], ◌∷◌, drop, None, Ok, Err, refl, arith, ap}
+use Rattle.std.proofs.Common.{◌-◌, ◌^◌, inl, true, false, [], ◌∷◌, drop, None, Ok, Err, refl, arith}
 use Rattle.std.specs.declared.net.socket_addr.SocketAddr.{SocketAddr}
 use Rattle.rand_core.specs.Stream.{Stream}
-use Rattle.recovery_base.specs.declared.below.SpaceId.TheVariants.{Data}
+use Rattle.recovery_base.specs.declared.below.SpaceId.TheVariants.{Initial, Data}
 use Rattle.recovery_skips.specs.declared.filter.Skips.TheVariants.{Disabled}
 use Rattle.quic_recovery.specs.declared.event.Event.TheVariants as event
 use Rattle.quic_recovery.specs.declared.event.Answer.TheVariants as answer
 use Rattle.quic_recovery.specs.declared.event.Refusal.TheVariants as refusal
 use Rattle.quic_recovery.specs.Told.{Told}
 use Rattle.quic_recovery.proofs.RowStart.{RowEvent, RowReply, RowHistory, row_start, AllTold, ◌⊳◌}
-use Rattle.quic_recovery.proofs.RowLaws.{unrefused, small, fits, said}
+use Rattle.quic_recovery.proofs.RowLaws.{unrefused, small, fits, unlike, uneven, some_is_none}
 
 module _ (remote : SocketAddr) (random : Stream) where
   abbrev Tells : RowHistory → RowEvent → RowReply → Type 0
@@ -39,21 +39,21 @@ module _ (remote : SocketAddr) (random : Stream) where
       ⊳ (λ h. omega (arith, h), (unrefused, refl))
       ⊳ (unrefused, (small refl, (fits refl refl, refl)))
       ⊳ (unrefused, (small refl, refl))
-      ⊳ (unrefused, (λ none. cc, refl))
+      ⊳ (unrefused, (some_is_none, refl))
       ⊳ (unrefused, (small refl, (fits refl refl, refl)))
       ⊳ (λ h. omega (arith, h), refl)
       ⊳ refl
-      ⊳ (unrefused, (λ none. cc, refl))
+      ⊳ (unrefused, (some_is_none, refl))
       ⊳ (unrefused, (small refl, (fits refl refl, refl)))
 
   probe_is_no_probe_is_wrong : ¬ Tells (drop 6 searches) (event.Acked Data 0 0 false) (Ok (answer.Acked false))
-  probe_is_no_probe_is_wrong = λ told. cc
+  probe_is_no_probe_is_wrong = λ told. unlike told.1.1 refl
 
   second_in_flight_is_wrong : ¬ Tells (drop 7 searches) (event.PollMtu 0) (Ok (answer.Probe 1 1250))
-  second_in_flight_is_wrong = λ told. cc
+  second_in_flight_is_wrong = λ told. unlike told.1.1 refl
 
   lost_once_is_too_large_is_wrong : ¬ Tells (drop 1 searches) (event.PollMtu 0) (Ok (answer.Probe 2 1262))
-  lost_once_is_too_large_is_wrong = λ told. let same : 1262 ≡ 1275 = ap said told.1.1.1 in omega (arith, same)
+  lost_once_is_too_large_is_wrong = λ told. uneven told.1.1.1 refl
 
   limit_in_search_is_wrong : ¬ Tells (drop 4 searches) (event.PeerLimit 1400) (Ok answer.Done)
   limit_in_search_is_wrong = λ told. told.1.0 refl
@@ -91,7 +91,7 @@ module _ (remote : SocketAddr) (random : Stream) where
   discard_ends_search_is_wrong = λ told. told.1.0 refl
 
   reset_is_done : ¬ Tells [] (event.ResetPath 0) (Ok (answer.Flag true))
-  reset_is_done = λ told. cc
+  reset_is_done = λ told. unlike told refl
 
   -- ---- four bursts of lost packets are a black hole, and the next search waits for a minute
 
@@ -123,22 +123,22 @@ module _ (remote : SocketAddr) (random : Stream) where
       ⊳ (unrefused, (λ h. h, (small refl, (fits refl refl, refl))))
       ⊳ (unrefused, (λ h. h, (small refl, (fits refl refl, refl))))
       ⊳ (unrefused, (λ h. h, (small refl, (fits refl refl, refl))))
-      ⊳ (unrefused, (λ none. cc, refl))
-      ⊳ (unrefused, (λ none. cc, refl))
-      ⊳ (unrefused, (λ none. cc, refl))
-      ⊳ (unrefused, (λ none. cc, refl))
+      ⊳ (unrefused, (some_is_none, refl))
+      ⊳ (unrefused, (some_is_none, refl))
+      ⊳ (unrefused, (some_is_none, refl))
+      ⊳ (unrefused, (some_is_none, refl))
       ⊳ refl
       ⊳ (unrefused, (small refl, refl))
       ⊳ (unrefused, (small refl, (fits refl refl, refl)))
 
   four_bursts_are_none_is_wrong : ¬ Tells (drop 3 black_hole) (event.LossesDone 0) (Ok (answer.BlackHole false))
-  four_bursts_are_none_is_wrong = λ told. cc
+  four_bursts_are_none_is_wrong = λ told. unlike told refl
 
   three_bursts_are_one_is_wrong : ¬ Tells (drop 4 black_hole) (event.LossesDone 0) (Ok (answer.BlackHole true))
-  three_bursts_are_one_is_wrong = λ told. cc
+  three_bursts_are_one_is_wrong = λ told. unlike told refl
 
   probe_at_once_is_wrong : ¬ Tells (drop 2 black_hole) (event.PollMtu 59999999999) (Ok (answer.Probe 7 1326))
-  probe_at_once_is_wrong = λ told. cc
+  probe_at_once_is_wrong = λ told. unlike told.1.1 refl
 
   -- ---- a packet that is acknowledged refutes three bursts
 
@@ -170,16 +170,16 @@ module _ (remote : SocketAddr) (random : Stream) where
       ⊳ (unrefused, (λ h. h, (small refl, (fits refl refl, refl))))
       ⊳ (unrefused, (λ h. h, (small refl, (fits refl refl, refl))))
       ⊳ (unrefused, (λ h. h, (small refl, (fits refl refl, refl))))
-      ⊳ (unrefused, (λ none. cc, refl))
-      ⊳ (unrefused, (λ none. cc, refl))
-      ⊳ (unrefused, (λ none. cc, refl))
+      ⊳ (unrefused, (some_is_none, refl))
+      ⊳ (unrefused, (some_is_none, refl))
+      ⊳ (unrefused, (some_is_none, refl))
       ⊳ refl
-      ⊳ (unrefused, (λ none. cc, refl))
-      ⊳ (unrefused, (λ none. cc, refl))
+      ⊳ (unrefused, (some_is_none, refl))
+      ⊳ (unrefused, (some_is_none, refl))
       ⊳ refl
 
   refuted_is_reported_is_wrong : ¬ Tells (drop 1 refuted) (event.LossesDone 0) (Ok (answer.BlackHole true))
-  refuted_is_reported_is_wrong = λ told. cc
+  refuted_is_reported_is_wrong = λ told. unlike told refl
 
   -- ---- a path that goes on takes the search with it, and a fresh one does not
 
@@ -199,17 +199,17 @@ module _ (remote : SocketAddr) (random : Stream) where
       tt
       ⊳ (unrefused, (small refl, (fits refl refl, refl)))
       ⊳ (small refl, refl)
-      ⊳ (unrefused, (λ none. cc, refl))
+      ⊳ (unrefused, (some_is_none, refl))
       ⊳ (unrefused, (small refl, (fits refl refl, refl)))
       ⊳ (small refl, refl)
-      ⊳ (unrefused, (λ none. cc, refl))
+      ⊳ (unrefused, (some_is_none, refl))
       ⊳ (unrefused, (small refl, (fits refl refl, refl)))
 
   probe_of_another_path_is_wrong : ¬ Tells (drop 2 moved) (event.Acked Data 0 1 false) (Ok (answer.Acked true))
-  probe_of_another_path_is_wrong = λ told. cc
+  probe_of_another_path_is_wrong = λ told. unlike told.1.1 refl
 
   fresh_path_goes_on_is_wrong : ¬ Tells (drop 1 moved) (event.PollMtu 0) (Ok (answer.Probe 2 1389))
-  fresh_path_goes_on_is_wrong = λ told. let same : 1389 ≡ 1326 = ap said told.1.1.1 in omega (arith, same)
+  fresh_path_goes_on_is_wrong = λ told. uneven told.1.1.1 refl
 
   -- ---- a poll may begin and end a search at once, and the next begins after the interval
 
@@ -247,3 +247,25 @@ module _ (remote : SocketAddr) (random : Stream) where
 
   no_probe_is_wrong : ¬ Tells ((event.PeerLimit 1200, Ok answer.Done) ∷ full) (event.PollMtu 0) (Err refusal.Overflow)
   no_probe_is_wrong = λ told. told.1.1
+
+  -- ---- a packet of the same number in another space is no probe
+
+  abbrev other_space : RowHistory
+  other_space =
+      (event.PollMtu 0, Ok (answer.Probe 1 1389))
+      ∷ (event.Acked Data 0 0 false, Ok (answer.Acked true))
+      ∷ (event.PollMtu 0, Ok answer.NoProbe)
+      ∷ (event.Acked Initial 0 0 false, Ok (answer.Acked false))
+      ∷ (event.PollMtu 0, Ok (answer.Probe 0 1326))
+      ∷ (event.Send Initial 0 1 true None [] tt, Ok (answer.Sent 0 None))
+      ∷ []
+
+  other_space_told : TellsAll other_space
+  other_space_told =
+      tt
+      ⊳ (unrefused, (λ h. h, (small refl, (fits refl refl, refl))))
+      ⊳ (unrefused, (small refl, (fits refl refl, refl)))
+      ⊳ (unrefused, (some_is_none, refl))
+      ⊳ (unrefused, (small refl, refl))
+      ⊳ (unrefused, (some_is_none, refl))
+      ⊳ (unrefused, (small refl, (fits refl refl, refl)))

@@ -13,7 +13,7 @@ use Rattle.quic_recovery.specs.declared.event.Answer.TheVariants as answer
 use Rattle.quic_recovery.specs.declared.event.Refusal.TheVariants as refusal
 use Rattle.quic_recovery.specs.Told.{Told}
 use Rattle.quic_recovery.proofs.RowStart.{RowEvent, RowReply, RowHistory, row_start, AllTold, ◌⊳◌}
-use Rattle.quic_recovery.proofs.RowLaws.{small, starts, stays, some_is_none, differ}
+use Rattle.quic_recovery.proofs.RowLaws.{small, starts, stays, some_is_none, differ, unlike}
 
 module _ (remote : SocketAddr) (random : Stream) (given : Vec IssuedCid) where
   abbrev Tells : RowHistory → RowEvent → RowReply → Type 0
@@ -57,10 +57,10 @@ module _ (remote : SocketAddr) (random : Stream) (given : Vec IssuedCid) where
       ⊳ (small refl, differ refl)
 
   unretired_is_asked_for : ¬ Tells (drop 5 own) (event.IdTimeout) (Ok (answer.Flag false))
-  unretired_is_asked_for = λ told. cc
+  unretired_is_asked_for = λ told. unlike told refl
 
   asked_again_is_wrong : ¬ Tells (drop 2 own) (event.IdTimeout) (Ok (answer.Flag true))
-  asked_again_is_wrong = λ told. cc
+  asked_again_is_wrong = λ told. unlike told refl
 
   room_for_one_is_wrong : ¬ Tells (drop 4 own) (event.PeerRetired 0 2) (Ok (answer.Flag true))
   room_for_one_is_wrong = λ told. omega (arith, told.1.1.0 refl)
@@ -170,7 +170,7 @@ module _ (remote : SocketAddr) (random : Stream) (given : Vec IssuedCid) where
   none_is_wrong = λ told. some_is_none (told Idle)
 
   set_is_done : ¬ Tells [] (event.SetTimer Idle 50) (Ok (answer.Timeout (Some 50)))
-  set_is_done = λ told. cc
+  set_is_done = λ told. unlike told refl
 
   stop_is_done : ¬ Tells [] (event.StopTimer Idle) (Err refusal.NoMemory)
   stop_is_done = λ told. told

@@ -9,7 +9,7 @@ use Rattle.quic_recovery.specs.declared.event.Answer.TheVariants as answer
 use Rattle.quic_recovery.specs.declared.event.Refusal.TheVariants as refusal
 use Rattle.quic_recovery.specs.Told.{Told}
 use Rattle.quic_recovery.proofs.RowStart.{ack_frame, RowEvent, RowReply, RowHistory, row_start, AllTold, ◌⊳◌}
-use Rattle.quic_recovery.proofs.RowLaws.{unrefused, small, calm, at_first, starts, stays, in_turn, leaves_a_gap, patient, not_far, came_again, too_old}
+use Rattle.quic_recovery.proofs.RowLaws.{unrefused, small, calm, at_first, starts, stays, in_turn, leaves_a_gap, patient, not_far, came_again, too_old, unlike}
 
 module _ (remote : SocketAddr) (random : Stream) where
   abbrev Tells : RowHistory → RowEvent → RowReply → Type 0
@@ -206,7 +206,7 @@ module _ (remote : SocketAddr) (random : Stream) where
   duplicate_takes_none = λ told. came_again 0 (inl refl) told.1.1
 
   acks_sent_is_done : ¬ Tells [] (event.AcksSent Data) (Ok (answer.Flag true))
-  acks_sent_is_done = λ told. cc
+  acks_sent_is_done = λ told. unlike told.1 refl
 
   open_space_is_refused_is_wrong : ¬ Tells [] (event.AcksSent Data) (Err refusal.SpaceDiscarded)
   open_space_is_refused_is_wrong = unrefused

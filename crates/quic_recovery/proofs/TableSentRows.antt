@@ -10,7 +10,7 @@ use Rattle.quic_recovery.specs.declared.event.Answer.TheVariants as answer
 use Rattle.quic_recovery.specs.declared.event.Refusal.TheVariants as refusal
 use Rattle.quic_recovery.specs.Told.{Told}
 use Rattle.quic_recovery.proofs.RowStart.{RowEvent, RowReply, RowHistory, row_start, AllTold, ◌⊳◌}
-use Rattle.quic_recovery.proofs.RowLaws.{unrefused, small, fits, stays}
+use Rattle.quic_recovery.proofs.RowLaws.{unrefused, small, fits, stays, unlike, uneven, differ, some_is_none}
 
 module _ (remote : SocketAddr) (random : Stream) where
   abbrev Tells : RowHistory → RowEvent → RowReply → Type 0
@@ -46,7 +46,7 @@ module _ (remote : SocketAddr) (random : Stream) where
       ⊳ tt
 
   silent_first_is_wrong : ¬ Tells [] (event.Send Initial 0 500 true None [] tt) (Ok (answer.Sent 1 None))
-  silent_first_is_wrong = λ told. cc
+  silent_first_is_wrong = λ told. uneven told.1.1.1.1 refl
 
   small_overflow_is_wrong : ¬ Tells [] (event.Send Initial 0 500 true None [] tt) (Err refusal.Overflow)
   small_overflow_is_wrong = λ told. grind (arith, told.1.1.1)
@@ -63,7 +63,7 @@ module _ (remote : SocketAddr) (random : Stream) where
   discarded_again_is_wrong = λ told. told.0 refl
 
   still_in_flight_is_wrong : ¬ Tells (drop 4 packets) (event.InFlight Current) (Ok (answer.InFlight 500 1))
-  still_in_flight_is_wrong = λ told. cc
+  still_in_flight_is_wrong = λ told. uneven told refl
 
   untracked_is_wrong : ¬ Tells (drop 1 packets) (event.Acked Data 0 9 false) (Ok (answer.Acked false))
   untracked_is_wrong = λ told. told.1.0 refl
@@ -88,11 +88,11 @@ module _ (remote : SocketAddr) (random : Stream) where
       ⊳ (unrefused, (λ h. h, (small refl, (fits refl refl, refl))))
       ⊳ (unrefused, (stays (λ all. all.0), refl))
       ⊳ (unrefused, refl)
-      ⊳ (unrefused, (λ none. cc, refl))
+      ⊳ (unrefused, (some_is_none, refl))
       ⊳ (unrefused, refl)
 
   moved_is_lost_is_wrong : ¬ Tells (drop 1 queues) (event.TakePending Data) (Ok (answer.Queue (7 ∷ 8 ∷ [])))
-  moved_is_lost_is_wrong = λ told. cc
+  moved_is_lost_is_wrong = λ told. differ refl told.1
 
   moved_takes_memory : Tells (drop 4 queues) (event.QueueProbe Data false tt) (Err refusal.NoMemory)
   moved_takes_memory = (unrefused, tt)
@@ -102,19 +102,19 @@ module _ (remote : SocketAddr) (random : Stream) where
 
   ping_is_other : ¬ Tells [] (event.QueueProbe Data false tt)
       (Ok (answer.Sendable (record { acks = false; other = false })))
-  ping_is_other = λ told. cc
+  ping_is_other = λ told. unrefused told.1.1
 
   joins_take_memory : Tells (drop 2 queues) (event.Lost Data 0) (Err refusal.NoMemory)
-  joins_take_memory = (unrefused, (λ none. cc, tt))
+  joins_take_memory = (unrefused, (some_is_none, tt))
 
   acks_take_none : ¬ Tells (drop 2 queues) (event.Acked Data 9 0 false) (Err refusal.NoMemory)
   acks_take_none = λ told. told.1.1
 
   no_probe_is_acked : ¬ Tells (drop 2 queues) (event.Acked Data 9 0 false) (Ok (answer.Acked true))
-  no_probe_is_acked = λ told. cc
+  no_probe_is_acked = λ told. unlike told.1.1 refl
 
   tracked_is_refused_is_wrong : ¬ Tells (drop 2 queues) (event.Lost Data 0) (Err refusal.NotTracked)
-  tracked_is_refused_is_wrong = λ told. cc
+  tracked_is_refused_is_wrong = λ told. some_is_none told.1
 
   -- what is lost is put behind what was lost before
 
@@ -135,10 +135,38 @@ module _ (remote : SocketAddr) (random : Stream) where
       ⊳ (unrefused, (λ h. h, (small refl, (fits refl refl, refl))))
       ⊳ (unrefused, (λ h. h, (small refl, (fits refl refl, refl))))
       ⊳ (unrefused, (λ h. h, (small refl, (fits refl refl, refl))))
-      ⊳ (unrefused, (λ none. cc, refl))
-      ⊳ (unrefused, (λ none. cc, refl))
+      ⊳ (unrefused, (some_is_none, refl))
+      ⊳ (unrefused, (some_is_none, refl))
       ⊳ (unrefused, (stays (λ all. all.0), refl))
       ⊳ (unrefused, refl)
 
   in_front_is_wrong : ¬ Tells (drop 1 joined) (event.TakePending Data) (Ok (answer.Queue (1 ∷ 2 ∷ 3 ∷ [])))
-  in_front_is_wrong = λ told. cc
+  in_front_is_wrong = λ told. differ refl told.1
+
+  -- ---- a PING stays marked
+
+  abbrev marked : RowHistory
+  marked =
+      (event.QueueProbe Data false tt, Ok (answer.Sendable (record { acks = false; other = true })))
+      ∷ (event.TakePending Data, Ok (answer.Queue []))
+      ∷ (event.QueueProbe Data false tt, Ok (answer.Sendable (record { acks = false; other = true })))
+      ∷ []
+
+  marked_told : TellsAll marked
+  marked_told =
+      tt
+      ⊳ (unrefused, (stays (λ all. all.0), refl))
+      ⊳ (unrefused, refl)
+      ⊳ (unrefused, (stays (λ all. all.0), refl))
+
+  -- ---- and an ACK at once is asked for
+
+  abbrev at_once : RowHistory
+  at_once =
+      (event.QueueProbe Data true tt, Ok (answer.Sendable (record { acks = false; other = true })))
+      ∷ []
+
+  at_once_told : TellsAll at_once
+  at_once_told =
+      tt
+      ⊳ (unrefused, (stays (λ all. all.0), refl))
