@@ -13,12 +13,12 @@ use Rattle.recovery_ledger.specs.Packets.{packet_at, is_above, largest_acked_by}
 use Rattle.recovery_ledger.specs.SpaceLog.{SpaceEntry, heard, heard_again, acknowledged, asked}
 use Rattle.recovery_ledger.specs.Tracked.{sent_by}
 use Rattle.recovery_queue.specs.Queues.{QueueWords}
-use Rattle.quic_recovery.specs.declared.event.Event.{Event}
-use Rattle.quic_recovery.specs.declared.event.Event.TheVariants.{Received, Send, Acked, Lost, AckFrequencyIn, AcksSent, AckDelayTimeout, DiscardSpace, PollMtu, Transmit, Ecn, QueueProbe, TakePending}
-use Rattle.quic_recovery.specs.declared.event.Answer.{Answer}
-use Rattle.quic_recovery.specs.declared.event.Answer.TheVariants.{New, Flag, Probe, Transmitted, Delayed}
-use Rattle.quic_recovery.specs.declared.event.Refusal.{Refusal}
-use Rattle.quic_recovery.specs.declared.event.Refusal.TheVariants.{DelayTooSmall}
+use Rattle.recovery_events.specs.declared.event.Event.{Event}
+use Rattle.recovery_events.specs.declared.event.Event.TheVariants.{Received, Send, Acked, Lost, AckFrequencyIn, AcksSent, AckDelayTimeout, DiscardSpace, PollMtu, Transmit, Ecn, QueueProbe, TakePending}
+use Rattle.recovery_events.specs.declared.event.Answer.{Answer}
+use Rattle.recovery_events.specs.declared.event.Answer.TheVariants.{New, Flag, Probe, Transmitted, Delayed}
+use Rattle.recovery_events.specs.declared.event.Refusal.{Refusal}
+use Rattle.recovery_events.specs.declared.event.Refusal.TheVariants.{DelayTooSmall}
 use Rattle.quic_recovery.specs.Entries.{answered, refused, logs_of}
 use Rattle.quic_recovery.specs.History.{Beginning, History, Reply, Throughout, ThroughoutFrom, history, history_from}
 use Rattle.quic_recovery.specs.Known.{Known, known_by}

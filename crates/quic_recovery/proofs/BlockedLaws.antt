@@ -4,11 +4,11 @@ use Rattle.std.proofs.lemmas.Bool.{leb-true, le-leb}
 use Rattle.recovery_congestion.specs.Controllers.{ControllerWords}
 use Rattle.recovery_paths.specs.PathLog.{state_of}
 use Rattle.recovery_paths.specs.PathStates.{PathState, is_blocked, path_delay}
-use Rattle.quic_recovery.specs.declared.event.Event.{Event}
-use Rattle.quic_recovery.specs.declared.event.Event.TheVariants.{Transmit}
-use Rattle.quic_recovery.specs.declared.event.Answer.{Answer}
-use Rattle.quic_recovery.specs.declared.event.Answer.TheVariants.{Transmitted, Blocked}
-use Rattle.quic_recovery.specs.declared.event.Refusal.TheVariants.{Overflow}
+use Rattle.recovery_events.specs.declared.event.Event.{Event}
+use Rattle.recovery_events.specs.declared.event.Event.TheVariants.{Transmit}
+use Rattle.recovery_events.specs.declared.event.Answer.{Answer}
+use Rattle.recovery_events.specs.declared.event.Answer.TheVariants.{Transmitted, Blocked}
+use Rattle.recovery_events.specs.declared.event.Refusal.TheVariants.{Overflow}
 use Rattle.quic_recovery.specs.Amplification.{pasts_of}
 use Rattle.quic_recovery.specs.History.{Beginning, History, Reply, Throughout}
 use Rattle.quic_recovery.specs.Known.{settings_of}

@@ -11,11 +11,11 @@ use Rattle.recovery_mtud.proofs.EntryLaws.{discovery_made_untold, discovery_disa
 use Rattle.recovery_paths.specs.PathMaking.{discovery_with, first_discovery}
 use Rattle.recovery_paths.proofs.FateLaws.{apart_once}
 use Rattle.recovery_paths.proofs.UntoldLaws.{WasUntold, untold_by}
-use Rattle.quic_recovery.specs.declared.event.Event.{Event}
-use Rattle.quic_recovery.specs.declared.event.Event.TheVariants.{LossesDone}
-use Rattle.quic_recovery.specs.declared.event.Answer.{Answer}
-use Rattle.quic_recovery.specs.declared.event.Answer.TheVariants.{BlackHole}
-use Rattle.quic_recovery.specs.declared.event.Refusal.TheVariants.{NoMemory}
+use Rattle.recovery_events.specs.declared.event.Event.{Event}
+use Rattle.recovery_events.specs.declared.event.Event.TheVariants.{LossesDone}
+use Rattle.recovery_events.specs.declared.event.Answer.{Answer}
+use Rattle.recovery_events.specs.declared.event.Answer.TheVariants.{BlackHole}
+use Rattle.recovery_events.specs.declared.event.Refusal.TheVariants.{NoMemory}
 use Rattle.quic_recovery.specs.Amplification.{pasts_of}
 use Rattle.quic_recovery.specs.Entries.{logs_of}
 use Rattle.quic_recovery.specs.History.{Beginning, History, Reply, ThroughoutFrom, Throughout}

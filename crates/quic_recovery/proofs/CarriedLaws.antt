@@ -6,13 +6,13 @@ use Rattle.recovery_base.specs.Spaces.{same_space}
 use Rattle.recovery_ledger.specs.Packets.{Packet, packet_at, largest_acked_by}
 use Rattle.recovery_ledger.specs.SpaceLog.{SpaceEntry, sends, asked}
 use Rattle.recovery_ledger.specs.Tracked.{Sent, sent_by}
-use Rattle.quic_recovery.specs.declared.event.Event.{Event}
-use Rattle.quic_recovery.specs.declared.event.Event.TheVariants.{Received, Send, Acked, Lost, AckFrequencyIn, AcksSent, AckDelayTimeout, DiscardSpace, PollMtu, Transmit, Ecn, QueueProbe, TakePending}
-use Rattle.quic_recovery.specs.declared.event.Answer.{Answer}
-use Rattle.quic_recovery.specs.declared.event.Answer.TheVariants as answers
-use Rattle.quic_recovery.specs.declared.event.Answer.TheVariants.{New, Flag, Probe, Transmitted, Delayed}
-use Rattle.quic_recovery.specs.declared.event.Refusal.{Refusal}
-use Rattle.quic_recovery.specs.declared.event.Refusal.TheVariants.{DelayTooSmall}
+use Rattle.recovery_events.specs.declared.event.Event.{Event}
+use Rattle.recovery_events.specs.declared.event.Event.TheVariants.{Received, Send, Acked, Lost, AckFrequencyIn, AcksSent, AckDelayTimeout, DiscardSpace, PollMtu, Transmit, Ecn, QueueProbe, TakePending}
+use Rattle.recovery_events.specs.declared.event.Answer.{Answer}
+use Rattle.recovery_events.specs.declared.event.Answer.TheVariants as answers
+use Rattle.recovery_events.specs.declared.event.Answer.TheVariants.{New, Flag, Probe, Transmitted, Delayed}
+use Rattle.recovery_events.specs.declared.event.Refusal.{Refusal}
+use Rattle.recovery_events.specs.declared.event.Refusal.TheVariants.{DelayTooSmall}
 use Rattle.quic_recovery.specs.Entries.{answered, refused, found_in, logs_of}
 use Rattle.quic_recovery.specs.History.{Beginning, History, Reply}
 use Rattle.quic_recovery.specs.Known.{Known, known_by, number_in, packet_now}

@@ -6,9 +6,9 @@ use Rattle.recovery_base.specs.declared.below.SpaceId.TheVariants.{Initial, Hand
 use Rattle.recovery_congestion.specs.Controllers.{ControllerWords}
 use Rattle.recovery_queue.specs.Queues.{QueueWords}
 use Rattle.quic_recovery.specs.declared.driver.RecoveryConfig.{RecoveryConfig}
-use Rattle.quic_recovery.specs.declared.event.Event.TheVariants as event
-use Rattle.quic_recovery.specs.declared.event.Answer.TheVariants as answer
-use Rattle.quic_recovery.specs.declared.event.Refusal.TheVariants as refusal
+use Rattle.recovery_events.specs.declared.event.Event.TheVariants as event
+use Rattle.recovery_events.specs.declared.event.Answer.TheVariants as answer
+use Rattle.recovery_events.specs.declared.event.Refusal.TheVariants as refusal
 use Rattle.quic_recovery.specs.History.{Beginning, History, begins, queue_meaning}
 use Rattle.quic_recovery.specs.Promises.Contents.{LosesNothing, outgoing, held, gone}
 use Rattle.quic_recovery.specs.Promises.Measures.{AddsUp}

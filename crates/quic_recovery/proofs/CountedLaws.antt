@@ -19,13 +19,13 @@ use Rattle.recovery_ledger.proofs.CarryLaws.{sum-carrying}
 use Rattle.recovery_ledger.proofs.PacketLaws.{number_at}
 use Rattle.recovery_paths.specs.PathLog.{PathKnown, path_of}
 use Rattle.recovery_paths.specs.declared.live_paths.PathName.TheVariants.{Current}
-use Rattle.quic_recovery.specs.declared.event.Event.{Event}
-use Rattle.quic_recovery.specs.declared.event.Event.TheVariants.{Received, Send, Acked, Lost, AckFrequencyIn, AcksSent, AckDelayTimeout, DiscardSpace, PollMtu, Transmit, Ecn, QueueProbe, TakePending, InFlight}
-use Rattle.quic_recovery.specs.declared.event.Answer.{Answer}
-use Rattle.quic_recovery.specs.declared.event.Answer.TheVariants as answers
-use Rattle.quic_recovery.specs.declared.event.Answer.TheVariants.{New, Flag, Probe, Transmitted, Delayed}
-use Rattle.quic_recovery.specs.declared.event.Refusal.{Refusal}
-use Rattle.quic_recovery.specs.declared.event.Refusal.TheVariants.{DelayTooSmall, NoMemory, NoSuchPath}
+use Rattle.recovery_events.specs.declared.event.Event.{Event}
+use Rattle.recovery_events.specs.declared.event.Event.TheVariants.{Received, Send, Acked, Lost, AckFrequencyIn, AcksSent, AckDelayTimeout, DiscardSpace, PollMtu, Transmit, Ecn, QueueProbe, TakePending, InFlight}
+use Rattle.recovery_events.specs.declared.event.Answer.{Answer}
+use Rattle.recovery_events.specs.declared.event.Answer.TheVariants as answers
+use Rattle.recovery_events.specs.declared.event.Answer.TheVariants.{New, Flag, Probe, Transmitted, Delayed}
+use Rattle.recovery_events.specs.declared.event.Refusal.{Refusal}
+use Rattle.recovery_events.specs.declared.event.Refusal.TheVariants.{DelayTooSmall, NoMemory, NoSuchPath}
 use Rattle.quic_recovery.specs.Entries.{here, answered, refused, entries_of, found_in, logs_of}
 use Rattle.quic_recovery.specs.History.{Beginning, History, Reply, Throughout}
 use Rattle.quic_recovery.specs.Known.{Known, known_by, number_in, packet_now}

@@ -22,8 +22,8 @@ use Rattle.recovery_paths.specs.PathLog.{PathsEntry, OfPaths, PathsStep, paths_k
 use Rattle.recovery_paths.specs.PathStates.{Path}
 use Rattle.recovery_queue.specs.Queues.{QueueWords}
 use Rattle.recovery_skips.specs.Filters.{Skipping}
-use Rattle.quic_recovery.specs.declared.event.Event.TheVariants.{Received, Send}
-use Rattle.quic_recovery.specs.declared.event.Answer.TheVariants.{Sent}
+use Rattle.recovery_events.specs.declared.event.Event.TheVariants.{Received, Send}
+use Rattle.recovery_events.specs.declared.event.Answer.TheVariants.{Sent}
 use Rattle.quic_recovery.specs.Entries.{here, in_space, nothing}
 use Rattle.quic_recovery.specs.History.{QueueMeaning}
 use Rattle.quic_recovery.specs.Known.{number_in, current_in_flight}

@@ -10,13 +10,13 @@ use Rattle.recovery_mtud.specs.MtuEntries.{MtuEntry, acked, lost, probe_lost, po
 use Rattle.recovery_paths.specs.PathMaking.{PathMaking, PathSettings}
 use Rattle.recovery_paths.specs.PathLog.{PathsEntry, PathPast, on_current, pasts_by, tells}
 use Rattle.recovery_paths.specs.PathStates.{is_path_probe, loss_call}
-use Rattle.quic_recovery.specs.declared.event.Event.{Event}
-use Rattle.quic_recovery.specs.declared.event.Event.TheVariants.{Received, Acked, Lost, AckFrequencyIn, DatagramIn, Validated, Transmit, PollMtu, PeerLimit, LossesDone, NewPath, ResetPath}
-use Rattle.quic_recovery.specs.declared.event.Answer.{Answer}
-use Rattle.quic_recovery.specs.declared.event.Answer.TheVariants.{New, Flag, Transmitted, Delayed}
+use Rattle.recovery_events.specs.declared.event.Event.{Event}
+use Rattle.recovery_events.specs.declared.event.Event.TheVariants.{Received, Acked, Lost, AckFrequencyIn, DatagramIn, Validated, Transmit, PollMtu, PeerLimit, LossesDone, NewPath, ResetPath}
+use Rattle.recovery_events.specs.declared.event.Answer.{Answer}
+use Rattle.recovery_events.specs.declared.event.Answer.TheVariants.{New, Flag, Transmitted, Delayed}
 use Rattle.recovery_paths.specs.declared.live_paths.PathName.TheVariants.{Current, Previous}
-use Rattle.quic_recovery.specs.declared.event.Refusal.{Refusal}
-use Rattle.quic_recovery.specs.declared.event.Refusal.TheVariants.{DelayTooSmall}
+use Rattle.recovery_events.specs.declared.event.Refusal.{Refusal}
+use Rattle.recovery_events.specs.declared.event.Refusal.TheVariants.{DelayTooSmall}
 use Rattle.quic_recovery.specs.Amplification.{pasts_of}
 use Rattle.quic_recovery.specs.Entries.{acked_entry, acked_search, is_own, logs_of, lost_search, searched}
 use Rattle.quic_recovery.specs.History.{Beginning, History, Reply, Throughout}

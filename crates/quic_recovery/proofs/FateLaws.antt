@@ -12,12 +12,12 @@ use Rattle.recovery_paths.specs.declared.live_paths.PathName.TheVariants.{Curren
 use Rattle.recovery_paths.specs.PathLog.{on_current, tells}
 use Rattle.recovery_paths.specs.PathStates.{is_path_probe, loss_call}
 use Rattle.recovery_paths.proofs.FateLaws.{fate, fates, told_in, told-append, fates_by}
-use Rattle.quic_recovery.specs.declared.event.Event.{Event}
-use Rattle.quic_recovery.specs.declared.event.Event.TheVariants.{Received, Send, Acked, Lost, AckFrequencyIn, PollMtu, PeerLimit, LossesDone, Transmit, DatagramIn, Validated, Sample, PacerCheck, Congestion, EndAcks, NewPath, ResetPath, DropPrevious}
-use Rattle.quic_recovery.specs.declared.event.Answer.{Answer}
-use Rattle.quic_recovery.specs.declared.event.Answer.TheVariants.{New, Flag, Transmitted, Delayed, Probe}
-use Rattle.quic_recovery.specs.declared.event.Refusal.{Refusal}
-use Rattle.quic_recovery.specs.declared.event.Refusal.TheVariants.{DelayTooSmall}
+use Rattle.recovery_events.specs.declared.event.Event.{Event}
+use Rattle.recovery_events.specs.declared.event.Event.TheVariants.{Received, Send, Acked, Lost, AckFrequencyIn, PollMtu, PeerLimit, LossesDone, Transmit, DatagramIn, Validated, Sample, PacerCheck, Congestion, EndAcks, NewPath, ResetPath, DropPrevious}
+use Rattle.recovery_events.specs.declared.event.Answer.{Answer}
+use Rattle.recovery_events.specs.declared.event.Answer.TheVariants.{New, Flag, Transmitted, Delayed, Probe}
+use Rattle.recovery_events.specs.declared.event.Refusal.{Refusal}
+use Rattle.recovery_events.specs.declared.event.Refusal.TheVariants.{DelayTooSmall}
 use Rattle.quic_recovery.specs.Amplification.{pasts_of}
 use Rattle.quic_recovery.specs.Entries.{Entries, answered, entries_of, refused, acked_entry, acked_search, lost_search, searched, is_own, logs_of}
 use Rattle.quic_recovery.specs.History.{Beginning, History, QueueMeaning, Reply}

@@ -2,9 +2,9 @@
 -- wrong one some has not.
 use Rattle.std.proofs.Common.{◌≡◌, true, false, [], ◌∷◌, None, Some, Ok, Err, refl, arith}
 use Rattle.recovery_base.specs.declared.below.SpaceId.TheVariants.{Initial, Data}
-use Rattle.quic_recovery.specs.declared.event.Event.TheVariants as event
-use Rattle.quic_recovery.specs.declared.event.Answer.TheVariants as answer
-use Rattle.quic_recovery.specs.declared.event.Refusal.TheVariants as refusal
+use Rattle.recovery_events.specs.declared.event.Event.TheVariants as event
+use Rattle.recovery_events.specs.declared.event.Answer.TheVariants as answer
+use Rattle.recovery_events.specs.declared.event.Refusal.TheVariants as refusal
 use Rattle.quic_recovery.specs.History.{History}
 use Rattle.quic_recovery.specs.Promises.Fates.{times, fates, is_given, HaveOneFate}
 

@@ -6,11 +6,11 @@ use Rattle.std.specs.Set.{distinct_count}
 use Rattle.recovery_base.specs.declared.below.SpaceId.TheVariants as space
 use Rattle.recovery_mtud.specs.MtuEntries.{MtuEntry, MtuProbe, unprobed, limited, acked, probe_lost, lost, losses_over, reported, probe_in_flight, size_at, unless_number}
 use Rattle.recovery_mtud.specs.SearchRuns.{probed_sizes, search_of, search_runs}
-use Rattle.quic_recovery.specs.declared.event.Event.{Event}
-use Rattle.quic_recovery.specs.declared.event.Event.TheVariants.{PollMtu, Acked, Lost, LossesDone, PeerLimit, ResetPath, NewPath}
-use Rattle.quic_recovery.specs.declared.event.Answer.{Answer}
-use Rattle.quic_recovery.specs.declared.event.Answer.TheVariants as answer
-use Rattle.quic_recovery.specs.declared.event.Refusal.{Refusal}
+use Rattle.recovery_events.specs.declared.event.Event.{Event}
+use Rattle.recovery_events.specs.declared.event.Event.TheVariants.{PollMtu, Acked, Lost, LossesDone, PeerLimit, ResetPath, NewPath}
+use Rattle.recovery_events.specs.declared.event.Answer.{Answer}
+use Rattle.recovery_events.specs.declared.event.Answer.TheVariants as answer
+use Rattle.recovery_events.specs.declared.event.Refusal.{Refusal}
 use Rattle.quic_recovery.specs.History.{Beginning, History, Reply, Throughout}
 use Rattle.quic_recovery.specs.Search.{discovery_settings}
 use Rattle.quic_recovery.specs.Promises.Few.{ProbesFew, is_in_flight, probed}

@@ -6,10 +6,10 @@ use Rattle.recovery_base.specs.declared.below.SpaceId.TheVariants.{Initial, Data
 use Rattle.recovery_base.specs.declared.below.ids.NewConnectionId.{NewConnectionId}
 use Rattle.recovery_base.specs.declared.below.ids.IssuedCid.{IssuedCid}
 use Rattle.recovery_paths.specs.declared.live_paths.PathName.TheVariants.{Current, Previous}
-use Rattle.quic_recovery.specs.declared.event.Event.{Event}
-use Rattle.quic_recovery.specs.declared.event.Event.TheVariants as event
-use Rattle.quic_recovery.specs.declared.event.Answer.TheVariants as answer
-use Rattle.quic_recovery.specs.declared.event.Refusal.TheVariants as refusal
+use Rattle.recovery_events.specs.declared.event.Event.{Event}
+use Rattle.recovery_events.specs.declared.event.Event.TheVariants as event
+use Rattle.recovery_events.specs.declared.event.Answer.TheVariants as answer
+use Rattle.recovery_events.specs.declared.event.Refusal.TheVariants as refusal
 use Rattle.quic_recovery.specs.History.{History, Reply}
 use Rattle.quic_recovery.specs.Promises.OwnIds.{IsIssue, IssuesIds}
 use Rattle.quic_recovery.specs.Promises.Paths.{generation_of}

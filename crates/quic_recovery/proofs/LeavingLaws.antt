@@ -14,8 +14,8 @@ use Rattle.recovery_mtud.specs.DiscoveryLog.{MtuCall, acks as acks_packet}
 use Rattle.recovery_paths.specs.LivePaths.{left_by, paths_acking, paths_losing}
 use Rattle.recovery_paths.specs.PathLog.{OfPaths, PathKnown, PathsStep, paths_after, known_with, known_following, paths_known, path_known, paths_marks, on_current, tells, searches}
 use Rattle.recovery_paths.specs.PathStates.{Path, PathState, after_telling, after_searching, is_path_probe, loss_call}
-use Rattle.quic_recovery.specs.declared.event.Event.TheVariants.{Acked, Lost}
-use Rattle.quic_recovery.specs.declared.event.Answer.TheVariants as answer
+use Rattle.recovery_events.specs.declared.event.Event.TheVariants.{Acked, Lost}
+use Rattle.recovery_events.specs.declared.event.Answer.TheVariants as answer
 use Rattle.quic_recovery.specs.Entries.{acked_entry, acked_search, lost_search}
 use Rattle.quic_recovery.specs.History.{QueueMeaning}
 use Rattle.quic_recovery.specs.Parts.{Parts}

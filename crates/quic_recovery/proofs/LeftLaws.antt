@@ -38,7 +38,7 @@ use Rattle.recovery_paths.proofs.BalanceLaws.{fresh}
 use Rattle.recovery_paths.proofs.PathLogLaws.{paths_law}
 use Rattle.recovery_skips.specs.Filters.{Skipping, number_by, skipping_at}
 use Rattle.recovery_skips.proofs.SkipLaws.{allocated, number_at, last_at}
-use Rattle.quic_recovery.specs.declared.event.Event.{Event}
+use Rattle.recovery_events.specs.declared.event.Event.{Event}
 use Rattle.quic_recovery.specs.Entries.{Entries, logs_with}
 use Rattle.quic_recovery.specs.History.{Beginning, Reply}
 use Rattle.quic_recovery.specs.Known.{SpaceKnown, Numbering, Known, Logs, known_by, numbering_by, in_flight_on, first_ids, first_path, settings_of, last_limit}

@@ -5,9 +5,9 @@ use Rattle.recovery_base.specs.declared.timer.Timer.TheVariants.{Idle, Pacing}
 use Rattle.recovery_base.specs.TimerLog.{last_set}
 use Rattle.recovery_ledger.specs.Received.{greatest_new}
 use Rattle.recovery_ledger.specs.Tracked.{packet_sent, sent_by}
-use Rattle.quic_recovery.specs.declared.event.Event.TheVariants.{Received, Send, SetTimer, StopTimer}
-use Rattle.quic_recovery.specs.declared.event.Answer.TheVariants as answer
-use Rattle.quic_recovery.specs.declared.event.Refusal.TheVariants.{NumberTooLarge}
+use Rattle.recovery_events.specs.declared.event.Event.TheVariants.{Received, Send, SetTimer, StopTimer}
+use Rattle.recovery_events.specs.declared.event.Answer.TheVariants as answer
+use Rattle.recovery_events.specs.declared.event.Refusal.TheVariants.{NumberTooLarge}
 use Rattle.quic_recovery.specs.Entries.{logs_of}
 use Rattle.quic_recovery.specs.History.{Beginning, History}
 

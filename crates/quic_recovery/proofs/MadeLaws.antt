@@ -3,8 +3,8 @@ use Rattle.std.proofs.Common.{◌≡◌, true, false, ◌∷◌, Ok, Err, refl}
 use Rattle.recovery_mtud.specs.Discovery.{Discovery}
 use Rattle.recovery_paths.specs.PathLog.{OfPaths, PathPast, receives, samples, tells, searches, asks, transmits, passes, is_reset, is_validated}
 use Rattle.recovery_paths.specs.declared.live_paths.PathName.TheVariants.{Current, Previous}
-use Rattle.quic_recovery.specs.declared.event.Event.{Event}
-use Rattle.quic_recovery.specs.declared.event.Event.TheVariants.{NewPath, DropPrevious}
+use Rattle.recovery_events.specs.declared.event.Event.{Event}
+use Rattle.recovery_events.specs.declared.event.Event.TheVariants.{NewPath, DropPrevious}
 use Rattle.quic_recovery.specs.Amplification.{pasts_of}
 use Rattle.quic_recovery.specs.Entries.{logs_of}
 use Rattle.quic_recovery.specs.History.{Beginning, History, Reply}

@@ -9,12 +9,12 @@ use Rattle.std.proofs.lemmas.List.Sums.{length-filter}
 use Rattle.recovery_base.specs.declared.below.ids.IssuedCid.{IssuedCid}
 use Rattle.recovery_ids.specs.LocalIds.{LocalIds, without_number}
 use Rattle.recovery_ids.specs.LocalLog.{LocalEntry, FirstIds, issued_by, was_retired, local_ids_by}
-use Rattle.quic_recovery.specs.declared.event.Event.{Event}
-use Rattle.quic_recovery.specs.declared.event.Event.TheVariants.{Received, AckFrequencyIn, PollMtu, Transmit, IssueIds, PeerRetired, IdTimeout}
-use Rattle.quic_recovery.specs.declared.event.Answer.{Answer}
-use Rattle.quic_recovery.specs.declared.event.Answer.TheVariants.{New, Flag, Probe, Transmitted, Delayed, Done}
-use Rattle.quic_recovery.specs.declared.event.Refusal.{Refusal}
-use Rattle.quic_recovery.specs.declared.event.Refusal.TheVariants.{NoMemory, DelayTooSmall, NumberTooLarge, BadRange, CidsNotInUse, UnissuedCid}
+use Rattle.recovery_events.specs.declared.event.Event.{Event}
+use Rattle.recovery_events.specs.declared.event.Event.TheVariants.{Received, AckFrequencyIn, PollMtu, Transmit, IssueIds, PeerRetired, IdTimeout}
+use Rattle.recovery_events.specs.declared.event.Answer.{Answer}
+use Rattle.recovery_events.specs.declared.event.Answer.TheVariants.{New, Flag, Probe, Transmitted, Delayed, Done}
+use Rattle.recovery_events.specs.declared.event.Refusal.{Refusal}
+use Rattle.recovery_events.specs.declared.event.Refusal.TheVariants.{NoMemory, DelayTooSmall, NumberTooLarge, BadRange, CidsNotInUse, UnissuedCid}
 use Rattle.quic_recovery.specs.Entries.{entries_of, logs_of}
 use Rattle.quic_recovery.specs.History.{Beginning, History, QueueMeaning, Reply}
 use Rattle.quic_recovery.specs.IdReplies.{IssueReply, RetirementReply, IsRoom}

@@ -3,7 +3,7 @@ use Rattle.std.proofs.Common.{ℕ, List, [], ◌∷◌, ◌++◌, sym, subst}
 use mathlib.Core.Logic.{∥∥₁_map}
 use Rattle.recovery_congestion.specs.Controllers.{ControllerWords}
 use Rattle.recovery_paths.specs.Balance.{AreBalanced}
-use Rattle.quic_recovery.specs.declared.event.Event.{Event}
+use Rattle.recovery_events.specs.declared.event.Event.{Event}
 use Rattle.quic_recovery.specs.Entries.{entries_of, logs_of}
 use Rattle.quic_recovery.specs.History.{Beginning, History, QueueMeaning, Reply, history_from, Throughout, ThroughoutFrom}
 use Rattle.quic_recovery.specs.Known.{known_by}

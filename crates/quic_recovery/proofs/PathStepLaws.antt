@@ -18,11 +18,11 @@ use Rattle.recovery_mtud.specs.DiscoveryLog.{polls, discovery_after}
 use Rattle.recovery_paths.specs.LivePaths.{on_ledger, ledger_without, paths_without}
 use Rattle.recovery_paths.specs.PathLog.{OfPaths, PathKnown, path_known, paths_known, paths_marks, paths_after, known_with, known_following, on_current, tells}
 use Rattle.recovery_paths.specs.PathStates.{Path, on_state, with_discovery}
-use Rattle.quic_recovery.specs.declared.event.Event.TheVariants.{DiscardSpace, PollMtu, Send}
-use Rattle.quic_recovery.specs.declared.event.Answer.{Answer}
-use Rattle.quic_recovery.specs.declared.event.Answer.TheVariants.{Done, Sent, Probe}
-use Rattle.quic_recovery.specs.declared.event.Refusal.{Refusal}
-use Rattle.quic_recovery.specs.declared.event.Refusal.TheVariants.{NoMemory, NumberTooLarge, NumbersExhausted, SpaceDiscarded, Overflow}
+use Rattle.recovery_events.specs.declared.event.Event.TheVariants.{DiscardSpace, PollMtu, Send}
+use Rattle.recovery_events.specs.declared.event.Answer.{Answer}
+use Rattle.recovery_events.specs.declared.event.Answer.TheVariants.{Done, Sent, Probe}
+use Rattle.recovery_events.specs.declared.event.Refusal.{Refusal}
+use Rattle.recovery_events.specs.declared.event.Refusal.TheVariants.{NoMemory, NumberTooLarge, NumbersExhausted, SpaceDiscarded, Overflow}
 use Rattle.quic_recovery.specs.Entries.{sending, sent_call}
 use Rattle.quic_recovery.specs.History.{QueueMeaning}
 use Rattle.quic_recovery.specs.Known.{Known, current_in_flight, number_in, packet_now}

@@ -10,12 +10,12 @@ use Rattle.recovery_base.specs.declared.below.ids.NewConnectionId.{NewConnection
 use Rattle.recovery_ids.specs.RemoteIds.{HeldId, Table, RemoteIds, IsLeastHeld, AreInWindow, Repeats, active_connection_id_limit, with_id, with_frame, without_id}
 use Rattle.recovery_ids.specs.RemoteLog.{RemoteEntry, given, used, replaced, remote_ids_with, remote_ids_by}
 use Rattle.recovery_ids.proofs.RemoteLogLaws.{gives, uses, uses_none, replaces}
-use Rattle.quic_recovery.specs.declared.event.Event.{Event}
-use Rattle.quic_recovery.specs.declared.event.Event.TheVariants.{Received, AckFrequencyIn, PollMtu, Transmit, NewId, NextId, InitialId}
-use Rattle.quic_recovery.specs.declared.event.Answer.{Answer}
-use Rattle.quic_recovery.specs.declared.event.Answer.TheVariants.{New, Flag, Probe, Transmitted, Delayed, Retire, Done}
-use Rattle.quic_recovery.specs.declared.event.Refusal.{Refusal}
-use Rattle.quic_recovery.specs.declared.event.Refusal.TheVariants.{NoMemory, DelayTooSmall, NumberTooLarge, BadRetirePriorTo, Retired, ExceedsLimit, Conflict, NotInitialId}
+use Rattle.recovery_events.specs.declared.event.Event.{Event}
+use Rattle.recovery_events.specs.declared.event.Event.TheVariants.{Received, AckFrequencyIn, PollMtu, Transmit, NewId, NextId, InitialId}
+use Rattle.recovery_events.specs.declared.event.Answer.{Answer}
+use Rattle.recovery_events.specs.declared.event.Answer.TheVariants.{New, Flag, Probe, Transmitted, Delayed, Retire, Done}
+use Rattle.recovery_events.specs.declared.event.Refusal.{Refusal}
+use Rattle.recovery_events.specs.declared.event.Refusal.TheVariants.{NoMemory, DelayTooSmall, NumberTooLarge, BadRetirePriorTo, Retired, ExceedsLimit, Conflict, NotInitialId}
 use Rattle.quic_recovery.specs.Entries.{answered, refused, logs_of}
 use Rattle.quic_recovery.specs.History.{Beginning, History, Reply, Throughout}
 use Rattle.quic_recovery.specs.IdReplies.{FrameReply, IsFrameAnswer, IsNextAnswer, InitialReply}

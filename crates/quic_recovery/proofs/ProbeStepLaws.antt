@@ -18,8 +18,8 @@ use Rattle.recovery_paths.specs.PathStates.{Path}
 use Rattle.recovery_paths.proofs.BalanceLaws.{kept, probed}
 use Rattle.recovery_queue.specs.Queues.{QueueWords}
 use Rattle.recovery_skips.specs.Filters.{AcksSkip, range_holds}
-use Rattle.quic_recovery.specs.declared.event.Event.{Event}
-use Rattle.quic_recovery.specs.declared.event.Refusal.{Refusal}
+use Rattle.recovery_events.specs.declared.event.Event.{Event}
+use Rattle.recovery_events.specs.declared.event.Refusal.{Refusal}
 use Rattle.quic_recovery.specs.Entries.{Entries, nothing, refused}
 use Rattle.quic_recovery.specs.History.{QueueMeaning}
 use Rattle.quic_recovery.specs.Known.{Known}

@@ -5,8 +5,8 @@ use Rattle.recovery_acks.specs.Acks.{IsOutOfOrder}
 use Rattle.recovery_acks.specs.Runs.{Ascend, AtMost}
 use Rattle.recovery_base.specs.Numbers.{IsNew}
 use Rattle.recovery_ids.specs.RemoteIds.{Table, IsLeastHeld}
-use Rattle.quic_recovery.specs.declared.event.Answer.{Answer}
-use Rattle.quic_recovery.specs.declared.event.Answer.TheVariants as answer
+use Rattle.recovery_events.specs.declared.event.Answer.{Answer}
+use Rattle.recovery_events.specs.declared.event.Answer.TheVariants as answer
 
 -- a space that was not discarded refuses nothing for that
 pub unrefused : ¬ IsTrue false

@@ -11,7 +11,7 @@ use Rattle.recovery_congestion.specs.RenoSettings.{RenoSettings, default_reno}
 use Rattle.recovery_queue.specs.Queues.{QueueWords}
 use Rattle.recovery_skips.specs.declared.filter.Skips.{Skips}
 use Rattle.quic_recovery.specs.declared.driver.RecoveryConfig.{RecoveryConfig}
-use Rattle.quic_recovery.specs.declared.event.Event.{Event}
+use Rattle.recovery_events.specs.declared.event.Event.{Event}
 use Rattle.quic_recovery.specs.History.{Beginning, History, QueueMeaning, Reply, begins, queue_meaning}
 use Rattle.quic_recovery.specs.Told.{Told}
 

@@ -9,12 +9,12 @@ use Rattle.recovery_mtud.specs.Discovery.{is_data}
 use Rattle.recovery_mtud.specs.MtuEntries.{MtuEntry, probed, unprobed, limited, acked, probe_lost, lost, losses_over, reported, reset, entries_by, mtu_in_use, probe_in_flight, size_at}
 use Rattle.recovery_mtud.specs.SearchRuns.{EndsNearBest, ProbesInSearch, TakesFew, search_runs}
 use Rattle.recovery_paths.specs.PathLog.{OnEachPath, PathPast, state_of}
-use Rattle.quic_recovery.specs.declared.event.Event.{Event}
-use Rattle.quic_recovery.specs.declared.event.Event.TheVariants.{Acked, Lost, PollMtu, PeerLimit, LossesDone, NewPath, ResetPath}
-use Rattle.quic_recovery.specs.declared.event.Answer.{Answer}
-use Rattle.quic_recovery.specs.declared.event.Answer.TheVariants as answer
-use Rattle.quic_recovery.specs.declared.event.Answer.TheVariants.{Probe, NoProbe, BlackHole}
-use Rattle.quic_recovery.specs.declared.event.Refusal.TheVariants.{Searching}
+use Rattle.recovery_events.specs.declared.event.Event.{Event}
+use Rattle.recovery_events.specs.declared.event.Event.TheVariants.{Acked, Lost, PollMtu, PeerLimit, LossesDone, NewPath, ResetPath}
+use Rattle.recovery_events.specs.declared.event.Answer.{Answer}
+use Rattle.recovery_events.specs.declared.event.Answer.TheVariants as answer
+use Rattle.recovery_events.specs.declared.event.Answer.TheVariants.{Probe, NoProbe, BlackHole}
+use Rattle.recovery_events.specs.declared.event.Refusal.TheVariants.{Searching}
 use Rattle.quic_recovery.specs.Amplification.{pasts_of}
 use Rattle.quic_recovery.specs.Entries.{logs_of}
 use Rattle.quic_recovery.specs.History.{Beginning, History, Reply}

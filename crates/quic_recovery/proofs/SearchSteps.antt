@@ -4,10 +4,10 @@ use Rattle.recovery_base.specs.declared.below.SpaceId.TheVariants.{Data}
 use Rattle.recovery_ledger.specs.Packets.{Packet}
 use Rattle.recovery_mtud.specs.Discovery.{reports}
 use Rattle.recovery_mtud.specs.MtuEntries.{MtuEntry, acked, lost, losses_over, probe_in_flight, probe_lost, reported, size_at}
-use Rattle.quic_recovery.specs.declared.event.Event.{Event}
-use Rattle.quic_recovery.specs.declared.event.Event.TheVariants.{Acked, Lost, LossesDone}
-use Rattle.quic_recovery.specs.declared.event.Answer.{Answer}
-use Rattle.quic_recovery.specs.declared.event.Answer.TheVariants as answer
+use Rattle.recovery_events.specs.declared.event.Event.{Event}
+use Rattle.recovery_events.specs.declared.event.Event.TheVariants.{Acked, Lost, LossesDone}
+use Rattle.recovery_events.specs.declared.event.Answer.{Answer}
+use Rattle.recovery_events.specs.declared.event.Answer.TheVariants as answer
 use Rattle.quic_recovery.specs.Entries.{logs_of}
 use Rattle.quic_recovery.specs.History.{Beginning, History, Reply, Throughout, ThroughoutFrom}
 use Rattle.quic_recovery.specs.Known.{known_by}

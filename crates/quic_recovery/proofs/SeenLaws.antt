@@ -12,12 +12,12 @@ use Rattle.recovery_paths.specs.PathLog.{OfPaths, PathEntry, PathPast, PathsEntr
 use Rattle.recovery_paths.specs.PathStates.{is_path_probe, loss_call}
 use Rattle.recovery_paths.specs.declared.live_paths.PathName.{PathName}
 use Rattle.recovery_paths.specs.declared.live_paths.PathName.TheVariants.{Current}
-use Rattle.quic_recovery.specs.declared.event.Event.{Event}
-use Rattle.quic_recovery.specs.declared.event.Event.TheVariants.{Received, Acked, Lost, AckFrequencyIn, DatagramIn, Validated, Transmit, PollMtu, LossesDone, NewPath, DropPrevious, PeerLimit, Send, PacerCheck, Congestion, EndAcks, Sample, ResetPath}
-use Rattle.quic_recovery.specs.declared.event.Answer.{Answer}
-use Rattle.quic_recovery.specs.declared.event.Answer.TheVariants.{New, Flag, Transmitted, Delayed, Probe}
-use Rattle.quic_recovery.specs.declared.event.Refusal.{Refusal}
-use Rattle.quic_recovery.specs.declared.event.Refusal.TheVariants.{DelayTooSmall}
+use Rattle.recovery_events.specs.declared.event.Event.{Event}
+use Rattle.recovery_events.specs.declared.event.Event.TheVariants.{Received, Acked, Lost, AckFrequencyIn, DatagramIn, Validated, Transmit, PollMtu, LossesDone, NewPath, DropPrevious, PeerLimit, Send, PacerCheck, Congestion, EndAcks, Sample, ResetPath}
+use Rattle.recovery_events.specs.declared.event.Answer.{Answer}
+use Rattle.recovery_events.specs.declared.event.Answer.TheVariants.{New, Flag, Transmitted, Delayed, Probe}
+use Rattle.recovery_events.specs.declared.event.Refusal.{Refusal}
+use Rattle.recovery_events.specs.declared.event.Refusal.TheVariants.{DelayTooSmall}
 use Rattle.quic_recovery.specs.Amplification.{pasts_of}
 use Rattle.quic_recovery.specs.Entries.{acked_entry, acked_search, end_call, is_own, logs_of, lost_search, searched, sent_call}
 use Rattle.quic_recovery.specs.History.{Beginning, History, Reply}

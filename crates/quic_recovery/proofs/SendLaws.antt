@@ -18,8 +18,8 @@ use Rattle.recovery_paths.specs.PathStates.{PathState, Path, on_state, after_tel
 use Rattle.recovery_paths.specs.declared.live_paths.PathName.TheVariants.{Current}
 use Rattle.recovery_paths.proofs.BalanceLaws.{can_track, sent}
 use Rattle.recovery_skips.specs.Filters.{Skipping}
-use Rattle.quic_recovery.specs.declared.event.Answer.TheVariants.{Sent}
-use Rattle.quic_recovery.specs.declared.event.Event.TheVariants.{Send}
+use Rattle.recovery_events.specs.declared.event.Answer.TheVariants.{Sent}
+use Rattle.recovery_events.specs.declared.event.Event.TheVariants.{Send}
 use Rattle.quic_recovery.specs.History.{QueueMeaning}
 use Rattle.quic_recovery.specs.Known.{number_in}
 use Rattle.quic_recovery.specs.Numbers.{number_behind, skipping_behind}

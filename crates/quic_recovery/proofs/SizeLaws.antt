@@ -8,12 +8,12 @@ use Rattle.recovery_ledger.specs.SpaceLog.{SpaceEntry}
 use Rattle.recovery_ledger.specs.Tracked.{sent_by}
 use Rattle.recovery_queue.specs.Queues.{QueueWords}
 use Rattle.recovery_skips.proofs.SkipLaws.{number_from_above}
-use Rattle.quic_recovery.specs.declared.event.Event.{Event}
-use Rattle.quic_recovery.specs.declared.event.Event.TheVariants.{Received, Send, Acked, Lost, AckFrequencyIn, AcksSent, AckDelayTimeout, DiscardSpace, PollMtu, Transmit, Ecn, QueueProbe, TakePending}
-use Rattle.quic_recovery.specs.declared.event.Answer.{Answer}
-use Rattle.quic_recovery.specs.declared.event.Answer.TheVariants.{New, Flag, Probe, NoProbe, Transmitted, Delayed}
-use Rattle.quic_recovery.specs.declared.event.Refusal.{Refusal}
-use Rattle.quic_recovery.specs.declared.event.Refusal.TheVariants.{DelayTooSmall}
+use Rattle.recovery_events.specs.declared.event.Event.{Event}
+use Rattle.recovery_events.specs.declared.event.Event.TheVariants.{Received, Send, Acked, Lost, AckFrequencyIn, AcksSent, AckDelayTimeout, DiscardSpace, PollMtu, Transmit, Ecn, QueueProbe, TakePending}
+use Rattle.recovery_events.specs.declared.event.Answer.{Answer}
+use Rattle.recovery_events.specs.declared.event.Answer.TheVariants.{New, Flag, Probe, NoProbe, Transmitted, Delayed}
+use Rattle.recovery_events.specs.declared.event.Refusal.{Refusal}
+use Rattle.recovery_events.specs.declared.event.Refusal.TheVariants.{DelayTooSmall}
 use Rattle.recovery_mtud.specs.Discovery.{poll_of}
 use Rattle.quic_recovery.specs.Entries.{answered, logs_of, refused}
 use Rattle.quic_recovery.specs.History.{Beginning, History, Reply}

@@ -6,9 +6,9 @@ use Rattle.recovery_base.specs.declared.below.SpaceId.TheVariants.{Initial, Data
 use Rattle.recovery_skips.specs.declared.filter.Skips.TheVariants.{Disabled, Starting}
 use Rattle.recovery_skips.specs.Skips.{skip_before}
 use Rattle.recovery_skips.proofs.SkipLaws.{behind_not_skipped}
-use Rattle.quic_recovery.specs.declared.event.Event.TheVariants as event
-use Rattle.quic_recovery.specs.declared.event.Answer.TheVariants as answer
-use Rattle.quic_recovery.specs.declared.event.Refusal.TheVariants as refusal
+use Rattle.recovery_events.specs.declared.event.Event.TheVariants as event
+use Rattle.recovery_events.specs.declared.event.Answer.TheVariants as answer
+use Rattle.recovery_events.specs.declared.event.Refusal.TheVariants as refusal
 use Rattle.quic_recovery.specs.Told.{Told}
 use Rattle.quic_recovery.proofs.RowStart.{ack_frame, RowEvent, RowReply, RowHistory, row_start, AllTold, ◌⊳◌}
 use Rattle.quic_recovery.proofs.RowLaws.{unrefused, small, fits, calm, at_first, starts, stays, in_turn, one_run, unlike, uneven, some_is_none}

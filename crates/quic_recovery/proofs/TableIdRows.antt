@@ -6,10 +6,10 @@ use Rattle.rand_core.specs.Stream.{Stream}
 use Rattle.recovery_base.specs.declared.below.ids.NewConnectionId.{NewConnectionId}
 use Rattle.recovery_ids.specs.RemoteLog.{first_held, remote_ids_with}
 use Rattle.recovery_skips.specs.declared.filter.Skips.TheVariants.{Disabled}
-use Rattle.quic_recovery.specs.declared.event.Event.TheVariants as event
-use Rattle.quic_recovery.specs.declared.event.Answer.{Answer}
-use Rattle.quic_recovery.specs.declared.event.Answer.TheVariants as answer
-use Rattle.quic_recovery.specs.declared.event.Refusal.TheVariants as refusal
+use Rattle.recovery_events.specs.declared.event.Event.TheVariants as event
+use Rattle.recovery_events.specs.declared.event.Answer.{Answer}
+use Rattle.recovery_events.specs.declared.event.Answer.TheVariants as answer
+use Rattle.recovery_events.specs.declared.event.Refusal.TheVariants as refusal
 use Rattle.quic_recovery.specs.Told.{Told}
 use Rattle.quic_recovery.proofs.RowStart.{RowEvent, RowReply, RowHistory, row_start, AllTold, ◌⊳◌}
 use Rattle.quic_recovery.proofs.RowLaws.{unrefused, small, some_is_none, differ, taken, moves}

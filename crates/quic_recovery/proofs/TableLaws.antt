@@ -23,18 +23,18 @@ use Rattle.recovery_ledger.specs.Spaces.{AcksLeft}
 use Rattle.recovery_ledger.specs.declared.paths.InFlight.{InFlight as Counters}
 use Rattle.recovery_paths.specs.PathLog.{OfPaths, PathKnown, each_path, path_known, path_of, paths_known}
 use Rattle.recovery_paths.specs.PathStates.{Path}
-use Rattle.quic_recovery.specs.declared.event.Answer.{Answer}
-use Rattle.quic_recovery.specs.declared.event.Answer.TheVariants as answer
-use Rattle.quic_recovery.specs.declared.event.Refusal.{Refusal}
-use Rattle.quic_recovery.specs.declared.event.Refusal.TheVariants as refusal
-use Rattle.quic_recovery.specs.declared.event.Event.{Event}
-use Rattle.quic_recovery.specs.declared.event.Event.TheVariants.{Received, Send, Acked, Lost, NewId, NextId, InitialId, IssueIds, IdTimeout, PeerRetired, AckFrequencyIn, AcksSent, AckDelayTimeout, SetTimer, StopTimer, NextTimeout, DiscardSpace, InFlight, DatagramIn, Validated, Sample, Transmit, PacerCheck, Congestion, EndAcks, PollMtu, PeerLimit, LossesDone, Ecn, CheckAck, QueueProbe, TakePending, NewPath, ResetPath, DropPrevious}
+use Rattle.recovery_events.specs.declared.event.Answer.{Answer}
+use Rattle.recovery_events.specs.declared.event.Answer.TheVariants as answer
+use Rattle.recovery_events.specs.declared.event.Refusal.{Refusal}
+use Rattle.recovery_events.specs.declared.event.Refusal.TheVariants as refusal
+use Rattle.recovery_events.specs.declared.event.Event.{Event}
+use Rattle.recovery_events.specs.declared.event.Event.TheVariants.{Received, Send, Acked, Lost, NewId, NextId, InitialId, IssueIds, IdTimeout, PeerRetired, AckFrequencyIn, AcksSent, AckDelayTimeout, SetTimer, StopTimer, NextTimeout, DiscardSpace, InFlight, DatagramIn, Validated, Sample, Transmit, PacerCheck, Congestion, EndAcks, PollMtu, PeerLimit, LossesDone, Ecn, CheckAck, QueueProbe, TakePending, NewPath, ResetPath, DropPrevious}
 use Rattle.quic_recovery.specs.Entries.{found_in, logs_of}
 use Rattle.quic_recovery.specs.History.{Beginning, History, QueueMeaning, Reply}
 use Rattle.quic_recovery.specs.IdReplies.{HasToken, IsFrameAnswer, IsNextAnswer, IsRoom, timeout_answer}
 use Rattle.quic_recovery.specs.Parts.{Parts}
 use Rattle.quic_recovery.specs.Known.{Known, SpaceKnown, in_flight_on, known_by}
-use Rattle.quic_recovery.specs.Refusals.{refusal_number}
+use Rattle.recovery_events.specs.Refusals.{refusal_number}
 use Rattle.quic_recovery.specs.Replies.{same_refusal, Refuses, Answers, AlwaysAnswers}
 use Rattle.quic_recovery.specs.Same.{AcksAlike, LooksAlike, SameRefusal, SameAnswer, SameReply}
 use Rattle.quic_recovery.specs.State.{InFlightLeft, Left}

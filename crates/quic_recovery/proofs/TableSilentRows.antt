@@ -18,9 +18,9 @@ use Rattle.recovery_ledger.specs.Tracked.{Sent, packet_sent, sent_by, sent_more}
 use Rattle.recovery_paths.specs.declared.live_paths.PathName.TheVariants.{Current}
 use Rattle.recovery_skips.specs.Skips.{is_at, next_skip, skip_at, skips_below, number_from}
 use Rattle.recovery_skips.specs.declared.filter.Skips.TheVariants.{Disabled}
-use Rattle.quic_recovery.specs.declared.event.Event.TheVariants as event
-use Rattle.quic_recovery.specs.declared.event.Answer.{Answer}
-use Rattle.quic_recovery.specs.declared.event.Answer.TheVariants as answer
+use Rattle.recovery_events.specs.declared.event.Event.TheVariants as event
+use Rattle.recovery_events.specs.declared.event.Answer.{Answer}
+use Rattle.recovery_events.specs.declared.event.Answer.TheVariants as answer
 use Rattle.quic_recovery.specs.Entries.{logs_of}
 use Rattle.quic_recovery.specs.Known.{Known, Logs, known_by, current_in_flight}
 use Rattle.quic_recovery.specs.Told.{Told}

@@ -6,7 +6,7 @@ use Rattle.recovery_paths.specs.declared.live_paths.PathName.TheVariants.{Curren
 use Rattle.recovery_paths.specs.PathLog.{OfPaths, OnEachPath, PathPast, Transmission, each_path}
 use Rattle.recovery_paths.specs.Threefold.{IsWithinThreefold}
 use Rattle.recovery_paths.proofs.ThreefoldLaws.{within_at_first}
-use Rattle.quic_recovery.specs.declared.event.Event.{Event}
+use Rattle.recovery_events.specs.declared.event.Event.{Event}
 use Rattle.quic_recovery.specs.Amplification.{pasts_of}
 use Rattle.quic_recovery.specs.History.{Beginning, History, Reply, Throughout}
 use Rattle.quic_recovery.specs.Known.{first_path, settings_of}

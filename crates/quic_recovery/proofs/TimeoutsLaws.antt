@@ -6,12 +6,12 @@ use Rattle.recovery_base.specs.declared.timer.Timer.{Timer}
 use Rattle.recovery_base.specs.declared.timer.Timer.TheVariants.{LossDetection, Idle, Close, KeyDiscard, PathValidation, KeepAlive, Pacing, PushNewCid, MaxAckDelay}
 use Rattle.recovery_base.specs.TimerLog.{TimerEntry, last_set}
 use Rattle.recovery_base.specs.Timers.{same_timer, IsLeastMoment}
-use Rattle.quic_recovery.specs.declared.event.Event.{Event}
-use Rattle.quic_recovery.specs.declared.event.Event.TheVariants.{Received, AckFrequencyIn, PollMtu, Transmit, SetTimer, StopTimer, NextTimeout}
-use Rattle.quic_recovery.specs.declared.event.Answer.{Answer}
-use Rattle.quic_recovery.specs.declared.event.Answer.TheVariants.{New, Flag, Probe, Transmitted, Delayed, Timeout}
-use Rattle.quic_recovery.specs.declared.event.Refusal.{Refusal}
-use Rattle.quic_recovery.specs.declared.event.Refusal.TheVariants.{NoMemory, DelayTooSmall}
+use Rattle.recovery_events.specs.declared.event.Event.{Event}
+use Rattle.recovery_events.specs.declared.event.Event.TheVariants.{Received, AckFrequencyIn, PollMtu, Transmit, SetTimer, StopTimer, NextTimeout}
+use Rattle.recovery_events.specs.declared.event.Answer.{Answer}
+use Rattle.recovery_events.specs.declared.event.Answer.TheVariants.{New, Flag, Probe, Transmitted, Delayed, Timeout}
+use Rattle.recovery_events.specs.declared.event.Refusal.{Refusal}
+use Rattle.recovery_events.specs.declared.event.Refusal.TheVariants.{NoMemory, DelayTooSmall}
 use Rattle.quic_recovery.specs.Entries.{answered, refused, entries_of, logs_of}
 use Rattle.quic_recovery.specs.History.{Beginning, History, Reply, QueueMeaning}
 use Rattle.quic_recovery.specs.Known.{Known, known_by}

@@ -7,8 +7,8 @@ use Rattle.recovery_paths.specs.declared.live_paths.PathName.{PathName}
 use Rattle.recovery_paths.specs.PathLog.{OfPaths, OnEachPath, moved_to, on_path_of, path_of}
 use Rattle.recovery_paths.specs.PathMaking.{marks_made}
 use Rattle.recovery_paths.specs.PathStates.{PathMarks, with_marks}
-use Rattle.quic_recovery.specs.declared.event.Event.{Event}
-use Rattle.quic_recovery.specs.declared.event.Event.TheVariants.{NewPath, DropPrevious}
+use Rattle.recovery_events.specs.declared.event.Event.{Event}
+use Rattle.recovery_events.specs.declared.event.Event.TheVariants.{NewPath, DropPrevious}
 use Rattle.quic_recovery.specs.History.{Reply}
 use Rattle.quic_recovery.specs.Parts.{Parts}
 

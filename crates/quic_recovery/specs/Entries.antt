@@ -4,12 +4,12 @@ use Rattle.recovery_queue.specs.Queues.{QueueWords}
 use Rattle.std.specs.Prelude.{ℕ, Bool, true, false, ◌&&◌, ◌==◌, List, [], ◌∷◌, ◌++◌, length, Option, None, Some, Ok, Err, if◌then◌else◌}
 use Rattle.recovery_base.specs.declared.below.SpaceId.{SpaceId}
 use Rattle.recovery_base.specs.declared.below.SpaceId.TheVariants.{Data}
-use Rattle.quic_recovery.specs.declared.event.Event.{Event}
-use Rattle.quic_recovery.specs.declared.event.Event.TheVariants.{Received, Send, Acked, Lost, NewId, NextId, InitialId, IssueIds, IdTimeout, PeerRetired, AckFrequencyIn, AcksSent, AckDelayTimeout, SetTimer, StopTimer, DiscardSpace, DatagramIn, Validated, Sample, Transmit, PacerCheck, Congestion, EndAcks, PollMtu, PeerLimit, LossesDone, Ecn, QueueProbe, TakePending, NewPath, ResetPath, DropPrevious}
-use Rattle.quic_recovery.specs.declared.event.Answer.{Answer}
-use Rattle.quic_recovery.specs.declared.event.Answer.TheVariants.{New, Flag, Transmitted, Delayed, Probe}
-use Rattle.quic_recovery.specs.declared.event.Refusal.{Refusal}
-use Rattle.quic_recovery.specs.declared.event.Refusal.TheVariants.{DelayTooSmall}
+use Rattle.recovery_events.specs.declared.event.Event.{Event}
+use Rattle.recovery_events.specs.declared.event.Event.TheVariants.{Received, Send, Acked, Lost, NewId, NextId, InitialId, IssueIds, IdTimeout, PeerRetired, AckFrequencyIn, AcksSent, AckDelayTimeout, SetTimer, StopTimer, DiscardSpace, DatagramIn, Validated, Sample, Transmit, PacerCheck, Congestion, EndAcks, PollMtu, PeerLimit, LossesDone, Ecn, QueueProbe, TakePending, NewPath, ResetPath, DropPrevious}
+use Rattle.recovery_events.specs.declared.event.Answer.{Answer}
+use Rattle.recovery_events.specs.declared.event.Answer.TheVariants.{New, Flag, Transmitted, Delayed, Probe}
+use Rattle.recovery_events.specs.declared.event.Refusal.{Refusal}
+use Rattle.recovery_events.specs.declared.event.Refusal.TheVariants.{DelayTooSmall}
 use Rattle.quic_recovery.specs.History.{Beginning, History, Reply, QueueMeaning}
 use Rattle.quic_recovery.specs.Known.{Known, Logs, no_logs, known_by, number_in, packet_now, tracked_known, current_in_flight}
 use Rattle.recovery_ids.specs.LocalLog.{LocalEntry, issues, passes, retires}

@@ -5,9 +5,9 @@ use Rattle.recovery_base.specs.declared.below.ids.IssuedCid.{IssuedCid}
 use Rattle.recovery_base.specs.declared.below.ids.NewConnectionId.{NewConnectionId}
 use Rattle.recovery_ids.specs.LocalIds.{LocalIds, holds_unretired, timed_out, without_number}
 use Rattle.recovery_ids.specs.RemoteIds.{Table, RemoteIds, IsLeastHeld, Repeats, active_connection_id_limit, with_frame}
-use Rattle.quic_recovery.specs.declared.event.Answer.{Answer}
-use Rattle.quic_recovery.specs.declared.event.Answer.TheVariants.{Retire, Flag, Done}
-use Rattle.quic_recovery.specs.declared.event.Refusal.TheVariants.{NumberTooLarge, BadRetirePriorTo, Retired, ExceedsLimit, Conflict, NotInitialId, CidsNotInUse, UnissuedCid, BadRange}
+use Rattle.recovery_events.specs.declared.event.Answer.{Answer}
+use Rattle.recovery_events.specs.declared.event.Answer.TheVariants.{Retire, Flag, Done}
+use Rattle.recovery_events.specs.declared.event.Refusal.TheVariants.{NumberTooLarge, BadRetirePriorTo, Retired, ExceedsLimit, Conflict, NotInitialId, CidsNotInUse, UnissuedCid, BadRange}
 use Rattle.quic_recovery.specs.History.{Reply}
 use Rattle.quic_recovery.specs.Replies.{Refuses, Answers, AlwaysAnswers}
 

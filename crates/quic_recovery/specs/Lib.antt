@@ -10,7 +10,6 @@ pub mod Pacing
 pub mod Parts
 pub mod Past
 pub mod Promises
-pub mod Refusals
 pub mod Replies
 pub mod Same
 pub mod Search

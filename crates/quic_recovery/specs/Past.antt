@@ -5,7 +5,7 @@ use Rattle.rand_core.specs.Stream.{Stream}
 use Rattle.recovery_congestion.specs.Controllers.{ControllerWords}
 use Rattle.quic_recovery.specs.declared.driver.Recovery.{Recovery}
 use Rattle.quic_recovery.specs.declared.driver.RecoveryConfig.{RecoveryConfig}
-use Rattle.quic_recovery.specs.declared.event.Event.{Event}
+use Rattle.recovery_events.specs.declared.event.Event.{Event}
 use Rattle.quic_recovery.specs.History.{Beginning, History, Reply, QueueMeaning, Throughout, begins, history, queue_meaning}
 use Rattle.quic_recovery.specs.Pacing.{DelaysByBalance, KeepsPace, PassesSoon, PassesWhenNamed}
 use Rattle.quic_recovery.specs.Parts.{Parts}

@@ -1,9 +1,9 @@
 -- What an event may be replied: the causes of refusal in their order, each exactly, and else the answer.
 use Rattle.std.specs.Prelude.{◌==◌, Bool, MatchBool, Result, Ok, Err}
-use Rattle.quic_recovery.specs.declared.event.Answer.{Answer}
-use Rattle.quic_recovery.specs.declared.event.Refusal.{Refusal}
-use Rattle.quic_recovery.specs.declared.event.Answer.TheVariants as answers
-use Rattle.quic_recovery.specs.declared.event.Refusal.TheVariants.{NumberTooLarge, Overflow, NoMemory}
+use Rattle.recovery_events.specs.declared.event.Answer.{Answer}
+use Rattle.recovery_events.specs.declared.event.Refusal.{Refusal}
+use Rattle.recovery_events.specs.declared.event.Answer.TheVariants as answers
+use Rattle.recovery_events.specs.declared.event.Refusal.TheVariants.{NumberTooLarge, Overflow, NoMemory}
 use Rattle.recovery_ledger.specs.declared.paths.LedgerError.{LedgerError}
 use Rattle.recovery_ledger.specs.declared.paths.LedgerError.TheVariants as ledger
 use Rattle.recovery_ledger.specs.declared.spaces.ReceiveError.{ReceiveError}
@@ -11,7 +11,7 @@ use Rattle.recovery_ledger.specs.declared.spaces.ReceiveError.TheVariants as err
 use Rattle.recovery_ledger.specs.declared.spaces.Receipt.{Receipt}
 use Rattle.recovery_ledger.specs.declared.spaces.Receipt.TheVariants.{New, Duplicate}
 use Rattle.quic_recovery.specs.History.{Reply}
-use Rattle.quic_recovery.specs.Refusals.{refusal_number}
+use Rattle.recovery_events.specs.Refusals.{refusal_number}
 
 abbrev pub same_refusal : Refusal → Refusal → Bool
 same_refusal refusal other = refusal_number refusal == refusal_number other

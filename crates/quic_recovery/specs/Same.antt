@@ -13,11 +13,11 @@ use Rattle.recovery_ledger.specs.Paths.{counters_of}
 use Rattle.recovery_ledger.specs.Spaces.{Space, space_of, sent_of, acks_of, counts_of, queued_of, kept_of}
 use Rattle.recovery_paths.specs.PathLog.{each_path, paths_known}
 use Rattle.quic_recovery.specs.declared.driver.RecoveryConfig.{RecoveryConfig}
-use Rattle.quic_recovery.specs.declared.event.Answer.{Answer}
-use Rattle.quic_recovery.specs.declared.event.Answer.TheVariants.{Queue}
-use Rattle.quic_recovery.specs.declared.event.Event.{Event}
-use Rattle.quic_recovery.specs.declared.event.Refusal.{Refusal}
-use Rattle.quic_recovery.specs.declared.event.Refusal.TheVariants.{Ecn, NoMemory}
+use Rattle.recovery_events.specs.declared.event.Answer.{Answer}
+use Rattle.recovery_events.specs.declared.event.Answer.TheVariants.{Queue}
+use Rattle.recovery_events.specs.declared.event.Event.{Event}
+use Rattle.recovery_events.specs.declared.event.Refusal.{Refusal}
+use Rattle.recovery_events.specs.declared.event.Refusal.TheVariants.{Ecn, NoMemory}
 use Rattle.quic_recovery.specs.Above.{beside_of}
 use Rattle.quic_recovery.specs.History.{History, QueueMeaning, Reply, begins}
 use Rattle.quic_recovery.specs.Parts.{Parts}

@@ -6,7 +6,7 @@ ghost use Rattle.quic_recovery.specs.Past.{Came, Goes, HasCome, Went, no_past};
 ghost use Rattle.quic_recovery.specs.State.{parts_of, begun, known_to, Does, InFlightLeft};
 
 use crate::driver::{Recovery, RecoveryConfig};
-use crate::event::{Answer, Event, PathName, Refusal};
+use recovery_events::event::{Answer, Event, PathName, Refusal};
 use rand_core::Rng;
 use recovery_base::below::NoMemory;
 use recovery_base::time::Instant;

@@ -7,8 +7,8 @@ use Rattle.recovery_base.specs.declared.below.SpaceId.TheVariants.{Initial, Hand
 use Rattle.recovery_base.specs.declared.timer.Timer.{Timer}
 use Rattle.recovery_base.specs.declared.timer.Timer.TheVariants.{LossDetection, Idle, Close, KeyDiscard, PathValidation, KeepAlive, Pacing, PushNewCid, MaxAckDelay}
 use lib.Chars.{codes}
-use Rattle.quic_recovery.specs.declared.event.PathName.{PathName}
-use Rattle.quic_recovery.specs.declared.event.PathName.TheVariants.{Current, Previous}
+use Rattle.recovery_events.specs.declared.event.PathName.{PathName}
+use Rattle.recovery_events.specs.declared.event.PathName.TheVariants.{Current, Previous}
 use Rattle.recovery_lines.specs.Words.{flag_word, space_word, timer_word, path_word, largest_word}
 use Rattle.recovery_lines.specs.Reading.{◌>>=◌, named, field, flag_names, space_names, timer_names, path_names, flag_of, space_of, timer_of, path_of, largest_of, number_of}
 use Rattle.recovery_lines.proofs.NumberLaws.{number_takes, number_again, decimal_is_no_dash}

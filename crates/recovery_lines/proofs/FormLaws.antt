@@ -11,21 +11,21 @@ use Rattle.recovery_base.specs.declared.below.SpaceId.TheVariants.{Initial, Hand
 use Rattle.recovery_base.specs.declared.below.ids.IssuedCid.{IssuedCid}
 use Rattle.recovery_base.specs.declared.timer.Timer.{Timer}
 use Rattle.recovery_base.specs.declared.timer.Timer.TheVariants.{LossDetection, Idle, Close, KeyDiscard, PathValidation, KeepAlive, Pacing, PushNewCid, MaxAckDelay}
-use Rattle.quic_recovery.specs.declared.event.Event.TheVariants.{Received, Send, Acked, Lost}
-use Rattle.quic_recovery.specs.declared.event.Event.TheVariants.{NewId, NextId, InitialId, IssueIds}
-use Rattle.quic_recovery.specs.declared.event.Event.TheVariants.{IdTimeout, PeerRetired}
-use Rattle.quic_recovery.specs.declared.event.Event.TheVariants.{AckFrequencyIn, AcksSent}
-use Rattle.quic_recovery.specs.declared.event.Event.TheVariants.{AckDelayTimeout, SetTimer}
-use Rattle.quic_recovery.specs.declared.event.Event.TheVariants.{StopTimer, NextTimeout}
-use Rattle.quic_recovery.specs.declared.event.Event.TheVariants.{DiscardSpace, InFlight}
-use Rattle.quic_recovery.specs.declared.event.Event.TheVariants.{Sample, DatagramIn, Validated}
-use Rattle.quic_recovery.specs.declared.event.Event.TheVariants.{Transmit, PacerCheck}
-use Rattle.quic_recovery.specs.declared.event.Event.TheVariants.{Congestion, EndAcks}
-use Rattle.quic_recovery.specs.declared.event.Event.TheVariants.{PollMtu, PeerLimit, LossesDone}
-use Rattle.quic_recovery.specs.declared.event.Event.TheVariants.{Ecn, CheckAck, QueueProbe, TakePending}
-use Rattle.quic_recovery.specs.declared.event.Event.TheVariants.{NewPath, ResetPath, DropPrevious}
-use Rattle.quic_recovery.specs.declared.event.PathName.{PathName}
-use Rattle.quic_recovery.specs.declared.event.PathName.TheVariants.{Current, Previous}
+use Rattle.recovery_events.specs.declared.event.Event.TheVariants.{Received, Send, Acked, Lost}
+use Rattle.recovery_events.specs.declared.event.Event.TheVariants.{NewId, NextId, InitialId, IssueIds}
+use Rattle.recovery_events.specs.declared.event.Event.TheVariants.{IdTimeout, PeerRetired}
+use Rattle.recovery_events.specs.declared.event.Event.TheVariants.{AckFrequencyIn, AcksSent}
+use Rattle.recovery_events.specs.declared.event.Event.TheVariants.{AckDelayTimeout, SetTimer}
+use Rattle.recovery_events.specs.declared.event.Event.TheVariants.{StopTimer, NextTimeout}
+use Rattle.recovery_events.specs.declared.event.Event.TheVariants.{DiscardSpace, InFlight}
+use Rattle.recovery_events.specs.declared.event.Event.TheVariants.{Sample, DatagramIn, Validated}
+use Rattle.recovery_events.specs.declared.event.Event.TheVariants.{Transmit, PacerCheck}
+use Rattle.recovery_events.specs.declared.event.Event.TheVariants.{Congestion, EndAcks}
+use Rattle.recovery_events.specs.declared.event.Event.TheVariants.{PollMtu, PeerLimit, LossesDone}
+use Rattle.recovery_events.specs.declared.event.Event.TheVariants.{Ecn, CheckAck, QueueProbe, TakePending}
+use Rattle.recovery_events.specs.declared.event.Event.TheVariants.{NewPath, ResetPath, DropPrevious}
+use Rattle.recovery_events.specs.declared.event.PathName.{PathName}
+use Rattle.recovery_events.specs.declared.event.PathName.TheVariants.{Current, Previous}
 use Rattle.recovery_lines.specs.declared.lines.Line.{Line}
 use Rattle.recovery_lines.specs.declared.lines.Line.TheVariants.{Said, Ids}
 use Rattle.recovery_lines.specs.Fields.{Field, Value, word_for, Fits, Tail, TailValue, no_tail, an_item_tail, tail_words, TailFits, Values, words_for, AllFit}

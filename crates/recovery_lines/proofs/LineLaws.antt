@@ -4,7 +4,7 @@ use lib.Chars.{codes}
 use Rattle.std.specs.List.{AllByRecursion, All, join_with_byte}
 use Rattle.std.proofs.lemmas.List.{append-nil}
 use Rattle.std.specs.declared.net.socket_addr.SocketAddr.{SocketAddr}
-use Rattle.quic_recovery.specs.declared.event.Event.TheVariants.{Send, IssueIds, NewPath}
+use Rattle.recovery_events.specs.declared.event.Event.TheVariants.{Send, IssueIds, NewPath}
 use Rattle.recovery_lines.specs.declared.lines.Line.{Line}
 use Rattle.recovery_lines.specs.declared.lines.Line.TheVariants.{Said, Ids, Path}
 use Rattle.recovery_lines.specs.Words.{words_of}

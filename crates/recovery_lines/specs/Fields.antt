@@ -4,7 +4,7 @@ use Rattle.std.specs.Prelude.{ℕ, ◌*◌, ◌<◌, ◌^◌, Bool, List, [], �
 use Rattle.std.specs.List.{AllByRecursion}
 use Rattle.recovery_base.specs.declared.below.SpaceId.{SpaceId}
 use Rattle.recovery_base.specs.declared.timer.Timer.{Timer}
-use Rattle.quic_recovery.specs.declared.event.PathName.{PathName}
+use Rattle.recovery_events.specs.declared.event.PathName.{PathName}
 use Rattle.recovery_lines.specs.Words.{flag_word, space_word, timer_word, path_word, largest_word}
 
 pub data Field : Type 0 where

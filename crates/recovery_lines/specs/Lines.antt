@@ -9,21 +9,21 @@ use Rattle.std.specs.Net.Addr.{ipv4_octets}
 use Rattle.std.specs.Net.Socket.{socket_ip, socket_port}
 use lib.Chars.{codes}
 use Rattle.recovery_base.specs.declared.below.ids.IssuedCid.{IssuedCid}
-use Rattle.quic_recovery.specs.declared.event.Event.{Event}
-use Rattle.quic_recovery.specs.declared.event.Event.TheVariants.{Received, Send, Acked, Lost}
-use Rattle.quic_recovery.specs.declared.event.Event.TheVariants.{NewId, NextId, InitialId, IssueIds}
-use Rattle.quic_recovery.specs.declared.event.Event.TheVariants.{IdTimeout, PeerRetired}
-use Rattle.quic_recovery.specs.declared.event.Event.TheVariants.{AckFrequencyIn, AcksSent}
-use Rattle.quic_recovery.specs.declared.event.Event.TheVariants.{AckDelayTimeout, SetTimer}
-use Rattle.quic_recovery.specs.declared.event.Event.TheVariants.{StopTimer, NextTimeout}
-use Rattle.quic_recovery.specs.declared.event.Event.TheVariants.{DiscardSpace, InFlight}
-use Rattle.quic_recovery.specs.declared.event.Event.TheVariants.{Sample, DatagramIn, Validated}
-use Rattle.quic_recovery.specs.declared.event.Event.TheVariants.{Transmit, PacerCheck}
-use Rattle.quic_recovery.specs.declared.event.Event.TheVariants.{Congestion, EndAcks}
-use Rattle.quic_recovery.specs.declared.event.Event.TheVariants.{PollMtu, PeerLimit, LossesDone}
-use Rattle.quic_recovery.specs.declared.event.Event.TheVariants.{Ecn, CheckAck}
-use Rattle.quic_recovery.specs.declared.event.Event.TheVariants.{QueueProbe, TakePending}
-use Rattle.quic_recovery.specs.declared.event.Event.TheVariants.{NewPath, ResetPath, DropPrevious}
+use Rattle.recovery_events.specs.declared.event.Event.{Event}
+use Rattle.recovery_events.specs.declared.event.Event.TheVariants.{Received, Send, Acked, Lost}
+use Rattle.recovery_events.specs.declared.event.Event.TheVariants.{NewId, NextId, InitialId, IssueIds}
+use Rattle.recovery_events.specs.declared.event.Event.TheVariants.{IdTimeout, PeerRetired}
+use Rattle.recovery_events.specs.declared.event.Event.TheVariants.{AckFrequencyIn, AcksSent}
+use Rattle.recovery_events.specs.declared.event.Event.TheVariants.{AckDelayTimeout, SetTimer}
+use Rattle.recovery_events.specs.declared.event.Event.TheVariants.{StopTimer, NextTimeout}
+use Rattle.recovery_events.specs.declared.event.Event.TheVariants.{DiscardSpace, InFlight}
+use Rattle.recovery_events.specs.declared.event.Event.TheVariants.{Sample, DatagramIn, Validated}
+use Rattle.recovery_events.specs.declared.event.Event.TheVariants.{Transmit, PacerCheck}
+use Rattle.recovery_events.specs.declared.event.Event.TheVariants.{Congestion, EndAcks}
+use Rattle.recovery_events.specs.declared.event.Event.TheVariants.{PollMtu, PeerLimit, LossesDone}
+use Rattle.recovery_events.specs.declared.event.Event.TheVariants.{Ecn, CheckAck}
+use Rattle.recovery_events.specs.declared.event.Event.TheVariants.{QueueProbe, TakePending}
+use Rattle.recovery_events.specs.declared.event.Event.TheVariants.{NewPath, ResetPath, DropPrevious}
 use Rattle.recovery_base.specs.declared.timer.Timer.TheVariants.{Idle}
 use Rattle.recovery_lines.specs.declared.lines.Line.{Line}
 use Rattle.recovery_lines.specs.declared.lines.Line.TheVariants.{Said, Ids, Path}

@@ -11,9 +11,9 @@ use Rattle.recovery_base.specs.declared.below.SpaceId.{SpaceId}
 use Rattle.recovery_base.specs.declared.below.SpaceId.TheVariants.{Initial, Handshake, Data}
 use Rattle.recovery_base.specs.declared.timer.Timer.{Timer}
 use Rattle.recovery_base.specs.declared.timer.Timer.TheVariants.{LossDetection, Idle, Close, KeyDiscard, PathValidation, KeepAlive, Pacing, PushNewCid, MaxAckDelay}
-use Rattle.quic_recovery.specs.declared.event.Event.TheVariants.{Send}
-use Rattle.quic_recovery.specs.declared.event.PathName.{PathName}
-use Rattle.quic_recovery.specs.declared.event.PathName.TheVariants.{Current, Previous}
+use Rattle.recovery_events.specs.declared.event.Event.TheVariants.{Send}
+use Rattle.recovery_events.specs.declared.event.PathName.{PathName}
+use Rattle.recovery_events.specs.declared.event.PathName.TheVariants.{Current, Previous}
 use Rattle.recovery_lines.specs.declared.lines.Line.{Line}
 use Rattle.recovery_lines.specs.declared.lines.Line.TheVariants.{Said, Ids, Path}
 use Rattle.recovery_lines.specs.declared.words.Words.{Words}

@@ -1,7 +1,6 @@
-//! The lines of a script: which event each spells, and what is written for each reply.
+//! The lines of a script: which event each spells.
 #![tactic(auto)]
 
-pub mod answers;
 pub mod laws;
 pub mod lines;
 mod words;

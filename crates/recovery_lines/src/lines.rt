@@ -14,7 +14,7 @@ ghost use Rattle.recovery_lines.specs.Reading.{ReadsBy, reading, line_behind, li
 ghost use Rattle.recovery_lines.specs.Reading.{words_left, TakesMemory, TookMemory, TookAll};
 
 use crate::words::Words;
-use quic_recovery::event::Event;
+use recovery_events::event::Event;
 use recovery_base::below::{
     AckFrequency, ConnectionId, EcnCounts, IssuedCid, NewConnectionId, NoMemory, ResetToken,
 };

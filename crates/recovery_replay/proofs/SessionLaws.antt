@@ -11,7 +11,7 @@ use Rattle.quic_recovery.specs.declared.driver.RecoveryConfig.{RecoveryConfig}
 use Rattle.recovery_items.specs.Items.{item_words}
 use Rattle.quic_recovery.specs.History.{begins, queue_meaning, Throughout}
 use Rattle.quic_recovery.specs.Told.{Told}
-use Rattle.recovery_lines.specs.Answers.{Reply, answer_lines}
+use Rattle.recovery_answers.specs.Answers.{Reply, answer_lines}
 use Rattle.recovery_lines.specs.Lines.{ItemEvent, IsAt}
 use Rattle.recovery_replay.specs.Replay.{RunsOver, Session, settings, skips_with, words_with}
 

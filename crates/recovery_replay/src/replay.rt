@@ -21,7 +21,7 @@ use rand_pcg::Pcg32;
 use recovery_base::below::{ConnectionId, NoMemory};
 use recovery_base::time::{Duration, Instant};
 use recovery_items::items::ItemQueue;
-use recovery_lines::answers::render;
+use recovery_answers::answers::render;
 use recovery_lines::lines::peer_at;
 use recovery_lines::number_in;
 use recovery_skips::Skips;

@@ -7,8 +7,8 @@ use Rattle.recovery_base.specs.declared.below.SpaceId.TheVariants.{Data}
 use Rattle.recovery_base.specs.Numbers.{With}
 use Rattle.recovery_base.specs.Spaces.{same_space}
 use Rattle.recovery_ledger.specs.Acks.{ToAcknowledge}
-use Rattle.quic_recovery.specs.declared.event.Event.TheVariants.{Received, Send, Acked, PollMtu}
-use Rattle.quic_recovery.specs.declared.event.Answer.TheVariants.{New, Sent, Probe}
+use Rattle.recovery_events.specs.declared.event.Event.TheVariants.{Received, Send, Acked, PollMtu}
+use Rattle.recovery_events.specs.declared.event.Answer.TheVariants.{New, Sent, Probe}
 use Rattle.quic_recovery.specs.Entries.{logs_of}
 use Rattle.quic_recovery.specs.History.{Beginning, History}
 

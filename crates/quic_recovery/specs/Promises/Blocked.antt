@@ -2,10 +2,10 @@
 -- validated and these bytes more would pass three times those that came in on it; an unchecked one is never blocked.
 use Rattle.std.specs.Prelude.{◌≡◌, ◌+◌, ◌*◌, ◌^◌, Bool, true, false, not, ◌&&◌, nat_lt, nat_le, sum_by, Ok, Err}
 use Rattle.recovery_paths.specs.declared.live_paths.PathName.TheVariants.{Current}
-use Rattle.quic_recovery.specs.declared.event.Event.{Event}
-use Rattle.quic_recovery.specs.declared.event.Event.TheVariants.{Transmit}
-use Rattle.quic_recovery.specs.declared.event.Answer.TheVariants.{Transmitted, Blocked, Delayed}
-use Rattle.quic_recovery.specs.declared.event.Refusal.TheVariants.{Overflow}
+use Rattle.recovery_events.specs.declared.event.Event.{Event}
+use Rattle.recovery_events.specs.declared.event.Event.TheVariants.{Transmit}
+use Rattle.recovery_events.specs.declared.event.Answer.TheVariants.{Transmitted, Blocked, Delayed}
+use Rattle.recovery_events.specs.declared.event.Refusal.TheVariants.{Overflow}
 use Rattle.quic_recovery.specs.History.{History, Reply}
 use Rattle.quic_recovery.specs.Promises.Datagrams.{datagrams_on, bytes_in, bytes_out, is_validated}
 

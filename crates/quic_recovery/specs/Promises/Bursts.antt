@@ -3,9 +3,9 @@
 use Rattle.std.specs.Prelude.{ℕ, ◌==◌, false, List, [], ◌∷◌, Ok, if◌then◌else◌}
 use Rattle.recovery_base.specs.declared.below.SpaceId.TheVariants.{Data}
 use Rattle.recovery_mtud.specs.BurstRuns.{Loss, follows, if_any}
-use Rattle.quic_recovery.specs.declared.event.Event.{Event}
-use Rattle.quic_recovery.specs.declared.event.Event.TheVariants.{Send, PollMtu, Lost, LossesDone}
-use Rattle.quic_recovery.specs.declared.event.Answer.TheVariants as answer
+use Rattle.recovery_events.specs.declared.event.Event.{Event}
+use Rattle.recovery_events.specs.declared.event.Event.TheVariants.{Send, PollMtu, Lost, LossesDone}
+use Rattle.recovery_events.specs.declared.event.Answer.TheVariants as answer
 use Rattle.quic_recovery.specs.History.{History, Reply}
 use Rattle.quic_recovery.specs.Promises.Few.{begins_anew}
 

@@ -4,8 +4,8 @@ use Rattle.std.specs.Prelude.{◌≡◌, ℕ, ◌+◌, [], ◌∷◌, sum_by, Op
 use Rattle.recovery_base.specs.declared.below.SpaceId.{SpaceId}
 use Rattle.recovery_base.specs.Spaces.{same_space}
 use Rattle.recovery_ledger.specs.Packets.{contents_or, packet_at}
-use Rattle.quic_recovery.specs.declared.event.Event.TheVariants.{Send, Acked, TakePending, DiscardSpace}
-use Rattle.quic_recovery.specs.declared.event.Answer.TheVariants.{Sent, Queue}
+use Rattle.recovery_events.specs.declared.event.Event.TheVariants.{Send, Acked, TakePending, DiscardSpace}
+use Rattle.recovery_events.specs.declared.event.Answer.TheVariants.{Sent, Queue}
 use Rattle.quic_recovery.specs.Entries.{logs_of}
 use Rattle.quic_recovery.specs.History.{Beginning, History}
 use Rattle.quic_recovery.specs.Known.{SpaceKnown, known_by}

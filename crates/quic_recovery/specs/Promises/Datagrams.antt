@@ -2,9 +2,9 @@
 use Rattle.std.specs.Prelude.{ℕ, Bool, true, false, [], ◌∷◌, Ok, if◌then◌else◌}
 use Rattle.recovery_paths.specs.declared.live_paths.PathName.{PathName}
 use Rattle.recovery_paths.specs.declared.live_paths.PathName.TheVariants.{Current, Previous}
-use Rattle.quic_recovery.specs.declared.event.Event.{Event}
-use Rattle.quic_recovery.specs.declared.event.Event.TheVariants.{DatagramIn, Validated, Transmit, NewPath, DropPrevious}
-use Rattle.quic_recovery.specs.declared.event.Answer.TheVariants.{Transmitted}
+use Rattle.recovery_events.specs.declared.event.Event.{Event}
+use Rattle.recovery_events.specs.declared.event.Event.TheVariants.{DatagramIn, Validated, Transmit, NewPath, DropPrevious}
+use Rattle.recovery_events.specs.declared.event.Answer.TheVariants.{Transmitted}
 use Rattle.quic_recovery.specs.History.{History, Reply}
 
 module _ {Q S M P : Type 0} where

@@ -2,8 +2,8 @@
 -- that was accepted. The active one has the least number that is not retired (5.1.2).
 use Rattle.std.specs.Prelude.{ℕ, max, min, ◌==◌, nat_lt, List, [], ◌∷◌, Option, None, Some, option_map, unwrap_or, Ok, if◌then◌else◌}
 use Rattle.recovery_ids.specs.RemoteIds.{HeldId}
-use Rattle.quic_recovery.specs.declared.event.Event.TheVariants.{NewId, NextId, InitialId}
-use Rattle.quic_recovery.specs.declared.event.Answer.TheVariants.{Retire}
+use Rattle.recovery_events.specs.declared.event.Event.TheVariants.{NewId, NextId, InitialId}
+use Rattle.recovery_events.specs.declared.event.Answer.TheVariants.{Retire}
 use Rattle.quic_recovery.specs.History.{History}
 
 module _ {Q S M P : Type 0} where

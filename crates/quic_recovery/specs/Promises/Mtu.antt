@@ -3,9 +3,9 @@ use Rattle.std.specs.Prelude.{◌≡◌, ℕ, min, Bool, true, Option, None, Som
 use Rattle.std.specs.Option.{ForSome}
 use Rattle.recovery_config.specs.Settings.{initial_mtu_of}
 use Rattle.recovery_mtud.specs.Discovery.{limit_or_greatest, within}
-use Rattle.quic_recovery.specs.declared.event.Event.{Event}
-use Rattle.quic_recovery.specs.declared.event.Event.TheVariants.{Acked, LossesDone, PeerLimit, ResetPath, NewPath}
-use Rattle.quic_recovery.specs.declared.event.Answer.TheVariants as answer
+use Rattle.recovery_events.specs.declared.event.Event.{Event}
+use Rattle.recovery_events.specs.declared.event.Event.TheVariants.{Acked, LossesDone, PeerLimit, ResetPath, NewPath}
+use Rattle.recovery_events.specs.declared.event.Answer.TheVariants as answer
 use Rattle.quic_recovery.specs.Entries.{logs_of}
 use Rattle.quic_recovery.specs.History.{Beginning, History, Reply}
 use Rattle.quic_recovery.specs.Known.{known_by}

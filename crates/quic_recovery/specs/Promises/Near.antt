@@ -5,9 +5,9 @@ use Rattle.recovery_mtud.specs.declared.config.MtuDiscoveryConfig.{MtuDiscoveryC
 use Rattle.recovery_mtud.specs.Discovery.{limit_or_greatest}
 use Rattle.recovery_mtud.specs.Search.{later}
 use Rattle.recovery_mtud.specs.SearchRuns.{is_due}
-use Rattle.quic_recovery.specs.declared.event.Event.{Event}
-use Rattle.quic_recovery.specs.declared.event.Event.TheVariants.{PollMtu, LossesDone}
-use Rattle.quic_recovery.specs.declared.event.Answer.TheVariants as answer
+use Rattle.recovery_events.specs.declared.event.Event.{Event}
+use Rattle.recovery_events.specs.declared.event.Event.TheVariants.{PollMtu, LossesDone}
+use Rattle.recovery_events.specs.declared.event.Answer.TheVariants as answer
 use Rattle.quic_recovery.specs.History.{Beginning, History, Reply}
 use Rattle.quic_recovery.specs.Promises.Few.{begins_anew, is_in_flight}
 use Rattle.quic_recovery.specs.Promises.Mtu.{limit, mtu}

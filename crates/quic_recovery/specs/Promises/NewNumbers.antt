@@ -5,10 +5,10 @@ use Rattle.std.specs.List.{list_all}
 use Rattle.std.specs.Set.{is_member}
 use Rattle.recovery_base.specs.declared.below.SpaceId.{SpaceId}
 use Rattle.recovery_base.specs.Spaces.{same_space}
-use Rattle.quic_recovery.specs.declared.event.Event.{Event}
-use Rattle.quic_recovery.specs.declared.event.Event.TheVariants.{Received, DiscardSpace}
-use Rattle.quic_recovery.specs.declared.event.Answer.TheVariants.{New, Duplicate}
-use Rattle.quic_recovery.specs.declared.event.Refusal.TheVariants.{SpaceDiscarded, NumberTooLarge, NoMemory}
+use Rattle.recovery_events.specs.declared.event.Event.{Event}
+use Rattle.recovery_events.specs.declared.event.Event.TheVariants.{Received, DiscardSpace}
+use Rattle.recovery_events.specs.declared.event.Answer.TheVariants.{New, Duplicate}
+use Rattle.recovery_events.specs.declared.event.Refusal.TheVariants.{SpaceDiscarded, NumberTooLarge, NoMemory}
 use Rattle.quic_recovery.specs.History.{History, Reply}
 
 -- it exceeds every number that came, or it is none of them, and at most 128 below each

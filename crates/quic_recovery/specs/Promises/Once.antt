@@ -3,7 +3,7 @@
 use Rattle.std.specs.Prelude.{ℕ, ◌+◌, ◌≤◌, ◌==◌, ◌&&◌, [], ◌∷◌, Ok, if◌then◌else◌}
 use Rattle.recovery_base.specs.declared.below.SpaceId.{SpaceId}
 use Rattle.recovery_base.specs.Spaces.{same_space}
-use Rattle.quic_recovery.specs.declared.event.Event.TheVariants.{Acked, Lost}
+use Rattle.recovery_events.specs.declared.event.Event.TheVariants.{Acked, Lost}
 use Rattle.quic_recovery.specs.History.{History}
 
 module _ {Q S M P : Type 0} where

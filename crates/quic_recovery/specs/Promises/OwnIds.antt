@@ -3,10 +3,10 @@
 use Rattle.std.specs.Prelude.{◌≡◌, ℕ, ◌+◌, ◌^◌, ◌==◌, Bool, true, false, not, ◌&&◌, ◌||◌, nat_lt, nat_le, List, [], ◌∷◌, length, Ok, Err, count_by, if◌then◌else◌}
 use Rattle.std.specs.List.{range_with_len}
 use Rattle.recovery_base.specs.declared.below.ids.IssuedCid.{IssuedCid}
-use Rattle.quic_recovery.specs.declared.event.Event.{Event}
-use Rattle.quic_recovery.specs.declared.event.Event.TheVariants.{IssueIds, PeerRetired}
-use Rattle.quic_recovery.specs.declared.event.Answer.TheVariants.{Done, Flag}
-use Rattle.quic_recovery.specs.declared.event.Refusal.TheVariants.{NumberTooLarge, BadRange, NoMemory, CidsNotInUse, UnissuedCid}
+use Rattle.recovery_events.specs.declared.event.Event.{Event}
+use Rattle.recovery_events.specs.declared.event.Event.TheVariants.{IssueIds, PeerRetired}
+use Rattle.recovery_events.specs.declared.event.Answer.TheVariants.{Done, Flag}
+use Rattle.recovery_events.specs.declared.event.Refusal.TheVariants.{NumberTooLarge, BadRange, NoMemory, CidsNotInUse, UnissuedCid}
 use Rattle.quic_recovery.specs.History.{History, Reply}
 
 -- the numbers go on from one

@@ -3,7 +3,7 @@
 use Rattle.std.specs.Prelude.{ℕ, ◌+◌, [], ◌∷◌, Option, None, Some, Ok}
 use Rattle.recovery_paths.specs.declared.live_paths.PathName.{PathName}
 use Rattle.recovery_paths.specs.declared.live_paths.PathName.TheVariants.{Current, Previous}
-use Rattle.quic_recovery.specs.declared.event.Event.TheVariants.{NewPath, DropPrevious}
+use Rattle.recovery_events.specs.declared.event.Event.TheVariants.{NewPath, DropPrevious}
 use Rattle.quic_recovery.specs.History.{History}
 
 module _ {Q S M P : Type 0} where

@@ -4,10 +4,10 @@
 use Rattle.std.specs.Prelude.{◌≡◌, ℕ, ◌+◌, ◌^◌, max, min, ◌==◌, nat_lt, nat_le, ◌&&◌, not, Bool, true, List, ◌∷◌, Option, None, Some, Ok, Err, bytes_eq, if◌then◌else◌}
 use Rattle.recovery_base.specs.declared.below.ids.NewConnectionId.{NewConnectionId}
 use Rattle.recovery_ids.specs.RemoteIds.{HeldId, active_connection_id_limit}
-use Rattle.quic_recovery.specs.declared.event.Event.{Event}
-use Rattle.quic_recovery.specs.declared.event.Event.TheVariants.{NewId, NextId, InitialId}
-use Rattle.quic_recovery.specs.declared.event.Answer.TheVariants.{Retire, Done}
-use Rattle.quic_recovery.specs.declared.event.Refusal.TheVariants.{NumberTooLarge, BadRetirePriorTo, Retired, ExceedsLimit, Conflict, NotInitialId}
+use Rattle.recovery_events.specs.declared.event.Event.{Event}
+use Rattle.recovery_events.specs.declared.event.Event.TheVariants.{NewId, NextId, InitialId}
+use Rattle.recovery_events.specs.declared.event.Answer.TheVariants.{Retire, Done}
+use Rattle.recovery_events.specs.declared.event.Refusal.TheVariants.{NumberTooLarge, BadRetirePriorTo, Retired, ExceedsLimit, Conflict, NotInitialId}
 use Rattle.quic_recovery.specs.History.{History, Reply}
 use Rattle.quic_recovery.specs.Promises.GivenIds.{id_under, least_from, active_id}
 

@@ -1,7 +1,7 @@
 -- The probes of the search for the MTU that runs (RFC 8899, 5.1): their sizes, and what became of them.
 use Rattle.std.specs.Prelude.{ℕ, Bool, true, false, List, [], ◌∷◌, Ok, if◌then◌else◌}
-use Rattle.quic_recovery.specs.declared.event.Event.TheVariants.{PollMtu, Acked, Lost}
-use Rattle.quic_recovery.specs.declared.event.Answer.TheVariants as answer
+use Rattle.recovery_events.specs.declared.event.Event.TheVariants.{PollMtu, Acked, Lost}
+use Rattle.recovery_events.specs.declared.event.Answer.TheVariants as answer
 use Rattle.quic_recovery.specs.History.{History}
 use Rattle.quic_recovery.specs.Promises.Few.{probed}
 

@@ -4,10 +4,10 @@ use Rattle.std.specs.Prelude.{◌≡◌, ◌==◌, Bool, is_some, Option, None, 
 use Rattle.recovery_base.specs.declared.below.SpaceId.{SpaceId}
 use Rattle.recovery_base.specs.declared.below.SpaceId.TheVariants.{Data}
 use Rattle.recovery_paths.specs.declared.live_paths.PathName.TheVariants.{Previous}
-use Rattle.quic_recovery.specs.declared.event.Event.{Event}
-use Rattle.quic_recovery.specs.declared.event.Event.TheVariants.{Received, Send, Acked, Lost, AckFrequencyIn, AcksSent, AckDelayTimeout, PollMtu, Ecn, CheckAck, QueueProbe, TakePending, DiscardSpace, DatagramIn, Validated, InFlight, DropPrevious, InitialId}
-use Rattle.quic_recovery.specs.declared.event.Refusal.{Refusal}
-use Rattle.quic_recovery.specs.declared.event.Refusal.TheVariants.{SpaceDiscarded, NotTracked, NoSuchPath, NotInitialId}
+use Rattle.recovery_events.specs.declared.event.Event.{Event}
+use Rattle.recovery_events.specs.declared.event.Event.TheVariants.{Received, Send, Acked, Lost, AckFrequencyIn, AcksSent, AckDelayTimeout, PollMtu, Ecn, CheckAck, QueueProbe, TakePending, DiscardSpace, DatagramIn, Validated, InFlight, DropPrevious, InitialId}
+use Rattle.recovery_events.specs.declared.event.Refusal.{Refusal}
+use Rattle.recovery_events.specs.declared.event.Refusal.TheVariants.{SpaceDiscarded, NotTracked, NoSuchPath, NotInitialId}
 use Rattle.quic_recovery.specs.History.{History, Reply}
 use Rattle.quic_recovery.specs.Promises.GivenIds.{active_id}
 use Rattle.quic_recovery.specs.Promises.NewNumbers.{is_discarded}

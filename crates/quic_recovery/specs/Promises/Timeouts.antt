@@ -4,9 +4,9 @@ use Rattle.std.specs.Prelude.{◌≡◌, ℕ, min, List, [], ◌∷◌, map, Opt
 use Rattle.recovery_base.specs.declared.timer.Timer.{Timer}
 use Rattle.recovery_base.specs.declared.timer.Timer.TheVariants.{LossDetection, Idle, Close, KeyDiscard, PathValidation, KeepAlive, Pacing, PushNewCid, MaxAckDelay}
 use Rattle.recovery_base.specs.Timers.{same_timer}
-use Rattle.quic_recovery.specs.declared.event.Event.{Event}
-use Rattle.quic_recovery.specs.declared.event.Event.TheVariants.{SetTimer, StopTimer, NextTimeout}
-use Rattle.quic_recovery.specs.declared.event.Answer.TheVariants.{Timeout, Done}
+use Rattle.recovery_events.specs.declared.event.Event.{Event}
+use Rattle.recovery_events.specs.declared.event.Event.TheVariants.{SetTimer, StopTimer, NextTimeout}
+use Rattle.recovery_events.specs.declared.event.Answer.TheVariants.{Timeout, Done}
 use Rattle.quic_recovery.specs.History.{History, Reply}
 
 abbrev pub every_timer : List Timer

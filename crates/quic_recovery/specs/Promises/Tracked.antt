@@ -4,9 +4,9 @@ use Rattle.std.specs.Prelude.{ℕ, ◌==◌, Bool, false, not, ◌&&◌, ◌||�
 use Rattle.recovery_base.specs.declared.below.SpaceId.{SpaceId}
 use Rattle.recovery_base.specs.declared.below.SpaceId.TheVariants.{Data}
 use Rattle.recovery_base.specs.Spaces.{same_space}
-use Rattle.quic_recovery.specs.declared.event.Event.{Event}
-use Rattle.quic_recovery.specs.declared.event.Event.TheVariants.{Send, PollMtu, Acked, Lost, DiscardSpace}
-use Rattle.quic_recovery.specs.declared.event.Answer.TheVariants.{Sent, Probe}
+use Rattle.recovery_events.specs.declared.event.Event.{Event}
+use Rattle.recovery_events.specs.declared.event.Event.TheVariants.{Send, PollMtu, Acked, Lost, DiscardSpace}
+use Rattle.recovery_events.specs.declared.event.Answer.TheVariants.{Sent, Probe}
 use Rattle.quic_recovery.specs.History.{History, Reply}
 
 module _ {Q S M P : Type 0} where

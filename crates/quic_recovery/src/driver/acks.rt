@@ -1,7 +1,7 @@
 //! The events of ACKs (RFC 9000, 13.2; the QUIC ACK frequency extension).
 
 use crate::driver::Recovery;
-use crate::event::{Answer, Refusal};
+use recovery_events::event::{Answer, Refusal};
 use rand_core::Rng;
 use recovery_base::below::{AckFrequency, SpaceId};
 use recovery_congestion::congestion::ControllerFactory;
@@ -16,7 +16,7 @@ where
     Q::Streams: Drop,
     R: Rng + Drop,
 {
-    ghost use Rattle.quic_recovery.specs.declared.event.Event.TheVariants.{AckFrequencyIn, AcksSent, AckDelayTimeout};
+    ghost use Rattle.recovery_events.specs.declared.event.Event.TheVariants.{AckFrequencyIn, AcksSent, AckDelayTimeout};
     ghost use Rattle.quic_recovery.specs.State.{Does};
 
     /// The peer asks for fewer ACKs.

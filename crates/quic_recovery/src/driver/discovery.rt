@@ -1,7 +1,7 @@
 //! The events of the search for the MTU (RFC 8899, 5; RFC 9000, 14.3).
 
 use crate::driver::Recovery;
-use crate::event::{Answer, Refusal};
+use recovery_events::event::{Answer, Refusal};
 use rand_core::Rng;
 use recovery_base::below::SpaceId;
 use recovery_base::time::Instant;
@@ -18,7 +18,7 @@ where
     Q::Streams: Drop,
     R: Rng + Drop,
 {
-    ghost use Rattle.quic_recovery.specs.declared.event.Event.TheVariants.{PollMtu, PeerLimit, LossesDone};
+    ghost use Rattle.recovery_events.specs.declared.event.Event.TheVariants.{PollMtu, PeerLimit, LossesDone};
     ghost use Rattle.quic_recovery.specs.State.{Does};
 
     /// Is a probe of the MTU due? The discovery is kept once the probe is tracked, so that a refusal leaves it as it was.

@@ -5,7 +5,7 @@ ghost use Rattle.quic_recovery.specs.Numbers.{number_behind, skipping_behind};
 ghost use Rattle.quic_recovery.specs.Replies.{reply_to, refusal_of};
 
 use crate::driver::Recovery;
-use crate::event::{Answer, Refusal};
+use recovery_events::event::{Answer, Refusal};
 use rand_core::Rng;
 use recovery_base::below::{NoMemory, SpaceId};
 use recovery_base::time::Instant;
@@ -24,7 +24,7 @@ where
     Q::Streams: Drop,
     R: Rng + Drop,
 {
-    ghost use Rattle.quic_recovery.specs.declared.event.Event.TheVariants.{Received, Send, Acked, Lost, DiscardSpace};
+    ghost use Rattle.recovery_events.specs.declared.event.Event.TheVariants.{Received, Send, Acked, Lost, DiscardSpace};
     ghost use Rattle.quic_recovery.specs.Known.{number_in};
     ghost use Rattle.quic_recovery.specs.State.{Does, known_to, parts_of};
 

@@ -1,7 +1,7 @@
 //! The events of the path in use (RFC 9000, 8; RFC 9002, 5 to 7).
 
 use crate::driver::Recovery;
-use crate::event::{Answer, PathName, Refusal};
+use recovery_events::event::{Answer, PathName, Refusal};
 use rand_core::Rng;
 use recovery_base::below::NoMemory;
 use recovery_base::time::{Duration, Instant};
@@ -20,7 +20,7 @@ where
     Q::Streams: Drop,
     R: Rng + Drop,
 {
-    ghost use Rattle.quic_recovery.specs.declared.event.Event.TheVariants.{InFlight, Sample, DatagramIn, Validated, Transmit, PacerCheck, Congestion, EndAcks, NewPath, ResetPath, DropPrevious};
+    ghost use Rattle.recovery_events.specs.declared.event.Event.TheVariants.{InFlight, Sample, DatagramIn, Validated, Transmit, PacerCheck, Congestion, EndAcks, NewPath, ResetPath, DropPrevious};
     ghost use Rattle.quic_recovery.specs.State.{Does, Tells};
 
     /// What is in flight on a path? (RFC 9002, B.2)

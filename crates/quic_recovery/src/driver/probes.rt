@@ -1,7 +1,7 @@
 //! The events of probes, of what is sent again, of ECN and of skipped numbers (RFC 9000, 13 and 21.4; RFC 9002, 6.2.4).
 
 use crate::driver::Recovery;
-use crate::event::{Answer, Refusal};
+use recovery_events::event::{Answer, Refusal};
 use rand_core::Rng;
 use recovery_base::below::{EcnCounts, NoMemory, SpaceId};
 use recovery_congestion::congestion::ControllerFactory;
@@ -17,7 +17,7 @@ where
     Q::Streams: Drop,
     R: Rng + Drop,
 {
-    ghost use Rattle.quic_recovery.specs.declared.event.Event.TheVariants.{Ecn, CheckAck, QueueProbe, TakePending};
+    ghost use Rattle.recovery_events.specs.declared.event.Event.TheVariants.{Ecn, CheckAck, QueueProbe, TakePending};
     ghost use Rattle.quic_recovery.specs.State.{Does, Tells};
 
     /// The counts of ECN of an ACK frame (RFC 9000, 13.4.2).

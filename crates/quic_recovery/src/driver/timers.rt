@@ -1,7 +1,7 @@
 //! The events of timers.
 
 use crate::driver::Recovery;
-use crate::event::{Answer, Refusal};
+use recovery_events::event::{Answer, Refusal};
 use rand_core::Rng;
 use recovery_base::time::Instant;
 use recovery_base::timer::Timer;
@@ -17,7 +17,7 @@ where
     Q::Streams: Drop,
     R: Rng + Drop,
 {
-    ghost use Rattle.quic_recovery.specs.declared.event.Event.TheVariants.{SetTimer, StopTimer, NextTimeout};
+    ghost use Rattle.recovery_events.specs.declared.event.Event.TheVariants.{SetTimer, StopTimer, NextTimeout};
     ghost use Rattle.quic_recovery.specs.State.{Does, Tells};
 
     /// A timer is set, or set anew.

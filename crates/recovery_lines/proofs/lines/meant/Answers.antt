@@ -1,5 +1,5 @@
 use Rattle.std.proofs.Common.{refl, subst, sym, rules}
-use Rattle.quic_recovery.specs.declared.event.Event.TheVariants.{IssueIds}
+use Rattle.recovery_events.specs.declared.event.Event.TheVariants.{IssueIds}
 use Rattle.recovery_lines.specs.declared.lines.Line.{Line}
 use Rattle.recovery_lines.specs.Lines.{Means}
 use Rattle.recovery_lines.proofs.lines.meant.Goals as goal

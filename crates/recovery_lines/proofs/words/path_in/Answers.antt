@@ -2,7 +2,7 @@ use Rattle.std.proofs.Common.{arith}
 use lib.Chars.{codes}
 use Rattle.recovery_lines.specs.Reading.{path_of}
 use Rattle.recovery_lines.proofs.FieldLaws.{path_again, name_read}
-use Rattle.quic_recovery.specs.declared.event.PathName.TheVariants.{Current, Previous}
+use Rattle.recovery_events.specs.declared.event.PathName.TheVariants.{Current, Previous}
 use Rattle.recovery_lines.proofs.words.path_in.Goals as goal
 
 pub returns-in-current : goal.returns-in-current

@@ -2,7 +2,7 @@ use Rattle.std.proofs.Common.{◌≡◌, ℕ, List, IfOk, string_bytes, ap, subs
 use Rattle.rand_core.specs.Pcg32Seed.{pcg32_seed}
 use Rattle.rand_core.specs.Steps.{stream_of, steps_u32}
 use Rattle.rand_pcg.specs.Pcg.{pcg32, pcg32_of_seed}
-use Rattle.recovery_lines.specs.Answers.{Reply, answer_lines}
+use Rattle.recovery_answers.specs.Answers.{Reply, answer_lines}
 use Rattle.recovery_replay.specs.Replay.{settings}
 use Rattle.recovery_replay.proofs.SessionLaws.{session, words_of_seed}
 use Rattle.recovery_replay.proofs.replay.answers_over.Goals as goal

@@ -4,9 +4,9 @@ use Rattle.recovery_paths.specs.Balance.{AreBalanced}
 use Rattle.recovery_paths.specs.PathLog.{OfPaths, paths_marks}
 use Rattle.recovery_paths.specs.PathStates.{Path}
 use Rattle.recovery_paths.proofs.BalanceLaws.{moved}
-use Rattle.quic_recovery.specs.declared.event.Event.{Event}
-use Rattle.quic_recovery.specs.declared.event.Event.TheVariants.{NewPath}
-use Rattle.quic_recovery.specs.declared.event.Refusal.TheVariants.{NoMemory}
+use Rattle.recovery_events.specs.declared.event.Event.{Event}
+use Rattle.recovery_events.specs.declared.event.Event.TheVariants.{NewPath}
+use Rattle.recovery_events.specs.declared.event.Refusal.TheVariants.{NoMemory}
 use Rattle.quic_recovery.specs.State.{parts_of}
 use Rattle.quic_recovery.proofs.AboveLaws.{marks_refused}
 use Rattle.quic_recovery.proofs.DriverLaws.{nothing_changes}

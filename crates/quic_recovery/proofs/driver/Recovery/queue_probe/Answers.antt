@@ -3,8 +3,8 @@ use Rattle.recovery_ledger.specs.Probes.{Moves, probe_found}
 use Rattle.recovery_ledger.specs.SpaceLog.{probes}
 use Rattle.recovery_ledger.specs.Spaces.{Space, space_of, packets_of, SpaceStep}
 use Rattle.recovery_ledger.proofs.ReceivedLaws.{fails}
-use Rattle.quic_recovery.specs.declared.event.Event.TheVariants.{QueueProbe}
-use Rattle.quic_recovery.specs.declared.event.Refusal.TheVariants.{NoMemory}
+use Rattle.recovery_events.specs.declared.event.Event.TheVariants.{QueueProbe}
+use Rattle.recovery_events.specs.declared.event.Refusal.TheVariants.{NoMemory}
 use Rattle.quic_recovery.specs.History.{queue_meaning}
 use Rattle.quic_recovery.specs.State.{parts_of}
 use Rattle.quic_recovery.proofs.ProbeStepLaws.{probe_balanced, put_back}

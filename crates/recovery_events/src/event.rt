@@ -1,6 +1,6 @@
 //! What happens to a connection, what is answered, and why an event is refused.
 ghost use Rattle.std.specs.Prelude.{◌≡◌};
-ghost use Rattle.quic_recovery.specs.Refusals.{refusal_number, refusal_name};
+ghost use Rattle.recovery_events.specs.Refusals.{refusal_number, refusal_name};
 
 use recovery_base::below::{
     AckFrequency, ConnectionId, EcnCounts, IssuedCid, NewConnectionId, ResetToken, SpaceId,

@@ -1,8 +1,8 @@
 -- The numbers and names of refusals.
 use Rattle.std.specs.Prelude.{ℕ, List}
 use lib.Chars.{codes}
-use Rattle.quic_recovery.specs.declared.event.Refusal.{Refusal}
-use Rattle.quic_recovery.specs.declared.event.Refusal.TheVariants.{NoMemory, NumberTooLarge, NumbersExhausted, NotTracked, SpaceDiscarded, NoSuchPath, Searching, ZeroMtu, Overflow, Retired, ExceedsLimit, BadRetirePriorTo, CidsNotInUse, UnissuedCid, DelayTooSmall, SkippedAcked, Ecn, NotInitialId, BadRange, Conflict}
+use Rattle.recovery_events.specs.declared.event.Refusal.{Refusal}
+use Rattle.recovery_events.specs.declared.event.Refusal.TheVariants.{NoMemory, NumberTooLarge, NumbersExhausted, NotTracked, SpaceDiscarded, NoSuchPath, Searching, ZeroMtu, Overflow, Retired, ExceedsLimit, BadRetirePriorTo, CidsNotInUse, UnissuedCid, DelayTooSmall, SkippedAcked, Ecn, NotInitialId, BadRange, Conflict}
 
 abbrev pub refusal_number : Refusal → ℕ
 refusal_number NoMemory = 1

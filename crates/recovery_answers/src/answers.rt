@@ -1,13 +1,13 @@
 //! What is written for each reply: one line.
 ghost use Rattle.std.specs.Prelude.{◌≡◌, IfOk, OnOk, string_bytes};
-ghost use Rattle.recovery_lines.specs.Answers.{Writes, new_text, sent_text, done_with_text};
-ghost use Rattle.recovery_lines.specs.Answers.{retire_text, flag_text, timeout_text};
-ghost use Rattle.recovery_lines.specs.Answers.{in_flight_text, delayed_text, probe_text};
-ghost use Rattle.recovery_lines.specs.Answers.{black_hole_text, sendable_text, queue_text};
-ghost use Rattle.recovery_lines.specs.Answers.{refusal_text};
-ghost use Rattle.recovery_lines.specs.Answers.{answer_text, answer_lines};
+ghost use Rattle.recovery_answers.specs.Answers.{Writes, new_text, sent_text, done_with_text};
+ghost use Rattle.recovery_answers.specs.Answers.{retire_text, flag_text, timeout_text};
+ghost use Rattle.recovery_answers.specs.Answers.{in_flight_text, delayed_text, probe_text};
+ghost use Rattle.recovery_answers.specs.Answers.{black_hole_text, sendable_text, queue_text};
+ghost use Rattle.recovery_answers.specs.Answers.{refusal_text};
+ghost use Rattle.recovery_answers.specs.Answers.{answer_text, answer_lines};
 
-use quic_recovery::event::{Answer, Refusal};
+use recovery_events::event::{Answer, Refusal};
 use recovery_base::below::{NoMemory, ResetToken};
 use recovery_base::time::Instant;
 use recovery_items::items::ItemQueue;

@@ -1,7 +1,7 @@
 use Rattle.std.proofs.Common.{◌≡◌, ◌++◌, take, string_bytes}
 use lib.Chars.{codes}
-use Rattle.recovery_lines.specs.Answers.{items_text}
-use Rattle.recovery_lines.proofs.answers.write_queue.Given as goal
+use Rattle.recovery_answers.specs.Answers.{items_text}
+use Rattle.recovery_answers.proofs.answers.write_queue.Given as goal
 
 abbrev pub invariant-loop-item : goal.invariant-loop-item
 invariant-loop-item l =
