@@ -1,13 +1,21 @@
 -- What a `CidState` holds.
+use Rattle.std.specs.Prelude.{ℕ, List}
+use Rattle.std.specs.Map.{keys_of}
+use Rattle.recovery_slots.specs.declared.slots.Slot.{Slot}
+use Rattle.recovery_slots.specs.Slots.{entries_of}
 use Rattle.recovery_ids.specs.LocalIds.{LocalIds}
 use Rattle.recovery_ids.specs.declared.state.CidState.TheInside.{Inside}
+
+-- the numbers that stand in a queue of slots, in their order
+abbrev pub numbers_in : List (Slot (Unit {0})) → List ℕ
+numbers_in slots = keys_of (entries_of slots)
 
 abbrev pub local_ids : Inside → LocalIds
 local_ids state = record {
   cid_len = state.cid_len;
   cid_lifetime = state.cid_lifetime;
   issued = state.issued;
-  unretired = state.active_seq.keys;
+  unretired = numbers_in state.active_seq;
   retired_below = state.prev_retire_seq;
   retire_prior_to = state.retire_seq;
   deadlines = state.retire_timestamp.items;

@@ -1,13 +1,15 @@
 //! The ids that this end issued.
-ghost use Rattle.std.specs.Prelude.{◌≡◌, ◌+◌, ◌-◌, ◌<◌, ◌≤◌, ◌^◌, ◌==◌, nat_lt, [], ◌++◌, length, map, filter, drop, take, not, IsOk, IfOk, OnOk, OnErr, MatchResult};
+ghost use Rattle.std.specs.Prelude.{◌≡◌, ℕ, List, ◌+◌, ◌-◌, ◌<◌, ◌≤◌, ◌^◌, ◌==◌, nat_lt, [], ◌++◌, length, map, filter, drop, not, IsOk, IfOk, OnOk, OnErr, MatchResult};
 ghost use Rattle.std.specs.List.{list_any, range_with_len};
 ghost use Rattle.std.specs.VecDeque.{deque_len, deque_capacity};
 ghost use Rattle.recovery_ids.specs.LocalIds.{without_last_at, with_deadline, deadlines_with_last, next_mark, first_issued, with_issued, holds_unretired, timed_out, first_moment, RefusesRetirement, AcceptsRetirement, Rise, AreSound};
+ghost use Rattle.recovery_ids.specs.CidState.{numbers_in};
 
 use recovery_base::below::{IssuedCid, NoMemory, TransportError};
 use recovery_base::time::{Duration, Instant};
+use recovery_slots::slots::SlotQueue;
 use std::alloc::Global;
-use std::collections::{BTreeSet, VecDeque};
+use std::collections::VecDeque;
 use std::marker::Model;
 use thiserror::Error;
 
@@ -22,7 +24,8 @@ struct CidTimestamp {
 /// 5.1.2). The numbers begin at 0 and go on without gaps.
 ///
 /// What is kept grows with the numbers that are not retired, and not with how far they lie apart, and with the deadlines,
-/// of which each batch of equal moments has one.
+/// of which each batch of equal moments has one. A number has a slot of 16 bytes; beside two slots for each number at most
+/// 64 are kept.
 #[derive(Drop)]
 pub struct CidState {
     /// Deadlines, the oldest first.
@@ -30,7 +33,7 @@ pub struct CidState {
     /// How many ids were issued.
     issued: u64,
     /// The numbers that the peer did not retire.
-    active_seq: BTreeSet<u64>,
+    active_seq: SlotQueue<()>,
     /// The peer retired all numbers below.
     prev_retire_seq: u64,
     /// The peer is asked to retire all numbers below.
@@ -85,8 +88,8 @@ impl CidState {
     /// Counts the numbers 0 to `issued - 1` as issued, none of them retired, each with a deadline one lifetime from
     /// `now`. Without a lifetime, or where the deadline would pass the clock's end, none is stored.
     ///
-    /// `NoMemory` where there is no room for them: about 22 bytes a number; of a count past all memory it is answered at
-    /// once. The time is that of an insertion of each number.
+    /// `NoMemory` where there is no room for them: 16 bytes a number, in a buffer that doubles as it grows; of a count past
+    /// all memory it is answered at once. The time is linear in the count.
     pub fn new(
         alloc: Global,
         cid_len: usize,
@@ -99,7 +102,7 @@ impl CidState {
         ensures sound { IfOk result AreSound }
     {
         ask_for_room(alloc, issued)?;
-        let mut active_seq = BTreeSet::new(alloc);
+        let mut active_seq = SlotQueue::new(alloc);
         let mut retire_timestamp = VecDeque::with_capacity(alloc, 1)?;
         issue(&mut active_seq, 0, issued)?;
         let lifetime = cid_lifetime;
@@ -124,8 +127,8 @@ impl CidState {
 
     /// Takes the oldest deadline. Where the peer retired all numbers below the last retire-prior-to, that becomes the
     /// deadline's number and one: the answer is whether it asks for the retirement of a number that is not retired
-    /// yet, so that a NEW_CONNECTION_ID frame should tell the peer (RFC 9000, 5.1.2). It takes no memory, and at most
-    /// logarithmic time in the unretired numbers.
+    /// yet, so that a NEW_CONNECTION_ID frame should tell the peer (RFC 9000, 5.1.2). It takes no memory, and constant
+    /// time.
     pub fn on_cid_timeout(&mut self) -> bool
         ensures after { self.new ≡ timed_out self.old }
         ensures answer { result
@@ -145,7 +148,7 @@ impl CidState {
     /// Counts these ids as issued, and stores a deadline for the last of them, one lifetime from `now`. No ids change
     /// nothing, and take no memory.
     ///
-    /// `NoMemory` changes nothing.
+    /// `NoMemory` changes nothing. The time is linear in the ids.
     pub fn new_cids(&mut self, ids: &[IssuedCid], now: Instant) -> Result<(), NoMemory>
         requires numbers { map (λ id. id.sequence) ids.now
             ≡ range_with_len self.old.issued (length ids.now) }
@@ -173,7 +176,8 @@ impl CidState {
     /// A refusal changes nothing: `CidsNotInUse` where the ids have no bytes, else `UnissuedCid` where the number was
     /// not issued.
     ///
-    /// It takes no memory, and at most logarithmic time in the unretired numbers.
+    /// It takes no memory, and logarithmic time in the unretired numbers, on the mean of many calls: slots are closed up
+    /// where more of them are empty than filled.
     pub fn on_cid_retirement(&mut self, sequence: u64, limit: u64) -> Result<bool, RetireError>
         ensures reply { MatchResult result
             (λ more. AcceptsRetirement self.old sequence limit more self.new)
@@ -188,7 +192,7 @@ impl CidState {
             return Err(RetireError::UnissuedCid);
         }
         remove(&mut self.active_seq, sequence);
-        Ok(limit > self.active_seq.len() as u64)
+        Ok(limit > self.active_seq.filled() as u64)
     }
 
     /// The bytes of this end's ids.
@@ -224,17 +228,17 @@ fn ask_for_room(alloc: Global, count: u64) -> Result<(), NoMemory> {
 }
 
 /// Adds the numbers from one up to another, above all that are there. `NoMemory` changes nothing.
-fn issue(numbers: &mut BTreeSet<u64>, first: u64, end: u64) -> Result<(), NoMemory>
+fn issue(numbers: &mut SlotQueue<()>, first: u64, end: u64) -> Result<(), NoMemory>
     requires ahead { first ≤ end }
-    requires above { Rise 0 first numbers.old.keys }
-    ensures ok { OnOk result (numbers.new.keys ≡ numbers.old.keys ++ range_with_len first (end - first)) }
-    ensures err { OnErr result (numbers.new.keys ≡ numbers.old.keys) }
+    requires above { Rise 0 first (numbers_in numbers.old) }
+    ensures ok { OnOk result (numbers_in numbers.new ≡ numbers_in numbers.old ++ range_with_len first (end - first)) }
+    ensures err { OnErr result (numbers_in numbers.new ≡ numbers_in numbers.old) }
 {
     for number in first..end {
-        match numbers.insert(number) {
-            Ok(_added) => {}
+        match numbers.push(number, ()) {
+            Ok(()) => {}
             Err(_refused) => {
-                drop_last(numbers, number - first);
+                take_back(numbers, first, number);
                 return Err(NoMemory);
             }
         }
@@ -242,12 +246,14 @@ fn issue(numbers: &mut BTreeSet<u64>, first: u64, end: u64) -> Result<(), NoMemo
     Ok(())
 }
 
-/// Drops the greatest numbers, so many.
-fn drop_last(numbers: &mut BTreeSet<u64>, count: u64)
-    ensures { numbers.new.keys ≡ take (length numbers.old.keys - count) numbers.old.keys }
+/// Takes out the numbers from one up to another, which stand behind all others.
+fn take_back(numbers: &mut SlotQueue<()>, first: u64, end: u64)
+    requires { first ≤ end }
+    ensures { (before : List ℕ) → Rise 0 first before
+        → numbers_in numbers.old ≡ before ++ range_with_len first (end - first) → numbers_in numbers.new ≡ before }
 {
-    for _ in 0..count {
-        let _dropped = numbers.pop_last();
+    for number in first..end {
+        let _taken = numbers.take(number);
     }
 }
 
@@ -316,20 +322,20 @@ fn pop_mark(deadlines: &mut VecDeque<CidTimestamp>, mark: u64) -> u64
 }
 
 /// Whether one of the numbers lies below another.
-fn is_any_below(numbers: &BTreeSet<u64>, end: u64) -> bool
-    requires { Rise 0 (2 ^ 62) numbers.now.keys }
-    ensures { result ≡ list_any (λ n. nat_lt n end) numbers.now.keys }
+fn is_any_below(numbers: &SlotQueue<()>, end: u64) -> bool
+    requires { Rise 0 (2 ^ 62) (numbers_in numbers.now) }
+    ensures { result ≡ list_any (λ n. nat_lt n end) (numbers_in numbers.now) }
 {
-    match numbers.first() {
-        Some(least) => *least < end,
+    match numbers.first_from(0) {
+        Some(least) => least < end,
         None => false,
     }
 }
 
 /// Takes a number out, if it is there.
-fn remove(numbers: &mut BTreeSet<u64>, number: u64)
-    requires { Rise 0 (2 ^ 62) numbers.old.keys }
-    ensures { numbers.new.keys ≡ filter (λ n. not (n == number)) numbers.old.keys }
+fn remove(numbers: &mut SlotQueue<()>, number: u64)
+    requires { Rise 0 (2 ^ 62) (numbers_in numbers.old) }
+    ensures { numbers_in numbers.new ≡ filter (λ n. not (n == number)) (numbers_in numbers.old) }
 {
-    let _removed = numbers.remove(&number);
+    let _removed = numbers.take(number);
 }
