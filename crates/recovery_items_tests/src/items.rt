@@ -1,5 +1,5 @@
 //! Queues of item numbers. A row is two queues, and what the first one holds when the second was joined to it.
-use recovery_items::items::ItemQueue;
+use recovery_queue::items::ItemQueue;
 use recovery_queue::queue::RetransmitQueue;
 use std::alloc::{AllocError, Global};
 use std::process::Abort;

@@ -10,8 +10,8 @@ ghost use Rattle.recovery_lines.specs.Answers.{answer_text, answer_lines};
 use quic_recovery::event::{Answer, Refusal};
 use recovery_base::below::{NoMemory, ResetToken};
 use recovery_base::time::Instant;
-use recovery_items::items::ItemQueue;
 use recovery_ledger::spaces::SendableFrames;
+use recovery_queue::items::ItemQueue;
 use std::alloc::{AllocError, Global};
 use std::ops::Range;
 

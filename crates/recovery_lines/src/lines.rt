@@ -19,7 +19,7 @@ use recovery_base::below::{
     AckFrequency, ConnectionId, EcnCounts, IssuedCid, NewConnectionId, NoMemory, ResetToken,
 };
 use recovery_base::time::Instant;
-use recovery_items::items::ItemQueue;
+use recovery_queue::items::ItemQueue;
 use std::alloc::Global;
 use std::net::{IpAddr, Ipv4Addr, SocketAddr};
 

@@ -2,8 +2,8 @@
 //! slots, and that few are looked at, is proved.
 use recovery_base::below::NoMemory;
 use recovery_base::time::Instant;
-use recovery_items::items::ItemQueue;
 use recovery_ledger::spaces::{PacketSpace, SentPacket};
+use recovery_queue::items::ItemQueue;
 use recovery_queue::queue::RetransmitQueue;
 use std::alloc::Global;
 use std::process::Abort;

@@ -1,5 +1,5 @@
 use Rattle.std.proofs.Common.{◌≡◌, arith, sym}
-use Rattle.recovery_items.specs.declared.items.ItemQueue.{ItemQueue}
+use Rattle.recovery_queue.specs.declared.items.ItemQueue.{ItemQueue}
 use Rattle.recovery_slots_tests.proofs.Sending.{sent_below, none_below}
 use Rattle.recovery_slots_tests.proofs.slots.sent.Goals as goal
 

@@ -1,8 +1,8 @@
 //! A queue of item numbers.
 ghost use Rattle.std.specs.Prelude.{◌≡◌};
-ghost use Rattle.recovery_items.specs.Items.{item_words};
+ghost use Rattle.recovery_queue.specs.Items.{item_words};
 
-use recovery_queue::queue::RetransmitQueue;
+use crate::queue::RetransmitQueue;
 use std::alloc::Global;
 use std::marker::Model;
 
