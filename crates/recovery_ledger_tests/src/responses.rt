@@ -1,5 +1,5 @@
 //! Responses to path challenges. A row is what happens, and what comes out.
-use recovery_responses::responses::PathResponses;
+use recovery_paths::responses::PathResponses;
 use std::net::{IpAddr, Ipv4Addr, SocketAddr};
 use std::process::Abort;
 

@@ -1,6 +1,6 @@
 use Rattle.std.proofs.Common.{◌≡◌, ◌++◌, map, take, drop}
-use Rattle.recovery_responses.specs.Responses.{renewed}
-use Rattle.recovery_responses.proofs.responses.renew_among.Given as goal
+use Rattle.recovery_paths.specs.Responses.{renewed}
+use Rattle.recovery_paths.proofs.responses.renew_among.Given as goal
 
 abbrev pub invariant-loop-kept : goal.invariant-loop-kept
 invariant-loop-kept l =

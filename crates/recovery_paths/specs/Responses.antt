@@ -5,7 +5,7 @@ use Rattle.std.specs.Net.Addr.{ipv4_octets, ipv6_segments}
 use Rattle.std.specs.Net.Socket.{v4_ip, v4_port, v6_ip, v6_port, v6_flowinfo, v6_scope_id}
 use Rattle.std.specs.declared.net.socket_addr.SocketAddr.{SocketAddr}
 use Rattle.std.specs.declared.net.socket_addr.SocketAddr.TheVariants.{V4, V6}
-use Rattle.recovery_responses.specs.declared.responses.PathResponse.{PathResponse}
+use Rattle.recovery_paths.specs.declared.responses.PathResponse.{PathResponse}
 
 -- the same IP address and port, and for IPv6 the same flow information and scope
 abbrev pub same_address : SocketAddr → SocketAddr → Bool

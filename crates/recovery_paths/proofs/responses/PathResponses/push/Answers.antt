@@ -1,7 +1,7 @@
 use Rattle.std.proofs.Common.{sym, subst}
-use Rattle.recovery_responses.specs.Responses.{AreSound}
-use Rattle.recovery_responses.proofs.ResponseLaws.{with_response_sound}
-use Rattle.recovery_responses.proofs.responses.PathResponses.push.Goals as goal
+use Rattle.recovery_paths.specs.Responses.{AreSound}
+use Rattle.recovery_paths.proofs.ResponseLaws.{with_response_sound}
+use Rattle.recovery_paths.proofs.responses.PathResponses.push.Goals as goal
 
 pub invariant_of-self : goal.invariant_of-self
 invariant_of-self c = subst AreSound (sym c.put.ensures) (with_response_sound _ _ c.self.invariant)

@@ -1,7 +1,7 @@
 //! PATH_RESPONSE frames that are to be sent.
 ghost use Rattle.std.specs.Prelude.{◌≡◌, ⊤, length, map, [], ◌==◌};
 ghost use Rattle.std.specs.List.{list_any};
-ghost use Rattle.recovery_responses.specs.Responses.{goes_to, renewed, with_response, last_of, sent_off_path, sent_on_path, left_after, AreSound};
+ghost use Rattle.recovery_paths.specs.Responses.{goes_to, renewed, with_response, last_of, sent_off_path, sent_on_path, left_after, AreSound};
 
 use arrayvec::ArrayVec;
 use std::marker::Model;
@@ -41,8 +41,8 @@ pub struct PathResponses {
 
 impl Model for PathResponses {
     ghost use Rattle.std.specs.Prelude.{List};
-    ghost use Rattle.recovery_responses.specs.declared.responses.PathResponse.{PathResponse};
-    ghost use Rattle.recovery_responses.specs.Responses.{AreSound};
+    ghost use Rattle.recovery_paths.specs.declared.responses.PathResponse.{PathResponse};
+    ghost use Rattle.recovery_paths.specs.Responses.{AreSound};
 
     ghost Value = { List PathResponse };
 

@@ -1,8 +1,8 @@
 use Rattle.std.proofs.Common.{◌≡◌, ◌<◌, length, arith}
 use Rattle.std.proofs.lemmas.List.{get_or_default}
 use Rattle.std.proofs.lemmas.List.Edits.{map_over_more}
-use Rattle.recovery_responses.specs.Responses.{renewed}
-use Rattle.recovery_responses.proofs.responses.renew_among.Goals as goal
+use Rattle.recovery_paths.specs.Responses.{renewed}
+use Rattle.recovery_paths.proofs.responses.renew_among.Goals as goal
 
 pub loop-kept-preserved : goal.loop-kept-preserved
 loop-kept-preserved c =

@@ -5,8 +5,8 @@ use Rattle.std.specs.Prelude.{if◌then◌else◌}
 use Rattle.std.proofs.lemmas.List.{take-map, length-map, length-append, length-take, map-append}
 use Rattle.std.proofs.lemmas.Bool.{or_parts}
 use Rattle.std.specs.declared.net.socket_addr.SocketAddr.{SocketAddr}
-use Rattle.recovery_responses.specs.declared.responses.PathResponse.{PathResponse}
-use Rattle.recovery_responses.specs.Responses.{AreSound, goes_to, remotes, renewed, same_address, with_response}
+use Rattle.recovery_paths.specs.declared.responses.PathResponse.{PathResponse}
+use Rattle.recovery_paths.specs.Responses.{AreSound, goes_to, remotes, renewed, same_address, with_response}
 
 -- the front of a list whose elements have a property
 all_take : {X : Type 0} (P : X → Type 0) (n : ℕ) (xs : List X) → AllByRecursion P xs → AllByRecursion P (take n xs)
