@@ -4,7 +4,7 @@ ghost use Rattle.recovery_congestion.specs.Controllers.{ControllerWords, Control
 
 use recovery_base::below::NoMemory;
 use recovery_base::time::Instant;
-use recovery_rtt::rtt::RttEstimator;
+use crate::rtt::RttEstimator;
 
 mod new_reno;
 

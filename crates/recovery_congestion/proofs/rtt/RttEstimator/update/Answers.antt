@@ -1,8 +1,8 @@
 use Rattle.std.proofs.Common.{◌≡◌, rules, ◌∙◌}
 use Rattle.std.specs.Prelude.{min}
-use Rattle.recovery_rtt.specs.Estimators.{rtt_in}
-use Rattle.recovery_rtt.proofs.RttLaws.{keeps_lesser}
-use Rattle.recovery_rtt.proofs.rtt.RttEstimator.update.Goals as goal
+use Rattle.recovery_congestion.specs.Estimators.{rtt_in}
+use Rattle.recovery_congestion.proofs.RttLaws.{keeps_lesser}
+use Rattle.recovery_congestion.proofs.rtt.RttEstimator.update.Goals as goal
 
 pub returns-in-Some-clause-least : goal.returns-in-Some-clause-least
 returns-in-Some-clause-least c initial earlier is =

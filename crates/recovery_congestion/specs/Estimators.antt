@@ -1,6 +1,6 @@
 -- What an `RttEstimator` holds.
-use Rattle.recovery_rtt.specs.Rtt.{Rtt}
-use Rattle.recovery_rtt.specs.declared.rtt.RttEstimator.TheInside.{Inside}
+use Rattle.recovery_congestion.specs.Rtt.{Rtt}
+use Rattle.recovery_congestion.specs.declared.rtt.RttEstimator.TheInside.{Inside}
 
 abbrev pub rtt_in : Inside → Rtt
 rtt_in rtt = record { latest = rtt.latest; smoothed = rtt.smoothed; variance = rtt.variance; least = rtt.min }

@@ -1,7 +1,7 @@
 -- The least RTT is the least of the samples.
 use Rattle.std.specs.Prelude.{ℕ, ◌≡◌, min, List, [], ◌∷◌, Option, None, Some, refl}
 use Rattle.std.proofs.Common.{ap, sym, subst, ◌∙◌}
-use Rattle.recovery_rtt.specs.Rtt.{Rtt, KeepsLeast, least_of, rtt_by, rtt_sampled, rtt_updated}
+use Rattle.recovery_congestion.specs.Rtt.{Rtt, KeepsLeast, least_of, rtt_by, rtt_sampled, rtt_updated}
 
 -- after a sample there is a smoothed value
 smoothed-sampled : (delay sample : ℕ) (smoothed : Option ℕ) (old : Rtt)
