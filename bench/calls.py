@@ -22,16 +22,17 @@ from dataclasses import dataclass, field
 
 ROOT = pathlib.Path(__file__).resolve().parent.parent
 OLD_FORM = "ddbca9f"  # one number of 128 bits for the window, an ordered map for the packets
-LAWS_OF_PACKETS = ["crates/recovery_slots_tests/proofs/Sending.antt"]
+LAWS_OF_PACKETS = ["proofs/Sending.antt"]
 OLD_LAWS = "611d23d"  # the first revision that has these; they are proved over the crates of OLD_FORM too
 
 
 @dataclass
 class Program:
     """A program over some crates, with its kinds of calls: what each is, the program's arguments, and how many calls. Its proof
-    may need laws that the tests of a crate have."""
+    may need laws that the tests of a crate have. A module that another crate had once is found by a file of that crate."""
     needs: list
     laws: list = field(default_factory=list)
+    moved: dict = field(default_factory=dict)
     kinds: dict = field(default_factory=dict)
 
 
@@ -51,7 +52,8 @@ def calls_of_dedup():
 
 
 def steps_over_packets():
-    program = Program(["recovery_ledger", "recovery_items", "recovery_queue", "recovery_base"], LAWS_OF_PACKETS)
+    moved = {"recovery_queue::items": "specs/Items.antt"}
+    program = Program(["recovery_ledger", "recovery_queue", "recovery_base"], LAWS_OF_PACKETS, moved)
     for window in (1, 100, 10**4, 10**6):
         for order in ("in_order", "reversed", "shuffled"):
             text = f"acknowledge and send, {window} tracked, {order}"
@@ -69,10 +71,20 @@ def text_of(name, revision):
     return subprocess.run(["git", "-C", ROOT, "show", f"{revision}:{name}"], stdout=subprocess.PIPE, text=True, check=True).stdout
 
 
+def crate_with(name, revision):
+    """The crate that has a file, or had it: crates were joined since. None where none has it."""
+    if revision is None:
+        files = [str(it.relative_to(ROOT)) for it in ROOT.glob(f"crates/*/{name}")]
+    else:
+        command = ["git", "-C", ROOT, "ls-tree", "-r", "--name-only", "--full-tree", revision, "crates/"]
+        files = subprocess.run(command, stdout=subprocess.PIPE, text=True, check=True).stdout.splitlines()
+    return next((it.split("/")[1] for it in files if it.split("/", 2)[2:] == [name]), None)
+
+
 def laws_of(name, revision):
     """A file of laws of the tests as it is here, or as it was; where it was not there yet, as it was first."""
-    there = revision is None or subprocess.run(["git", "-C", ROOT, "cat-file", "-e", f"{revision}:{name}"], stderr=subprocess.DEVNULL).returncode == 0
-    return text_of(name, revision if there else OLD_LAWS)
+    there = revision if crate_with(name, revision) else OLD_LAWS
+    return text_of(f"crates/{crate_with(name, there)}/{name}", there)
 
 
 def crates_below(needs, revision):
@@ -105,15 +117,21 @@ def build(tree, name, revision):
     """The program over the crates of a revision."""
     tree.mkdir()
     program = PROGRAMS[name]
-    crates = crates_below(program.needs, revision)
+    moved = {module: crate_with(file, revision) for module, file in program.moved.items()}
+    needs = list(dict.fromkeys([*program.needs, *moved.values()]))
+    crates = crates_below(needs, revision)
     copy(tree, crates, revision)
     folder = tree / "crates" / name
     shutil.copytree(ROOT / "bench" / name, folder, ignore=shutil.ignore_patterns("*.rs"))
     for source in list(folder.rglob("*.txt")):  # the gate takes no source that none of its crates reads
-        source.rename(source.with_suffix(""))
+        text = source.read_text()
+        for module, crate in moved.items():
+            text = text.replace(module, f"{crate}::{module.split('::')[1]}")
+        source.with_suffix("").write_text(text)
+        source.unlink()
     for laws in program.laws:
         (folder / "proofs" / pathlib.Path(laws).name).write_text(laws_of(laws, revision))
-    (tree / "crates.txt").write_text("\n".join([*crates.values(), f"{name}: {' '.join(program.needs)} anyhow"]) + "\n")
+    (tree / "crates.txt").write_text("\n".join([*crates.values(), f"{name}: {' '.join(needs)} anyhow"]) + "\n")
     run = subprocess.run(["rt", "run"], cwd=folder, stdin=subprocess.DEVNULL, capture_output=True, text=True)
     built = folder / "out" / name
     if run.returncode or not built.exists():

@@ -6,11 +6,11 @@ ghost use Rattle.quic_recovery.specs.Past.{Came, Goes, HasCome, Went, no_past};
 ghost use Rattle.quic_recovery.specs.State.{parts_of, begun, known_to, Does, InFlightLeft};
 
 use crate::driver::{Recovery, RecoveryConfig};
-use recovery_events::event::{Answer, Event, PathName, Refusal};
 use rand_core::Rng;
 use recovery_base::below::NoMemory;
 use recovery_base::time::Instant;
 use recovery_congestion::congestion::ControllerFactory;
+use recovery_events::event::{Answer, Event, PathName, Refusal};
 use recovery_paths::paths::PathMarks;
 use recovery_queue::queue::RetransmitQueue;
 use std::alloc::Global;

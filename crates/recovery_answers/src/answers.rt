@@ -7,11 +7,11 @@ ghost use Rattle.recovery_answers.specs.Answers.{black_hole_text, sendable_text,
 ghost use Rattle.recovery_answers.specs.Answers.{refusal_text};
 ghost use Rattle.recovery_answers.specs.Answers.{answer_text, answer_lines};
 
-use recovery_events::event::{Answer, Refusal};
 use recovery_base::below::{NoMemory, ResetToken};
 use recovery_base::time::Instant;
-use recovery_items::items::ItemQueue;
+use recovery_events::event::{Answer, Refusal};
 use recovery_ledger::spaces::SendableFrames;
+use recovery_queue::items::ItemQueue;
 use std::alloc::{AllocError, Global};
 use std::ops::Range;
 

@@ -1,6 +1,6 @@
 -- What a controller was told, and the content that this leaves (RFC 9002, 7 and appendix B).
 use Rattle.std.specs.Prelude.{ℕ, ◌<◌, ⊤, Bool, List, [], ◌∷◌, Option}
-use Rattle.recovery_rtt.specs.Rtt.{Rtt}
+use Rattle.recovery_congestion.specs.Rtt.{Rtt}
 use Rattle.recovery_congestion.specs.Controllers.{ControllerWords}
 
 pub data ControllerCall : Type 0 where

@@ -1,6 +1,6 @@
 -- What a congestion controller's calls do to its content, and the laws that they keep (RFC 9002, 7).
 use Rattle.std.specs.Prelude.{ℕ, ◌<◌, Bool, Option}
-use Rattle.recovery_rtt.specs.Rtt.{Rtt}
+use Rattle.recovery_congestion.specs.Rtt.{Rtt}
 use Rattle.recovery_congestion.specs.declared.congestion.ControllerMetrics.{ControllerMetrics}
 
 -- what each call does to the content K of a controller

@@ -2,9 +2,9 @@
 ghost use Rattle.std.specs.Prelude.{◌≡◌, ℕ, ◌<◌, IfOk};
 ghost use Rattle.recovery_congestion.specs.Controllers.{ControllerWords, ControllerLaws};
 
+use crate::rtt::RttEstimator;
 use recovery_base::below::NoMemory;
 use recovery_base::time::Instant;
-use recovery_rtt::rtt::RttEstimator;
 
 mod new_reno;
 

@@ -1,6 +1,6 @@
 //! The RTT. Rows are samples, and what is seen after each.
 use recovery_base::time::Duration;
-use recovery_rtt::rtt::RttEstimator;
+use recovery_congestion::rtt::RttEstimator;
 use std::process::Abort;
 
 /// A delay and a sample, and then the best estimate, the conservative one, the least, and the probe timeout; all in

@@ -9,7 +9,7 @@ use quic_recovery::time::{Duration, Instant};
 use quic_recovery::timer::Timer;
 use quic_recovery::{Answer, Event, LiveRecovery, RecoveryConfig, Refusal};
 use rand_pcg::Pcg32;
-use recovery_items::items::ItemQueue;
+use recovery_queue::items::ItemQueue;
 use recovery_skips::Skips;
 use std::net::SocketAddr;
 

@@ -10,7 +10,7 @@ use quic_recovery::time::{Duration, Instant};
 use quic_recovery::{LiveRecovery, Refusal};
 use rand_core::SeedableRng;
 use rand_pcg::Pcg32;
-use recovery_items::items::ItemQueue;
+use recovery_queue::items::ItemQueue;
 use std::alloc::Global;
 use std::io;
 use std::net::{IpAddr, Ipv4Addr, SocketAddr};

@@ -7,7 +7,7 @@ ghost use Rattle.recovery_halving.specs.Halving.{halving_made, halving_words, Is
 use recovery_base::below::NoMemory;
 use recovery_base::time::Instant;
 use recovery_congestion::congestion::{Controller, ControllerFactory, ControllerMetrics};
-use recovery_rtt::rtt::RttEstimator;
+use recovery_congestion::rtt::RttEstimator;
 
 /// The window of a [`Halving`] at first.
 #[derive(Clone, Copy)]

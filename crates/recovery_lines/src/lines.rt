@@ -14,12 +14,12 @@ ghost use Rattle.recovery_lines.specs.Reading.{ReadsBy, reading, line_behind, li
 ghost use Rattle.recovery_lines.specs.Reading.{words_left, TakesMemory, TookMemory, TookAll};
 
 use crate::words::Words;
-use recovery_events::event::Event;
 use recovery_base::below::{
     AckFrequency, ConnectionId, EcnCounts, IssuedCid, NewConnectionId, NoMemory, ResetToken,
 };
 use recovery_base::time::Instant;
-use recovery_items::items::ItemQueue;
+use recovery_events::event::Event;
+use recovery_queue::items::ItemQueue;
 use std::alloc::Global;
 use std::net::{IpAddr, Ipv4Addr, SocketAddr};
 

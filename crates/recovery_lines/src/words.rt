@@ -7,10 +7,10 @@ ghost use Rattle.recovery_lines.specs.Words.{words_of};
 ghost use Rattle.recovery_lines.specs.Reading.{AreDigits, IsFirstNumber, Reads, ReadsBy, words_left, first_word, field, flag_of, space_of, timer_of, path_of, largest_of, number_of};
 ghost use Rattle.recovery_lines.specs.Reading.{items_read, AreItemsRead};
 
-use recovery_events::event::PathName;
 use recovery_base::below::{NoMemory, SpaceId, VarInt};
 use recovery_base::time::{Duration, Instant};
 use recovery_base::timer::Timer;
+use recovery_events::event::PathName;
 use std::alloc::Global;
 
 /// The most ids that a line issues.

@@ -1,4 +1,5 @@
-//! The parts of QUIC loss recovery that stand by themselves, under one name: each is a crate of its own.
+//! The parts of QUIC loss recovery that stand by themselves, under one name. Each is a crate of its own, but for the round-trip time,
+//! which stands beside congestion control.
 #![tactic(auto)]
 
 pub mod acks;

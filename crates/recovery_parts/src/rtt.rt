@@ -1,3 +1,3 @@
 //! The round-trip time (RFC 9002, 5).
 
-pub use recovery_rtt::rtt::RttEstimator;
+pub use recovery_congestion::rtt::RttEstimator;

@@ -1,5 +1,5 @@
-//! Tests of ids, ACKs and what is below them, over their public calls: here and not in the parts, so that none of them is proved a
-//! second time for its tests.
+//! Tests of ids, ACKs, skipped numbers and what is below them, over their public calls: here and not in the parts, so that none of
+//! them is proved a second time for its tests.
 #![tactic(auto)]
 
 #[cfg(test)]
@@ -12,3 +12,5 @@ mod conflicts;
 mod ecn;
 #[cfg(test)]
 mod ids;
+#[cfg(test)]
+mod skips;

@@ -4,6 +4,7 @@ pub mod FateLaws
 pub mod LivePathsLaws
 pub mod PassedLaws
 pub mod PathLogLaws
+pub mod ResponseLaws
 pub mod SearchedLaws
 pub mod ThreefoldLaws
 pub mod UntoldLaws

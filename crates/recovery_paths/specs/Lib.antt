@@ -3,4 +3,5 @@ pub mod LivePaths
 pub mod PathLog
 pub mod PathMaking
 pub mod PathStates
+pub mod Responses
 pub mod Threefold

@@ -5,7 +5,7 @@ use Rattle.std.specs.declared.net.socket_addr.SocketAddr.{SocketAddr}
 use Rattle.recovery_congestion.specs.Calls.{ControllerCall, content_by}
 use Rattle.recovery_mtud.specs.DiscoveryLog.{MtuCall, discovery_by}
 use Rattle.recovery_pacing.specs.PacerLog.{PacerEntry, asked, took, bucket_by}
-use Rattle.recovery_rtt.specs.Rtt.{rtt_by}
+use Rattle.recovery_congestion.specs.Rtt.{rtt_by}
 use Rattle.recovery_paths.specs.declared.live_paths.PathName.{PathName}
 use Rattle.recovery_paths.specs.declared.live_paths.PathName.TheVariants.{Current, Previous}
 use Rattle.recovery_paths.specs.PathMaking.{PathMaking, PathSettings, bucket_of, making_fresh, pacer_at_first, pacer_going_on, reset_call, state_made, state_going_on, state_reset}

@@ -10,7 +10,7 @@ use Rattle.recovery_mtud.specs.Discovery.{Discovery, discovery_made, discovery_d
 use Rattle.recovery_mtud.specs.DiscoveryLog.{MtuCall, resets, discovery_after}
 use Rattle.recovery_pacing.specs.Pacing.{Bucket, bucket_made}
 use Rattle.recovery_paths.specs.PathStates.{PathState, PathMarks}
-use Rattle.recovery_rtt.specs.Rtt.{rtt_made, rtt_get}
+use Rattle.recovery_congestion.specs.Rtt.{rtt_made, rtt_get}
 
 -- nothing was challenged yet, and packets are marked
 abbrev pub marks_made : Option (SpaceId × ℕ) → PathMarks

@@ -10,8 +10,8 @@ use Rattle.recovery_ledger.specs.Paths.{generation_of, after_leaving}
 use Rattle.recovery_mtud.specs.Discovery.{Discovery, is_data, is_probe}
 use Rattle.recovery_mtud.specs.DiscoveryLog.{MtuCall, acks as acks_packet, loses_probe, loses, discovery_after}
 use Rattle.recovery_pacing.specs.Pacing.{Bucket, PacerCall, paced, delay_of, less_tokens}
-use Rattle.recovery_responses.specs.declared.responses.PathResponse.{PathResponse}
-use Rattle.recovery_rtt.specs.Rtt.{Rtt, rtt_updated, rtt_get}
+use Rattle.recovery_paths.specs.declared.responses.PathResponse.{PathResponse}
+use Rattle.recovery_congestion.specs.Rtt.{Rtt, rtt_updated, rtt_get}
 
 -- what is kept beside a path's generation and what it has in flight; K is what contracts see of its controller
 pub record PathState (K : Type 0) : Type 0 where

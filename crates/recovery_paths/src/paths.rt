@@ -13,18 +13,18 @@ ghost use Rattle.recovery_paths.specs.PathMaking.{marks_made, path_settings, mak
 ghost use Rattle.recovery_paths.specs.PathStates.{Path, on_state, with_discovery, with_marks, is_blocked, after_receiving, after_validation, after_sample, after_searching, after_transmitting, loss_call};
 ghost use Rattle.recovery_paths.specs.PathStates.{after_telling, after_search, path_acked, is_path_probe, path_lost, after_asking, path_delay};
 
+pub use crate::responses::PathResponses;
 use recovery_base::below::{NoMemory, SpaceId};
 use recovery_base::time::{Duration, Instant};
 use recovery_config::config::TransportConfig;
 use recovery_congestion::congestion::{Controller, ControllerFactory};
+use recovery_congestion::rtt::RttEstimator;
 use recovery_ledger::paths::PathLedger;
 pub use recovery_ledger::paths::{InFlight, LedgerError};
 use recovery_ledger::spaces::{PacketSpace, SentPacket};
 use recovery_mtud::mtud::MtuDiscovery;
 use recovery_pacing::pacing::Pacer;
 use recovery_queue::queue::RetransmitQueue;
-pub use recovery_responses::responses::PathResponses;
-use recovery_rtt::rtt::RttEstimator;
 use std::marker::Model;
 use std::mem;
 use std::net::SocketAddr;

@@ -8,7 +8,7 @@ use quic_recovery::congestion::{Controller, ControllerFactory, ControllerMetrics
 use quic_recovery::rtt::RttEstimator;
 use quic_recovery::time::Instant;
 use recovery_halving::{Halving, HalvingConfig};
-use recovery_items::items::ItemQueue;
+use recovery_queue::items::ItemQueue;
 use recovery_queue::queue::RetransmitQueue;
 use std::alloc::Global;
 use std::marker::Model;
@@ -58,7 +58,7 @@ impl ScarceQueue {
 
 impl RetransmitQueue for ScarceQueue {
     ghost use Rattle.std.proofs.Common.{append-nil};
-    ghost use Rattle.recovery_items.specs.Items.{item_words};
+    ghost use Rattle.recovery_queue.specs.Items.{item_words};
 
     type Streams = ();
 

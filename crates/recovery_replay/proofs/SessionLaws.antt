@@ -8,7 +8,7 @@ use Rattle.rand_core.specs.Stream.{Stream}
 use Rattle.rand_pcg.specs.Pcg.{pcg32, pcg32_of_seed}
 use Rattle.recovery_congestion.specs.Controllers.{ControllerWords}
 use Rattle.quic_recovery.specs.declared.driver.RecoveryConfig.{RecoveryConfig}
-use Rattle.recovery_items.specs.Items.{item_words}
+use Rattle.recovery_queue.specs.Items.{item_words}
 use Rattle.quic_recovery.specs.History.{begins, queue_meaning, Throughout}
 use Rattle.quic_recovery.specs.Told.{Told}
 use Rattle.recovery_answers.specs.Answers.{Reply, answer_lines}

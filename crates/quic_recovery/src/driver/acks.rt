@@ -1,10 +1,10 @@
 //! The events of ACKs (RFC 9000, 13.2; the QUIC ACK frequency extension).
 
 use crate::driver::Recovery;
-use recovery_events::event::{Answer, Refusal};
 use rand_core::Rng;
 use recovery_base::below::{AckFrequency, SpaceId};
 use recovery_congestion::congestion::ControllerFactory;
+use recovery_events::event::{Answer, Refusal};
 use recovery_queue::queue::RetransmitQueue;
 
 impl<F, Q, R> Recovery<F, Q, R>

@@ -1,11 +1,11 @@
 //! The events of the search for the MTU (RFC 8899, 5; RFC 9000, 14.3).
 
 use crate::driver::Recovery;
-use recovery_events::event::{Answer, Refusal};
 use rand_core::Rng;
 use recovery_base::below::SpaceId;
 use recovery_base::time::Instant;
 use recovery_congestion::congestion::ControllerFactory;
+use recovery_events::event::{Answer, Refusal};
 use recovery_ledger::spaces::NUMBER_LIMIT;
 use recovery_queue::queue::RetransmitQueue;
 

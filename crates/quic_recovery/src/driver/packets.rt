@@ -5,11 +5,11 @@ ghost use Rattle.quic_recovery.specs.Numbers.{number_behind, skipping_behind};
 ghost use Rattle.quic_recovery.specs.Replies.{reply_to, refusal_of};
 
 use crate::driver::Recovery;
-use recovery_events::event::{Answer, Refusal};
 use rand_core::Rng;
 use recovery_base::below::{NoMemory, SpaceId};
 use recovery_base::time::Instant;
 use recovery_congestion::congestion::ControllerFactory;
+use recovery_events::event::{Answer, Refusal};
 use recovery_ledger::spaces::{NUMBER_LIMIT, Receipt, ReceiveError, SentPacket};
 use recovery_paths::paths::LedgerError;
 use recovery_queue::queue::RetransmitQueue;

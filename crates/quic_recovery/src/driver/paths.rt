@@ -1,11 +1,11 @@
 //! The events of the path in use (RFC 9000, 8; RFC 9002, 5 to 7).
 
 use crate::driver::Recovery;
-use recovery_events::event::{Answer, PathName, Refusal};
 use rand_core::Rng;
 use recovery_base::below::NoMemory;
 use recovery_base::time::{Duration, Instant};
 use recovery_congestion::congestion::ControllerFactory;
+use recovery_events::event::{Answer, PathName, Refusal};
 use recovery_paths::live_paths::DatagramError;
 use recovery_paths::paths::PathData;
 use recovery_queue::queue::RetransmitQueue;

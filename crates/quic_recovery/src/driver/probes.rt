@@ -1,10 +1,10 @@
 //! The events of probes, of what is sent again, of ECN and of skipped numbers (RFC 9000, 13 and 21.4; RFC 9002, 6.2.4).
 
 use crate::driver::Recovery;
-use recovery_events::event::{Answer, Refusal};
 use rand_core::Rng;
 use recovery_base::below::{EcnCounts, NoMemory, SpaceId};
 use recovery_congestion::congestion::ControllerFactory;
+use recovery_events::event::{Answer, Refusal};
 use recovery_ledger::spaces::NUMBER_LIMIT;
 use recovery_queue::queue::RetransmitQueue;
 

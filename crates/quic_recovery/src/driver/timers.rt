@@ -1,11 +1,11 @@
 //! The events of timers.
 
 use crate::driver::Recovery;
-use recovery_events::event::{Answer, Refusal};
 use rand_core::Rng;
 use recovery_base::time::Instant;
 use recovery_base::timer::Timer;
 use recovery_congestion::congestion::ControllerFactory;
+use recovery_events::event::{Answer, Refusal};
 use recovery_queue::queue::RetransmitQueue;
 
 impl<F, Q, R> Recovery<F, Q, R>

@@ -1,6 +1,6 @@
 //! The program's queue: items, in the order in which they are sent again.
 use super::*;
-use recovery_items::items::ItemQueue;
+use recovery_queue::items::ItemQueue;
 use recovery_queue::queue::RetransmitQueue;
 
 type ItemEvent = quic_recovery::event::Event<ItemQueue>;

@@ -5,9 +5,9 @@ ghost use Rattle.recovery_congestion.specs.NewReno.{reno_made, reno_words, reno_
 ghost use Rattle.recovery_congestion.specs.RenoLaws.{reno_laws};
 
 use super::{Controller, ControllerFactory, ControllerMetrics};
+use crate::rtt::RttEstimator;
 use recovery_base::below::NoMemory;
 use recovery_base::time::Instant;
-use recovery_rtt::rtt::RttEstimator;
 use std::marker::Model;
 
 /// The default initial window, in bytes: ten datagrams of 1200 bytes, since these are less than 14720 bytes (RFC 9002, 7.2).

@@ -1,0 +1,54 @@
+//! Queues of item numbers. A row is two queues, and what the first one holds when the second was joined to it.
+use recovery_queue::items::ItemQueue;
+use recovery_queue::queue::RetransmitQueue;
+use std::alloc::{AllocError, Global};
+use std::process::Abort;
+
+/// A queue of these items, which has no vector where there is no list.
+fn queue(alloc: Global, items: Option<&[u64]>) -> Result<ItemQueue, AllocError> {
+    match items {
+        None => Ok(ItemQueue::empty(alloc)),
+        Some(items) => {
+            let mut list = Vec::new(alloc);
+            list.extend_from_slice(items)?;
+            Ok(ItemQueue::from_items(list))
+        }
+    }
+}
+
+/// Joins one queue to another by the trait's call alone.
+fn joined<Q: RetransmitQueue + Drop>(rt: &impl Abort, mut queue: Q, other: Q) -> Q {
+    assert!(rt; queue.append(other).is_ok(), "NoMemory");
+    queue
+}
+
+type Row<'a> = (Option<&'a [u64]>, Option<&'a [u64]>, &'a [u64]);
+
+fn assert_rows(rt: &impl Abort, alloc: Global, rows: &[Row<'_>]) -> Result<(), AllocError> {
+    let mut place = 0u64;
+    for (items, others, wanted) in rows {
+        let found = joined(rt, queue(alloc, *items)?, queue(alloc, *others)?);
+        assert!(rt; found.items() == *wanted, "row {place}");
+        assert!(rt; found.is_empty(&()) == wanted.is_empty(), "row {place}");
+        place = place.saturating_add(1);
+    }
+    Ok(())
+}
+
+#[test]
+fn lost_items_go_behind(rt: HostRuntime) -> Result<(), AllocError> {
+    assert_rows(
+        &rt,
+        rt.alloc(),
+        &[
+            (None, None, &[]),
+            (None, Some(&[]), &[]),
+            (Some(&[]), None, &[]),
+            (None, Some(&[7, 8]), &[7, 8]),
+            (Some(&[7, 8]), None, &[7, 8]),
+            (Some(&[7, 8]), Some(&[]), &[7, 8]),
+            (Some(&[7, 8]), Some(&[3, 7]), &[7, 8, 3, 7]),
+            (Some(&[]), Some(&[1]), &[1]),
+        ],
+    )
+}

@@ -1,0 +1,85 @@
+//! Packets are acknowledged in some order, all but the first: that one is found, and few slots are left. The limit of the
+//! slots, and that few are looked at, is proved.
+use recovery_base::below::NoMemory;
+use recovery_base::time::Instant;
+use recovery_ledger::spaces::{PacketSpace, SentPacket};
+use recovery_queue::items::ItemQueue;
+use recovery_queue::queue::RetransmitQueue;
+use std::alloc::Global;
+use std::process::Abort;
+
+/// In which order the packets from 1 on are acknowledged.
+#[derive(Clone, Copy)]
+enum Order {
+    Ascending,
+    Descending,
+    Alternating,
+}
+
+impl Order {
+    /// The number that is acknowledged at a step, of `count` packets.
+    fn number(self, step: u64, count: u64) -> u64 {
+        let low = step.saturating_add(1);
+        let high = count.saturating_sub(low);
+        match self {
+            Order::Ascending => low,
+            Order::Descending => high,
+            Order::Alternating if step % 2 == 0 => step / 2 + 1,
+            Order::Alternating => count.saturating_sub(step / 2 + 1),
+        }
+    }
+}
+
+fn packet(alloc: Global) -> SentPacket<ItemQueue> {
+    SentPacket {
+        path_generation: 0,
+        time_sent: Instant::from_nanos(0),
+        size: 40,
+        ack_eliciting: true,
+        largest_acked: None,
+        retransmits: ItemQueue::empty(alloc),
+        stream_frames: (),
+    }
+}
+
+/// A space in which this many packets were sent.
+fn sent(rt: &impl Abort, alloc: Global, count: u64) -> PacketSpace<ItemQueue> {
+    let mut space = PacketSpace::new(alloc, Instant::from_nanos(0));
+    for number in 0..count {
+        match space.sent(number, packet(alloc)) {
+            Ok(_) => {}
+            Err(NoMemory) => panic!(rt; "{number}"),
+        }
+    }
+    space
+}
+
+fn assert_closed_up(rt: &impl Abort, alloc: Global, order: Order, count: u64) {
+    let mut space = sent(rt, alloc, count);
+    for step in 0..count.saturating_sub(1) {
+        let number = order.number(step, count);
+        assert!(rt; space.take(number).is_some(), "{number}");
+    }
+    assert!(rt; space.slots() <= 66);
+    assert!(rt; space.find(0).0.is_some());
+    assert!(rt; space.take(0).is_some());
+    assert!(rt; space.find(0) == (None, 0));
+}
+
+#[test]
+fn acknowledged_in_ascending_order(rt: HostRuntime) {
+    assert_closed_up(&rt, rt.alloc(), Order::Ascending, 1000);
+    assert_closed_up(&rt, rt.alloc(), Order::Ascending, 100_000);
+}
+
+#[test]
+fn acknowledged_in_descending_order(rt: HostRuntime) {
+    assert_closed_up(&rt, rt.alloc(), Order::Descending, 1000);
+    assert_closed_up(&rt, rt.alloc(), Order::Descending, 100_000);
+}
+
+#[test]
+fn acknowledged_from_both_ends_in_turn(rt: HostRuntime) {
+    assert_closed_up(&rt, rt.alloc(), Order::Alternating, 1000);
+    assert_closed_up(&rt, rt.alloc(), Order::Alternating, 100_000);
+}

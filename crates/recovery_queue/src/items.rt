@@ -1,0 +1,90 @@
+//! A queue of item numbers.
+ghost use Rattle.std.specs.Prelude.{◌≡◌};
+ghost use Rattle.recovery_queue.specs.Items.{item_words};
+
+use crate::queue::RetransmitQueue;
+use std::alloc::Global;
+use std::marker::Model;
+
+/// The numbers of the items that a packet carries, in the order in which they came (RFC 9000, 13.3).
+///
+/// Contracts see the list of the items.
+#[derive(Drop)]
+pub struct ItemQueue {
+    items: Vec<u64>,
+}
+
+impl Model for ItemQueue {
+    ghost use Rattle.std.specs.Prelude.{ℕ, List};
+
+    ghost Value = { List ℕ };
+
+    ghost view = { λ queue. queue.items.items };
+}
+
+impl ItemQueue {
+    /// A queue of these items. It takes no memory.
+    pub fn from_items(items: Vec<u64>) -> Self
+        ensures { result ≡ items.items }
+    {
+        ItemQueue { items }
+    }
+
+    /// The items, in the order in which they came.
+    pub fn items(&self) -> &[u64]
+        ensures { result.now ≡ self.now }
+    {
+        self.items.as_slice()
+    }
+}
+
+impl RetransmitQueue for ItemQueue {
+    ghost use Rattle.std.specs.Prelude.{refl};
+    ghost use Rattle.std.proofs.Common.{append-nil};
+
+    type Streams = ();
+
+    type Meta = ();
+
+    type Contents = ItemQueue;
+
+    ghost contents = { λ queue. queue };
+
+    ghost words = { item_words };
+
+    ghost blank = { tt };
+
+    fn empty(alloc: Global) -> Self {
+        ItemQueue {
+            items: Vec::new(alloc),
+        }
+    }
+
+    fn is_empty(&self, _streams: &()) -> bool {
+        self.items.is_empty()
+    }
+
+    fn is_void(&self) -> bool {
+        self.items.is_empty()
+    }
+
+    /// The other's items go behind these. Memory is asked for only where both queues have items.
+    fn append(&mut self, mut other: Self) -> Result<(), Self> {
+        if self.items.is_empty() {
+            *self = other;
+            return Ok(());
+        }
+        match self.items.append(&mut other.items) {
+            Ok(()) => Ok(()),
+            Err(_) => Err(other),
+        }
+    }
+
+    ghost laws = { record {
+      unit_left = λ items. refl;
+      unit_right = λ items. append-nil items;
+      empty_is_empty = λ streams. refl;
+    } };
+
+    ghost is_blank = { λ meta here. refl };
+}

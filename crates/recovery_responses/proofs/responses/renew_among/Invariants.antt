@@ -1,7 +1,0 @@
-use Rattle.std.proofs.Common.{◌≡◌, ◌++◌, map, take, drop}
-use Rattle.recovery_responses.specs.Responses.{renewed}
-use Rattle.recovery_responses.proofs.responses.renew_among.Given as goal
-
-abbrev pub invariant-loop-kept : goal.invariant-loop-kept
-invariant-loop-kept l =
-    l.responses ≡ map (renewed l.new) (take l.kept-index l.initial.responses) ++ drop l.kept-index l.initial.responses

@@ -1,2 +1,0 @@
-pub mod Estimators
-pub mod Rtt
