@@ -1,4 +1,4 @@
--- What calls of an ordered set make of its numbers, which rise.
+-- What calls of an ordered set make of its numbers, which rise. The private functions of `CidState` rest on it.
 use Rattle.std.proofs.Common.{◌≡◌, ℕ, zero, suc, ◌+◌, ◌-◌, ◌<◌, ◌≤◌, ◌==◌, nat_lt, nat_eq, not, cond, Bool, true, false, List, [], ◌∷◌, ◌++◌, length, filter, take, Option, None, Some, IfSome, slice_get, ◌↔◌, refl, ap, sym, ◌∙◌, arith}
 use Rattle.std.specs.Prelude.{IsSome, IfNone}
 use Rattle.std.specs.Ordering.{nat_cmp, is_eq}
