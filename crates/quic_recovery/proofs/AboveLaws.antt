@@ -1,4 +1,4 @@
--- What the layer above keeps with paths and spaces stays as events go by.
+-- What the layer above keeps with paths and spaces stays as events go by. `LeftLaws` and the steps of calls rest on it.
 use Rattle.std.proofs.Common.{◌≡◌, ℕ, true, false, Option, None, Some, option_map, Ok, Err, refl, sym, ap, subst, ◌∙◌}
 use Rattle.std.proofs.lemmas.Option.{none-some, same_Some}
 use Rattle.recovery_base.specs.declared.below.frames.EcnCounts.{EcnCounts}

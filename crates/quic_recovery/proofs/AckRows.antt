@@ -1,4 +1,5 @@
 -- Worked rows of the promises on ACKs, computed: with the right answer each holds, and with a wrong one it does not.
+-- Nothing rests on them.
 use Rattle.std.proofs.Common.{◌≡◌, ℕ, zero, suc, ◌+◌, ◌<◌, ◌≤◌, ◌⊎◌, Bool, true, false, List, [], ◌∷◌, Option, None, Some, Ok, inl, inr, refl, arith}
 use Rattle.std.proofs.lemmas.Bool.Decides.{nat_tests}
 use Rattle.recovery_acks.specs.Acks.{number_or_zero}

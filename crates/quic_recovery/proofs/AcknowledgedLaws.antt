@@ -1,4 +1,5 @@
--- What is to be acknowledged is by the table what the history says: new numbers, but those dropped since they came.
+-- What is to be acknowledged is by the table what the history says: new numbers, but those dropped since they came. The
+-- clause `to_acknowledge` of `run` rests on it.
 use Rattle.std.proofs.Common.{◌≡◌, ◌≢◌, ◌≤◌, ◌<◌, ℕ, ◌==◌, ◌&&◌, Bool, true, false, cond, List, [], ◌∷◌, length, Option, None, Some, Ok, Err, ◌⊎◌, inl, inr, ◌↔◌, IsTrue, IsSomeAnd, refl, sym, subst, arith, lt-ltb, ltb-true}
 use Rattle.std.proofs.lemmas.Bool.{cases_lt}
 use Rattle.std.proofs.lemmas.Bool.Decides.{eqb_tells}

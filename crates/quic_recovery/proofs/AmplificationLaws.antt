@@ -1,4 +1,5 @@
 -- What each event may be to the paths, and that it keeps the bound on what goes to an address that is not validated.
+-- The promises on datagrams, pacers and searches rest on it.
 use Rattle.std.proofs.Common.{ℕ, ◌≡◌, ◌&&◌, Bool, true, false, cond, if◌then◌else◌, List, [], ◌∷◌, ◌++◌, Option, None, Some, Ok, Err, refl}
 use Rattle.std.proofs.lemmas.Bool.{false_from_ne_true}
 use Rattle.recovery_base.specs.declared.below.SpaceId.{SpaceId}

@@ -1,4 +1,4 @@
--- A datagram is blocked exactly where the events and answers before it say so.
+-- A datagram is blocked exactly where the events and answers before it say so: the clause `blocked` of `run`.
 use Rattle.std.proofs.Common.{ℕ, ◌≡◌, ◌≤◌, ◌+◌, ◌*◌, ◌^◌, ◌&&◌, not, nat_lt, nat_le, Bool, true, false, cond, List, [], None, Some, Option, Ok, Err, refl, sym, subst}
 use Rattle.std.proofs.lemmas.Bool.{leb-true, le-leb}
 use Rattle.recovery_congestion.specs.Controllers.{ControllerWords}

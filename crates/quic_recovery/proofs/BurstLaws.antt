@@ -1,4 +1,4 @@
--- A report of a black hole needs four bursts, and comes at four, throughout a run.
+-- A report of a black hole needs four bursts, and comes at four, throughout a run. `HolesLaws` say it of events alone.
 use Rattle.std.proofs.Common.{◌≡◌, ◌≤◌, ℕ, Bool, true, false, cond, List, [], ◌∷◌, Option, None, Some, Ok, Err, refl, sym, ap, subst, arith, ◌∙◌}
 use Rattle.recovery_base.specs.declared.below.SpaceId.TheVariants.{Data}
 use Rattle.recovery_config.specs.declared.config.TransportConfig.{TransportConfig}

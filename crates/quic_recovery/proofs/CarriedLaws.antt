@@ -1,4 +1,5 @@
--- Each tracked packet carries the ACK of the numbers that the history says, up to a largest one.
+-- Each tracked packet carries the ACK of the numbers that the history says, up to a largest one. `AcknowledgedLaws`
+-- rest on it.
 use Rattle.std.proofs.Common.{◌≡◌, ◌≤◌, ℕ, ◌==◌, ◌&&◌, Bool, true, false, cond, List, [], ◌∷◌, Option, None, Some, Ok, Err, refl, sym, ap, subst, ◌∙◌, arith, eq-eqb, ne_eqb}
 use Rattle.recovery_base.specs.declared.below.SpaceId.{SpaceId}
 use Rattle.recovery_base.specs.declared.below.SpaceId.TheVariants.{Data}

@@ -1,4 +1,5 @@
--- Contents are neither lost nor doubled: what was sent is what is tracked and waits, and what is gone.
+-- Contents are neither lost nor doubled: what was sent is what is tracked and waits, and what is gone. The clause
+-- `contents` of `run` rests on it.
 use Rattle.std.proofs.Common.{◌≡◌, ◌+◌, ℕ, Bool, true, false, cond, List, [], ◌∷◌, Option, None, Some, Ok, Err, refl, sym, ap, subst, ◌∙◌, arith}
 use Rattle.std.specs.Prelude.{sum_by, option_map}
 use Rattle.std.specs.BTreeMap.{is_at}

@@ -1,5 +1,5 @@
 -- Worked rows of the promise that contents are neither lost nor doubled, computed: with the right answers it comes out,
--- and with a wrong one it does not.
+-- and with a wrong one it does not. Nothing rests on them.
 use Rattle.std.proofs.Common.{◌≡◌, ℕ, ◌+◌, ◌==◌, true, false, [], ◌∷◌, None, Some, Ok, Err, refl, arith}
 use Rattle.rand_core.specs.Stream.{Stream}
 use Rattle.recovery_base.specs.declared.below.SpaceId.TheVariants.{Initial, Handshake}

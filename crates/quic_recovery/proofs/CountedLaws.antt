@@ -1,4 +1,4 @@
--- Bytes in flight by events and answers are the sums over what the spaces track.
+-- Bytes in flight by events and answers are the sums over what the spaces track: the clause `counted` of `run`.
 use Rattle.std.proofs.Common.{◌≡◌, ◌≤◌, ◌+◌, ℕ, ◌==◌, ◌&&◌, ◌||◌, Bool, true, false, cond, if◌then◌else◌, List, [], ◌∷◌, Option, None, Some, Ok, Err, refl, sym, ap, subst, ◌∙◌, arith}
 use Rattle.std.specs.Prelude.{sum_by, option_map}
 use Rattle.std.specs.BTreeMap.{is_at}

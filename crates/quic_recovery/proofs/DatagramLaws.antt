@@ -1,4 +1,5 @@
--- The datagrams of each path by the history itself are those that its past in the logs has.
+-- The datagrams of each path by the history itself are those that its past in the logs has. `ThreefoldLaws` and
+-- `BlockedLaws` rest on it.
 use Rattle.std.proofs.Common.{ℕ, ◌≡◌, ◌+◌, ◌&&◌, Bool, true, false, cond, List, [], ◌∷◌, ◌++◌, Option, None, Some, option_map, Ok, Err, refl, sym, ap, subst, ◌∙◌, arith}
 use Rattle.std.specs.Prelude.{sum_by}
 use Rattle.std.specs.List.{list_all}

@@ -1,5 +1,5 @@
 -- Worked rows of the promise that each number has one fate, computed: of a right history each number has one, and of a
--- wrong one some has not.
+-- wrong one some has not. Nothing rests on them.
 use Rattle.std.proofs.Common.{◌≡◌, true, false, [], ◌∷◌, None, Some, Ok, Err, refl, arith}
 use Rattle.recovery_base.specs.declared.below.SpaceId.TheVariants.{Initial, Data}
 use Rattle.recovery_events.specs.declared.event.Event.TheVariants as event

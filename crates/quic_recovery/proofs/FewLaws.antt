@@ -1,4 +1,4 @@
--- By the history alone a search takes few probes, as its entries say.
+-- By the history alone a search takes few probes, as its entries say: the clause `few` of `run`.
 use Rattle.std.proofs.Common.{ℕ, ◌≡◌, ◌≤◌, ◌==◌, ◌<◌, ◌^◌, ◌&&◌, Bool, true, false, not, if◌then◌else◌, List, [], ◌∷◌, length, Option, None, Some, Ok, Err, refl, sym, ap, subst, ◌∙◌, is_some}
 use Rattle.std.specs.Prelude.{is_none, nat_eq}
 use Rattle.std.specs.Option.{ForSome}

@@ -1,4 +1,5 @@
 -- What each tracked packet says of itself, as its size, goes with its number: so it stays as packets come and go.
+-- `SizeLaws` and `CarriedLaws` rest on it.
 use Rattle.std.proofs.Common.{ℕ, ◌≡◌, ◌+◌, ◌<◌, ◌≤◌, Bool, true, false, cond, [], ◌∷◌, ◌++◌, Option, None, Some, refl, sym, ap, ◌∙◌, arith}
 use Rattle.std.specs.Prelude.{option_map}
 use Rattle.std.specs.Ordering.{nat_cmp}

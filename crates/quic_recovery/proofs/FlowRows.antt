@@ -1,5 +1,5 @@
 -- Worked rows of the promises on datagrams and on bytes in flight, computed: with the right answer each holds, and with
--- a wrong one it does not.
+-- a wrong one it does not. Nothing rests on them.
 use Rattle.std.proofs.Common.{true, false, [], ◌∷◌, None, Some, Ok, refl, arith}
 use Rattle.std.specs.declared.net.socket_addr.SocketAddr.{SocketAddr}
 use Rattle.recovery_base.specs.declared.below.SpaceId.TheVariants.{Data}

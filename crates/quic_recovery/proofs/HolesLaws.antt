@@ -1,4 +1,5 @@
--- By the history alone reports of black holes need four bursts and come at four, as the entries of the search say.
+-- By the history alone reports of black holes need four bursts and come at four, as the entries of the search say: the
+-- clause `holes` of `run`.
 use Rattle.std.proofs.Common.{ℕ, ◌≡◌, ◌||◌, ◌≤◌, nat_lt, length, Bool, true, false, if◌then◌else◌, List, [], ◌∷◌, ◌++◌, filter, Option, None, Some, Ok, Err, refl, sym, ap, ap₂, subst, ◌∙◌, is_some}
 use Rattle.recovery_base.specs.declared.below.SpaceId.TheVariants as space
 use Rattle.recovery_config.specs.declared.config.TransportConfig.{TransportConfig}

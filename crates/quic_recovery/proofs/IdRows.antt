@@ -1,5 +1,5 @@
 -- Worked rows of the promises of ids, of what is tracked, of paths and of refusals, computed: the right replies, and
--- wrong ones.
+-- wrong ones. Nothing rests on them.
 use Rattle.std.proofs.Common.{◌≡◌, ℕ, ◌^◌, true, false, [], ◌∷◌, None, Some, Ok, Err, refl, ap, arith}
 use Rattle.std.specs.declared.net.socket_addr.SocketAddr.{SocketAddr}
 use Rattle.recovery_base.specs.declared.below.SpaceId.TheVariants.{Initial, Data}

@@ -1,4 +1,5 @@
--- What the parts know is what their logs say, and one event more leaves what its entries say.
+-- What the parts know is what their logs say, and one event more leaves what its entries say. The loop of `run` and
+-- `PastLaws` carry it from event to event.
 use Rattle.std.proofs.Common.{◌≡◌, ℕ, Bool, List, [], Option, None, Some, refl, sym, ap, subst, ◌∙◌}
 use Rattle.std.proofs.Math.Path.{fun_ext}
 use Rattle.recovery_base.specs.declared.below.SpaceId.{SpaceId}

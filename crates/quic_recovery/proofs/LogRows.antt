@@ -1,4 +1,4 @@
--- A worked row of a history, computed: what its events were to the parts, the newest first.
+-- A worked row of a history, computed: what its events were to the parts, the newest first. Nothing rests on it.
 use Rattle.std.proofs.Common.{◌≡◌, ◌^◌, true, [], ◌∷◌, None, Some, Ok, Err, refl}
 use Rattle.recovery_base.specs.declared.below.SpaceId.TheVariants.{Initial, Handshake, Data}
 use Rattle.recovery_base.specs.declared.timer.Timer.TheVariants.{Idle, Pacing}

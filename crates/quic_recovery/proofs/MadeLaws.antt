@@ -1,4 +1,5 @@
--- The discovery that the path in use was made with stays until a fresh path.
+-- The discovery that the path in use was made with stays until a fresh path. The laws of searches by events alone
+-- (`NearLaws`, `HolesLaws`, `MtuLaws`) rest on it.
 use Rattle.std.proofs.Common.{◌≡◌, true, false, ◌∷◌, Ok, Err, refl}
 use Rattle.recovery_mtud.specs.Discovery.{Discovery}
 use Rattle.recovery_paths.specs.PathLog.{OfPaths, PathPast, receives, samples, tells, searches, asks, transmits, passes, is_reset, is_validated}

@@ -1,4 +1,4 @@
--- By the history alone the MTU in use is the one that is kept, on both paths.
+-- By the history alone the MTU in use is the one that is kept, on both paths: the clause `mtu` of `run`.
 use Rattle.std.proofs.Common.{ℕ, ◌≡◌, ◌<◌, ◌^◌, min, Bool, true, false, if◌then◌else◌, List, [], ◌∷◌, Option, None, Some, Ok, Err, refl, sym, ap, subst, ◌∙◌, is_some}
 use Rattle.std.specs.Prelude.{IsSomeAnd, option_map, unwrap_or}
 use Rattle.std.specs.Option.{ForSome}

@@ -1,4 +1,5 @@
--- By the history alone a search ends near the best size of an honest link, as its entries say.
+-- By the history alone a search ends near the best size of an honest link, as its entries say: the clause `near` of
+-- `run`.
 use Rattle.std.proofs.Common.{ℕ, ◌≡◌, ◌+◌, ◌*◌, ◌<◌, ◌≤◌, ◌^◌, ◌==◌, ◌&&◌, ◌||◌, min, max, Bool, true, false, not, if◌then◌else◌, List, [], ◌∷◌, ◌++◌, Option, None, Some, Ok, Err, refl, sym, ap, ap₂, subst, ◌∙◌, is_some, arith}
 use Rattle.std.specs.Prelude.{All, is_none, option_map, option_to_list, unwrap_or}
 use Rattle.std.specs.Option.{ForSome}

@@ -1,4 +1,4 @@
--- Numbers that are given out, and the skips behind them.
+-- Numbers that are given out, and the skips behind them. `SendLaws` and the call `send` rest on it.
 use Rattle.std.proofs.Common.{◌≡◌, ℕ, ◌+◌, ◌≤◌, Bool, true, false, cond, refl, arith}
 use Rattle.recovery_base.specs.declared.below.SpaceId.{SpaceId}
 use Rattle.recovery_base.specs.declared.below.SpaceId.TheVariants.{Initial, Handshake, Data}

@@ -1,4 +1,4 @@
--- Each number has one fate throughout a run, and so it leaves once.
+-- Each number has one fate throughout a run, and so it leaves once: the clauses `fates` and `once` of `run`.
 use Rattle.std.proofs.Common.{◌≡◌, ◌≤◌, ◌+◌, ℕ, ◌==◌, ◌&&◌, Bool, true, false, cond, List, [], ◌∷◌, Ok, refl, arith}
 use Rattle.recovery_base.specs.declared.below.SpaceId.{SpaceId}
 use Rattle.recovery_base.specs.Spaces.{same_space}

@@ -1,4 +1,4 @@
--- Ids of this end are issued and retired as the history itself says.
+-- Ids of this end are issued and retired as the history itself says: the clause `own_ids` of `run`.
 use Rattle.std.proofs.Common.{◌≡◌, ◌≢◌, ◌<◌, ◌+◌, ◌^◌, ℕ, ◌==◌, ◌&&◌, ◌||◌, nat_lt, nat_le, not, Bool, true, false, cond, List, [], ◌∷◌, length, map, filter, Ok, Err, refl, sym, ap, subst, ◌∙◌, leb-true, le-leb}
 use Rattle.std.specs.Prelude.{count_by, if◌then◌else◌}
 use Rattle.std.specs.Bool.{Decides}

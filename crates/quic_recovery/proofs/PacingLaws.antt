@@ -1,4 +1,5 @@
--- Each pacer delays by its balance and keeps its rate, throughout a run.
+-- Each pacer delays by its balance and keeps its rate, throughout a run: the clauses `delayed`, `rate`, `soon` and
+-- `named` of `run`.
 use Rattle.std.proofs.Common.{ℕ, Bool, true, false, cond, List, [], ◌∷◌, Option, None, Some, Ok, Err, refl, sym, subst}
 use Rattle.recovery_pacing.specs.PacerLog.{AreChecked, KeepsRate}
 use Rattle.recovery_pacing.specs.Pacing.{PacerCall}

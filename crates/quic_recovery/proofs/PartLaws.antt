@@ -1,4 +1,4 @@
--- Discarded spaces, one entry at a time.
+-- Discarded spaces, one entry at a time. `LeftLaws` rest on it.
 use Rattle.std.proofs.Common.{List, ◌∷◌, ◌||◌, ap, ◌∙◌}
 use Rattle.recovery_base.specs.declared.below.SpaceId.{SpaceId}
 use Rattle.recovery_ledger.specs.declared.discarded.DiscardedSpaces.{DiscardedSpaces}

@@ -1,4 +1,4 @@
--- A past goes on by one event.
+-- A past goes on by one event: what `run` promises of a list of events, `apply` promises of the event behind a past.
 use Rattle.std.proofs.Common.{ℕ, List, [], ◌∷◌, ◌++◌, sym, subst}
 use mathlib.Core.Logic.{∥∥₁_map}
 use Rattle.recovery_congestion.specs.Controllers.{ControllerWords}

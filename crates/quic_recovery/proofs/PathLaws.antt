@@ -1,4 +1,5 @@
--- The paths that live, and the generation of each, are those that the history says.
+-- The paths that live, and the generation of each, are those that the history says. `RefusedLaws` and `CountedLaws`
+-- rest on it.
 use Rattle.std.proofs.Common.{◌≡◌, ◌+◌, ℕ, ◌&&◌, Bool, true, false, cond, List, [], ◌∷◌, ◌++◌, Option, None, Some, Ok, Err, refl, ap, ◌∙◌}
 use Rattle.std.specs.Prelude.{option_map}
 use Rattle.std.specs.declared.net.socket_addr.SocketAddr.{SocketAddr}

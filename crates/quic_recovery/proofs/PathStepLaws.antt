@@ -1,4 +1,5 @@
--- What an event does to the paths that live, and to the search on the one in use, is a step of them.
+-- What an event does to the paths that live, and to the search on the one in use, is a step of them. The calls
+-- `poll_mtu` and `discard` rest on it.
 use Rattle.std.proofs.Common.{◌≡◌, ℕ, ◌≤◌, ◌^◌, ap, ap₂, ◌∙◌, refl, sym, subst, Bool, true, false, MatchBool, [], ◌∷◌, Option, None, Some, option_map, Ok, Err}
 use Rattle.recovery_base.specs.declared.below.SpaceId.{SpaceId}
 use Rattle.recovery_base.specs.declared.below.SpaceId.TheVariants.{Data}

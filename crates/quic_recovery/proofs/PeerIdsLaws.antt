@@ -1,4 +1,4 @@
--- Ids of the peer are taken, refused and moved to as the history itself says.
+-- Ids of the peer are taken, refused and moved to as the history itself says: the clause `peer_ids` of `run`.
 use Rattle.std.proofs.Common.{◌≡◌, ◌≤◌, ◌<◌, ◌+◌, ◌^◌, ℕ, ◌==◌, max, min, nat_lt, nat_le, not, Bool, true, false, List, [], ◌∷◌, Option, None, Some, IsSome, Ok, Err, refl, sym, ap, subst, ◌∙◌, arith, leb-true, le-leb}
 use Rattle.std.specs.Prelude.{bytes_eq, IfSome, is_some, option_map, unwrap_or, if◌then◌else◌}
 use Rattle.std.specs.Bool.{Decides}

@@ -1,4 +1,4 @@
--- What probes, losses, queues and counts of ECN change leaves the balance of the paths.
+-- What probes, losses, queues and counts of ECN change leaves the balance of the paths. The calls for these rest on it.
 use Rattle.std.proofs.Common.{◌≡◌, ℕ, ◌≤◌, nat_lt, nat_le, Bool, true, false, ◌&&◌, cond, IsTrue, Option, None, Some, Result, Ok, Err, OnOk, OnErr, refl, sym, ap, subst, ◌∙◌}
 use Rattle.std.proofs.lemmas.Bool.{leb-true, le-leb}
 use Rattle.std.specs.Option.{IsSomeAnd}

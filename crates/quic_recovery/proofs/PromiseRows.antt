@@ -1,5 +1,5 @@
 -- Worked rows of the promises of events and answers alone, computed: with the right answer each holds, and with a wrong
--- one it does not.
+-- one it does not. Nothing rests on them.
 use Rattle.std.proofs.Common.{◌≡◌, ℕ, ◌^◌, true, false, [], ◌∷◌, Some, Ok, Err, refl}
 use Rattle.recovery_base.specs.declared.below.SpaceId.TheVariants.{Initial, Data}
 use Rattle.recovery_base.specs.declared.timer.Timer.TheVariants.{Idle, Pacing}

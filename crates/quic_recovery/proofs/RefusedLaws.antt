@@ -1,4 +1,4 @@
--- Refusals that follow from the history are given exactly where it says so.
+-- Refusals that follow from the history are given exactly where it says so: the clause `refused` of `run`.
 use Rattle.std.proofs.Common.{◌≡◌, ◌≢◌, ℕ, ◌==◌, Bool, true, false, List, [], Option, None, Some, Ok, Err, refl, sym, ap, ◌∙◌, MatchBool}
 use Rattle.std.specs.Prelude.{is_some, option_map, if◌then◌else◌}
 use Rattle.std.specs.Bool.{Decides}

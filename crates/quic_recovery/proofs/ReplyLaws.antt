@@ -1,4 +1,4 @@
--- One reply, by two tellings of the same causes and answers.
+-- One reply, by two tellings of the same causes and answers. `PeerIdsLaws`, `OwnIdsLaws` and `ToldLaws` rest on it.
 use Rattle.std.proofs.Common.{◌≡◌, ◌↔◌, Bool, true, false, MatchBool, Ok, Err, refl, ap, if◌then◌else◌}
 use Rattle.std.specs.Bool.{Decides}
 use Rattle.recovery_events.specs.declared.event.Answer.{Answer}

@@ -1,4 +1,5 @@
 -- Whether an ACK is required at once can be decided from the log of its space: a gap is sought between two numbers.
+-- `DutyLaws` rest on it.
 use Rattle.std.proofs.Common.{◌≡◌, ◌≤◌, ◌<◌, ◌+◌, ◌-◌, ℕ, zero, suc, Bool, true, false, List, [], ◌∷◌, Option, None, Some, ◌⊎◌, inl, inr, IsTrue, refl, subst, arith}
 use Rattle.std.proofs.lemmas.Bool.{cases_eq, cases_lt}
 use Rattle.recovery_acks.specs.Acks.{counted, number_or_zero, IsOutOfOrder, IsReported}

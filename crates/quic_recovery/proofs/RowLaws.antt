@@ -1,4 +1,5 @@
--- What the proofs of worked rows cite: when the timer for a late ACK starts, and which numbers are new.
+-- What the proofs of worked rows cite: when the timer for a late ACK starts, and which numbers are new. The rows of the
+-- table of replies rest on it.
 use Rattle.std.proofs.Common.{◌≡◌, ◌∙◌, ℕ, Bool, not, true≢false, ◌+◌, ◌<◌, ◌≤◌, ◌^◌, ◌↔◌, ◌⊎◌, true, false, List, IsTrue, IsSome, min, nat_lt, ltb-true, [], ◌∷◌, Option, None, Some, refl, arith, inl, inr, lt_irrefl, get_or, nat_eq, ap, sym, subst}
 use Rattle.std.proofs.lemmas.Bool.{eqb-false}
 use Rattle.recovery_acks.specs.Acks.{IsOutOfOrder}

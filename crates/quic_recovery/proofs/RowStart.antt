@@ -1,5 +1,5 @@
 -- How the runs of worked rows begin: with the settings of the replay program, over NewReno and queues of numbered
--- items.
+-- items. The rows of the table of replies begin so.
 use Rattle.std.proofs.Common.{ℕ, ◌*◌, ◌^◌, ◌++◌, false, true, List, [], ◌∷◌, ◌==◌, length, replicate, Some}
 use Rattle.std.specs.declared.net.socket_addr.SocketAddr.{SocketAddr}
 use Rattle.rand_core.specs.Stream.{Stream}

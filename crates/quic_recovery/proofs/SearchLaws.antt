@@ -1,4 +1,5 @@
--- Searches for the MTU take few probes and end near the best size, throughout a run.
+-- Searches for the MTU take few probes and end near the best size, throughout a run. The promises on searches by events
+-- alone (`FewLaws`, `NearLaws`, `TurnsLaws`, `MtuLaws`) rest on it.
 use Rattle.std.proofs.Common.{ℕ, ◌≡◌, ◌<◌, ◌^◌, Bool, true, false, ◌&&◌, if◌then◌else◌, List, [], ◌∷◌, Option, None, Some, Ok, Err, refl, sym, ap, subst, ◌∙◌}
 use Rattle.std.specs.Prelude.{IsSomeAnd}
 use Rattle.std.specs.Option.{ForSome}

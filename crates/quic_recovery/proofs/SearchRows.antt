@@ -1,5 +1,5 @@
 -- Worked rows of the promises of searches for the MTU and of black holes, computed: with the right answer each holds,
--- and with a wrong one it does not.
+-- and with a wrong one it does not. Nothing rests on them.
 use Rattle.std.proofs.Common.{◌≡◌, ℕ, ◌<◌, ◌≤◌, zero, suc, true, false, [], ◌∷◌, None, Some, Ok, Err, refl, arith}
 use Rattle.std.specs.Prelude.{All}
 use Rattle.recovery_base.specs.declared.below.SpaceId.TheVariants.{Data, Handshake}

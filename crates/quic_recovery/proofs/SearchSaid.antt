@@ -1,5 +1,5 @@
--- What the search on the path in use was told and answered says of each event: the promises by events and answers are
--- proved from it.
+-- What the search on the path in use was told and answered says of each event: words, from which all promises on
+-- searches and black holes are proved.
 use Rattle.std.specs.Prelude.{◌≡◌, ℕ, ◌&&◌, Bool, true, false, List, [], ◌∷◌, ◌++◌, Option, Ok, Err, if◌then◌else◌, is_some, IsSomeAnd, option_to_list, option_map}
 use Rattle.recovery_base.specs.declared.below.SpaceId.{SpaceId}
 use Rattle.recovery_base.specs.declared.below.SpaceId.TheVariants.{Data}

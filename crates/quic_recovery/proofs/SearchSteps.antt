@@ -1,4 +1,5 @@
--- What an event is to the search on the path in use, for what is read off the history: one step of its entries.
+-- What an event is to the search on the path in use, for what is read off the history: one step of its entries. The
+-- promises on searches by events alone rest on it.
 use Rattle.std.proofs.Common.{ℕ, ◌≡◌, Bool, if◌then◌else◌, List, [], ◌∷◌, ◌++◌, Option, None, Some, Ok, refl, sym, ap, subst, ◌∙◌, is_some}
 use Rattle.recovery_base.specs.declared.below.SpaceId.TheVariants.{Data}
 use Rattle.recovery_ledger.specs.Packets.{Packet}

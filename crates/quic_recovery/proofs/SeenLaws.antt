@@ -1,5 +1,5 @@
 -- What is seen of the paths and is not changed by what happens on one of them stays through every event but those that
--- make a path or drop one.
+-- make a path or drop one. `MadeLaws` and `MtuLaws` rest on it.
 use Rattle.std.proofs.Common.{ℕ, ◌≡◌, ◌&&◌, Bool, true, false, if◌then◌else◌, List, [], ◌∷◌, ◌++◌, Option, None, Some, Ok, Err, refl, ◌∙◌}
 use Rattle.recovery_base.specs.declared.below.SpaceId.{SpaceId}
 use Rattle.recovery_base.specs.declared.below.SpaceId.TheVariants as space

@@ -1,4 +1,5 @@
--- A packet that is sent: it may be tracked, the balance of the paths stays, and each part changes by its step.
+-- A packet that is sent: it may be tracked, the balance of the paths stays, and each part changes by its step. The call
+-- `send` rests on it.
 use Rattle.std.proofs.Common.{◌≡◌, ℕ, ◌<◌, ◌≤◌, ◌^◌, Bool, false, Option, None, Some, option_map, Ok, refl, sym, ap, subst, ◌∙◌, arith}
 use Rattle.recovery_base.specs.declared.below.SpaceId.{SpaceId}
 use Rattle.recovery_congestion.specs.Calls.{sends as sends_bytes}

@@ -1,4 +1,5 @@
--- Each packet of 1-RTT keys that is tracked has the size with which the history says that it went out.
+-- Each packet of 1-RTT keys that is tracked has the size with which the history says that it went out. `HolesLaws` rest
+-- on it.
 use Rattle.std.proofs.Common.{ℕ, ◌≡◌, ◌+◌, ◌≤◌, ◌==◌, Bool, true, false, cond, if◌then◌else◌, List, ◌∷◌, Option, None, Some, Ok, Err, refl, sym, ap, subst, ◌∙◌, arith, eq-eqb, ne_eqb}
 use Rattle.recovery_base.specs.declared.below.SpaceId.{SpaceId}
 use Rattle.recovery_base.specs.declared.below.SpaceId.TheVariants.{Initial, Handshake, Data}

@@ -1,4 +1,5 @@
--- Worked rows of the table of replies, computed: requests of ACKs, late ACKs, ECN, and acknowledged ranges.
+-- Worked rows of the table of replies, computed: requests of ACKs, late ACKs, ECN, and acknowledged ranges. Nothing
+-- rests on them.
 use Rattle.std.proofs.Common.{ltb-true, ◌≡◌, ℕ, ◌≤◌, ◌^◌, true, false, List, [], ◌∷◌, drop, None, Some, Ok, Err, IsSomeAnd, refl, arith, inl, inr, sym, subst, ap, codes, length, unwrap_or, Bor, if◌then◌else◌}
 use Rattle.std.specs.declared.net.socket_addr.SocketAddr.{SocketAddr}
 use Rattle.rand_core.specs.Stream.{Stream}

@@ -1,4 +1,4 @@
--- Worked rows of the table of replies, computed: ids of the peer.
+-- Worked rows of the table of replies, computed: ids of the peer. Nothing rests on them.
 use Rattle.std.proofs.Common.{ℕ, ◌-◌, ◌^◌, List, [], ◌∷◌, drop, replicate, None, Some, Ok, Err, refl, arith}
 use Rattle.std.proofs.lemmas.Bool.Decides.{nat_tests}
 use Rattle.std.specs.declared.net.socket_addr.SocketAddr.{SocketAddr}

@@ -1,4 +1,4 @@
--- The table of replies allows one reply, and what logs leave is one state.
+-- The table of replies allows one reply, and what logs leave is one state: the laws `one_reply` and `one_state`.
 use Rattle.std.proofs.Common.{◌≡◌, ℕ, ◌↔◌, ◌<◌, ◌+◌, Bool, true, false, List, MatchBool, Option, None, Some, Ok, Err, arith, refl, sym, ap, ap₂, subst, ◌∙◌, min}
 use Rattle.std.specs.Prelude.{◌==◌, ◌≢◌, IsTrue, IsSome, if◌then◌else◌, option_map}
 use Rattle.std.specs.Option.{ForSome}

@@ -1,4 +1,4 @@
--- Worked rows of the table of replies, computed: ids of this end, and timers.
+-- Worked rows of the table of replies, computed: ids of this end, and timers. Nothing rests on them.
 use Rattle.std.proofs.Common.{ℕ, ◌<◌, ◌≤◌, ◌^◌, Bool, true, false, if◌then◌else◌, List, [], ◌∷◌, drop, map, length, replicate, None, Some, Ok, Err, refl, arith, unwrap_or, subst}
 use Rattle.std.specs.declared.net.socket_addr.SocketAddr.{SocketAddr}
 use Rattle.std.specs.Global.{Vec}

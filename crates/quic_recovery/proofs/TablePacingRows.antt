@@ -1,4 +1,4 @@
--- Worked rows of the table of replies, computed: pacing.
+-- Worked rows of the table of replies, computed: pacing. Nothing rests on them.
 use Rattle.std.proofs.Common.{◌-◌, ◌^◌, true, [], ◌∷◌, drop, Ok, refl, arith}
 use Rattle.std.specs.declared.net.socket_addr.SocketAddr.{SocketAddr}
 use Rattle.rand_core.specs.Stream.{Stream}

@@ -1,4 +1,4 @@
--- Worked rows of the table of replies, computed: datagrams, and paths.
+-- Worked rows of the table of replies, computed: datagrams, and paths. Nothing rests on them.
 use Rattle.std.proofs.Common.{◌-◌, ◌^◌, true, false, [], ◌∷◌, drop, None, Ok, Err, refl, arith}
 use Rattle.std.specs.declared.net.socket_addr.SocketAddr.{SocketAddr}
 use Rattle.rand_core.specs.Stream.{Stream}

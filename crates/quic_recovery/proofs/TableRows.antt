@@ -1,4 +1,5 @@
--- Worked rows of the table of replies, computed: packets that come in, right answers and wrong ones.
+-- Worked rows of the table of replies, computed: packets that come in, right answers and wrong ones. Nothing rests on
+-- them.
 use Rattle.std.proofs.Common.{◌-◌, ◌^◌, true, false, [], ◌∷◌, drop, None, Ok, Err, refl, arith, inl, inr, eq-or-lt_of_le, sym}
 use Rattle.std.specs.declared.net.socket_addr.SocketAddr.{SocketAddr}
 use Rattle.rand_core.specs.Stream.{Stream}

@@ -1,4 +1,4 @@
--- Worked rows of the table of replies, computed: packets that are sent, and what they carry.
+-- Worked rows of the table of replies, computed: packets that are sent, and what they carry. Nothing rests on them.
 use Rattle.std.proofs.Common.{◌-◌, ◌^◌, true, false, [], ◌∷◌, drop, None, Some, Ok, Err, refl, arith, inl}
 use Rattle.std.specs.declared.net.socket_addr.SocketAddr.{SocketAddr}
 use Rattle.rand_core.specs.Stream.{Stream}

@@ -1,5 +1,5 @@
 -- Worked rows of the table of replies: of silent packets 1001 are tracked at most, and the first of them is forgotten
--- first.
+-- first. Nothing rests on them.
 use Rattle.std.proofs.Common.{◌≡◌, ℕ, zero, suc, ◌+◌, ◌*◌, ◌≤◌, ◌^◌, ◌++◌, false, nat_lt, if◌then◌else◌, IsTrue, List, [], ◌∷◌, length, sum_by, Option, None, Some, Ok, refl, sym, ap, ap₂, inl, inr, ◌⊎◌, unwrap_or, ◌∙◌, subst, arith, add-one}
 use Rattle.std.proofs.lemmas.Bool.{le-ltb, lt-ltb}
 use Rattle.std.proofs.lemmas.List.{length-append}

@@ -1,4 +1,5 @@
--- Worked rows of the table of replies, computed: windows and round-trip times, as the pacer shows them.
+-- Worked rows of the table of replies, computed: windows and round-trip times, as the pacer shows them. Nothing rests
+-- on them.
 use Rattle.std.proofs.Common.{true, false, [], ◌∷◌, drop, None, Ok, Err, refl}
 use Rattle.std.specs.declared.net.socket_addr.SocketAddr.{SocketAddr}
 use Rattle.rand_core.specs.Stream.{Stream}

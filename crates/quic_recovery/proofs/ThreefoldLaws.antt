@@ -1,4 +1,4 @@
--- The bound on what goes to an address that is not validated, by events and answers.
+-- The bound on what goes to an address that is not validated, by events and answers: the clause `threefold` of `run`.
 use Rattle.std.proofs.Common.{◌≡◌, ◌≤◌, ◌*◌, Bool, true, false, [], ◌∷◌, List, None, Some, Option, option_map, refl, sym, subst, arith}
 use Rattle.std.specs.Option.{ForSome}
 use Rattle.std.proofs.lemmas.List.Sums.{AllPass-from_list_all, list_all-from_AllPass}

@@ -1,4 +1,4 @@
--- The next timeout is the least moment that the history itself says is set.
+-- The next timeout is the least moment that the history itself says is set: the clause `timers` of `run`.
 use Rattle.std.proofs.Common.{◌≡◌, ◌≤◌, ◌<◌, ℕ, min, map, true, false, List, [], ◌∷◌, Option, None, Some, Ok, Err, ◌⊎◌, inl, inr, refl, sym, ◌∙◌, ap, subst, arith}
 use Rattle.std.specs.Prelude.{if◌then◌else◌}
 use Rattle.std.proofs.lemmas.Bool.{cases_lt}

@@ -1,5 +1,5 @@
 -- A packet is tracked by its space exactly where the history says so; and each number that was given out, once at most,
--- has one fate.
+-- has one fate. The promises on what is tracked rest on it.
 use Rattle.std.proofs.Common.{◌≡◌, ◌≤◌, ◌+◌, ℕ, ◌==◌, ◌&&◌, ◌||◌, not, Bool, true, false, cond, List, [], ◌∷◌, Option, None, Some, Ok, Err, refl, sym, ap, subst, arith}
 use Rattle.std.specs.Prelude.{is_some, sum_by}
 use Rattle.std.specs.BTreeMap.{is_at}

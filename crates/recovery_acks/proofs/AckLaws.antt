@@ -1,4 +1,4 @@
--- What an ack-eliciting packet leaves.
+-- What an ack-eliciting packet leaves: the call `packet_received` and the log of a space (`HeardLaws`) rest on it.
 use Rattle.std.proofs.Common.{◌≡◌, ℕ, ◌+◌, ◌-◌, ◌<◌, ◌≤◌, max, inl, inr, ◌⊎◌, ◌↔◌, Bool, true, false, nat_lt, Option, None, Some, refl, ap, subst, arith}
 use Rattle.std.specs.Prelude.{◌≢◌, IsTrue, IfSome, Decides, MatchBool}
 use Rattle.std.specs.Option.{unwrap_or}

@@ -1,4 +1,4 @@
--- ACK_FREQUENCY frames, one entry at a time.
+-- ACK_FREQUENCY frames, one entry at a time. The driver's `LeftLaws` rest on it.
 use Rattle.std.proofs.Common.{ℕ, Bool, true, false, List, ◌∷◌, ◌≡◌, Result, Ok, Err, ap, ◌∙◌}
 use Rattle.recovery_base.specs.declared.below.frames.AckFrequency.{AckFrequency}
 use Rattle.recovery_base.specs.declared.below.frames.TransportError.{TransportError}

@@ -1,4 +1,4 @@
--- Worked rows: what the definitions of the log come to on one log, computed.
+-- Worked rows: what the definitions of the log come to on one log, computed. Nothing rests on them.
 use Rattle.std.proofs.Common.{◌≡◌, ℕ, List, [], ◌∷◌, Some, refl}
 use Rattle.recovery_base.specs.declared.below.frames.AckFrequency.{AckFrequency}
 use Rattle.recovery_acks.specs.RequestLog.{RequestEntry, taken, too_small, last_asked, own_delay, frequency_by}

@@ -1,4 +1,4 @@
--- The highest runs of a set that is kept as ranges.
+-- The highest runs of a set that is kept as ranges. The limit of 64 ranges (`insert_one`, `HeardLaws`) rests on it.
 use Rattle.std.proofs.Common.{◌≡◌, ℕ, suc, ◌+◌, ◌-◌, ◌<◌, ◌≤◌, inl, inr, ◌⊎◌, ◌↔◌, List, [], ◌∷◌, ◌++◌, length, Option, None, Some, sym, ap, subst, refl, arith}
 use Rattle.std.specs.declared.ops.Range.{Range}
 use Rattle.std.proofs.lemmas.Bool.{cases_lt}

@@ -1,4 +1,5 @@
--- The numbers that a window knows: those at places below 128, counted down from the greatest, and that one.
+-- The numbers that a window knows: those at places below 128, counted down from the greatest, and that one. `Dedup`
+-- rests on it.
 use Rattle.std.proofs.Common.{◌≡◌, ℕ, suc, zero, ◌+◌, ◌-◌, ◌<◌, ◌≤◌, inl, inr, ◌⊎◌, ◌↔◌, ⊎_elim, min, None, Some, sym}
 use Rattle.std.proofs.Common.{subst, refl, arith, Bool, true, false, MatchBool}
 use Rattle.std.proofs.lemmas.Bool.{cases_lt}

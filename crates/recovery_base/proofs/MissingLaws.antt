@@ -1,4 +1,5 @@
--- What is missing from a set, from what is left of it when it is cut, and from both with one number more.
+-- What is missing from a set, from what is left of it when it is cut, and from both with one number more. What a space
+-- says of gaps rests on it.
 use Rattle.std.proofs.Common.{ℕ, ◌-◌, ◌<◌, ◌≤◌, ◌⊎◌, inl, inr, ◌↔◌, Option, None, Some, arith}
 use Rattle.std.proofs.lemmas.Bool.{cases_lt}
 use Rattle.recovery_base.specs.declared.dedup.Dedup.{Dedup}

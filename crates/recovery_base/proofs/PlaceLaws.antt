@@ -1,5 +1,5 @@
 -- The bits of words of 32 at their places, the lowest word first: what moves them, sets one, and finds the highest that
--- is clear.
+-- is clear. `Dedup` rests on it.
 use Rattle.std.proofs.Common.{◌≡◌, ℕ, suc, zero, ◌+◌, ◌-◌, ◌*◌, ◌/◌, ◌%◌, ◌^◌, ◌<◌, ◌≤◌, min, max, inl, inr, ◌⊎◌}
 use Rattle.std.proofs.Common.{⊎_elim, List, [], ◌∷◌, length, slice_index, slice_set, sym, ◌∙◌, ap, ap₂, subst, refl}
 use Rattle.std.proofs.Common.{arith}

@@ -1,4 +1,4 @@
--- Ranges that lie apart, without the numbers that leave them.
+-- Ranges that lie apart, without the numbers that leave them. `remove` of the set of ranges rests on it.
 use Rattle.std.proofs.Common.{◌≡◌, ℕ, suc, ◌+◌, ◌<◌, ◌≤◌, inl, inr, [], ◌∷◌, ◌++◌, length, take, drop, set, get_or, sym, ◌∙◌, ap, subst, refl, arith, append_assoc, drop-cons, add-one}
 use Rattle.std.specs.Prelude.{Bool, true, false, cond, min, max, ltb}
 use Rattle.std.specs.declared.ops.Range.{Range}

@@ -1,4 +1,5 @@
--- Ranges that lie apart, and the numbers in them.
+-- Ranges that lie apart, and the numbers in them. All calls of the set of ranges rest on it, and `RunLaws` of what is
+-- to be acknowledged.
 use Rattle.std.proofs.Common.{◌≡◌, ℕ, suc, zero, ◌+◌, ◌<◌, ◌≤◌, inl, inr, ◌⊎◌, ◌↔◌, List, [], ◌∷◌, ◌++◌, length, take, drop, set, get_or, sym, ◌∙◌, ap, subst, arith, append_assoc, drop-cons, add-one}
 use Rattle.std.specs.declared.ops.Range.{Range}
 use Rattle.std.specs.List.{insert, remove}

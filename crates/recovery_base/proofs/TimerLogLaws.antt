@@ -1,4 +1,4 @@
--- Timers after one entry more.
+-- Timers after one entry more. The driver's `LeftLaws` rest on it.
 use Rattle.std.proofs.Common.{List, ◌∷◌, if◌then◌else◌, ap, ◌∙◌}
 use Rattle.recovery_base.specs.declared.timer.TimerTable.{TimerTable}
 use Rattle.recovery_base.specs.Timers.{same_timer}

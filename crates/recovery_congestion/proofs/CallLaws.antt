@@ -1,4 +1,4 @@
--- What a controller was told keeps its content sound.
+-- What a controller was told keeps its content sound. Stated for users: nothing here rests on it.
 use Rattle.std.specs.Prelude.{◌<◌, List, [], ◌∷◌}
 use Rattle.recovery_congestion.specs.Controllers.{ControllerWords, ControllerLaws}
 use Rattle.recovery_congestion.specs.Calls.{ControllerCall, sends, acks, ends_acks, congests, takes_mtu, told, content_by, IsPositiveCall, ArePositiveCalls}

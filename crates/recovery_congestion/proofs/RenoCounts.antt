@@ -1,4 +1,4 @@
--- NewReno counts every byte that is acknowledged.
+-- NewReno counts every byte that is acknowledged: its `on_ack` rests on it.
 use Rattle.std.specs.Prelude.{ℕ, ◌≡◌, ◌+◌, ◌-◌, ◌*◌, ◌≤◌, Bool, true, false, nat_le, if◌then◌else◌, refl}
 use Rattle.std.proofs.Common.{arith, ap, subst, sym}
 use Rattle.std.proofs.lemmas.Bool.Decides.{nat_tests}

@@ -1,4 +1,4 @@
--- The least RTT is the least of the samples.
+-- The least RTT is the least of the samples: `update` rests on it.
 use Rattle.std.specs.Prelude.{ℕ, ◌≡◌, min, List, [], ◌∷◌, Option, None, Some, refl}
 use Rattle.std.proofs.Common.{ap, sym, subst, ◌∙◌}
 use Rattle.recovery_congestion.specs.Rtt.{Rtt, KeepsLeast, least_of, rtt_by, rtt_sampled, rtt_updated}

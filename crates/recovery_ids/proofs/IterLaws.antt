@@ -1,4 +1,4 @@
--- The ids from a step on are the one there, if any, and those from the next step on.
+-- The ids from a step on are the one there, if any, and those from the next step on: `iter` rests on it.
 use Rattle.std.proofs.Common.{◌≡◌, ℕ, ◌+◌, ◌-◌, ◌<◌, ◌≤◌, List, [], ◌∷◌, Option, Some, None, length, refl, ◌∙◌, suc, arith}
 use Rattle.std.specs.List.{filter_map, cons_option, range_with_len}
 use Rattle.std.proofs.lemmas.List.FromFn.{length-range_with_len}

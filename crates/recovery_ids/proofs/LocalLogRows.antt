@@ -1,4 +1,4 @@
--- Worked rows: what the definitions of the log come to on one log, computed.
+-- Worked rows: what the definitions of the log come to on one log, computed. Nothing rests on them.
 use Rattle.std.proofs.Common.{◌≡◌, true, false, List, [], ◌∷◌, Some, refl}
 use Rattle.recovery_ids.specs.LocalLog.{FirstIds, LocalEntry, issues, passes, retires, issued_by, was_retired, unretired_by, deadlines_by, marks_by}
 

@@ -1,4 +1,5 @@
--- The ids of the peer, one entry at a time, and what the calls of a queue are to its log.
+-- The ids of the peer, one entry at a time, and what the calls of a queue are to its log. These calls and the driver's
+-- `LeftLaws` rest on it.
 use Rattle.std.proofs.Common.{◌≡◌, ℕ, zero, suc, ◌+◌, ◌<◌, ◌≤◌, max, Bool, true, false, List, ◌∷◌, Option, None, Some, IsSome, is_some, if◌then◌else◌, refl, sym, ap, ◌∙◌, arith}
 use Rattle.std.specs.declared.ops.Range.{Range}
 use Rattle.std.proofs.lemmas.Bool.Decides.{nat_tests}

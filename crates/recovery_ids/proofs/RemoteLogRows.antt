@@ -1,4 +1,4 @@
--- Worked rows: what the definitions of the log come to on some logs, computed.
+-- Worked rows: what the definitions of the log come to on some logs, computed. Nothing rests on them.
 use Rattle.std.proofs.Common.{◌≡◌, ℕ, List, [], ◌∷◌, None, Some, refl}
 use Rattle.recovery_base.specs.declared.below.ids.NewConnectionId.{NewConnectionId}
 use Rattle.recovery_ids.specs.RemoteLog.{RemoteEntry, given, used, replaced, first_held, remote_ids_with, remote_ids_by}

@@ -1,4 +1,4 @@
--- Two ids are the same where their lengths are, and their bytes with the zeros behind them.
+-- Two ids are the same where their lengths are, and their bytes with the zeros behind them: `is_same_id` rests on it.
 use Rattle.std.proofs.Common.{◌≡◌, ℕ, ◌-◌, ◌==◌, Bool, ◌&&◌, nat_eq, List, ◌++◌, length, take, replicate, sym, ap, ◌∙◌}
 use Rattle.std.specs.Bool.{Decides}
 use Rattle.std.specs.Cmp.Lexicographic.{pointwise}

@@ -1,4 +1,4 @@
--- What a window holds once its lowest numbers are dropped.
+-- What a window holds once its lowest numbers are dropped: `drop_below` rests on it.
 use Rattle.std.proofs.Common.{◌≡◌, ℕ, ◌+◌, ◌%◌, ◌<◌, ◌≤◌, max, None, get_or, arith}
 use Rattle.std.proofs.lemmas.Bool.Decides.{nat_tests}
 use Rattle.recovery_ids.specs.declared.window.TheConstants.{LEN}

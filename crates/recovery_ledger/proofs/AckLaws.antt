@@ -1,4 +1,5 @@
--- What is to be acknowledged in a space, one event at a time.
+-- What is to be acknowledged in a space, one event at a time. `receive` and `HeardLaws` rest on it, and the driver's
+-- `acked`.
 use Rattle.std.proofs.Common.{◌≡◌, ℕ, ◌<◌, ◌≤◌, ◌⊎◌, inl, inr, ◌↔◌, max, Bool, true, false, cond, IsTrue, IfSome, Option, None, Some, refl, sym, ap, ap₂, subst, ◌∙◌, arith}
 use Rattle.recovery_base.specs.Numbers.{Recent, With, IsLeastMissing, Exceeds}
 use Rattle.std.proofs.lemmas.Bool.{cases_lt}

@@ -1,4 +1,5 @@
--- The packets among those that are tracked, when one is sent, taken or has other contents.
+-- The packets among those that are tracked, when one is sent, taken or has other contents. `CoherentLaws` and
+-- `GenerationLaws` rest on it.
 use Rattle.std.proofs.Common.{◌≡◌, ℕ, ◌⊎◌, inl, inr, Bool, true, false, cond, [], ◌∷◌, ◌++◌, Option, None, Some, refl, subst}
 use Rattle.std.specs.Prelude.{option_map}
 use Rattle.std.specs.Ordering.{nat_cmp}

@@ -1,4 +1,4 @@
--- A tracked packet whose contents are exchanged.
+-- A tracked packet whose contents are exchanged. `queue_lost` and `lose` rest on it.
 use Rattle.std.proofs.Common.{◌≡◌, ℕ, Bool, true, false, cond, [], ◌∷◌, Option, None, Some, refl, sym, ap, subst, ◌∙◌}
 use Rattle.std.specs.Prelude.{IfNone, option_map, sum_by}
 use Rattle.std.specs.Ordering.{nat_cmp}

@@ -1,4 +1,5 @@
--- The parts of a space go together, whatever happens in it.
+-- The parts of a space go together, whatever happens in it. The balance of the paths, and so each call of the driver on
+-- a space, rests on it.
 use Rattle.std.proofs.Common.{◌≡◌, ℕ, ◌+◌, ◌<◌, ◌≤◌, Bool, true, false, cond, [], None, Some, refl, sym, ap, subst, ◌∙◌, arith}
 use Rattle.recovery_base.specs.declared.below.SpaceId.{SpaceId}
 use Rattle.recovery_base.specs.declared.below.SpaceId.TheVariants.{Initial, Handshake, Data}

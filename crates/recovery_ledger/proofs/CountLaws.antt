@@ -1,4 +1,4 @@
--- The counts beside the tracked packets, when one is sent or taken.
+-- The counts beside the tracked packets, when one is sent or taken. The calls of `SentPackets` rest on it.
 use Rattle.std.proofs.Common.{◌≡◌, ℕ, ◌+◌, ◌-◌, ◌<◌, ◌≤◌, ◌==◌, ◌↔◌, IsTrue, subst, sym, ne_eqb, Bool, true, false, not, cond, ◌&&◌, nat_lt, [], ◌∷◌, ◌++◌, length, ◌^◌, Option, None, Some, refl, ap, ◌∙◌, arith, lt-ltb, le-ltb, ltb-true, ltb-false, filter}
 use Rattle.std.proofs.lemmas.List.Sums.{sum_by_push}
 use Rattle.recovery_ledger.specs.Packets.{Packet, Packets, Tracking, IsAboveLast, packet_at, without, with_contents, replaced, HasSize, is_above, silent_above, least_number, forgotten_silent, forgotten_number, without_some, after_sending}

@@ -1,4 +1,5 @@
--- A space that is emptied packet by packet: each packet leaves the counters of its path.
+-- A space that is emptied packet by packet: each packet leaves the counters of its path. `BalanceLaws` of the paths
+-- rest on it.
 use Rattle.std.proofs.Common.{◌≡◌, ℕ, ◌+◌, ◌∷◌, [], refl, ap, arith}
 use Rattle.std.specs.Prelude.{sum_by}
 use Rattle.std.proofs.lemmas.List.Sums.{sum_by-cons}

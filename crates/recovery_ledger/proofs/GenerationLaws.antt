@@ -1,4 +1,4 @@
--- No tracked packet is of a generation above the newest path's.
+-- No tracked packet is of a generation above the newest path's. `BalanceLaws` of the paths rest on it.
 use Rattle.std.proofs.Common.{◌≡◌, ℕ, ◌≤◌, Bool, [], Option, subst, arith}
 use Rattle.recovery_base.specs.declared.below.SpaceId.{SpaceId}
 use Rattle.recovery_base.specs.declared.below.SpaceId.TheVariants.{Initial, Handshake, Data}

@@ -1,4 +1,4 @@
--- What one entry more says of the ACKs of a space.
+-- What one entry more says of the ACKs of a space. `SpaceLaws` and the driver's `ToldLaws` rest on it.
 use Rattle.std.proofs.Common.{◌≡◌, ℕ, ◌<◌, ◌⊎◌, inl, inr, ◌↔◌, Bool, true, nat_lt, IsTrue, Option, None, Some, List, ◌∷◌, if◌then◌else◌, refl, sym, ap, ap₂, subst, ◌∙◌, lt-ltb, ltb-true}
 use Rattle.recovery_base.specs.declared.below.frames.AckFrequency.{AckFrequency}
 use Rattle.recovery_base.specs.Numbers.{Recent, With}

@@ -1,4 +1,5 @@
--- The counters of each path stay the sums over the tracked packets of its generation.
+-- The counters of each path stay the sums over the tracked packets of its generation. `BalanceLaws` of the paths rest
+-- on it.
 use Rattle.std.proofs.Common.{◌≡◌, ◌≢◌, ℕ, ◌+◌, ◌≤◌, ◌<◌, ◌==◌, inl, inr, Bool, true, false, cond, ◌&&◌, [], ◌∷◌, Option, None, Some, refl, sym, ap, ap₂, subst, ◌∙◌, arith, eq-eqb, ne_eqb}
 use Rattle.std.specs.Prelude.{sum_by, option_map}
 use Rattle.std.proofs.lemmas.List.Sums.{sum_by_push, sum_by-cons}

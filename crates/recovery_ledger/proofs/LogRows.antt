@@ -1,4 +1,4 @@
--- Worked rows of what happened in a space, each computed: the newest entry comes first.
+-- Worked rows of what happened in a space, each computed: the newest entry comes first. Nothing rests on them.
 use Rattle.std.proofs.Common.{◌≡◌, ℕ, Bool, true, false, List, [], ◌∷◌, ◌++◌, None, Some, refl}
 use Rattle.recovery_base.specs.declared.below.SpaceId.{SpaceId}
 use Rattle.recovery_base.specs.declared.below.SpaceId.TheVariants.{Initial, Data}

@@ -1,4 +1,5 @@
--- Tracked packets: what sums over them and look-ups among them do when one is sent or taken.
+-- Tracked packets: what sums over them and look-ups among them do when one is sent or taken. All that is said of
+-- tracked packets rests on it.
 use Rattle.std.proofs.Common.{◌≡◌, ◌≢◌, ℕ, ◌+◌, ◌<◌, ◌≤◌, ◌==◌, inl, inr, Bool, true, false, not, cond, ◌&&◌, nat_lt, [], ◌∷◌, ◌++◌, length, filter, Option, None, Some, refl, sym, ap, ◌∙◌, arith, ne_eqb}
 use Rattle.std.specs.Prelude.{sum_by, option_map}
 use Rattle.std.specs.Ordering.{nat_cmp, is_eq, match_ordering}

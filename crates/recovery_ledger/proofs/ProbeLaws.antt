@@ -1,4 +1,4 @@
--- The first packet with contents.
+-- The first packet with contents. `TrackedLaws` rest on it.
 use Rattle.std.proofs.Common.{◌≡◌, ℕ, Bool, true, false, not, cond, ◌∷◌, filter, Some, ap}
 use Rattle.recovery_queue.specs.Queues.{QueueWords}
 use Rattle.recovery_ledger.specs.Packets.{Packet, Packets, least_number}

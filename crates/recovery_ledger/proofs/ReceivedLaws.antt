@@ -1,4 +1,4 @@
--- The numbers that came in a space.
+-- The numbers that came in a space. `HeardLaws` rest on it, and the driver's steps, which leave them alone.
 use Rattle.std.proofs.Common.{◌≡◌, inl, Bool, false, IsTrue, List, [], ◌∷◌}
 use Rattle.recovery_base.proofs.WindowLaws.{HasGreatest, greatest_with}
 use Rattle.recovery_ledger.specs.Received.{CameIn}

@@ -1,4 +1,4 @@
--- Packet spaces, one entry at a time.
+-- Packet spaces, one entry at a time. The driver's `LeftLaws` rest on it.
 use Rattle.std.proofs.Common.{◌≡◌, ℕ, ◌+◌, ◌-◌, ◌^◌, ◌≤◌, min, max, ◌↔◌, Bool, true, false, cond, if◌then◌else◌, Option, None, Some, List, [], ◌∷◌, refl, sym, ap, subst, ◌∙◌, arith}
 use Rattle.recovery_base.specs.declared.dedup.Dedup.{Dedup}
 use Rattle.recovery_base.specs.Numbers.{Recent, With}

@@ -1,4 +1,5 @@
--- Tracked packets in their slots: what is kept of them when one is sent, taken or forgotten.
+-- Tracked packets in their slots: what is kept of them when one is sent, taken or forgotten. The calls of `SentPackets`
+-- rest on it.
 use Rattle.std.proofs.Common.{◌≡◌, MatchOption, ℕ, zero, suc, ◌+◌, ◌-◌, ◌^◌, ◌<◌, ◌≤◌, min, max, Bool, true, false, not, cond, nat_lt, List, [], ◌∷◌, ◌++◌, length, drop, filter, Option, None, Some, refl, sym, ap, subst, ◌∙◌, arith, lt-ltb, le-ltb, ltb-true, ltb-false, length-append, IfSome, inl, inr, ◌⊎◌}
 use Rattle.std.proofs.lemmas.Bool.{cases_lt}
 use Rattle.std.specs.Prelude.{option_map}

@@ -142,7 +142,8 @@ pub struct PacketSpace<Q: RetransmitQueue> {
     pub immediate_ack_pending: bool,
     /// How many packets came with each ECN codepoint (RFC 9000, 13.4.1).
     pub ecn_counters: EcnCounts,
-    /// The counts of the peer's last ACK frame that passed the check (RFC 9000, 13.4.2).
+    /// The counts of the peer's last ACK frame that passed the check (RFC 9000, 13.4.2). The peer counts by space, and
+    /// ACKs of two spaces come in any order: against one sum for all, honest counts could seem to fall.
     pub ecn_feedback: EcnCounts,
     /// When a packet is to be called lost, where one may be (RFC 9002, 6.1.2).
     pub loss_time: Option<Instant>,
@@ -438,9 +439,17 @@ where
 
     /// Looks for contents to be sent with a probe, where one is to be sent (RFC 9002, 6.2.4): what is pending serves;
     /// else the contents of the first packet by number that has some are moved to the pending ones; else a PING is
-    /// marked, unless the peer is to be asked for an ACK at once. `request_immediate_ack` marks that it is. `NoMemory`,
-    /// only where contents are to be moved, changes nothing. Cost: that of `find`, beside the packets that are passed over:
-    /// one that is known to have nothing (`RetransmitQueue::is_void`) once, another each time.
+    /// marked, unless the peer is to be asked for an ACK at once, by a frame that elicits one itself.
+    /// `request_immediate_ack` marks that it is.
+    ///
+    /// A packet is called lost only once the peer acknowledged a later one, so that of the last packets of a flight no
+    /// loss shows: a probe makes the peer answer, and what it carries should be of use (RFC 9002, 6.2). The oldest
+    /// contents are the likeliest to be missed, and are moved and not copied: else they would go out a third time where
+    /// their first packet is called lost after all. A PING is left to a client whose server may send no more before it
+    /// hears from it (RFC 9002, 6.2.2.1).
+    ///
+    /// `NoMemory`, only where contents are to be moved, changes nothing. Cost: that of `find`, beside the packets that
+    /// are passed over: one that is known to have nothing (`RetransmitQueue::is_void`) once, another each time.
     pub fn maybe_queue_probe(
         &mut self,
         request_immediate_ack: bool,

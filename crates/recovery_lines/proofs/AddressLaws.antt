@@ -1,4 +1,4 @@
--- Two addresses of the peer with the same port are one.
+-- Two addresses of the peer with the same port are one. `LineLaws` rest on it.
 use Rattle.std.proofs.Common.{◌≡◌, ℕ, ap, sym, ◌∙◌}
 use Rattle.std.specs.declared.net.ip_addr.IpAddr.TheVariants as ip
 use Rattle.std.specs.declared.net.ipv4_addr.Ipv4Addr.{Ipv4Addr}

@@ -1,4 +1,4 @@
--- A field that is read is the field that is spelled, and what is spelled is read.
+-- A field that is read is the field that is spelled, and what is spelled is read. `FormLaws` rest on it.
 use Rattle.std.proofs.Common.{◌≡◌, ℕ, ◌<◌, ◌≤◌, ◌^◌, Bool, true, false, cond, List, [], ◌∷◌, Option, Some, None, IfSome, decimal, bytes_eq, length, refl, sym, subst, ap, ◌∙◌, lit≤}
 use Rattle.std.specs.List.{AllByRecursion}
 use Rattle.std.proofs.lemmas.Slice.Eq.{bytes_eq-Decides, HasBytesAt, text_from_reads}

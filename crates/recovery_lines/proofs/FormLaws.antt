@@ -1,4 +1,5 @@
--- Each form of a line: what is read is spelled so, what is spelled so is read, and the words are plain.
+-- Each form of a line: what is read is spelled so, what is spelled so is read, and the words are plain. `LineLaws` rest
+-- on it.
 use Rattle.std.proofs.Common.{◌≡◌, ℕ, ◌*◌, ◌<◌, ◌^◌, Bool, true, false, cond, List, [], ◌∷◌, ◌++◌}
 use Rattle.std.proofs.Common.{Option, Some, None, IfSome, bytes_eq, refl, sym, ap, ap₂, subst}
 use Rattle.std.proofs.Common.{◌∙◌, arith, lit≤, append-nil, map, decimal}

@@ -1,4 +1,4 @@
--- The ids that a line issues.
+-- The ids that a line issues. `FormLaws` rest on it.
 use Rattle.std.proofs.Common.{◌≡◌, ℕ, zero, suc, ◌+◌, ◌≤◌, ◌^◌, List, [], ◌∷◌, ◌++◌, length, refl, sym, ap, arith}
 use Rattle.std.proofs.lemmas.List.FromFn.{length-map-range_with_len, map-range_with_len_more}
 use Rattle.recovery_base.specs.declared.below.ids.IssuedCid.{IssuedCid}

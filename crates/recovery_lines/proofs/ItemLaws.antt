@@ -1,4 +1,5 @@
 -- Items up to the end of the words: what is read is spelled so, what is spelled so is read, and the words are plain.
+-- `FormLaws` rest on it.
 use Rattle.std.proofs.Common.{◌≡◌, ◌≢◌, ℕ, ◌+◌, ◌<◌, ◌^◌, List, [], ◌∷◌, ◌++◌, map, length, Option, Some, None, is_some, IsSome, IsSomeAnd, Result, Ok, Err, OnErr, Bool, true, false, Decides, decimal}
 use Rattle.std.proofs.Common.{refl, sym, ap, ap₂, subst, ◌∙◌, arith, lit≤, append_assoc, length-append}
 use Rattle.std.specs.List.{AllByRecursion}

@@ -1,4 +1,4 @@
--- A line's name is sought among the names of its length.
+-- A line's name is sought among the names of its length. `line_behind` and `FormLaws` rest on it.
 use Rattle.std.proofs.Common.{◌≡◌, ◌≢◌, ℕ, ◌==◌, Bool, true, false, cond, List, [], ◌∷◌, length, Option, Some, None, bytes_eq, refl, ap, ◌∙◌, ne_eqb}
 use Rattle.std.proofs.lemmas.Bool.{eqb-false}
 use Rattle.std.specs.List.{AllByRecursion}

@@ -1,4 +1,5 @@
--- Numerals of up to 64 digits: what `decimal` writes of the value of digits, and its first digit.
+-- Numerals of up to 64 digits: what `decimal` writes of the value of digits, and its first digit. `NumberLaws` rest on
+-- it.
 use Rattle.std.proofs.Common.{◌≡◌, ◌+◌, ◌*◌, ◌/◌, ◌%◌, ℕ, ◌<◌, ◌≤◌, ◌^◌, List, [], ◌∷◌}
 use Rattle.std.proofs.Common.{◌++◌, length, get_or, decimal, sym, ap, ap₂, ◌∙◌, arith}
 use Rattle.std.proofs.Common.{append_assoc, append-nil, length-append}

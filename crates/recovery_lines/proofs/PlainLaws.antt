@@ -1,4 +1,4 @@
--- A line of plain words has no line feed, and its words are these.
+-- A line of plain words has no line feed, and its words are these. `FormLaws` and `LineLaws` rest on it.
 use Rattle.std.proofs.Common.{◌≡◌, ◌≢◌, ◌++◌, append-nil, ℕ, ◌<◌, ◌^◌, ◌==◌, Bool, true, false, ◌&&◌, List, [], ◌∷◌, decimal, refl, ap, subst, ◌∙◌, arith, ltb-true, ne_eqb}
 use Rattle.std.specs.Prelude.{nat_lt}
 use Rattle.std.specs.List.{AllByRecursion, All, join_with_byte}

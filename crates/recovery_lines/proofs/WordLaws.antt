@@ -1,4 +1,4 @@
--- The first word of a line.
+-- The first word of a line. The readers of words rest on it.
 use Rattle.std.proofs.Common.{inl, inr, None, Option, refl, ◌⊎◌, ◌≡◌, ℕ, ◌<◌, ◌==◌, Bool, false}
 use Rattle.std.proofs.Common.{List, [], length, take, drop, take_all, ◌+◌, Some, ◌≤◌, not, sym}
 use Rattle.std.proofs.Common.{subst, ap, arith, true, Decides, is_some, Result, ◌∷◌, ◌^◌, lit≤}

@@ -1,4 +1,4 @@
--- At most four bursts are kept, whatever is acknowledged and lost.
+-- At most four bursts are kept, whatever is acknowledged and lost. `on_acked` and `DiscoveryLaws` rest on it.
 use Rattle.std.proofs.Common.{◌≡◌, ℕ, ◌+◌, ◌≤◌, Option, Some, None, Bool, true, false, List, [], ◌∷◌, ◌++◌, length, arith, refl}
 use Rattle.std.specs.Prelude.{nat_lt, ◌==◌, max, filter, if◌then◌else◌}
 use Rattle.std.proofs.lemmas.Bool.Decides.{nat_tests}

@@ -1,4 +1,5 @@
--- Whole runs of the detection of black holes: a report needs four bursts, and comes at four.
+-- Whole runs of the detection of black holes: a report needs four bursts, and comes at four. The driver's `BurstLaws`
+-- rest on it.
 use Rattle.std.proofs.Common.{◌≡◌, ℕ, Option, Some, None, is_some, Bool, true, false, List, [], ◌∷◌, refl, sym, ap, min, arith, ◌∙◌, subst}
 use Rattle.std.specs.Prelude.{nat_lt, ◌&&◌, ◌||◌, if◌then◌else◌, filter}
 use Rattle.std.specs.List.{list_all}

@@ -1,4 +1,4 @@
--- What is kept of bursts, against the bursts of the entries.
+-- What is kept of bursts, against the bursts of the entries. `BurstRunLaws` rest on it.
 use Rattle.std.proofs.Common.{◌≡◌, ◌⊎◌, inl, inr, ⊎_elim, ℕ, suc, ◌<◌, ◌≤◌, min, max, Option, Some, None, Bool, true, false, List, [], ◌∷◌, ◌++◌, length, arith, refl, sym, ap, ◌∙◌, subst}
 use Rattle.std.specs.Prelude.{nat_lt, nat_le, ◌==◌, ◌&&◌, ◌||◌, not, if◌then◌else◌, filter}
 use Rattle.std.specs.List.{list_any}

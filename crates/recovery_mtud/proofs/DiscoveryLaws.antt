@@ -1,4 +1,5 @@
--- A discovery stays sound, whatever is told to it, and how its MTU changes.
+-- A discovery stays sound, whatever is told to it, and how its MTU changes: the laws `discovery_stays_sound` and
+-- `mtu_changes`.
 use Rattle.std.proofs.Common.{◌≡◌, ℕ, ◌<◌, Option, Some, None, Bool, true, false, List, [], ◌∷◌, arith, refl}
 use Rattle.std.specs.Prelude.{if◌then◌else◌, unwrap_or, IfSome}
 use Rattle.std.specs.Option.{option_map}

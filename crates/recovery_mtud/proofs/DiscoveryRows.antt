@@ -1,4 +1,4 @@
--- Worked rows: what the definitions come to on a few calls, computed.
+-- Worked rows: what the definitions come to on a few calls, computed. Nothing rests on them.
 use Rattle.std.proofs.Common.{◌≡◌, ◌*◌, ◌-◌, ◌^◌, None, Some, true, false, [], ◌∷◌, refl}
 use Rattle.recovery_mtud.specs.Settings.{default_settings}
 use Rattle.recovery_mtud.specs.Discovery.{Discovery, discovery_made, poll_of, reports}

@@ -1,4 +1,5 @@
--- A discovery holds what its entries say: the sizes in use, the probe in flight, and whether a search runs.
+-- A discovery holds what its entries say: the sizes in use, the probe in flight, and whether a search runs. The laws of
+-- whole runs rest on it.
 use Rattle.std.proofs.Common.{◌≡◌, ℕ, Option, Some, None, is_some, Bool, true, false, List, [], ◌∷◌, refl, sym, ap, ◌∙◌, subst, min, max}
 use Rattle.std.specs.Prelude.{◌==◌, nat_lt, ◌&&◌, not, is_none, if◌then◌else◌, unwrap_or, IfSome, filter}
 use Rattle.std.specs.Option.{option_map}

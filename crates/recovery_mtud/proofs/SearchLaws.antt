@@ -1,4 +1,4 @@
--- A search stays sound: sizes are above zero, and none is lost more than three times.
+-- A search stays sound: sizes are above zero, and none is lost more than three times. `DiscoveryLaws` rest on it.
 use Rattle.std.proofs.Common.{◌≡◌, ℕ, ◌+◌, ◌-◌, ◌<◌, ◌≤◌, Option, Some, None, Bool, true, false, arith, refl, subst}
 use Rattle.std.specs.Prelude.{nat_lt, nat_le, ◌==◌, is_some, if◌then◌else◌, IfSome}
 use Rattle.std.proofs.lemmas.Bool.Decides.{nat_tests}

@@ -1,4 +1,5 @@
--- Whole searches: at most 16 sizes and 48 probes, and an end near the best size of an honest link.
+-- Whole searches: at most 16 sizes and 48 probes, and an end near the best size of an honest link. The driver's
+-- `SearchLaws` rest on it.
 use Rattle.std.proofs.Common.{◌≡◌, ℕ, ◌+◌, ◌-◌, ◌^◌, ◌<◌, ◌≤◌, Option, Some, None, is_some, Bool, true, false, List, [], ◌∷◌, ◌++◌, length, arith, refl, sym, ap, ◌∙◌, subst}
 use Rattle.std.specs.Prelude.{◌==◌, nat_lt, nat_le, nat_eq, ⊤, ◌&&◌, ◌||◌, not, is_none, if◌then◌else◌, unwrap_or, option_to_list, IfSome}
 use Rattle.std.specs.Option.{option_map}

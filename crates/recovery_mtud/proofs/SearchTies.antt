@@ -1,4 +1,5 @@
 -- What a search keeps: how many sizes may still come by its bounds, and what an honest link leaves of them.
+-- `SearchRunLaws` rest on it.
 use Rattle.std.proofs.Common.{◌≡◌, ◌≢◌, ◌⊎◌, inl, inr, ⊎_elim, ℕ, suc, ◌+◌, ◌-◌, ◌*◌, ◌/◌, ◌^◌, ◌<◌, ◌≤◌, min, Option, Some, None, Bool, true, false, List, [], ◌∷◌, length, arith, refl, sym, ap, ◌∙◌, subst}
 use Rattle.std.specs.Prelude.{nat_lt, nat_eq, ◌==◌, ◌&&◌, if◌then◌else◌, All}
 use Rattle.std.specs.Set.{distinct_count, is_member}

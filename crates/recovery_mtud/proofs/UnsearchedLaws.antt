@@ -1,4 +1,4 @@
--- A discovery that is disabled stays so, and its polls give no probe.
+-- A discovery that is disabled stays so, and its polls give no probe. The driver's `SearchLaws` rest on it.
 use Rattle.std.proofs.Common.{◌≡◌, ℕ, Some, None, Bool, true, false, if◌then◌else◌, List, [], ◌∷◌, refl, sym, ap, subst}
 use Rattle.std.specs.Option.{option_map}
 use Rattle.recovery_mtud.specs.Search.{search_reported}

@@ -4,7 +4,7 @@ ghost use Rattle.recovery_mtud.specs.Bursts.{with_burst};
 
 use std::marker::Model;
 
-/// So many suspicious bursts are a black hole.
+/// So many suspicious bursts are a black hole: one alone is congestion that happened to meet large packets only.
 pub(crate) const BLACK_HOLE_BURSTS: usize = 4;
 
 /// The least sizes of at most four bursts.
@@ -58,7 +58,7 @@ impl Bursts {
         self.count += 1;
     }
 
-    /// One more, or in place of the first of the least.
+    /// One more, or in place of the first of the least: that is the one that an acknowledgement would refute first.
     pub(crate) fn add(&mut self, size: u16)
         ensures sizes { self.new ≡ with_burst size self.old }
         ensures few { length self.new ≤ 4 }

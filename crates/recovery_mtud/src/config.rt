@@ -38,7 +38,8 @@ impl MtuDiscoveryConfig {
         self
     }
 
-    /// How long it takes from the report of a black hole to the next search. Default 60 s.
+    /// How long it takes from the report of a black hole to the next search. Default 60 s: less than `interval`, as the
+    /// route that lost the large packets may be replaced soon.
     pub fn black_hole_cooldown(&mut self, value: Duration) -> &mut Self
         ensures same { result.ghost_name ≡ self.entry.ghost_name }
         ensures value { result.now ≡ record self.old { black_hole_cooldown = value } }

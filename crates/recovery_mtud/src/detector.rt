@@ -1,11 +1,15 @@
 //! The detection of black holes by bursts of losses (RFC 8899, 4.3).
+//!
+//! A path whose MTU fell loses every packet above a size, and no smaller one for its size; congestion loses packets of
+//! any size. So losses are held against the MTU only where all packets that were lost together are above the least MTU,
+//! and none as large as the smallest of them arrived after them.
 ghost use Rattle.std.specs.Prelude.{◌≡◌, ◌<◌, ◌≤◌, length};
 ghost use Rattle.recovery_mtud.specs.Bursts.{bursts_made, bursts_probed, bursts_acked, bursts_closed, bursts_lost, bursts_ended, is_black_hole};
 
 use crate::bursts::{BLACK_HOLE_BURSTS, Bursts};
 use std::marker::Model;
 
-/// Packets that were sent one after another and lost.
+/// Packets that were sent one after another and lost: most likely for one cause, so that they count once.
 #[derive(Clone, Copy)]
 pub(crate) struct Burst {
     /// The size of the smallest.
@@ -63,7 +67,9 @@ impl Detector {
         self.min_mtu
     }
 
-    /// The probe in flight was acknowledged.
+    /// The probe in flight was acknowledged. Other packets are of the MTU in use at most, and so smaller (but for a
+    /// least change below 3): none of them was lost for its size. `newest` may fall: what counts is what arrived since
+    /// the last loss.
     pub(crate) fn on_probe_acked(&mut self, number: u64, size: u16)
         ensures { self.new ≡ bursts_probed number size self.old }
     {
@@ -72,7 +78,8 @@ impl Detector {
         self.newest = number;
     }
 
-    /// Another packet was acknowledged.
+    /// Another packet was acknowledged. A path that carries its size carries all smaller ones: bursts in which a packet
+    /// of at most that size was lost had another cause.
     pub(crate) fn on_non_probe_acked(&mut self, number: u64, size: u16)
         ensures { self.new ≡ bursts_acked number size self.old }
     {
@@ -88,6 +95,8 @@ impl Detector {
         self.bursts.retain_above(size);
     }
 
+    /// The burst is over: it is suspicious, unless a packet that every path carries was lost in it, or one sent later
+    /// and at least as large as its smallest arrived (RFC 8899, 4.3; RFC 9000, 14).
     fn close(&mut self)
         ensures { self.new ≡ bursts_closed self.old }
     {
@@ -99,13 +108,16 @@ impl Detector {
         if burst.least <= self.min_mtu || is_refuted {
             return;
         }
+        // What arrived was sent before the losses, and says nothing of the path since. Sizes of what arrived later are
+        // not kept, so that the least MTU stands for them: a wrong report costs smaller packets, a missed one the
+        // connection.
         if burst.last > self.newest {
             self.acked_mtu = self.min_mtu;
         }
         self.bursts.add(burst.least);
     }
 
-    /// A packet that is no probe in flight was lost.
+    /// A packet that is no probe in flight was lost. (A probe says by its loss what it was sent to find out.)
     pub(crate) fn on_non_probe_lost(&mut self, number: u64, size: u16)
         ensures { self.new ≡ bursts_lost number size self.old }
     {
@@ -125,7 +137,8 @@ impl Detector {
         });
     }
 
-    /// All losses of a moment were told: whether there is a black hole.
+    /// All losses of a moment were told: whether there is a black hole. The open burst closes here, since a black hole
+    /// lets nothing through that would close it.
     pub(crate) fn black_hole_detected(&mut self) -> bool
         ensures answer { result ≡ is_black_hole (bursts_closed self.old) }
         ensures after { self.new ≡ bursts_ended self.old }

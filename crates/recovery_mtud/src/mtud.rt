@@ -43,8 +43,9 @@ impl Model for MtuDiscovery {
 impl MtuDiscovery {
     /// A discovery that begins to search at the first poll.
     ///
-    /// It begins with `initial_plpmtu`, or with the peer's limit where that is less; no size is probed above the limit. The
-    /// path is known to carry `min_mtu`. All are above zero.
+    /// It begins with `initial_plpmtu`, or with the peer's limit where that is less; no size is probed above the limit,
+    /// which is known from the beginning where a connection moves to another path. The path is known to carry
+    /// `min_mtu`. All are above zero.
     pub fn new(
         initial_plpmtu: u16,
         min_mtu: u16,
@@ -119,7 +120,8 @@ impl MtuDiscovery {
         }
     }
 
-    /// The peer takes no packets larger than this, above zero (max_udp_payload_size of RFC 9000, 18.2). No search may run.
+    /// The peer takes no packets larger than this, above zero (max_udp_payload_size of RFC 9000, 18.2). No search may
+    /// run: none should begin before the handshake has told this size.
     pub fn on_peer_max_udp_payload_size_received(&mut self, peer_max_udp_payload_size: u16)
         requires size { 0 < peer_max_udp_payload_size }
         requires no_search { is_searching_of self.old ≡ false }
@@ -131,8 +133,9 @@ impl MtuDiscovery {
         }
     }
 
-    /// A packet of so many bytes was acknowledged: whether it was the probe in flight. The MTU in use is then its size. Outside
-    /// Data nothing changes.
+    /// A packet of so many bytes was acknowledged: whether it was the probe in flight. The MTU in use is then its size.
+    /// Outside Data nothing changes: probes are packets of 1-RTT keys, and other spaces have the same numbers again
+    /// (RFC 9000, 12.3).
     #[tactic(auto, using(crate::proofs::BurstLaws::bursts_acked_sound))]
     pub fn on_acked(&mut self, space: SpaceId, packet_number: u64, packet_bytes: u16) -> bool
         ensures answer { result ≡ is_data space && is_probe packet_number self.old }
@@ -182,15 +185,17 @@ impl MtuDiscovery {
     /// A packet of Data that is no probe in flight was lost, of so many bytes. It joins the burst whose last number is the one
     /// before it; else that burst closes and another begins.
     ///
-    /// `black_hole_detected` is to be called once all losses of a moment were told.
+    /// `black_hole_detected` is to be called once all losses of a moment were told: only then is the last burst known
+    /// to be whole.
     pub fn on_non_probe_lost(&mut self, packet_number: u64, packet_bytes: u16)
         ensures { self.new ≡ discovery_lost packet_number packet_bytes self.old }
     {
         self.detector.on_non_probe_lost(packet_number, packet_bytes);
     }
 
-    /// Closes the open burst: whether four suspicious bursts have closed, which is a black hole. The least MTU is then in use,
-    /// even above the peer's limit, a search ends, and none begins before the cooldown is over.
+    /// Closes the open burst: whether four suspicious bursts have closed, which is a black hole. The least MTU is then
+    /// in use, even above the peer's limit, since it alone is sure to get through (RFC 8899, 4.3; RFC 9000, 14); a
+    /// search ends, and none begins before the cooldown is over.
     pub fn black_hole_detected(&mut self, now: Instant) -> bool
         ensures answer { result ≡ reports self.old }
         ensures after { self.new ≡ discovery_ended now self.old }

@@ -8,7 +8,7 @@ use crate::config::MtuDiscoveryConfig;
 use recovery_base::time::Instant;
 use std::marker::Model;
 
-/// A size that was lost so often is too large (RFC 8899, 5.1.2).
+/// A size that was lost so often is too large: a single loss may be congestion's (RFC 8899, 5.1.2).
 const MAX_PROBES: u8 = 3;
 
 /// What a search does.
@@ -60,7 +60,8 @@ impl Model for Search {
 }
 
 impl Probing {
-    /// Narrows the bounds by what became of the last size, and gives the size to probe next.
+    /// Narrows the bounds by what became of the last size, and gives the size to probe next: the same, while it was
+    /// lost too seldom to be called too large.
     fn advance(&mut self, minimum_change: u16) -> Option<u16>
         ensures size { result ≡ size_to_probe minimum_change self.old }
         ensures bounds { self.new ≡ narrowed self.old }
@@ -76,6 +77,7 @@ impl Probing {
         self.next_size(minimum_change)
     }
 
+    /// The middle of the bounds; at the end the upper bound itself, which no middle reaches.
     fn next_size(&self, minimum_change: u16) -> Option<u16>
         ensures { result ≡ next_size minimum_change self.now }
     {
@@ -140,6 +142,7 @@ impl Search {
         self.limit = limit;
     }
 
+    /// The MTU in use counts as a probe that arrived: the first one probed is above it.
     fn begin(&self, mtu: u16) -> Probing
         requires { 0 < mtu }
         ensures value { result ≡ begun mtu self.now }
@@ -155,7 +158,8 @@ impl Search {
         }
     }
 
-    /// The search that a poll finds, or begins.
+    /// The search that a poll finds, or begins: another one after a while, since a path may come to carry more (RFC
+    /// 8899, 5.1.1).
     fn probing_at(&self, mtu: u16, now: Instant) -> Option<Probing>
         requires { 0 < mtu }
         ensures value { result ≡ probing_at mtu now self.now }
@@ -173,7 +177,8 @@ impl Search {
         }
     }
 
-    /// The size to probe now, if any, with a packet of this number.
+    /// The size to probe now, if any, with a packet of this number. One probe at a time: what becomes of it says which
+    /// size is next, and a lost one costs a whole packet.
     pub(crate) fn poll(&mut self, mtu: u16, now: Instant, number: u64) -> Option<u16>
         requires { 0 < mtu }
         ensures answer { result ≡ search_poll mtu now self.old }
@@ -212,7 +217,8 @@ impl Search {
         Some(probing.last)
     }
 
-    /// The probe in flight was lost, if there is one.
+    /// The probe in flight was lost, if there is one: a black hole ends a search, and its probe may be called lost
+    /// after that.
     pub(crate) fn on_probe_lost(&mut self)
         ensures { self.new ≡ search_lost self.old }
     {
@@ -224,7 +230,7 @@ impl Search {
         }
     }
 
-    /// A black hole was found at this moment.
+    /// A black hole was found at this moment. For a while nothing is probed: larger sizes were just seen to fail.
     pub(crate) fn on_black_hole(&mut self, now: Instant)
         ensures { self.new ≡ search_reported now self.old }
     {

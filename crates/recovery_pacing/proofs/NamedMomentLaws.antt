@@ -1,4 +1,5 @@
--- A bucket that is only asked fills up as it was said: what was delayed until a moment passes from that moment on.
+-- A bucket that is only asked fills up as it was said: what was delayed until a moment passes from that moment on. The
+-- clause `named` of `run` rests on it.
 use Rattle.std.proofs.Common.{◌≡◌, ℕ, suc, ◌+◌, ◌-◌, ◌*◌, ◌/◌, ◌%◌, ◌^◌, ◌<◌, ◌≤◌, min, max, nat_le, Bool, true, false, List, [], ◌∷◌, ◌++◌, map, length, ◌&&◌, ◌||◌, ◌==◌, cond, Option, None, Some, refl, sym, ap, ap₂, subst, ◌∙◌, arith, inl, inr}
 use Rattle.std.specs.List.{AllByRecursion}
 use Rattle.std.proofs.Math.Nat.{div-add-mod, mod-lt, mul-le-mul_left, mul-le-mul_right}

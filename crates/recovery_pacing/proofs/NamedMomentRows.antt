@@ -1,4 +1,4 @@
--- Worked rows: the room that the named moment wants, met and missed by one byte, computed.
+-- Worked rows: the room that the named moment wants, met and missed by one byte, computed. Nothing rests on them.
 use Rattle.std.proofs.Common.{◌≡◌, ℕ, true, List, [], ◌∷◌, None, Some, refl, arith}
 use Rattle.recovery_pacing.specs.NamedMoment.{HasRoom}
 use Rattle.recovery_pacing.specs.PacerLog.{PacerEntry, asked, took, bucket_by}

@@ -1,4 +1,5 @@
--- What a pacer holds is what its history says, as long as all that was transmitted was checked.
+-- What a pacer holds is what its history says, as long as all that was transmitted was checked. The clauses of `run` on
+-- pacers rest on it.
 use Rattle.std.proofs.Common.{◌≡◌, ℕ, ◌+◌, ◌-◌, ◌*◌, ◌^◌, ◌<◌, ◌≤◌, min, max, Bool, true, false, List, [], ◌∷◌, Option, None, Some, SomeIff, refl, sym, ap, ◌∙◌, subst, arith}
 use Rattle.std.specs.Prelude.{◌&&◌, ◌||◌, ◌==◌, nat_le, if◌then◌else◌}
 use Rattle.std.proofs.Math.Nat.{mul-div-le}

@@ -1,4 +1,4 @@
--- A worked row: what the history of one pacer comes to, computed.
+-- A worked row: what the history of one pacer comes to, computed. Nothing rests on it.
 use Rattle.std.proofs.Common.{◌≡◌, ℕ, zero, suc, ◌-◌, ◌*◌, true, List, [], ◌∷◌, Some, refl, arith}
 use Rattle.recovery_pacing.specs.Pacing.{Bucket, PacerCall, bucket_made, paced, delay_of}
 use Rattle.recovery_pacing.specs.PacerLog.{PacerEntry, asked, took, bucket_by, AreChecked, PacerMark, bytes_in, calls_in, greatest_window, least_rtt, latest_moment, balance_in, marks_by, marks_asking, moment_by}

@@ -1,4 +1,4 @@
--- A bucket stays within its bounds, whatever is asked and sent.
+-- A bucket stays within its bounds, whatever is asked and sent. Stated for users: nothing here rests on it.
 use Rattle.std.proofs.Common.{ℕ, ◌<◌, min, Bool, true, false, arith}
 use Rattle.std.specs.Prelude.{◌&&◌, ◌==◌, if◌then◌else◌}
 use Rattle.recovery_pacing.specs.Pacing.{Bucket, PacerCall, IsBucketSound, capacity_of, bucket_made, resized, refilled, may_send, paced, less_tokens}

@@ -1,4 +1,4 @@
--- What was delayed passes in time.
+-- What was delayed passes in time. The clause `soon` of `run` and `NamedMomentLaws` rest on it.
 use Rattle.std.proofs.Common.{◌≡◌, ℕ, ◌+◌, ◌-◌, ◌*◌, ◌/◌, ◌%◌, ◌^◌, ◌<◌, ◌≤◌, min, max, nat_le, Bool, true, false, List, [], ◌∷◌, ◌&&◌, ◌||◌, ◌==◌, cond, None, Some, refl, sym, ap, ap₂, ◌∙◌, arith}
 use Rattle.std.proofs.Math.Nat.{div-add-mod, mod-lt, mul-le-mul_left, mul-le-mul_right}
 use Rattle.std.proofs.lemmas.Bool.{or_parts, leb-false, le-leb, eq-eqb, eqb-false}

@@ -1,4 +1,5 @@
--- What checked transmissions keep on one path holds of each path that lives, whatever happens.
+-- What checked transmissions keep on one path holds of each path that lives, whatever happens. `ThreefoldLaws`,
+-- `PassedLaws` and `SearchedLaws` rest on it.
 use Rattle.std.proofs.Common.{◌≡◌, false, List, [], ◌∷◌, ◌++◌, Option, None, Some, option_map, refl, subst}
 use Rattle.std.specs.Option.{ForSome}
 use Rattle.recovery_congestion.specs.Controllers.{ControllerWords}

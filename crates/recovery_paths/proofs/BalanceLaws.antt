@@ -1,4 +1,5 @@
--- The paths stay tied to what the spaces track, whatever comes to a packet, a space or a path.
+-- The paths stay tied to what the spaces track, whatever comes to a packet, a space or a path. The invariant of
+-- `Recovery`, and so each of its calls, rests on it.
 use Rattle.std.proofs.Common.{◌≡◌, ℕ, ◌+◌, ◌<◌, ◌≤◌, Bool, [], ◌∷◌, Option, None, Some, option_map, refl, sym, ap, subst, arith}
 use Rattle.std.specs.Option.{ForSome}
 use Rattle.recovery_base.specs.declared.below.SpaceId.{SpaceId}

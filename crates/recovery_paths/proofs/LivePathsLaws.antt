@@ -1,4 +1,4 @@
--- Packets leave the paths that live, one after another.
+-- Packets leave the paths that live, one after another: `forget_all` rests on it.
 use Rattle.std.proofs.Common.{◌≡◌, ℕ, ◌∷◌, Option, None, Some, option_map, refl, ap, subst}
 use Rattle.std.specs.Option.{ForSome}
 use Rattle.recovery_ledger.specs.InFlight.{IsCountedIn}

@@ -1,4 +1,4 @@
--- What was transmitted checked had passed the pacer right before.
+-- What was transmitted checked had passed the pacer right before. The driver's `PacingLaws` rest on it.
 use Rattle.std.proofs.Common.{◌≡◌, List, [], ◌++◌, None, Some, refl}
 use Rattle.std.proofs.lemmas.Bool.{false≢true}
 use Rattle.recovery_pacing.proofs.PacerLogLaws.{HavePassed}

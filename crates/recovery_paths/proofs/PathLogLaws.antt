@@ -1,4 +1,4 @@
--- What is known of the paths, one entry at a time.
+-- What is known of the paths, one entry at a time. `AllowedLaws` and the driver's `LeftLaws` rest on it.
 use Rattle.std.proofs.Common.{◌≡◌, List, [], ◌∷◌, ◌++◌, Option, None, Some, option_map, refl, ap, ◌∙◌}
 use Rattle.recovery_paths.specs.declared.live_paths.PathName.TheVariants.{Current, Previous}
 use Rattle.recovery_paths.specs.PathMaking.{PathMaking, PathSettings}

@@ -1,4 +1,4 @@
--- The responses stay sound.
+-- The responses stay sound: `push` rests on it, and that they are a model.
 use Rattle.std.proofs.Common.{◌≡◌, ℕ, zero, suc, ◌<◌, Bool, true, false, ◌&&◌, ◌||◌, List, [], ◌∷◌, ◌++◌, length, map, take, nat_le, nat_lt, refl, sym, ap, subst, ◌∙◌, arith, rules}
 use Rattle.std.specs.List.{IsDistinct, AllByRecursion, list_any}
 use Rattle.std.specs.Prelude.{if◌then◌else◌}

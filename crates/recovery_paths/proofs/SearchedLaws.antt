@@ -1,5 +1,5 @@
 -- How each path is searched: all of them by the same settings, each from a discovery to which nothing was told, and
--- with each limit in turn.
+-- with each limit in turn. The driver's `SearchLaws` rest on it.
 use Rattle.std.proofs.Common.{ℕ, ◌≡◌, Bool, List, [], ◌∷◌, ◌++◌, Option, None, Some, if◌then◌else◌, refl}
 use Rattle.recovery_config.specs.declared.config.TransportConfig.{TransportConfig}
 use Rattle.recovery_config.specs.Settings.{initial_mtu_of}

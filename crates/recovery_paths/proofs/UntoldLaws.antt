@@ -1,4 +1,4 @@
--- The search for the MTU of the path in use began with nothing told to it.
+-- The search for the MTU of the path in use began with nothing told to it. The driver's `BurstLaws` rest on it.
 use Rattle.std.proofs.Common.{ℕ, List, [], ◌∷◌, Option}
 use Rattle.recovery_mtud.specs.MtuEntries.{IsUntold}
 use Rattle.recovery_paths.specs.declared.live_paths.PathName.TheVariants.{Current, Previous}

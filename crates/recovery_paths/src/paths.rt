@@ -166,9 +166,10 @@ impl<C: Controller + Drop> PathData<C> {
         }
     }
 
-    /// A path to another address that goes on with another path's round-trip times, controller and search for the MTU
-    /// (RFC 9000, 9.4). All else is as of a new path; its pacer is full, for the RTT, window and MTU of the other one.
-    /// `NoMemory` where the controller finds no memory for a second one.
+    /// A path to another address that goes on with another path's round-trip times, controller and search for the MTU:
+    /// for a peer whose port alone changed, most likely behind a NAT, so that the way is the same (RFC 9000, 9.4). The
+    /// address itself is to be validated anew (RFC 9000, 9.3), as all else is that of a new path; its pacer is full,
+    /// for the RTT, window and MTU of the other one. `NoMemory` where the controller finds no memory for a second one.
     pub fn from_previous(
         remote: SocketAddr,
         previous: &Self,
@@ -201,8 +202,9 @@ impl<C: Controller + Drop> PathData<C> {
         })
     }
 
-    /// Round-trip times, controller, search for the MTU and pacer begin anew by the settings, the search with the peer's
-    /// limit kept, and the pacer for the MTU then in use. All else stays.
+    /// Round-trip times, controller, search for the MTU and pacer begin anew by the settings, the search with the
+    /// peer's limit kept, and the pacer for the MTU then in use. All else stays: the way beneath changed, of which
+    /// these tell, and not the address (RFC 9000, 9.4).
     pub fn reset<F: ControllerFactory<Controller = C>>(
         &mut self,
         now: Instant,
@@ -246,7 +248,8 @@ impl<C: Controller + Drop> PathData<C> {
     }
 
     /// Whether so many bytes may not be sent, since the address is not validated and they would come to more than three
-    /// times the bytes that came from it (RFC 9000, 8.1). Exact whatever the totals are.
+    /// times the bytes that came from it (RFC 9000, 8.1): who writes another's address on its packets shall not turn
+    /// much more than it sends on that one. Exact whatever the totals are.
     pub fn anti_amplification_blocked(&self, bytes_to_send: u64) -> bool
         ensures { result ≡ is_blocked self.now.state bytes_to_send }
     {
@@ -324,9 +327,10 @@ impl<C: Controller + Drop> PathData<C> {
         self.congestion.on_sent(now, bytes, number);
     }
 
-    /// A packet of a space was acknowledged: whether it was the probe of the MTU in flight, whose size is the MTU in use then
-    /// (RFC 8899, 5). It is counted no more, where it is one of this path's, and the controller is told of it, where it elicits an
-    /// ACK too, last of all: of a new MTU before.
+    /// A packet of a space was acknowledged: whether it was the probe of the MTU in flight, whose size is the MTU in
+    /// use then (RFC 8899, 5). It is counted no more, where it is one of this path's, and the controller is told of it,
+    /// where it elicits an ACK too, last of all: of a new MTU before. The search is asked first, as the one that knows
+    /// a probe by its number, whatever path the packet went by.
     pub fn on_packet_acked<Q: RetransmitQueue>(
         &mut self,
         space: SpaceId,
@@ -351,8 +355,9 @@ impl<C: Controller + Drop> PathData<C> {
         is_probe
     }
 
-    /// A packet of a space was lost: whether it was the probe of the MTU in flight. Any other packet of 1-RTT keys counts as the sign
-    /// of a black hole (RFC 8899, 4.3). It is counted no more, where it is one of this path's.
+    /// A packet of a space was lost: whether it was the probe of the MTU in flight, whose loss says only that its size
+    /// may be too large (RFC 8899, 3; RFC 9000, 14.4). Any other packet of 1-RTT keys counts as the sign of a black
+    /// hole (RFC 8899, 4.3). It is counted no more, where it is one of this path's.
     pub fn on_packet_lost<Q: RetransmitQueue>(
         &mut self,
         space: SpaceId,

@@ -1,4 +1,4 @@
--- Writing in pieces.
+-- Writing in pieces: `deliver` rests on it.
 use Rattle.std.proofs.Common.{◌≡◌, ℕ, ◌+◌, ◌-◌, ◌≤◌, List, [], ◌++◌, length, arith, length-drop, take, drop, length-drop, Option, Some, None, sym, ap, subst, ◌∙◌, append_assoc, append-nil}
 use Rattle.std.proofs.Math.Seq.{take-add, take-length, take-nil}
 use Rattle.std.specs.Io.KnownBytes.{Appends, Keeps}

@@ -1,4 +1,4 @@
--- Which numbers are skipped: those that stand in the sequence of skips, and no others.
+-- Which numbers are skipped: those that stand in the sequence of skips, and no others. A law for users rests on it.
 use Rattle.std.proofs.Common.{◌≡◌, ℕ, zero, suc, ◌<◌, ◌↔◌, Option, None, Some, Bool, true, false, refl, ap, sym, subst, ◌∙◌, arith, inl, inr}
 use Rattle.std.specs.Prelude.{if◌then◌else◌}
 use Rattle.std.proofs.lemmas.Bool.{cases_lt}

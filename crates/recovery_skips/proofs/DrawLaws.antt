@@ -1,4 +1,5 @@
--- A draw lies in its range and leaves words that fit 64 bits, so that each skip lies below a power of two.
+-- A draw lies in its range and leaves words that fit 64 bits, so that each skip lies below a power of two. Laws for
+-- users rest on it.
 use Rattle.std.proofs.Common.{◌≡◌, ℕ, zero, suc, ◌+◌, ◌-◌, ◌*◌, ◌/◌, ◌%◌, ◌<◌, ◌≤◌, ◌^◌, [], ◌∷◌, max, Option, None, Some, Bool, true, false, refl, subst, arith, inl, inr}
 use Rattle.std.specs.Prelude.{nat_lt, nat_le, if◌then◌else◌}
 use Rattle.std.proofs.lemmas.Bool.{cases_lt}

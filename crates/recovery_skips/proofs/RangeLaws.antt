@@ -1,4 +1,5 @@
--- The ranges that skips are drawn from are not empty, and their bounds fit 64 bits.
+-- The ranges that skips are drawn from are not empty, and their bounds fit 64 bits. `PacketNumberFilter` and `DrawLaws`
+-- rest on it.
 use Rattle.std.proofs.Common.{◌≡◌, ℕ, ◌+◌, ◌-◌, ◌*◌, ◌%◌, ◌<◌, ◌≤◌, ◌^◌, max, refl, arith, add-one}
 use Rattle.std.proofs.Math.Pow.{pow_mono, pow-lt}
 use Rattle.std.proofs.Math.Nat.{pow-suc, lt_of_not-le}

@@ -1,4 +1,5 @@
--- Laws of skipped packet numbers: what one step does, how skips ascend, and which numbers they are.
+-- Laws of skipped packet numbers: what one step does, how skips ascend, and which numbers they are. The driver's laws
+-- of numbers rest on it, and the laws for users.
 use Rattle.std.proofs.Common.{◌≡◌, ℕ, suc, ◌+◌, ◌<◌, ◌≤◌, ◌^◌, Option, None, Some, Bool, true, false, refl, ap, sym, subst, ◌∙◌, arith, add-one}
 use Rattle.std.specs.Prelude.{if◌then◌else◌}
 use Rattle.std.proofs.lemmas.Option.{none-some, same_Some}

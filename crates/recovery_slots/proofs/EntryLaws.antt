@@ -1,4 +1,5 @@
--- What is filed, as slots are replaced, dropped and closed up, and from a number on.
+-- What is filed, as slots are replaced, dropped and closed up, and from a number on. The calls of `SlotQueue` rest on
+-- it, and the tracked packets above it.
 use Rattle.std.proofs.Common.{◌≡◌, ℕ, zero, suc, ◌+◌, ◌*◌, ◌^◌, ◌<◌, ◌≤◌, Bool, true, false, not, cond, nat_lt, ◌==◌, List, [], ◌∷◌, ◌++◌, length, set, drop, filter, Option, None, Some, refl, sym, ap, subst, ◌∙◌, arith, get_or, lt-ltb, le-ltb, append-nil, length-append, reverse, MatchOption, IfNone, inl, inr, ◌⊎◌}
 use mir.Val.{bool_byte}
 use Rattle.std.specs.Option.{is_some, option_to_list}

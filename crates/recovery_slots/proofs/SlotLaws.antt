@@ -1,4 +1,5 @@
--- Slots by their places: what stands at one, what is filed there, and what stands before and behind it.
+-- Slots by their places: what stands at one, what is filed there, and what stands before and behind it. `EntryLaws` and
+-- the look-ups of `SlotQueue` rest on it.
 use Rattle.std.proofs.Common.{◌≡◌, ◌≢◌, ℕ, zero, suc, ◌+◌, ◌-◌, ◌/◌, ◌*◌, ◌^◌, ◌<◌, ◌≤◌, inl, inr, ◌⊎◌, Bool, true, false, cond, List, [], ◌∷◌, length, min, Option, None, Some, refl, sym, ap, subst, ◌∙◌, arith, get_or}
 use Rattle.std.specs.Option.{is_some}
 use Rattle.std.specs.Ordering.{nat_cmp, is_eq}

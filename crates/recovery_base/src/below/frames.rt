@@ -150,6 +150,10 @@ impl EcnCounts {
     /// Checks the counts of an ACK frame against these, which are those of the last one (RFC 9000, 13.4.2.1).
     /// `newly_acked` is how many packets sent with ECT(0) the frame is the first to acknowledge.
     ///
+    /// A path that erases or rewrites codepoints hides congestion: it shows in counts that rise by less than what was
+    /// acknowledged, and ECN is then to be given up. A rise by more is right: ACK frames that were lost told of those
+    /// packets.
+    ///
     /// `Ok` keeps the new counts, and says whether CE rose: packets were marked for congestion. `Err` keeps the old
     /// ones and says the cause, the first in this order that holds: one of the three counts fell ("peer ECT(0) count
     /// regression", "peer ECT(1) count regression", "peer CE count regression"), the three rose by less than
