@@ -1,32 +1,31 @@
 -- What is to be acknowledged is by the table what the history says: new numbers, but those dropped since they came. The
 -- clause `to_acknowledge` of `run` rests on it.
 use Rattle.std.proofs.Common.{◌≡◌, ◌≢◌, ◌≤◌, ◌<◌, ℕ, ◌==◌, ◌&&◌, Bool, true, false, cond, List, [], ◌∷◌, length, Option, None, Some, Ok, Err, ◌⊎◌, inl, inr, ◌↔◌, IsTrue, IsSomeAnd, refl, sym, subst, arith, lt-ltb, ltb-true}
-use Rattle.std.proofs.lemmas.Bool.{cases_lt}
+use Rattle.std.proofs.lemmas.Bool.{cases_lt, false≢true}
 use Rattle.std.proofs.lemmas.Bool.Decides.{eqb_tells}
 use Rattle.recovery_acks.specs.Runs.{AtMost, EndsRun, IsInHighest}
 use Rattle.recovery_acks.proofs.RunLaws.{highest_alike}
 use Rattle.recovery_base.specs.declared.below.SpaceId.{SpaceId}
-use Rattle.recovery_base.specs.declared.below.SpaceId.TheVariants.{Data}
 use Rattle.recovery_base.specs.Numbers.{With}
 use Rattle.recovery_base.specs.Spaces.{same_space}
 use Rattle.recovery_ledger.specs.Acks.{ToAcknowledge}
 use Rattle.recovery_ledger.specs.Packets.{packet_at, is_above, largest_acked_by}
-use Rattle.recovery_ledger.specs.SpaceLog.{SpaceEntry, heard, heard_again, acknowledged, asked}
+use Rattle.recovery_ledger.specs.SpaceLog.{SpaceEntry, heard, heard_again, acknowledged}
 use Rattle.recovery_ledger.specs.Tracked.{sent_by}
 use Rattle.recovery_queue.specs.Queues.{QueueWords}
 use Rattle.recovery_events.specs.declared.event.Event.{Event}
-use Rattle.recovery_events.specs.declared.event.Event.TheVariants.{Received, Send, Acked, Lost, AckFrequencyIn, AcksSent, AckDelayTimeout, DiscardSpace, PollMtu, Transmit, Ecn, QueueProbe, TakePending}
+use Rattle.recovery_events.specs.declared.event.Event.TheVariants.{Received, Acked}
 use Rattle.recovery_events.specs.declared.event.Answer.{Answer}
-use Rattle.recovery_events.specs.declared.event.Answer.TheVariants.{New, Flag, Probe, Transmitted, Delayed}
+use Rattle.recovery_events.specs.declared.event.Answer.TheVariants.{New}
 use Rattle.recovery_events.specs.declared.event.Refusal.{Refusal}
-use Rattle.recovery_events.specs.declared.event.Refusal.TheVariants.{DelayTooSmall}
-use Rattle.quic_recovery.specs.Entries.{answered, refused, logs_of}
+use Rattle.quic_recovery.specs.Entries.{Entries, answered, logs_of}
 use Rattle.quic_recovery.specs.History.{Beginning, History, Reply, Throughout, ThroughoutFrom, history, history_from}
 use Rattle.quic_recovery.specs.Known.{Known, known_by}
 use Rattle.quic_recovery.specs.Logs.{onto}
 use Rattle.quic_recovery.specs.Promises.Acknowledged.{HasCome, KeepsToAcknowledge, LiesBelow, WasDropped, largest_in}
 use Rattle.quic_recovery.specs.Told.{Told}
 use Rattle.quic_recovery.proofs.CarriedLaws.{AllCarry, carries_largest, keeps_carried, none_carry}
+use Rattle.quic_recovery.proofs.EntryKinds.{SpaceKind, hearing, acknowledging, space_kind, space_kept, refused_keeps}
 
 -- that there are at most so many is kept where its negation is refuted
 many_or_few : (count : ℕ) (Ends : ℕ → Type 0) → ¬ (¬ AtMost count Ends) → AtMost count Ends
@@ -165,6 +164,12 @@ module _ {P M S : Type 0} (words : QueueWords P S) (log : List (SpaceEntry P M))
 
 -- ---- what an event does
 
+-- no packet comes, and none is acknowledged
+abbrev keeps_pending : SpaceKind → Bool
+keeps_pending hearing = false
+keeps_pending acknowledging = false
+keeps_pending kind = true
+
 module _ {F K Q S M P : Type 0} (beginning : Beginning F K Q S M P) (before : History Q S M P) (space : SpaceId) (n : ℕ)
     (carried : AllCarry beginning before) (keeps : KeepsToAcknowledge beginning before) where
   abbrev log : SpaceId → List (SpaceEntry P M)
@@ -189,10 +194,13 @@ module _ {F K Q S M P : Type 0} (beginning : Beginning F K Q S M P) (before : Hi
   After entry event reply = Pending_then entry
       ↔ (HasCome space n ((event, reply) ∷ before) × ¬ WasDropped space n ((event, reply) ∷ before))
 
-  -- an entry that leaves it, in this space or in another one
-  unmoved : (b : Bool) (entry : SpaceEntry P M) → Pending_then (Some entry) ↔ (Came n × ¬ Dropped n)
-      → Pending_then (cond b (Some entry) None) ↔ (Came n × ¬ Dropped n)
-  unmoved b entry first = stays beginning.queue.words (log space) Came Dropped (keeps space) b entry n first
+  -- an entry that leaves it
+  unmoved : (entry : SpaceEntry P M) → keeps_pending (space_kind entry) ≡ true
+      → Pending_then (Some entry) ↔ (Came n × ¬ Dropped n)
+  unmoved (heard now number eliciting) keeps = absurd (false≢true keeps)
+  unmoved (heard_again number) keeps = absurd (false≢true keeps)
+  unmoved (acknowledged number) keeps = absurd (false≢true keeps)
+  unmoved entry keeps = kept
 
   answer_keeps : (event : Event Q S M P) (answer : Answer Q) → Told beginning before event (Ok answer)
       → After ((answered beginning.queue known event answer).spaces space) event (Ok answer)
@@ -200,34 +208,17 @@ module _ {F K Q S M P : Type 0} (beginning : Beginning F K Q S M P) (before : Hi
       arrives beginning.queue.words (log space) Came Dropped (keeps space) number n
       (same_space there space) now eliciting
   answer_keeps (Received there now number eliciting) answer told =
-      unmoved (same_space there space) (heard_again number) kept
+      stays beginning.queue.words (log space) Came Dropped (keeps space) (same_space there space) (heard_again number) n
+      kept
   answer_keeps (Acked there now number app_limited) answer told =
       leaves beginning.queue.words (log space) Came Dropped (keeps space) (same_space there space) number n
       (largest_in space number before) (carries_largest beginning before carried there space number told.1.0)
-  answer_keeps (Lost there number) answer told = unmoved (same_space there space) _ kept
-  answer_keeps (Send there now size eliciting last queue frames) answer told =
-      unmoved (same_space there space) _ kept
-  answer_keeps (AckFrequencyIn frame) (Flag true) told = unmoved (same_space Data space) (asked frame) kept
-  answer_keeps (AckFrequencyIn frame) (Flag false) told = kept
-  answer_keeps (AckFrequencyIn frame) answer told = kept
-  answer_keeps (AcksSent there) answer told = unmoved (same_space there space) _ kept
-  answer_keeps (AckDelayTimeout there) answer told = unmoved (same_space there space) _ kept
-  answer_keeps (DiscardSpace there) answer told = unmoved (same_space there space) _ kept
-  answer_keeps (PollMtu now) (Probe number size) told = unmoved (same_space Data space) _ kept
-  answer_keeps (PollMtu now) answer told = kept
-  answer_keeps (Ecn there newly counts) answer told = unmoved (same_space there space) _ kept
-  answer_keeps (QueueProbe there immediate streams) answer told = unmoved (same_space there space) _ kept
-  answer_keeps (TakePending there) answer told = unmoved (same_space there space) _ kept
-  answer_keeps (Transmit now bytes true) Transmitted told = kept
-  answer_keeps (Transmit now bytes true) (Delayed until) told = kept
-  answer_keeps (Transmit now bytes true) answer told = kept
-  answer_keeps (Transmit now bytes false) answer told = kept
-  answer_keeps event answer told = kept
+  answer_keeps event answer told =
+      space_kept beginning.queue known space (λ entry. Pending_then entry ↔ (Came n × ¬ Dropped n)) keeps_pending kept
+      unmoved event (Ok answer) refl
 
-  refusal_keeps : (event : Event Q S M P) (refusal : Refusal)
-      → After ((refused event refusal).spaces space) event (Err refusal)
-  refusal_keeps (AckFrequencyIn frame) DelayTooSmall = kept
-  refusal_keeps (AckFrequencyIn frame) refusal = kept
+  refusal_keeps : (event : Event Q S M P) (refusal : Refusal) → After None event (Err refusal)
+  refusal_keeps (Received there now number eliciting) refusal = kept
   refusal_keeps event refusal = kept
 
 -- ---- throughout a run
@@ -243,7 +234,11 @@ module _ {F K Q S M P : Type 0} (beginning : Beginning F K Q S M P) where
   keeps_after before event (Ok answer) told tied =
       λ space n. answer_keeps beginning before space n tied.carried tied.keeps event answer told
   keeps_after before event (Err refusal) told tied =
-      λ space n. refusal_keeps beginning before space n tied.carried tied.keeps event refusal
+      λ space n. refused_keeps event refusal
+      (λ (e : Entries P M). ToAcknowledge beginning.queue.words
+      (onto (e.spaces space) ((logs_of beginning before).spaces space)) n
+      ↔ (HasCome space n ((event, Err refusal) ∷ before) × ¬ WasDropped space n ((event, Err refusal) ∷ before)))
+      (refusal_keeps beginning before space n tied.carried tied.keeps event refusal)
 
   tied_then : (before : History Q S M P) (events : List (Event Q S M P)) (replies : List (Reply Q))
       → ThroughoutFrom (Told beginning) before events replies → Tied before → Tied (history_from before events replies)

@@ -5,23 +5,23 @@ use Rattle.recovery_base.specs.declared.below.SpaceId.{SpaceId}
 use Rattle.recovery_base.specs.declared.below.SpaceId.TheVariants.{Data}
 use Rattle.recovery_base.specs.Spaces.{same_space}
 use Rattle.recovery_ledger.specs.Packets.{Packet, packet_at, largest_acked_by}
-use Rattle.recovery_ledger.specs.SpaceLog.{SpaceEntry, sends, asked}
+use Rattle.recovery_ledger.specs.SpaceLog.{SpaceEntry, sends}
 use Rattle.recovery_ledger.specs.Tracked.{Sent, sent_by}
 use Rattle.recovery_events.specs.declared.event.Event.{Event}
-use Rattle.recovery_events.specs.declared.event.Event.TheVariants.{Received, Send, Acked, Lost, AckFrequencyIn, AcksSent, AckDelayTimeout, DiscardSpace, PollMtu, Transmit, Ecn, QueueProbe, TakePending}
+use Rattle.recovery_events.specs.declared.event.Event.TheVariants.{Send, PollMtu}
 use Rattle.recovery_events.specs.declared.event.Answer.{Answer}
 use Rattle.recovery_events.specs.declared.event.Answer.TheVariants as answers
-use Rattle.recovery_events.specs.declared.event.Answer.TheVariants.{New, Flag, Probe, Transmitted, Delayed}
+use Rattle.recovery_events.specs.declared.event.Answer.TheVariants.{Probe}
 use Rattle.recovery_events.specs.declared.event.Refusal.{Refusal}
-use Rattle.recovery_events.specs.declared.event.Refusal.TheVariants.{DelayTooSmall}
-use Rattle.quic_recovery.specs.Entries.{answered, refused, found_in, logs_of}
+use Rattle.quic_recovery.specs.Entries.{Entries, answered, logs_of}
 use Rattle.quic_recovery.specs.History.{Beginning, History, Reply}
 use Rattle.quic_recovery.specs.Known.{Known, known_by, number_in, packet_now}
 use Rattle.quic_recovery.specs.Logs.{onto}
 use Rattle.quic_recovery.specs.Promises.Acknowledged.{largest_in}
 use Rattle.quic_recovery.specs.Told.{Told}
+use Rattle.quic_recovery.proofs.EntryKinds.{sends_none, space_kept, refused_keeps}
 use Rattle.quic_recovery.proofs.SearchSteps.{found_packet as is_there}
-use Rattle.quic_recovery.proofs.FieldLaws.{IsSaid, said_found, said_moved, said_sent, said_without}
+use Rattle.quic_recovery.proofs.FieldLaws.{IsSaid, said_after, said_found, said_sent}
 use Rattle.quic_recovery.proofs.TrackedLaws.{is_new, one_space, probe_number, sent_in}
 
 -- the largest number whose ACK a packet carries
@@ -44,10 +44,6 @@ module _ {F K Q S M P : Type 0} (beginning : Beginning F K Q S M P) (before : Hi
 
   abbrev Carries : Option (SpaceEntry P M) → (ℕ → Option ℕ) → Type 0
   Carries entry by = IsSaid carried_by by (sent_by beginning.queue.words (onto entry (log space)))
-
-  same : (b : Bool) (entry : SpaceEntry P M) → Carries (Some entry) largest → Carries (cond b (Some entry) None) largest
-  same true entry first = first
-  same false entry first = carried
 
   -- a packet goes out under the next number
   goes_out : (there : SpaceId) (packet : Packet P M) (number : ℕ) → number ≡ number_in known there
@@ -87,35 +83,10 @@ module _ {F K Q S M P : Type 0} (beginning : Beginning F K Q S M P) (before : Hi
       goes_out Data (packet_now known now size true None beginning.queue.words.empty beginning.queue.blank) number
       (probe_number beginning.queue known now _ number size told.1.1)
   answer_carries (PollMtu now) answer told = carried
-  answer_carries (Acked there now number app_limited) answer told =
-      same (same_space there space) _ (said_without carried_by largest sent.next sent.tracked number carried)
-  answer_carries (Lost there number) answer told =
-      same (same_space there space) _ (said_without carried_by largest sent.next sent.tracked number carried)
-  answer_carries (QueueProbe there immediate streams) answer told =
-      let found = found_in known beginning.queue.words streams there in
-      same (same_space there space) _
-      (said_moved carried_by (λ contents packet. refl) largest sent beginning.queue.words.empty found carried)
-  answer_carries (DiscardSpace there) answer told = same (same_space there space) _ tt
-  answer_carries (Received there now number eliciting) (New arm) told = same (same_space there space) _ carried
-  answer_carries (Received there now number eliciting) answer told = same (same_space there space) _ carried
-  answer_carries (AckFrequencyIn frame) (Flag true) told = same (same_space Data space) (asked frame) carried
-  answer_carries (AckFrequencyIn frame) (Flag false) told = carried
-  answer_carries (AckFrequencyIn frame) answer told = carried
-  answer_carries (AcksSent there) answer told = same (same_space there space) _ carried
-  answer_carries (AckDelayTimeout there) answer told = same (same_space there space) _ carried
-  answer_carries (Ecn there newly counts) answer told = same (same_space there space) _ carried
-  answer_carries (TakePending there) answer told = same (same_space there space) _ carried
-  answer_carries (Transmit now bytes true) Transmitted told = carried
-  answer_carries (Transmit now bytes true) (Delayed until) told = carried
-  answer_carries (Transmit now bytes true) answer told = carried
-  answer_carries (Transmit now bytes false) answer told = carried
-  answer_carries event answer told = carried
-
-  refusal_carries : (event : Event Q S M P) (refusal : Refusal)
-      → Carries ((refused event refusal).spaces space) (λ n. largest_in space n ((event, Err refusal) ∷ before))
-  refusal_carries (AckFrequencyIn frame) DelayTooSmall = carried
-  refusal_carries (AckFrequencyIn frame) refusal = carried
-  refusal_carries event refusal = carried
+  answer_carries event answer told =
+      space_kept beginning.queue known space (λ entry. Carries entry largest) sends_none carried
+      (said_after carried_by (λ contents packet. refl) beginning.queue.words largest (log space) carried) event
+      (Ok answer) refl
 
 module _ {F K Q S M P : Type 0} (beginning : Beginning F K Q S M P) where
   abbrev pub AllCarry : History Q S M P → Type 0
@@ -125,13 +96,22 @@ module _ {F K Q S M P : Type 0} (beginning : Beginning F K Q S M P) where
   pub none_carry : AllCarry []
   none_carry = λ space. tt
 
+  refusal_carries : (before : History Q S M P) (event : Event Q S M P) (refusal : Refusal) (space : SpaceId)
+      → IsSaid carried_by (λ n. largest_in space n before) (sent_in beginning before space)
+      → IsSaid carried_by (λ n. largest_in space n ((event, Err refusal) ∷ before)) (sent_in beginning before space)
+  refusal_carries before (PollMtu now) refusal space carried = carried
+  refusal_carries before event refusal space carried = carried
+
   -- an event that was told keeps that
   pub keeps_carried : (before : History Q S M P) (event : Event Q S M P) (reply : Reply Q)
       → Told beginning before event reply → AllCarry before → AllCarry ((event, reply) ∷ before)
   keeps_carried before event (Ok answer) told all =
       λ space. answer_carries beginning before space (all space) event answer told
   keeps_carried before event (Err refusal) told all =
-      λ space. refusal_carries beginning before space (all space) event refusal
+      λ space. refused_keeps event refusal
+      (λ (e : Entries P M). IsSaid carried_by (λ n. largest_in space n ((event, Err refusal) ∷ before))
+      (sent_by beginning.queue.words (onto (e.spaces space) ((logs_of beginning before).spaces space))))
+      (refusal_carries before event refusal space (all space))
 
   -- the packet of a tracked number carries what it went out with
   pub carries_largest : (history : History Q S M P) → AllCarry history → (there space : SpaceId) (number : ℕ)

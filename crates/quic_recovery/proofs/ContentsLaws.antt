@@ -1,6 +1,7 @@
 -- Contents are neither lost nor doubled: what was sent is what is tracked and waits, and what is gone. The clause
 -- `contents` of `run` rests on it.
 use Rattle.std.proofs.Common.{◌≡◌, ◌+◌, ℕ, Bool, true, false, cond, List, [], ◌∷◌, Option, None, Some, Ok, Err, refl, sym, ap, subst, ◌∙◌, arith}
+use Rattle.std.proofs.lemmas.Bool.{false≢true}
 use Rattle.std.specs.Prelude.{sum_by, option_map}
 use Rattle.std.specs.BTreeMap.{is_at}
 use Rattle.std.specs.Ordering.{nat_cmp}
@@ -11,25 +12,25 @@ use Rattle.recovery_base.specs.Spaces.{same_space}
 use Rattle.recovery_ledger.specs.Packets.{Packet, Packets, packet_at, without, with_contents, replaced, contents_or, entry_at, numbered}
 use Rattle.recovery_ledger.specs.Probes.{ProbeFound, pending_stands, moves, nothing_found}
 use Rattle.recovery_ledger.specs.Queued.{joined_with, joined_found, pending_by}
-use Rattle.recovery_ledger.specs.SpaceLog.{SpaceEntry, heard, heard_again, sends, acknowledged, loses, probes, takes_pending, feeds_back, emptied, ack_goes, ack_is_late, asked}
+use Rattle.recovery_ledger.specs.SpaceLog.{SpaceEntry, sends, acknowledged, loses, probes, takes_pending, emptied}
 use Rattle.recovery_ledger.specs.Tracked.{Sent, sent_by, sent_moved, forgotten_by}
 use Rattle.recovery_ledger.proofs.LedgerLaws.{gone as gone_by, sum-sent_onto}
 use Rattle.recovery_ledger.proofs.PacketLaws.{sum-without, without-absent, some_packet, no_packet}
 use Rattle.recovery_queue.specs.Queues.{QueueWords}
 use Rattle.recovery_events.specs.declared.event.Event.{Event}
-use Rattle.recovery_events.specs.declared.event.Event.TheVariants.{Received, Send, Acked, Lost, AckFrequencyIn, AcksSent, AckDelayTimeout, DiscardSpace, PollMtu, Transmit, Ecn, QueueProbe, TakePending}
+use Rattle.recovery_events.specs.declared.event.Event.TheVariants.{Send, PollMtu, Acked, DiscardSpace, TakePending}
 use Rattle.recovery_events.specs.declared.event.Answer.{Answer}
 use Rattle.recovery_events.specs.declared.event.Answer.TheVariants as answers
-use Rattle.recovery_events.specs.declared.event.Answer.TheVariants.{New, Flag, Probe, Transmitted, Delayed}
+use Rattle.recovery_events.specs.declared.event.Answer.TheVariants.{Probe}
 use Rattle.recovery_events.specs.declared.event.Refusal.{Refusal}
-use Rattle.recovery_events.specs.declared.event.Refusal.TheVariants.{DelayTooSmall}
-use Rattle.quic_recovery.specs.Entries.{found_in, logs_of}
+use Rattle.quic_recovery.specs.Entries.{Entries, nothing, logs_of}
 use Rattle.quic_recovery.specs.History.{Beginning, History, Reply, Throughout, history}
 use Rattle.quic_recovery.specs.Known.{Known, known_by, number_in, packet_now}
 use Rattle.quic_recovery.specs.Logs.{onto}
 use Rattle.quic_recovery.specs.Promises.Contents.{LosesNothing, outgoing, held, gone, carried}
 use Rattle.quic_recovery.specs.Promises.Measures.{AddsUp}
 use Rattle.quic_recovery.specs.Told.{Told}
+use Rattle.quic_recovery.proofs.EntryKinds.{SpaceKind, sending, acknowledging, taking, emptying, space_kind, space_kept, refused_keeps}
 use Rattle.quic_recovery.proofs.Runs.{kept_after}
 use Rattle.quic_recovery.proofs.TrackedLaws.{one_space, sent_in}
 
@@ -126,6 +127,14 @@ module _ {P M S : Type 0} (words : QueueWords P S) (measure : P → ℕ) (adds :
       go (Some packet) = refl
 
 -- ---- what an event does to them
+
+-- no contents come or go
+abbrev keeps_contents : SpaceKind → Bool
+keeps_contents sending = false
+keeps_contents acknowledging = false
+keeps_contents taking = false
+keeps_contents emptying = false
+keeps_contents kind = true
 
 module _ {F K Q S M P : Type 0} (beginning : Beginning F K Q S M P) (before : History Q S M P) (measure : P → ℕ)
     (adds : AddsUp beginning.queue.words measure) (space : SpaceId)
@@ -252,6 +261,19 @@ module _ {F K Q S M P : Type 0} (beginning : Beginning F K Q S M P) (before : Hi
       plain : (none held : ℕ) → none ≡ 0 → (0 + none) + held ≡ held
       plain none held nothing = omega (arith, nothing)
 
+  -- an entry by which no contents come or go
+  unmoved : (entry : SpaceEntry P M) → keeps_contents (space_kind entry) ≡ true
+      → outgoing_now ≡ held_by (entry ∷ log) + gone_now
+  unmoved (sends number packet) keeps = absurd (false≢true keeps)
+  unmoved (acknowledged number) keeps = absurd (false≢true keeps)
+  unmoved emptied keeps = absurd (false≢true keeps)
+  unmoved takes_pending keeps = absurd (false≢true keeps)
+  unmoved (loses number) keeps =
+      stays true (loses number) (loses_none words measure adds pending sent.tracked number)
+  unmoved (probes immediate found) keeps =
+      stays true (probes immediate found) (moves_none words measure adds pending found sent)
+  unmoved entry keeps = same
+
   abbrev Balanced : History Q S M P → Type 0
   Balanced after = outgoing beginning measure space after ≡ held beginning measure space after + gone beginning measure
       space after
@@ -268,42 +290,31 @@ module _ {F K Q S M P : Type 0} (beginning : Beginning F K Q S M P) (before : Hi
   answer_keeps (PollMtu now) answer told = same
   answer_keeps (Acked there now number app_limited) answer told =
       leaves (same_space there space) (acknowledged number) _ (λ at. leaves_less number)
-  answer_keeps (Lost there number) answer told =
-      stays (same_space there space) (loses number) (loses_none words measure adds pending sent.tracked number)
   answer_keeps (DiscardSpace there) answer told = leaves (same_space there space) emptied _ (λ at. empties)
   answer_keeps (TakePending there) (answers.Queue queue) told =
       leaves (same_space there space) takes_pending _
       (λ at. hands_out _ (ap measure (told.1
       ∙ ap (λ s. pending_by words ((logs_of beginning before).spaces s)) (one_space there space at))))
   answer_keeps (TakePending there) answer told = absurd told.1
-  answer_keeps (QueueProbe there immediate streams) answer told =
-      let found = found_in known words streams there in
-      stays (same_space there space) (probes immediate found) (moves_none words measure adds pending found sent)
-  answer_keeps (Received there now number eliciting) (New arm) told =
-      stays (same_space there space) (heard now number eliciting) refl
-  answer_keeps (Received there now number eliciting) answer told =
-      stays (same_space there space) (heard_again number) refl
-  answer_keeps (AckFrequencyIn frame) (Flag true) told = stays (same_space Data space) (asked frame) refl
-  answer_keeps (AckFrequencyIn frame) (Flag false) told = same
-  answer_keeps (AckFrequencyIn frame) answer told = same
-  answer_keeps (AcksSent there) answer told = stays (same_space there space) ack_goes refl
-  answer_keeps (AckDelayTimeout there) answer told = stays (same_space there space) ack_is_late refl
-  answer_keeps (Ecn there newly counts) answer told = stays (same_space there space) (feeds_back counts) refl
-  answer_keeps (Transmit now bytes true) Transmitted told = same
-  answer_keeps (Transmit now bytes true) (Delayed until) told = same
-  answer_keeps (Transmit now bytes true) answer told = same
-  answer_keeps (Transmit now bytes false) answer told = same
-  answer_keeps event answer told = same
+  answer_keeps event answer told =
+      space_kept beginning.queue known space (λ entry. outgoing_now ≡ held_by (onto entry log) + gone_now) keeps_contents
+      same unmoved event (Ok answer) refl
 
-  refusal_keeps : (event : Event Q S M P) (refusal : Refusal) → Balanced ((event, Err refusal) ∷ before)
-  refusal_keeps (AckFrequencyIn frame) DelayTooSmall = same
-  refusal_keeps (AckFrequencyIn frame) refusal = same
+  abbrev Refused : Event Q S M P → Refusal → Entries P M → Type 0
+  Refused event refusal entries =
+      let after : History Q S M P = (event, Err refusal) ∷ before in
+      outgoing beginning measure space after ≡ held_by (onto (entries.spaces space) log)
+      + gone beginning measure space after
+
+  refusal_keeps : (event : Event Q S M P) (refusal : Refusal) → Refused event refusal nothing
+  refusal_keeps (PollMtu now) refusal = same
   refusal_keeps event refusal = same
 
   reply_keeps : (event : Event Q S M P) (reply : Reply Q) → Told beginning before event reply
       → Balanced ((event, reply) ∷ before)
   reply_keeps event (Ok answer) told = answer_keeps event answer told
-  reply_keeps event (Err refusal) told = refusal_keeps event refusal
+  reply_keeps event (Err refusal) told =
+      refused_keeps event refusal (Refused event refusal) (refusal_keeps event refusal)
 
 -- ---- throughout a run
 

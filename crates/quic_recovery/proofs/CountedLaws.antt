@@ -1,5 +1,6 @@
 -- Bytes in flight by events and answers are the sums over what the spaces track: the clause `counted` of `run`.
 use Rattle.std.proofs.Common.{◌≡◌, ◌≤◌, ◌+◌, ℕ, ◌==◌, ◌&&◌, ◌||◌, Bool, true, false, cond, if◌then◌else◌, List, [], ◌∷◌, Option, None, Some, Ok, Err, refl, sym, ap, subst, ◌∙◌, arith}
+use Rattle.std.proofs.lemmas.Bool.{false≢true}
 use Rattle.std.specs.Prelude.{sum_by, option_map}
 use Rattle.std.specs.BTreeMap.{is_at}
 use Rattle.std.specs.Cmp.{nat_cmp_total, tied_itself}
@@ -13,20 +14,20 @@ use Rattle.recovery_ledger.specs.Departures.{one_if_same}
 use Rattle.recovery_ledger.specs.InFlight.{over_spaces, size_in, eliciting_in}
 use Rattle.recovery_ledger.specs.Packets.{Packet, Packets, without, without_some}
 use Rattle.recovery_ledger.specs.Probes.{ProbeFound, pending_stands, moves, nothing_found}
-use Rattle.recovery_ledger.specs.SpaceLog.{SpaceEntry, heard, heard_again, sends, acknowledged, loses, probes, takes_pending, feeds_back, emptied, ack_goes, ack_is_late, asked}
+use Rattle.recovery_ledger.specs.SpaceLog.{SpaceEntry, sends, acknowledged, loses, probes, emptied}
 use Rattle.recovery_ledger.specs.Tracked.{Sent, sent_by, sent_less, sent_more, sent_moved, forgotten_by}
 use Rattle.recovery_ledger.proofs.CarryLaws.{sum-carrying}
 use Rattle.recovery_ledger.proofs.PacketLaws.{number_at}
 use Rattle.recovery_paths.specs.PathLog.{PathKnown, path_of}
 use Rattle.recovery_paths.specs.declared.live_paths.PathName.TheVariants.{Current}
 use Rattle.recovery_events.specs.declared.event.Event.{Event}
-use Rattle.recovery_events.specs.declared.event.Event.TheVariants.{Received, Send, Acked, Lost, AckFrequencyIn, AcksSent, AckDelayTimeout, DiscardSpace, PollMtu, Transmit, Ecn, QueueProbe, TakePending, InFlight}
+use Rattle.recovery_events.specs.declared.event.Event.TheVariants.{Send, Acked, Lost, DiscardSpace, PollMtu, InFlight}
 use Rattle.recovery_events.specs.declared.event.Answer.{Answer}
 use Rattle.recovery_events.specs.declared.event.Answer.TheVariants as answers
-use Rattle.recovery_events.specs.declared.event.Answer.TheVariants.{New, Flag, Probe, Transmitted, Delayed}
+use Rattle.recovery_events.specs.declared.event.Answer.TheVariants.{Probe}
 use Rattle.recovery_events.specs.declared.event.Refusal.{Refusal}
-use Rattle.recovery_events.specs.declared.event.Refusal.TheVariants.{DelayTooSmall, NoMemory, NoSuchPath}
-use Rattle.quic_recovery.specs.Entries.{here, answered, refused, entries_of, found_in, logs_of}
+use Rattle.recovery_events.specs.declared.event.Refusal.TheVariants.{NoMemory, NoSuchPath}
+use Rattle.quic_recovery.specs.Entries.{Entries, here, answered, entries_of, logs_of}
 use Rattle.quic_recovery.specs.History.{Beginning, History, Reply, Throughout}
 use Rattle.quic_recovery.specs.Known.{Known, known_by, number_in, packet_now}
 use Rattle.quic_recovery.specs.Logs.{onto}
@@ -35,6 +36,7 @@ use Rattle.quic_recovery.specs.Told.{Told, Is, OnPath, counters_answer}
 use Rattle.quic_recovery.specs.Promises.Counted.{sum_on, total, IsTally, CountsInFlight}
 use Rattle.quic_recovery.specs.Promises.Paths.{paths_made}
 use Rattle.quic_recovery.proofs.AmplificationLaws.{throughout_kept}
+use Rattle.quic_recovery.proofs.EntryKinds.{keeps_packets, space_kind, space_kept, refused_keeps}
 use Rattle.quic_recovery.proofs.PathLaws.{generation_told}
 use Rattle.quic_recovery.proofs.TrackedLaws.{AllTracked, keeps_tracked, none_tracked, probe_number, one_space, sent_in, times}
 
@@ -223,18 +225,15 @@ module _ {F K Q S M P : Type 0} (beginning : Beginning F K Q S M P) (before : Hi
   nothing = none_more is_path _ _ (same weigh generation gone)
 
   -- an entry of a space that keeps the sum
-  stays : (there : SpaceId) (entry : SpaceEntry P M)
-      → ((space : SpaceId) → sum_of space (sent space) ≡ sum_of space
-      (sent_by beginning.queue.words (entry ∷ log space)))
-      → cond is_path 0 0 + sum_on weigh generation gone before ≡ over_spaces (sum_after (only there entry))
-  stays there entry keeps =
-      nothing ∙ spaces_same _ (sum_after (only there entry)) (λ space. go space (same_space there space))
-    where
-      go : (space : SpaceId) (b : Bool)
-          → sum_of space (sent space) ≡ sum_of space
-          (sent_by beginning.queue.words (onto (cond b (Some entry) None) (log space)))
-      go space true = keeps space
-      go space false = refl
+  unmoved : (space : SpaceId) (entry : SpaceEntry P M) → keeps_packets (space_kind entry) ≡ true
+      → sum_of space (sent space) ≡ sum_of space (sent_by beginning.queue.words (entry ∷ log space))
+  unmoved space (sends number packet) keeps = absurd (false≢true keeps)
+  unmoved space (acknowledged number) keeps = absurd (false≢true keeps)
+  unmoved space (loses number) keeps = absurd (false≢true keeps)
+  unmoved space emptied keeps = absurd (false≢true keeps)
+  unmoved space (probes immediate found) keeps =
+      sum_moved weigh generation (sent space) (gone space) beginning.queue.words.empty found
+  unmoved space entry keeps = refl
 
   -- one number of a space is gone too
   leaves_one : (there : SpaceId) (number : ℕ) (entry : SpaceEntry P M)
@@ -336,38 +335,25 @@ module _ {F K Q S M P : Type 0} (beginning : Beginning F K Q S M P) (before : Hi
       leaves_one there number (acknowledged number) (λ space. refl)
   answer_counts (Lost there number) answer told = leaves_one there number (loses number) (λ space. refl)
   answer_counts (DiscardSpace there) answer told = leaves_all there
-  answer_counts (Received there now number eliciting) (New arm) told =
-      stays there (heard now number eliciting) (λ space. refl)
-  answer_counts (Received there now number eliciting) answer told = stays there (heard_again number) (λ space. refl)
-  answer_counts (AckFrequencyIn frame) (Flag true) told = stays Data (asked frame) (λ space. refl)
-  answer_counts (AckFrequencyIn frame) (Flag false) told = nothing
-  answer_counts (AckFrequencyIn frame) answer told = nothing
-  answer_counts (AcksSent there) answer told = stays there ack_goes (λ space. refl)
-  answer_counts (AckDelayTimeout there) answer told = stays there ack_is_late (λ space. refl)
-  answer_counts (Ecn there newly counts) answer told = stays there (feeds_back counts) (λ space. refl)
-  answer_counts (QueueProbe there immediate streams) answer told =
-      let found = found_in known beginning.queue.words streams there in
-      stays there (probes immediate found) (λ space. sum_moved weigh generation (sent space) (gone space)
-      beginning.queue.words.empty found)
-  answer_counts (TakePending there) answer told = stays there takes_pending (λ space. refl)
-  answer_counts (Transmit now bytes true) Transmitted told = nothing
-  answer_counts (Transmit now bytes true) (Delayed until) told = nothing
-  answer_counts (Transmit now bytes true) answer told = nothing
-  answer_counts (Transmit now bytes false) answer told = nothing
-  answer_counts event answer told = nothing
+  answer_counts event answer told =
+      nothing ∙ spaces_same _ (sum_after (answered beginning.queue known event answer).spaces) (λ space.
+      space_kept beginning.queue known space
+      (λ entry. sum_of space (sent space) ≡ sum_of space (sent_by beginning.queue.words (onto entry (log space))))
+      keeps_packets refl (unmoved space) event (Ok answer) refl)
 
   refusal_counts : (event : Event Q S M P) (refusal : Refusal)
-      → sum_on weigh generation gone ((event, Err refusal) ∷ before) ≡ over_spaces
-      (sum_after (refused event refusal).spaces)
-  refusal_counts (AckFrequencyIn frame) DelayTooSmall = nothing
-  refusal_counts (AckFrequencyIn frame) refusal = nothing
+      → sum_on weigh generation gone ((event, Err refusal) ∷ before) ≡ over_spaces (sum_after (λ space. None))
+  refusal_counts (PollMtu now) refusal = nothing
   refusal_counts event refusal = nothing
 
   reply_counts : (event : Event Q S M P) (reply : Reply Q) → Told beginning before event reply
       → sum_on weigh generation gone ((event, reply) ∷ before) ≡ over_spaces
       (sum_after (entries_of beginning.queue known event reply).spaces)
   reply_counts event (Ok answer) told = answer_counts event answer told
-  reply_counts event (Err refusal) told = refusal_counts event refusal
+  reply_counts event (Err refusal) told =
+      refused_keeps event refusal
+      (λ (e : Entries P M). sum_on weigh generation gone ((event, Err refusal) ∷ before) ≡ over_spaces
+      (sum_after e.spaces)) (refusal_counts event refusal)
 
 -- ---- what is told of it
 

@@ -1,32 +1,27 @@
 -- The datagrams of each path by the history itself are those that its past in the logs has. `ThreefoldLaws` and
 -- `BlockedLaws` rest on it.
-use Rattle.std.proofs.Common.{ℕ, ◌≡◌, ◌+◌, ◌&&◌, Bool, true, false, cond, List, [], ◌∷◌, ◌++◌, Option, None, Some, option_map, Ok, Err, refl, sym, ap, subst, ◌∙◌, arith}
+use Rattle.std.proofs.Common.{ℕ, ◌≡◌, ◌+◌, ◌&&◌, Bool, true, false, List, [], ◌∷◌, ◌++◌, Option, None, Some, option_map, Ok, Err, refl, sym, ap, subst, ◌∙◌, arith}
+use Rattle.std.proofs.lemmas.Bool.{false≢true}
 use Rattle.std.specs.Prelude.{sum_by}
 use Rattle.std.specs.List.{list_all}
 use Rattle.std.proofs.lemmas.List.Sums.{sum_by-cons}
-use Rattle.recovery_base.specs.declared.below.SpaceId.{SpaceId}
-use Rattle.recovery_congestion.specs.Calls.{ControllerCall}
-use Rattle.recovery_ledger.specs.Packets.{Packet, packet_at}
-use Rattle.recovery_mtud.specs.Discovery.{is_data, reports}
-use Rattle.recovery_mtud.specs.DiscoveryLog.{MtuCall, losses_end, acks as acks_packet}
 use Rattle.recovery_paths.specs.declared.live_paths.PathName.{PathName}
 use Rattle.recovery_paths.specs.declared.live_paths.PathName.TheVariants.{Current, Previous}
-use Rattle.recovery_paths.specs.PathLog.{OfPaths, PathEntry, PathsEntry, PathPast, PathKnown, total, total_transmitted, each_path, known_of, on, moves, drops_previous, on_current, receives, is_validated as validates, samples, tells, searches, asks, transmits, passes, is_reset, past_with, pasts_by}
+use Rattle.recovery_paths.specs.PathLog.{OfPaths, PathEntry, PathsEntry, PathPast, PathKnown, total, total_transmitted, each_path, known_of, on, moves, drops_previous, on_current, receives, is_validated as validates, transmits, passes, past_with, pasts_by}
 use Rattle.recovery_paths.specs.PathMaking.{PathMaking, PathSettings}
-use Rattle.recovery_paths.specs.PathStates.{is_path_probe, loss_call}
 use Rattle.recovery_events.specs.declared.event.Event.{Event}
-use Rattle.recovery_events.specs.declared.event.Event.TheVariants.{Received, Send, Acked, Lost, AckFrequencyIn, PollMtu, PeerLimit, LossesDone, Transmit, DatagramIn, Validated, Sample, PacerCheck, Congestion, EndAcks, NewPath, ResetPath, DropPrevious}
+use Rattle.recovery_events.specs.declared.event.Event.TheVariants.{Transmit, DatagramIn, Validated, NewPath, DropPrevious}
 use Rattle.recovery_events.specs.declared.event.Answer.{Answer}
-use Rattle.recovery_events.specs.declared.event.Answer.TheVariants.{New, Flag, Transmitted, Delayed, Probe}
+use Rattle.recovery_events.specs.declared.event.Answer.TheVariants.{Transmitted, Delayed}
 use Rattle.recovery_events.specs.declared.event.Refusal.{Refusal}
-use Rattle.recovery_events.specs.declared.event.Refusal.TheVariants.{DelayTooSmall}
 use Rattle.quic_recovery.specs.Amplification.{pasts_of}
-use Rattle.quic_recovery.specs.Entries.{answered, refused, acked_entry, acked_search, lost_search, searched, is_own, logs_of}
+use Rattle.quic_recovery.specs.Entries.{Entries, answered, logs_of}
 use Rattle.quic_recovery.specs.History.{Beginning, History, Reply}
-use Rattle.quic_recovery.specs.Known.{Known, known_by, first_path, settings_of, tracked_known}
+use Rattle.quic_recovery.specs.Known.{Known, known_by, first_path, settings_of}
 use Rattle.quic_recovery.specs.Told.{Told, OnPath}
 use Rattle.quic_recovery.specs.Promises.Datagrams.{datagrams_on, bytes_in, bytes_out, is_validated}
 use Rattle.quic_recovery.specs.Promises.Threefold.{is_checked}
+use Rattle.quic_recovery.proofs.EntryKinds.{PathKind, receiving, validating, transmitting, passing, moving, dropping, elsewhere, path_kind, is_by, paths_kept, refused_keeps}
 
 -- ---- what the bound reads of a path
 
@@ -96,71 +91,27 @@ module _ {Q S M P : Type 0} where
 
 -- ---- entries that are no datagrams
 
-abbrev IsQuiet : PathEntry → Type 0
-IsQuiet (samples delay rtt) = Unit {0}
-IsQuiet (tells call) = Unit {0}
-IsQuiet (searches call) = Unit {0}
-IsQuiet (asks now bytes) = Unit {0}
-IsQuiet (is_reset now) = Unit {0}
-IsQuiet entry = ⊥
-
-abbrev AreQuiet : List PathsEntry → Type 0
-AreQuiet [] = Unit {0}
-AreQuiet (on Current entry ∷ earlier) = IsQuiet entry × AreQuiet earlier
-AreQuiet (entry ∷ earlier) = ⊥
+abbrev is_quiet : PathKind → Bool
+is_quiet receiving = false
+is_quiet validating = false
+is_quiet transmitting = false
+is_quiet passing = false
+is_quiet moving = false
+is_quiet dropping = false
+is_quiet elsewhere = false
+is_quiet kind = true
 
 module _ {K : Type 0} (settings : PathSettings K) (first : PathMaking K) where
   abbrev flows_in : List PathsEntry → OfPaths Flow
   flows_in log = each_path flow_of (pasts_by settings first log)
 
-  quiet_one : (entry : PathEntry) → IsQuiet entry → (log : List PathsEntry)
+  quiet_one : (entry : PathEntry) → is_quiet (path_kind (on Current entry)) ≡ true → (log : List PathsEntry)
       → flows_in (on Current entry ∷ log) ≡ flows_in log
-  quiet_one (samples delay rtt) quiet log = refl
-  quiet_one (tells call) quiet log = refl
-  quiet_one (searches call) quiet log = refl
-  quiet_one (asks now bytes) quiet log = refl
-  quiet_one (is_reset now) quiet log = refl
-  quiet_one (receives bytes) quiet log = absurd quiet
-  quiet_one validates quiet log = absurd quiet
-  quiet_one (transmits bytes) quiet log = absurd quiet
-  quiet_one (passes now bytes) quiet log = absurd quiet
-
-  quiet_all : (entries log : List PathsEntry) → AreQuiet entries → flows_in (entries ++ log) ≡ flows_in log
-  quiet_all [] log quiet = refl
-  quiet_all (on Current entry ∷ earlier) log quiet = quiet_one entry quiet.0 (earlier ++ log)
-      ∙ quiet_all earlier log quiet.1
-  quiet_all (on Previous entry ∷ earlier) log quiet = absurd quiet
-  quiet_all (moves following ∷ earlier) log quiet = absurd quiet
-  quiet_all (drops_previous ∷ earlier) log quiet = absurd quiet
-
-module _ {K P M : Type 0} (known : Known K P M) where
-  searched_quiet : (changes : Bool) (call : MtuCall) → AreQuiet (searched known changes call)
-  searched_quiet true call = (tt, (tt, tt))
-  searched_quiet false call = (tt, tt)
-
-  data_quiet : (is_data : Bool) (changes : Bool) (call : MtuCall)
-      → AreQuiet (cond is_data (searched known changes call) [])
-  data_quiet true changes call = searched_quiet changes call
-  data_quiet false changes call = tt
-
-  acked_with : (own : Bool) (call : ControllerCall) (entries : List PathsEntry) → AreQuiet entries
-      → AreQuiet (cond own (on_current (tells call) ∷ []) [] ++ entries)
-  acked_with true call entries quiet = (tt, quiet)
-  acked_with false call entries quiet = quiet
-
-  acked_quiet : (space : SpaceId) (now number : ℕ) (app_limited : Bool) (packet : Option (Packet P M))
-      → AreQuiet (acked_entry known now app_limited packet ++ acked_search known space number packet)
-  acked_quiet space now number app_limited None = tt
-  acked_quiet space now number app_limited (Some packet) =
-      acked_with (is_own known packet && packet.ack_eliciting) _ (acked_search known space number (Some packet))
-      (data_quiet (is_data space) (is_path_probe space number known.paths.current.state)
-      (acks_packet number packet.size))
-
-  lost_quiet : (space : SpaceId) (number : ℕ) (packet : Option (Packet P M))
-      → AreQuiet (lost_search known space number packet)
-  lost_quiet space number None = tt
-  lost_quiet space number (Some packet) =
-      data_quiet (is_data space) false (loss_call number packet.size known.paths.current.state.discovery)
+  quiet_one (receives bytes) quiet log = absurd (false≢true quiet)
+  quiet_one validates quiet log = absurd (false≢true quiet)
+  quiet_one (transmits bytes) quiet log = absurd (false≢true quiet)
+  quiet_one (passes now bytes) quiet log = absurd (false≢true quiet)
+  quiet_one entry quiet log = refl
 
 -- ---- the table
 
@@ -182,10 +133,22 @@ module _ {F K Q S M P : Type 0} (beginning : Beginning F K Q S M P) (earlier : H
 
   module _ (same : AreFlows first earlier (flows log)) where
     -- what is no datagram on a path
-    quietly : (entries : List PathsEntry) → AreQuiet entries → AreFlows first earlier (flows (entries ++ log))
-    quietly entries quiet =
+    one_more : (entry : PathsEntry) (entries : List PathsEntry) → is_quiet (path_kind entry) ≡ true
+        → AreFlows first earlier (flows (entries ++ log)) → AreFlows first earlier (flows (entry ∷ entries ++ log))
+    one_more (on Current entry) entries quiet flows =
         subst (AreFlows first earlier)
-        (sym (quiet_all (settings_of beginning) (first_path beginning) entries log quiet)) same
+        (sym (quiet_one (settings_of beginning) (first_path beginning) entry quiet (entries ++ log))) flows
+    one_more (on Previous (receives bytes)) entries quiet flows = absurd (false≢true quiet)
+    one_more (on Previous validates) entries quiet flows = absurd (false≢true quiet)
+    one_more (on Previous entry) entries quiet flows = absurd (false≢true quiet)
+    one_more (moves following) entries quiet flows = absurd (false≢true quiet)
+    one_more drops_previous entries quiet flows = absurd (false≢true quiet)
+
+    quietly : (event : Event Q S M P) (answer : Answer Q) → is_by is_quiet event ≡ true
+        → AreFlows first earlier (flows ((answered beginning.queue known event answer).paths ++ log))
+    quietly event answer quiet =
+        paths_kept beginning.queue known (λ entries. AreFlows first earlier (flows (entries ++ log))) is_quiet same
+        one_more event (Ok answer) quiet
 
     -- ---- on the previous path, where it lives
 
@@ -253,43 +216,24 @@ module _ {F K Q S M P : Type 0} (beginning : Beginning F K Q S M P) (earlier : H
         (sym told.1) (went_unchecked now bytes)
     answer_flows (NewPath now remote is_fresh) answer told = moved now remote is_fresh answer
     answer_flows DropPrevious answer told = (same.0, refl)
-    answer_flows (Sample delay rtt) answer told = same
-    answer_flows (Send space now size eliciting largest queue frames) answer told = same
-    answer_flows (PacerCheck now bytes) answer told = same
-    answer_flows (Congestion now sent persistent bytes) answer told = same
-    answer_flows (EndAcks now app_limited largest) answer told = same
-    answer_flows (ResetPath now) answer told = same
-    answer_flows (Acked space now number app_limited) answer told = quietly _ (acked_quiet known space now number
-        app_limited (packet_at (tracked_known known space) number))
-    answer_flows (Lost space number) answer told =
-        quietly _ (lost_quiet known space number (packet_at (tracked_known known space) number))
-    answer_flows (PollMtu now) (Probe number size) told = same
-    answer_flows (PollMtu now) answer told = same
-    answer_flows (PeerLimit size) answer told = same
-    answer_flows (LossesDone now) answer told =
-        quietly _ (searched_quiet known (reports known.paths.current.state.discovery) (losses_end now))
-    answer_flows (Received space now number eliciting) (New arm) told = same
-    answer_flows (Received space now number eliciting) answer told = same
-    answer_flows (AckFrequencyIn frame) (Flag true) told = same
-    answer_flows (AckFrequencyIn frame) (Flag false) told = same
-    answer_flows (AckFrequencyIn frame) answer told = same
-    answer_flows event answer told = same
+    answer_flows event answer told = quietly event answer refl
 
     refusal_flows : (event : Event Q S M P) (refusal : Refusal)
-        → AreFlows first ((event, Err refusal) ∷ earlier) (flows ((refused event refusal).paths ++ log))
+        → AreFlows first ((event, Err refusal) ∷ earlier) (flows log)
     refusal_flows (DatagramIn Current bytes) refusal = same
     refusal_flows (DatagramIn Previous bytes) refusal = same
     refusal_flows (Validated Current) refusal = same
     refusal_flows (Validated Previous) refusal = same
-    refusal_flows (AckFrequencyIn frame) DelayTooSmall = same
-    refusal_flows (AckFrequencyIn frame) refusal = same
     refusal_flows event refusal = same
 
     -- one event more
     pub reply_flows : (event : Event Q S M P) (reply : Reply Q) → Told beginning earlier event reply
         → AreFlows first ((event, reply) ∷ earlier) (each_path flow_of (pasts_of beginning ((event, reply) ∷ earlier)))
     reply_flows event (Ok answer) told = answer_flows event answer told
-    reply_flows event (Err refusal) told = refusal_flows event refusal
+    reply_flows event (Err refusal) told =
+        refused_keeps event refusal
+        (λ (e : Entries P M). AreFlows first ((event, Err refusal) ∷ earlier) (flows (e.paths ++ log)))
+        (refusal_flows event refusal)
 
 module _ {F K Q S M P : Type 0} (beginning : Beginning F K Q S M P) where
   -- in a history that was told so, the flows by events and answers are those of the pasts

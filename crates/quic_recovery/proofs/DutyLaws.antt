@@ -1,27 +1,27 @@
 -- While an ack-eliciting packet waits, an ACK is required at once or the timer was started, by what each event is told:
 -- the clause `duty` of `run`.
 use Rattle.std.proofs.Common.{◌≡◌, ◌<◌, ℕ, Bool, true, false, not, ◌&&◌, ◌||◌, cond, List, [], ◌∷◌, Option, None, Some, Ok, Err, ◌⊎◌, inl, inr, ◌↔◌, IsTrue, refl, subst, arith}
+use Rattle.std.proofs.lemmas.Bool.{false≢true}
 use Rattle.recovery_acks.specs.Acks.{counted}
 use Rattle.recovery_base.specs.declared.below.SpaceId.{SpaceId}
-use Rattle.recovery_base.specs.declared.below.SpaceId.TheVariants.{Data}
 use Rattle.recovery_base.specs.Spaces.{same_space}
 use Rattle.recovery_ledger.specs.Acks.{Arms, AsksAtOnce, IsRequired, StartedAt, counts_by, heard_by}
 use Rattle.recovery_ledger.specs.Received.{CameIn}
-use Rattle.recovery_ledger.specs.SpaceLog.{SpaceEntry, heard, heard_again, ack_goes, ack_is_late, asked}
+use Rattle.recovery_ledger.specs.SpaceLog.{SpaceEntry, heard, heard_again, ack_goes, ack_is_late}
 use Rattle.recovery_queue.specs.Queues.{QueueWords}
 use Rattle.recovery_events.specs.declared.event.Event.{Event}
-use Rattle.recovery_events.specs.declared.event.Event.TheVariants.{Received, Send, Acked, Lost, AckFrequencyIn, AcksSent, AckDelayTimeout, DiscardSpace, PollMtu, Transmit, Ecn, QueueProbe, TakePending}
+use Rattle.recovery_events.specs.declared.event.Event.TheVariants.{Received, AcksSent, AckDelayTimeout}
 use Rattle.recovery_events.specs.declared.event.Answer.{Answer}
-use Rattle.recovery_events.specs.declared.event.Answer.TheVariants.{New, Flag, Probe, Transmitted, Delayed}
+use Rattle.recovery_events.specs.declared.event.Answer.TheVariants.{New}
 use Rattle.recovery_events.specs.declared.event.Refusal.{Refusal}
-use Rattle.recovery_events.specs.declared.event.Refusal.TheVariants.{DelayTooSmall}
-use Rattle.quic_recovery.specs.Entries.{answered, refused, entries_of, logs_of}
+use Rattle.quic_recovery.specs.Entries.{Entries, answered, entries_of, logs_of}
 use Rattle.quic_recovery.specs.History.{Beginning, History, Reply, Throughout}
 use Rattle.quic_recovery.specs.Known.{Known, known_by}
 use Rattle.quic_recovery.specs.Logs.{onto}
 use Rattle.quic_recovery.specs.Promises.Duty.{KeepsDuty, timer_starts, waits}
 use Rattle.quic_recovery.specs.Told.{Told}
 use Rattle.quic_recovery.proofs.AmplificationLaws.{throughout_kept}
+use Rattle.quic_recovery.proofs.EntryKinds.{SpaceKind, hearing, answering, delaying, space_kind, space_kept, refused_keeps}
 use Rattle.quic_recovery.proofs.RequiredLaws.{Decided, either, asks, is_required}
 use Rattle.quic_recovery.proofs.TrackedLaws.{one_space}
 
@@ -93,6 +93,13 @@ module _ {P M S : Type 0} (words : QueueWords P S) (waiting starting : Bool) (lo
 
 -- ---- what an event does
 
+-- nothing that an ACK has to do with
+abbrev is_silent : SpaceKind → Bool
+is_silent hearing = false
+is_silent answering = false
+is_silent delaying = false
+is_silent kind = true
+
 module _ {F K Q S M P : Type 0} (beginning : Beginning F K Q S M P) (before : History Q S M P) (space : SpaceId)
     (here : AttendsTo beginning.queue.words (waits space before) (timer_starts space before)
     ((logs_of beginning before).spaces space)) where
@@ -145,6 +152,14 @@ module _ {F K Q S M P : Type 0} (beginning : Beginning F K Q S M P) (before : Hi
             (subst (λ s. ¬ ArmsIn s number) (one_space there space at) other)
         go false at = here
 
+  -- all other entries
+  unmoved : (entry : SpaceEntry P M) → is_silent (space_kind entry) ≡ true → After (Some entry) waiting starting
+  unmoved (heard now number eliciting) is = absurd (false≢true is)
+  unmoved (heard_again number) is = absurd (false≢true is)
+  unmoved ack_goes is = absurd (false≢true is)
+  unmoved ack_is_late is = absurd (false≢true is)
+  unmoved entry is = here
+
   answer_attends : (event : Event Q S M P) (answer : Answer Q) → Told beginning before event (Ok answer)
       → After ((answered beginning.queue known event answer).spaces space)
       (waits space ((event, Ok answer) ∷ before)) (timer_starts space ((event, Ok answer) ∷ before))
@@ -160,30 +175,12 @@ module _ {F K Q S M P : Type 0} (beginning : Beginning F K Q S M P) (before : Hi
   answer_attends (AcksSent there) answer told = sends_ack (same_space there space)
   answer_attends (AckDelayTimeout there) answer told =
       stays (same_space there space) ack_is_late (late beginning.queue.words waiting starting (log space) here)
-  answer_attends (Send there now size eliciting largest queue frames) answer told =
-      stays (same_space there space) _ here
-  answer_attends (Acked there now number app_limited) answer told = stays (same_space there space) _ here
-  answer_attends (Lost there number) answer told = stays (same_space there space) _ here
-  answer_attends (AckFrequencyIn frame) (Flag true) told = stays (same_space Data space) (asked frame) here
-  answer_attends (AckFrequencyIn frame) (Flag false) told = here
-  answer_attends (AckFrequencyIn frame) answer told = here
-  answer_attends (DiscardSpace there) answer told = stays (same_space there space) _ here
-  answer_attends (PollMtu now) (Probe number size) told = stays (same_space Data space) _ here
-  answer_attends (PollMtu now) answer told = here
-  answer_attends (Ecn there newly counts) answer told = stays (same_space there space) _ here
-  answer_attends (QueueProbe there immediate streams) answer told = stays (same_space there space) _ here
-  answer_attends (TakePending there) answer told = stays (same_space there space) _ here
-  answer_attends (Transmit now bytes true) Transmitted told = here
-  answer_attends (Transmit now bytes true) (Delayed until) told = here
-  answer_attends (Transmit now bytes true) answer told = here
-  answer_attends (Transmit now bytes false) answer told = here
-  answer_attends event answer told = here
+  answer_attends event answer told =
+      space_kept beginning.queue known space (λ entry. After entry waiting starting) is_silent here unmoved event
+      (Ok answer) refl
 
   refusal_attends : (event : Event Q S M P) (refusal : Refusal)
-      → After ((refused event refusal).spaces space)
-      (waits space ((event, Err refusal) ∷ before)) (timer_starts space ((event, Err refusal) ∷ before))
-  refusal_attends (AckFrequencyIn frame) DelayTooSmall = here
-  refusal_attends (AckFrequencyIn frame) refusal = here
+      → After None (waits space ((event, Err refusal) ∷ before)) (timer_starts space ((event, Err refusal) ∷ before))
   refusal_attends (Received there now number true) refusal = here
   refusal_attends (Received there now number false) refusal = here
   refusal_attends event refusal = here
@@ -192,7 +189,11 @@ module _ {F K Q S M P : Type 0} (beginning : Beginning F K Q S M P) (before : Hi
       → After ((entries_of beginning.queue known event reply).spaces space)
       (waits space ((event, reply) ∷ before)) (timer_starts space ((event, reply) ∷ before))
   reply_attends event (Ok answer) told = answer_attends event answer told
-  reply_attends event (Err refusal) told = refusal_attends event refusal
+  reply_attends event (Err refusal) told =
+      refused_keeps event refusal
+      (λ (e : Entries P M). After (e.spaces space) (waits space ((event, Err refusal) ∷ before))
+      (timer_starts space ((event, Err refusal) ∷ before)))
+      (refusal_attends event refusal)
 
 -- ---- throughout a run
 

@@ -1,5 +1,6 @@
 -- What each event is to the search on the path in use is read off its answer. `SearchSteps` go on from it.
 use Rattle.std.proofs.Common.{ℕ, ◌≡◌, ◌&&◌, Bool, true, false, if◌then◌else◌, List, [], ◌∷◌, ◌++◌, Option, None, Some, Ok, Err, refl, sym, ap, subst, ◌∙◌}
+use Rattle.std.proofs.lemmas.Bool.{false≢true}
 use Rattle.recovery_base.specs.declared.below.SpaceId.{SpaceId}
 use Rattle.recovery_base.specs.declared.below.SpaceId.TheVariants as space
 use Rattle.recovery_congestion.specs.Calls.{ControllerCall}
@@ -8,22 +9,51 @@ use Rattle.recovery_mtud.specs.Discovery.{is_data, poll_of, reports}
 use Rattle.recovery_mtud.specs.DiscoveryLog.{MtuCall, acks as acks_packet, loses, loses_probe, losses_end, discovery_by}
 use Rattle.recovery_mtud.specs.MtuEntries.{MtuEntry, acked, lost, probe_lost, poll_entry, entry_of}
 use Rattle.recovery_paths.specs.PathMaking.{PathMaking, PathSettings}
-use Rattle.recovery_paths.specs.PathLog.{PathsEntry, PathPast, on_current, pasts_by, tells}
+use Rattle.recovery_paths.specs.PathLog.{PathEntry, PathsEntry, PathPast, on, moves, drops_previous, on_current, pasts_by, tells, searches, is_reset}
 use Rattle.recovery_paths.specs.PathStates.{is_path_probe, loss_call}
 use Rattle.recovery_events.specs.declared.event.Event.{Event}
-use Rattle.recovery_events.specs.declared.event.Event.TheVariants.{Received, Acked, Lost, AckFrequencyIn, DatagramIn, Validated, Transmit, PollMtu, PeerLimit, LossesDone, NewPath, ResetPath}
+use Rattle.recovery_events.specs.declared.event.Event.TheVariants.{PollMtu, Acked, Lost, LossesDone, PeerLimit, ResetPath, NewPath}
 use Rattle.recovery_events.specs.declared.event.Answer.{Answer}
-use Rattle.recovery_events.specs.declared.event.Answer.TheVariants.{New, Flag, Transmitted, Delayed}
 use Rattle.recovery_paths.specs.declared.live_paths.PathName.TheVariants.{Current, Previous}
 use Rattle.recovery_events.specs.declared.event.Refusal.{Refusal}
-use Rattle.recovery_events.specs.declared.event.Refusal.TheVariants.{DelayTooSmall}
 use Rattle.quic_recovery.specs.Amplification.{pasts_of}
-use Rattle.quic_recovery.specs.Entries.{acked_entry, acked_search, is_own, logs_of, lost_search, searched}
+use Rattle.quic_recovery.specs.Entries.{Entries, acked_entry, acked_search, is_own, logs_of, lost_search, searched}
 use Rattle.quic_recovery.specs.History.{Beginning, History, Reply, Throughout}
 use Rattle.quic_recovery.specs.Known.{Known, first_path, known_by, settings_of, tracked_known}
 use Rattle.quic_recovery.specs.Told.{Told, ProbeOutReply}
+use Rattle.quic_recovery.proofs.EntryKinds.{PathKind, departing, limiting, searching, resetting, moving, elsewhere, call_kind, path_kind, paths_kept, refused_keeps}
 use Rattle.quic_recovery.proofs.SearchSaid.{EntersAsTold, data_packet, entries_on, of_packet}
 use Rattle.quic_recovery.proofs.AmplificationLaws.{throughout_kept}
+
+-- the search sees nothing of it, nor does it begin anew
+abbrev is_unseen : PathKind → Bool
+is_unseen departing = false
+is_unseen limiting = false
+is_unseen searching = false
+is_unseen resetting = false
+is_unseen moving = false
+is_unseen elsewhere = false
+is_unseen kind = true
+
+-- whatever the search is told, it sees something
+call_seen : (call : MtuCall) → is_unseen (call_kind call) ≡ false
+call_seen loses_probe = refl
+call_seen call = refl
+
+module _ {K : Type 0} (settings : PathSettings K) (first : PathMaking K) where
+  unseen_here : (entry : PathEntry) (log : List PathsEntry) → is_unseen (path_kind (on Current entry)) ≡ true
+      → entries_on (pasts_by settings first (on Current entry ∷ log)).current
+      ≡ entries_on (pasts_by settings first log).current
+  unseen_here (searches call) log is = absurd (false≢true (sym (call_seen call) ∙ is))
+  unseen_here (is_reset now) log is = absurd (false≢true is)
+  unseen_here entry log is = refl
+
+  unseen_one : (entry : PathsEntry) (log : List PathsEntry) → is_unseen (path_kind entry) ≡ true
+      → entries_on (pasts_by settings first (entry ∷ log)).current ≡ entries_on (pasts_by settings first log).current
+  unseen_one (on Current entry) log is = unseen_here entry log is
+  unseen_one (on Previous entry) log is = refl
+  unseen_one (moves following) log is = absurd (false≢true is)
+  unseen_one drops_previous log is = refl
 
 module _ {K P M : Type 0} (settings : PathSettings K) (first : PathMaking K) (log : List PathsEntry)
     (known : Known K P M) where
@@ -145,27 +175,20 @@ module _ {F K Q S M P : Type 0} (beginning : Beginning F K Q S M P) (past : Hist
   answered_entered (ResetPath now) given told = refl
   answered_entered (NewPath now remote true) given told = refl
   answered_entered (NewPath now remote false) given told = refl
-  answered_entered (Transmit now bytes true) Transmitted told = refl
-  answered_entered (Transmit now bytes true) (Delayed until) told = refl
-  answered_entered (Transmit now bytes true) given told = refl
-  answered_entered (Transmit now bytes false) given told = refl
-  answered_entered (DatagramIn Current bytes) given told = refl
-  answered_entered (DatagramIn Previous bytes) given told = refl
-  answered_entered (Validated Current) given told = refl
-  answered_entered (Validated Previous) given told = refl
-  answered_entered (Received space now number eliciting) (New arm) told = refl
-  answered_entered (Received space now number eliciting) given told = refl
-  answered_entered (AckFrequencyIn frame) (Flag true) told = refl
-  answered_entered (AckFrequencyIn frame) (Flag false) told = refl
-  answered_entered (AckFrequencyIn frame) given told = refl
-  answered_entered event given told = refl
+  answered_entered event given told =
+      let settings = settings_of beginning in
+      let first = first_path beginning in
+      paths_kept beginning.queue known (λ entries. entries_with settings first log known entries ≡ entries_on
+      (pasts_of beginning past).current) is_unseen refl
+      (λ entry earlier is kept. unseen_one settings first entry (earlier ++ log) is ∙ kept) event (Ok given) refl
 
   refused_entered : (event : Event Q S M P) (refusal : Refusal) → EntersAsTold beginning past event (Err refusal)
   refused_entered (NewPath now remote true) refusal = refl
   refused_entered (NewPath now remote false) refusal = refl
-  refused_entered (AckFrequencyIn frame) DelayTooSmall = refl
-  refused_entered (AckFrequencyIn frame) refusal = refl
-  refused_entered event refusal = refl
+  refused_entered (PollMtu now) refusal = refl
+  refused_entered event refusal =
+      refused_keeps event refusal (λ (e : Entries P M). entries_with (settings_of beginning) (first_path beginning) log
+      known e.paths ≡ entries_on (pasts_of beginning past).current) refl
 
   entered_one : (event : Event Q S M P) (reply : Reply Q) → Told beginning past event reply
       → EntersAsTold beginning past event reply

@@ -1,29 +1,29 @@
 -- What the search of the path in use is told of a number happened to that number in the space of 1-RTT packets.
 -- `BurstLaws` rest on it.
-use Rattle.std.proofs.Common.{◌≡◌, ℕ, ◌+◌, ◌≤◌, ◌==◌, ◌&&◌, Bool, true, false, cond, if◌then◌else◌, [], ◌∷◌, ◌++◌, Option, None, Some, Ok, Err, refl, arith}
+use Rattle.std.proofs.Common.{◌≡◌, ℕ, ◌+◌, ◌≤◌, ◌==◌, ◌&&◌, Bool, true, false, cond, if◌then◌else◌, List, [], ◌∷◌, ◌++◌, Option, None, Some, Ok, Err, refl, arith}
+use Rattle.std.proofs.lemmas.Bool.{false≢true}
 use Rattle.recovery_base.specs.declared.below.SpaceId.{SpaceId}
 use Rattle.recovery_base.specs.declared.below.SpaceId.TheVariants.{Initial, Handshake, Data}
 use Rattle.recovery_base.specs.Spaces.{same_space}
 use Rattle.recovery_congestion.specs.Calls.{ControllerCall}
 use Rattle.recovery_ledger.specs.Departures.{one_if_same}
 use Rattle.recovery_ledger.specs.Packets.{Packet, packet_at}
-use Rattle.recovery_mtud.specs.Discovery.{reports, is_probe}
-use Rattle.recovery_mtud.specs.DiscoveryLog.{MtuCall, losses_end, loses_probe, loses as loses_packet, acks as acks_packet}
+use Rattle.recovery_mtud.specs.Discovery.{is_probe}
+use Rattle.recovery_mtud.specs.DiscoveryLog.{MtuCall, loses_probe, loses as loses_packet, acks as acks_packet}
 use Rattle.recovery_paths.specs.declared.live_paths.PathName.TheVariants.{Current, Previous}
-use Rattle.recovery_paths.specs.PathLog.{on_current, tells}
+use Rattle.recovery_paths.specs.PathLog.{PathEntry, PathsEntry, on, moves, drops_previous, on_current, tells, searches}
 use Rattle.recovery_paths.specs.PathStates.{is_path_probe, loss_call}
 use Rattle.recovery_paths.proofs.FateLaws.{fate, fates, told_in, told-append, fates_by}
 use Rattle.recovery_events.specs.declared.event.Event.{Event}
-use Rattle.recovery_events.specs.declared.event.Event.TheVariants.{Received, Send, Acked, Lost, AckFrequencyIn, PollMtu, PeerLimit, LossesDone, Transmit, DatagramIn, Validated, Sample, PacerCheck, Congestion, EndAcks, NewPath, ResetPath, DropPrevious}
+use Rattle.recovery_events.specs.declared.event.Event.TheVariants.{Acked, Lost}
 use Rattle.recovery_events.specs.declared.event.Answer.{Answer}
-use Rattle.recovery_events.specs.declared.event.Answer.TheVariants.{New, Flag, Transmitted, Delayed, Probe}
 use Rattle.recovery_events.specs.declared.event.Refusal.{Refusal}
-use Rattle.recovery_events.specs.declared.event.Refusal.TheVariants.{DelayTooSmall}
 use Rattle.quic_recovery.specs.Amplification.{pasts_of}
-use Rattle.quic_recovery.specs.Entries.{Entries, answered, entries_of, refused, acked_entry, acked_search, lost_search, searched, is_own, logs_of}
+use Rattle.quic_recovery.specs.Entries.{Entries, nothing, answered, entries_of, acked_entry, acked_search, lost_search, searched, is_own, logs_of}
 use Rattle.quic_recovery.specs.History.{Beginning, History, QueueMeaning, Reply}
 use Rattle.quic_recovery.specs.Known.{Known, known_by, first_path, settings_of, tracked_known}
 use Rattle.quic_recovery.specs.Promises.Once.{departures_of}
+use Rattle.quic_recovery.proofs.EntryKinds.{PathKind, departing, elsewhere, call_kind, path_kind, paths_kept, refused_keeps}
 
 -- how often a number leaves the space of 1-RTT packets, where it is this one
 abbrev leaves_data : SpaceId → ℕ → ℕ → ℕ
@@ -96,6 +96,32 @@ module _ {K P M : Type 0} (known : Known K P M) (number : ℕ) where
         lost_tells (is_probe other discovery) other packet.size,
       )
 
+-- ---- all else
+
+-- the search sees no packet leave
+abbrev is_silent : PathKind → Bool
+is_silent departing = false
+is_silent elsewhere = false
+is_silent kind = true
+
+module _ (number : ℕ) where
+  silent_call : (call : MtuCall) → is_silent (call_kind call) ≡ true → fate number call ≡ 0
+  silent_call (acks_packet other bytes) silent = absurd (false≢true silent)
+  silent_call (loses_packet other bytes) silent = absurd (false≢true silent)
+  silent_call call silent = refl
+
+  silent_here : (entry : PathEntry) (earlier : List PathsEntry) → is_silent (path_kind (on Current entry)) ≡ true
+      → told_in number earlier ≡ 0 → told_in number (on Current entry ∷ earlier) ≡ 0
+  silent_here (searches call) earlier silent none = omega (arith, none, silent_call call silent)
+  silent_here entry earlier silent none = omega (arith, none)
+
+  silent_one : (entry : PathsEntry) (earlier : List PathsEntry) → is_silent (path_kind entry) ≡ true
+      → told_in number earlier ≡ 0 → told_in number (entry ∷ earlier) ≡ 0
+  silent_one (on Current entry) earlier silent none = silent_here entry earlier silent none
+  silent_one (on Previous entry) earlier silent none = omega (arith, none)
+  silent_one (moves following) earlier silent none = omega (arith, none)
+  silent_one drops_previous earlier silent none = omega (arith, none)
+
 module _ {K Q S M P : Type 0} (q : QueueMeaning Q S M P) (known : Known K P M) (number : ℕ) (earlier : History Q S M P)
   where
     -- what is told of a number by an event's entries, it left by the event
@@ -103,6 +129,10 @@ module _ {K Q S M P : Type 0} (q : QueueMeaning Q S M P) (known : Known K P M) (
     Departs entries happened =
         told_in number entries.paths + departures_of Data number earlier ≤ departures_of Data number
         (happened ∷ earlier)
+
+    -- nothing is told of a number by these entries
+    at_least : (told now after : ℕ) → told ≡ 0 → now ≤ after → told + now ≤ after
+    at_least told now after none grows = omega (arith, none, grows)
 
     -- by each event
     answer_departs : (event : Event Q S M P) (answer : Answer Q)
@@ -114,43 +144,22 @@ module _ {K Q S M P : Type 0} (q : QueueMeaning Q S M P) (known : Known K P M) (
     answer_departs (Lost space other) answer =
         let departs = lost_departs known number space other (packet_at (tracked_known known space) other) in
         omega (arith, departs)
-    answer_departs (LossesDone now) answer =
-        omega (arith, searched_tells known number (reports known.paths.current.state.discovery) (losses_end now))
-    answer_departs (PollMtu now) (Probe other size) = omega arith
-    answer_departs (PollMtu now) answer = omega arith
-    answer_departs (PeerLimit size) answer = omega arith
-    answer_departs (Transmit now bytes true) Transmitted = omega arith
-    answer_departs (Transmit now bytes true) (Delayed until) = omega arith
-    answer_departs (Transmit now bytes true) answer = omega arith
-    answer_departs (Transmit now bytes false) answer = omega arith
-    answer_departs (Send space now size eliciting largest queue frames) answer = omega arith
-    answer_departs (DatagramIn Current bytes) answer = omega arith
-    answer_departs (DatagramIn Previous bytes) answer = omega arith
-    answer_departs (Validated Current) answer = omega arith
-    answer_departs (Validated Previous) answer = omega arith
-    answer_departs (Sample delay rtt) answer = omega arith
-    answer_departs (PacerCheck now bytes) answer = omega arith
-    answer_departs (Congestion now sent persistent bytes) answer = omega arith
-    answer_departs (EndAcks now app_limited largest) answer = omega arith
-    answer_departs (NewPath now remote is_fresh) answer = omega arith
-    answer_departs (ResetPath now) answer = omega arith
-    answer_departs DropPrevious answer = omega arith
-    answer_departs (Received space now other eliciting) (New arm) = omega arith
-    answer_departs (Received space now other eliciting) answer = omega arith
-    answer_departs (AckFrequencyIn frame) (Flag true) = omega arith
-    answer_departs (AckFrequencyIn frame) (Flag false) = omega arith
-    answer_departs (AckFrequencyIn frame) answer = omega arith
-    answer_departs event answer = omega arith
+    answer_departs event answer =
+        at_least _ (departures_of Data number earlier) (departures_of Data number earlier)
+        (paths_kept q known (λ entries. told_in number entries ≡ 0) is_silent refl (silent_one number) event (Ok answer)
+        refl)
+        (omega arith)
 
     -- and by a refused one
-    refusal_departs : (event : Event Q S M P) (refusal : Refusal) → Departs (refused event refusal) (event, Err refusal)
-    refusal_departs (AckFrequencyIn frame) DelayTooSmall = omega arith
-    refusal_departs (AckFrequencyIn frame) refusal = omega arith
+    refusal_departs : (event : Event Q S M P) (refusal : Refusal) → Departs nothing (event, Err refusal)
+    refusal_departs (Acked space now other app_limited) refusal = omega arith
     refusal_departs event refusal = omega arith
 
     event_departs : (event : Event Q S M P) (reply : Reply Q) → Departs (entries_of q known event reply) (event, reply)
     event_departs event (Ok answer) = answer_departs event answer
-    event_departs event (Err refusal) = refusal_departs event refusal
+    event_departs event (Err refusal) =
+        refused_keeps event refusal (λ (e : Entries P M). Departs e (event, Err refusal))
+        (refusal_departs event refusal)
 
 module _ {F K Q S M P : Type 0} (beginning : Beginning F K Q S M P) (number : ℕ) where
   -- so by a whole history

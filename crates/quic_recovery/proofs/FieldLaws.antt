@@ -1,13 +1,17 @@
 -- What each tracked packet says of itself, as its size, goes with its number: so it stays as packets come and go.
 -- `SizeLaws` and `CarriedLaws` rest on it.
-use Rattle.std.proofs.Common.{ℕ, ◌≡◌, ◌+◌, ◌<◌, ◌≤◌, Bool, true, false, cond, [], ◌∷◌, ◌++◌, Option, None, Some, refl, sym, ap, ◌∙◌, arith}
+use Rattle.std.proofs.Common.{ℕ, ◌≡◌, ◌+◌, ◌<◌, ◌≤◌, Bool, true, false, cond, List, [], ◌∷◌, ◌++◌, Option, None, Some, refl, sym, ap, ◌∙◌, arith}
+use Rattle.std.proofs.lemmas.Bool.{false≢true}
 use Rattle.std.specs.Prelude.{option_map}
 use Rattle.std.specs.Ordering.{nat_cmp}
 use Rattle.std.specs.BTreeMap.{is_at}
 use Rattle.recovery_ledger.specs.Packets.{Packet, Packets, packet_at, without, without_some, replaced, carrying, with_contents, forgotten_number, sent_onto}
 use Rattle.recovery_ledger.specs.Probes.{ProbeFound, pending_stands, moves, nothing_found}
-use Rattle.recovery_ledger.specs.Tracked.{Sent, sent_moved}
+use Rattle.recovery_ledger.specs.SpaceLog.{SpaceEntry, sends, acknowledged, loses, probes, emptied}
+use Rattle.recovery_ledger.specs.Tracked.{Sent, sent_by, sent_moved}
 use Rattle.recovery_ledger.proofs.PacketLaws.{number_at, some_packet, no_packet}
+use Rattle.recovery_queue.specs.Queues.{QueueWords}
+use Rattle.quic_recovery.proofs.EntryKinds.{space_kind, sends_none}
 
 module _ {P M A : Type 0} (says : Packet P M → A) where
   -- packets say what goes with their numbers, which are below another
@@ -100,3 +104,16 @@ module _ {P M A : Type 0} (says : Packet P M → A) where
   said_moved kept by sent empty pending_stands said = said
   said_moved kept by sent empty nothing_found said = said
   said_moved kept by sent empty (moves number) said = said_carrying by sent.next kept sent.tracked number empty said
+
+  -- an entry by which no packet goes out
+  module _ {S : Type 0} (kept : (contents : P) (packet : Packet P M) → says (with_contents contents packet) ≡ says packet)
+      (words : QueueWords P S) (by : ℕ → A) (log : List (SpaceEntry P M)) (said : IsSaid by (sent_by words log)) where
+    pub said_after : (entry : SpaceEntry P M) → sends_none (space_kind entry) ≡ true
+        → IsSaid by (sent_by words (entry ∷ log))
+    said_after (sends number packet) none = absurd (false≢true none)
+    said_after (acknowledged number) none =
+        said_without by (sent_by words log).next (sent_by words log).tracked number said
+    said_after (loses number) none = said_without by (sent_by words log).next (sent_by words log).tracked number said
+    said_after (probes immediate found) none = said_moved kept by (sent_by words log) words.empty found said
+    said_after emptied none = tt
+    said_after entry none = said

@@ -1,23 +1,22 @@
 -- A number is called new exactly where the history itself says so: the clause `new` of `run`, and `RefusedLaws` rest on
 -- it.
-use Rattle.std.proofs.Common.{◌≡◌, ◌≤◌, ◌+◌, ◌^◌, ℕ, Bool, true, false, not, ◌&&◌, ◌||◌, cond, nat_eq, nat_lt, nat_le, List, [], ◌∷◌, None, Some, Ok, Err, ◌⊎◌, inl, inr, ◌↔◌, refl, sym, ap, subst}
+use Rattle.std.proofs.Common.{◌≡◌, ◌≤◌, ◌+◌, ◌^◌, ℕ, Bool, true, false, not, ◌&&◌, ◌||◌, cond, nat_eq, nat_lt, nat_le, List, [], ◌∷◌, None, Some, Ok, Err, ◌⊎◌, inl, inr, ◌↔◌, refl, sym, ap, subst, ◌∙◌}
 use Rattle.std.specs.List.{list_all, list_any}
-use Rattle.std.proofs.lemmas.Bool.{false_from_ne_true, ltb-true, lt-ltb, leb-true, le-leb}
+use Rattle.std.proofs.lemmas.Bool.{false_from_ne_true, ltb-true, lt-ltb, leb-true, le-leb, false≢true}
 use Rattle.std.proofs.lemmas.Bool.Decides.{eqb_tells}
 use Rattle.recovery_base.specs.declared.below.SpaceId.{SpaceId}
-use Rattle.recovery_base.specs.declared.below.SpaceId.TheVariants.{Data}
 use Rattle.recovery_base.specs.Numbers.{IsNew}
 use Rattle.recovery_base.specs.Spaces.{same_space}
 use Rattle.recovery_ledger.specs.Discarded.{was_discarded}
 use Rattle.recovery_ledger.specs.Received.{CameIn}
 use Rattle.recovery_ledger.specs.SpaceLog.{SpaceEntry, heard, heard_again}
 use Rattle.recovery_events.specs.declared.event.Event.{Event}
-use Rattle.recovery_events.specs.declared.event.Event.TheVariants.{Received, Send, Acked, Lost, AckFrequencyIn, AcksSent, AckDelayTimeout, DiscardSpace, PollMtu, Transmit, Ecn, QueueProbe, TakePending}
+use Rattle.recovery_events.specs.declared.event.Event.TheVariants.{Received, DiscardSpace}
 use Rattle.recovery_events.specs.declared.event.Answer.{Answer}
-use Rattle.recovery_events.specs.declared.event.Answer.TheVariants.{New, Duplicate, Flag, Probe, Transmitted, Delayed}
+use Rattle.recovery_events.specs.declared.event.Answer.TheVariants.{New, Duplicate, Done}
 use Rattle.recovery_events.specs.declared.event.Refusal.{Refusal}
-use Rattle.recovery_events.specs.declared.event.Refusal.TheVariants.{NoMemory, NumberTooLarge, SpaceDiscarded, DelayTooSmall}
-use Rattle.quic_recovery.specs.Entries.{answered, refused, entries_of, logs_of}
+use Rattle.recovery_events.specs.declared.event.Refusal.TheVariants.{NoMemory, NumberTooLarge, SpaceDiscarded}
+use Rattle.quic_recovery.specs.Entries.{Entries, answered, entries_of, logs_of}
 use Rattle.quic_recovery.specs.History.{Beginning, History, Reply, QueueMeaning}
 use Rattle.quic_recovery.specs.Known.{SpaceKnown, Known, known_by}
 use Rattle.quic_recovery.specs.Logs.{onto}
@@ -25,6 +24,7 @@ use Rattle.quic_recovery.specs.Replies.{Refuses, Answers}
 use Rattle.quic_recovery.specs.Told.{Told, ReceivedAnswer}
 use Rattle.recovery_ledger.specs.Acks.{Heard, heard_by}
 use Rattle.quic_recovery.specs.Promises.NewNumbers.{is_new, came_in, is_discarded, IsVerdict, CallsNew}
+use Rattle.quic_recovery.proofs.EntryKinds.{SpaceKind, hearing, space_kind, space_kept, plain, plainly, refused_nothing}
 
 -- ---- lists of numbers and sets of numbers
 
@@ -136,11 +136,6 @@ module _ {P M : Type 0} (came : List ℕ) (log : List (SpaceEntry P M)) (alike :
       back (inl is) = inl is
       back (inr other) = inr ((alike m).1 other)
 
-  pick : (b : Bool) (entry : SpaceEntry P M) → Alike came (entry ∷ log)
-      → Alike came (onto (cond b (Some entry) None) log)
-  pick true entry first = first
-  pick false entry first = alike
-
   arrive : (b c : Bool) (n : ℕ) (entry : SpaceEntry P M) → b ≡ c → Alike (n ∷ came) (entry ∷ log)
       → Alike (cond b (n ∷ came) came) (onto (cond c (Some entry) None) log)
   arrive true true n entry is first = first
@@ -148,77 +143,52 @@ module _ {P M : Type 0} (came : List ℕ) (log : List (SpaceEntry P M)) (alike :
   arrive true false n entry is first = cc
   arrive false true n entry is first = cc
 
+abbrev not_heard : SpaceKind → Bool
+not_heard hearing = false
+not_heard kind = true
+
 module _ {K Q S M P : Type 0} (q : QueueMeaning Q S M P) (known : Known K P M) (earlier : History Q S M P)
     (space : SpaceId) where
   module _ (log : List (SpaceEntry P M)) (alike : Alike (came_in space earlier) log) where
-    answer_came : (event : Event Q S M P) (answer : Answer Q)
-        → Alike (came_in space ((event, Ok answer) ∷ earlier)) (onto ((answered q known event answer).spaces space) log)
-    answer_came (Received there now number eliciting) (New arm) =
-        arrive _ log alike _ _ number (heard now number eliciting) refl (one_more _ log alike number)
-    answer_came (Received there now number eliciting) answer =
-        arrive _ log alike _ _ number (heard_again number) refl (one_more _ log alike number)
-    answer_came (Send there now size eliciting largest queue frames) answer =
-        pick _ log alike (same_space there space) _ alike
-    answer_came (Acked there now number app_limited) answer = pick _ log alike (same_space there space) _ alike
-    answer_came (Lost there number) answer = pick _ log alike (same_space there space) _ alike
-    answer_came (AckFrequencyIn frame) (Flag true) = pick _ log alike (same_space Data space) _ alike
-    answer_came (AckFrequencyIn frame) (Flag false) = alike
-    answer_came (AckFrequencyIn frame) answer = alike
-    answer_came (AcksSent there) answer = pick _ log alike (same_space there space) _ alike
-    answer_came (AckDelayTimeout there) answer = pick _ log alike (same_space there space) _ alike
-    answer_came (DiscardSpace there) answer = pick _ log alike (same_space there space) _ alike
-    answer_came (PollMtu now) (Probe number size) = pick _ log alike (same_space Data space) _ alike
-    answer_came (PollMtu now) answer = alike
-    answer_came (Ecn there newly counts) answer = pick _ log alike (same_space there space) _ alike
-    answer_came (QueueProbe there immediate streams) answer = pick _ log alike (same_space there space) _ alike
-    answer_came (TakePending there) answer = pick _ log alike (same_space there space) _ alike
-    answer_came (Transmit now bytes true) Transmitted = alike
-    answer_came (Transmit now bytes true) (Delayed until) = alike
-    answer_came (Transmit now bytes true) answer = alike
-    answer_came (Transmit now bytes false) answer = alike
-    answer_came event answer = alike
-
-    refusal_came : (event : Event Q S M P) (refusal : Refusal)
-        → Alike (came_in space ((event, Err refusal) ∷ earlier)) (onto ((refused event refusal).spaces space) log)
-    refusal_came (AckFrequencyIn frame) DelayTooSmall = alike
-    refusal_came (AckFrequencyIn frame) refusal = alike
-    refusal_came event refusal = alike
+    -- what is no packet that came
+    unheard : (entry : SpaceEntry P M) → not_heard (space_kind entry) ≡ true
+        → Alike (came_in space earlier) (entry ∷ log)
+    unheard (heard now number eliciting) other = absurd (false≢true other)
+    unheard (heard_again number) other = absurd (false≢true other)
+    unheard entry other = alike
 
     reply_came : (event : Event Q S M P) (reply : Reply Q)
         → Alike (came_in space ((event, reply) ∷ earlier)) (onto ((entries_of q known event reply).spaces space) log)
-    reply_came event (Ok answer) = answer_came event answer
-    reply_came event (Err refusal) = refusal_came event refusal
+    reply_came (Received there now number eliciting) (Ok (New arm)) =
+        arrive _ log alike _ _ number (heard now number eliciting) refl (one_more _ log alike number)
+    reply_came (Received there now number eliciting) (Ok answer) =
+        arrive _ log alike _ _ number (heard_again number) refl (one_more _ log alike number)
+    reply_came (Received there now number eliciting) (Err refusal) = alike
+    reply_came event reply =
+        space_kept q known space (λ made. Alike (came_in space earlier) (onto made log)) not_heard alike unheard event
+        reply refl
 
   module _ (log : List SpaceId) (same : is_discarded space earlier ≡ was_discarded space log) where
     answer_drops : (event : Event Q S M P) (answer : Answer Q)
         → is_discarded space ((event, Ok answer) ∷ earlier) ≡ was_discarded space
-        (onto (answered q known event answer).discarded log)
+        (onto (answered q known (plain event) Done).discarded log)
     answer_drops (DiscardSpace there) answer = ap (λ b. same_space there space || b) same
-    answer_drops (Received there now number eliciting) (New arm) = same
-    answer_drops (Received there now number eliciting) answer = same
-    answer_drops (AckFrequencyIn frame) (Flag true) = same
-    answer_drops (AckFrequencyIn frame) (Flag false) = same
-    answer_drops (AckFrequencyIn frame) answer = same
-    answer_drops (PollMtu now) (Probe number size) = same
-    answer_drops (PollMtu now) answer = same
-    answer_drops (Transmit now bytes true) Transmitted = same
-    answer_drops (Transmit now bytes true) (Delayed until) = same
-    answer_drops (Transmit now bytes true) answer = same
-    answer_drops (Transmit now bytes false) answer = same
     answer_drops event answer = same
 
     refusal_drops : (event : Event Q S M P) (refusal : Refusal)
-        → is_discarded space ((event, Err refusal) ∷ earlier) ≡ was_discarded space
-        (onto (refused event refusal).discarded log)
-    refusal_drops (AckFrequencyIn frame) DelayTooSmall = same
-    refusal_drops (AckFrequencyIn frame) refusal = same
-    refusal_drops event refusal = same
+        → is_discarded space ((event, Err refusal) ∷ earlier) ≡ is_discarded space earlier
+    refusal_drops (DiscardSpace there) refusal = refl
+    refusal_drops event refusal = refl
 
     reply_drops : (event : Event Q S M P) (reply : Reply Q)
         → is_discarded space ((event, reply) ∷ earlier) ≡ was_discarded space
         (onto (entries_of q known event reply).discarded log)
-    reply_drops event (Ok answer) = answer_drops event answer
-    reply_drops event (Err refusal) = refusal_drops event refusal
+    reply_drops event (Ok answer) =
+        answer_drops event answer
+        ∙ ap (λ (e : Entries P M). was_discarded space (onto e.discarded log)) (sym (plainly q known event answer))
+    reply_drops event (Err refusal) =
+        refusal_drops event refusal ∙ same
+        ∙ ap (λ (e : Entries P M). was_discarded space (onto e.discarded log)) (sym (refused_nothing event refusal))
 
 module _ {F K Q S M P : Type 0} (beginning : Beginning F K Q S M P) where
   all_came : (history : History Q S M P) (space : SpaceId)

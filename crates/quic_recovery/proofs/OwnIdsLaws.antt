@@ -10,12 +10,12 @@ use Rattle.recovery_base.specs.declared.below.ids.IssuedCid.{IssuedCid}
 use Rattle.recovery_ids.specs.LocalIds.{LocalIds, without_number}
 use Rattle.recovery_ids.specs.LocalLog.{LocalEntry, FirstIds, issued_by, was_retired, local_ids_by}
 use Rattle.recovery_events.specs.declared.event.Event.{Event}
-use Rattle.recovery_events.specs.declared.event.Event.TheVariants.{Received, AckFrequencyIn, PollMtu, Transmit, IssueIds, PeerRetired, IdTimeout}
+use Rattle.recovery_events.specs.declared.event.Event.TheVariants.{IssueIds, PeerRetired}
 use Rattle.recovery_events.specs.declared.event.Answer.{Answer}
-use Rattle.recovery_events.specs.declared.event.Answer.TheVariants.{New, Flag, Probe, Transmitted, Delayed, Done}
+use Rattle.recovery_events.specs.declared.event.Answer.TheVariants.{Flag, Done}
 use Rattle.recovery_events.specs.declared.event.Refusal.{Refusal}
-use Rattle.recovery_events.specs.declared.event.Refusal.TheVariants.{NoMemory, DelayTooSmall, NumberTooLarge, BadRange, CidsNotInUse, UnissuedCid}
-use Rattle.quic_recovery.specs.Entries.{entries_of, logs_of}
+use Rattle.recovery_events.specs.declared.event.Refusal.TheVariants.{NoMemory, NumberTooLarge, BadRange, CidsNotInUse, UnissuedCid}
+use Rattle.quic_recovery.specs.Entries.{Entries, nothing, answered, entries_of, logs_of}
 use Rattle.quic_recovery.specs.History.{Beginning, History, QueueMeaning, Reply}
 use Rattle.quic_recovery.specs.IdReplies.{IssueReply, RetirementReply, IsRoom}
 use Rattle.quic_recovery.specs.Known.{Known, known_by, first_ids}
@@ -23,6 +23,7 @@ use Rattle.quic_recovery.specs.Logs.{onto}
 use Rattle.quic_recovery.specs.Replies.{Refuses, Answers, AlwaysAnswers}
 use Rattle.quic_recovery.specs.Told.{Told}
 use Rattle.quic_recovery.specs.Promises.OwnIds.{go_on, IsIssue, issued, is_retired, IssuesIds}
+use Rattle.quic_recovery.proofs.EntryKinds.{plain, plainly_keeps, refused_keeps}
 use Rattle.quic_recovery.proofs.ReplyLaws.{refused_by}
 use Rattle.quic_recovery.proofs.TableLaws.{only_refusal}
 
@@ -64,32 +65,24 @@ record SameOwn {Q S M P : Type 0} (first : FirstIds) (history : History Q S M P)
 module _ {K Q S M P : Type 0} (q : QueueMeaning Q S M P) (first : FirstIds) (known : Known K P M)
     (earlier : History Q S M P)
     (log : List LocalEntry) (same : SameOwn first earlier log) where
-  abbrev After : Event Q S M P → Reply Q → Type 0
-  After event reply = SameOwn first ((event, reply) ∷ earlier) (onto (entries_of q known event reply).local_ids log)
+  abbrev After : Event Q S M P → Reply Q → Entries P M → Type 0
+  After event reply entries = SameOwn first ((event, reply) ∷ earlier) (onto entries.local_ids log)
 
-  answer_same : (event : Event Q S M P) (answer : Answer Q) → After event (Ok answer)
+  answer_same : (event : Event Q S M P) (answer : Answer Q)
+      → After event (Ok answer) (answered q known (plain event) Done)
   answer_same (IssueIds now ids) answer = record { count = ap (λ n. n + length ids.items) same.count; gone = same.gone }
-  answer_same IdTimeout answer = record { count = same.count; gone = same.gone }
   answer_same (PeerRetired sequence limit) answer =
       record { count = same.count; gone = λ n. ap (λ b. n == sequence || b) (same.gone n) }
-  answer_same (Received space now number eliciting) (New arm) = record { count = same.count; gone = same.gone }
-  answer_same (AckFrequencyIn frame) (Flag true) = record { count = same.count; gone = same.gone }
-  answer_same (AckFrequencyIn frame) (Flag false) = record { count = same.count; gone = same.gone }
-  answer_same (PollMtu now) (Probe number size) = record { count = same.count; gone = same.gone }
-  answer_same (Transmit now bytes true) Transmitted = record { count = same.count; gone = same.gone }
-  answer_same (Transmit now bytes true) (Delayed until) = record { count = same.count; gone = same.gone }
-  answer_same (Transmit now bytes true) answer = record { count = same.count; gone = same.gone }
-  answer_same (Transmit now bytes false) answer = record { count = same.count; gone = same.gone }
   answer_same event answer = record { count = same.count; gone = same.gone }
 
-  refusal_same : (event : Event Q S M P) (refusal : Refusal) → After event (Err refusal)
-  refusal_same (AckFrequencyIn frame) DelayTooSmall = record { count = same.count; gone = same.gone }
-  refusal_same (AckFrequencyIn frame) refusal = record { count = same.count; gone = same.gone }
+  refusal_same : (event : Event Q S M P) (refusal : Refusal) → After event (Err refusal) nothing
+  refusal_same (IssueIds now ids) refusal = record { count = same.count; gone = same.gone }
   refusal_same event refusal = record { count = same.count; gone = same.gone }
 
-  reply_same : (event : Event Q S M P) (reply : Reply Q) → After event reply
-  reply_same event (Ok answer) = answer_same event answer
-  reply_same event (Err refusal) = refusal_same event refusal
+  reply_same : (event : Event Q S M P) (reply : Reply Q) → After event reply (entries_of q known event reply)
+  reply_same event (Ok answer) =
+      plainly_keeps q known event answer (After event (Ok answer)) (answer_same event answer)
+  reply_same event (Err refusal) = refused_keeps event refusal (After event (Err refusal)) (refusal_same event refusal)
 
 -- ---- ids that are issued
 

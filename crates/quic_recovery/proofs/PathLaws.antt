@@ -1,40 +1,34 @@
 -- The paths that live, and the generation of each, are those that the history says. `RefusedLaws` and `CountedLaws`
 -- rest on it.
-use Rattle.std.proofs.Common.{◌≡◌, ◌+◌, ℕ, ◌&&◌, Bool, true, false, cond, List, [], ◌∷◌, ◌++◌, Option, None, Some, Ok, Err, refl, ap, ◌∙◌}
+use Rattle.std.proofs.Common.{◌≡◌, ◌+◌, ℕ, Bool, true, false, List, [], ◌∷◌, ◌++◌, Option, None, Some, Ok, Err, refl, ap, ◌∙◌}
+use Rattle.std.proofs.lemmas.Bool.{false≢true}
 use Rattle.std.specs.Prelude.{option_map}
 use Rattle.std.specs.declared.net.socket_addr.SocketAddr.{SocketAddr}
-use Rattle.recovery_base.specs.declared.below.SpaceId.{SpaceId}
-use Rattle.recovery_congestion.specs.Calls.{ControllerCall}
-use Rattle.recovery_ledger.specs.Packets.{Packet, packet_at}
-use Rattle.recovery_mtud.specs.Discovery.{is_data, reports}
-use Rattle.recovery_mtud.specs.DiscoveryLog.{MtuCall, losses_end, acks as acks_packet}
 use Rattle.recovery_paths.specs.declared.live_paths.PathName.{PathName}
 use Rattle.recovery_paths.specs.declared.live_paths.PathName.TheVariants.{Current, Previous}
-use Rattle.recovery_paths.specs.PathLog.{OfPaths, PathEntry, PathsEntry, PathPast, each_path, path_of, pasts_by, past_with, on, on_current, tells, receives, is_validated, samples, searches, asks, transmits, passes, is_reset, moves, drops_previous, known_of}
+use Rattle.recovery_paths.specs.PathLog.{OfPaths, PathEntry, PathsEntry, PathPast, each_path, path_of, pasts_by, past_with, on, tells, receives, is_validated, samples, searches, asks, transmits, passes, is_reset, moves, drops_previous, known_of}
 use Rattle.recovery_paths.specs.PathMaking.{PathMaking, PathSettings}
-use Rattle.recovery_paths.specs.PathStates.{is_path_probe, loss_call}
 use Rattle.recovery_events.specs.declared.event.Event.{Event}
-use Rattle.recovery_events.specs.declared.event.Event.TheVariants.{Received, Send, Acked, Lost, AckFrequencyIn, PollMtu, PeerLimit, LossesDone, Transmit, DatagramIn, Validated, Sample, PacerCheck, Congestion, EndAcks, NewPath, ResetPath, DropPrevious}
+use Rattle.recovery_events.specs.declared.event.Event.TheVariants.{NewPath, DropPrevious}
 use Rattle.recovery_events.specs.declared.event.Answer.{Answer}
-use Rattle.recovery_events.specs.declared.event.Answer.TheVariants.{New, Flag, Transmitted, Delayed, Probe}
 use Rattle.recovery_events.specs.declared.event.Refusal.{Refusal}
-use Rattle.recovery_events.specs.declared.event.Refusal.TheVariants.{DelayTooSmall}
 use Rattle.quic_recovery.specs.Amplification.{pasts_of}
-use Rattle.quic_recovery.specs.Entries.{answered, refused, entries_of, acked_entry, acked_search, lost_search, searched, is_own, following, logs_of}
+use Rattle.quic_recovery.specs.Entries.{Entries, answered, entries_of, following, logs_of}
 use Rattle.quic_recovery.specs.History.{Beginning, History, QueueMeaning, Reply}
-use Rattle.quic_recovery.specs.Known.{Known, known_by, first_path, settings_of, tracked_known}
+use Rattle.quic_recovery.specs.Known.{Known, known_by, first_path, settings_of}
 use Rattle.quic_recovery.specs.Promises.Paths.{paths_made, generation_of}
+use Rattle.quic_recovery.proofs.EntryKinds.{PathKind, moving, dropping, path_kind, is_by, paths_kept, refused_keeps}
 
 abbrev both : ℕ → Option ℕ → OfPaths ℕ
 both current previous = record { current = current; previous = previous }
 
 -- ---- entries that make no path
 
--- all that happens is on paths that live
-abbrev AreOnPaths : List PathsEntry → Type 0
-AreOnPaths [] = Unit {0}
-AreOnPaths (on name entry ∷ entries) = AreOnPaths entries
-AreOnPaths (entry ∷ entries) = ⊥
+-- it neither makes a path nor drops one
+abbrev stays_there : PathKind → Bool
+stays_there moving = false
+stays_there dropping = false
+stays_there kind = true
 
 module _ {K : Type 0} (settings : PathSettings K) (first : PathMaking K) where
   -- the generations of the paths
@@ -66,38 +60,11 @@ module _ {K : Type 0} (settings : PathSettings K) (first : PathMaking K) where
       ap (λ (n : Option ℕ). both (generations log).current n)
       (previous_stays entry (pasts_by settings first log).previous)
 
-  all_stay : (entries log : List PathsEntry) → AreOnPaths entries → generations (entries ++ log) ≡ generations log
-  all_stay [] log are = refl
-  all_stay (on name entry ∷ entries) log are = on_stays name entry (entries ++ log) ∙ all_stay entries log are
-  all_stay (moves following ∷ entries) log are = absurd are
-  all_stay (drops_previous ∷ entries) log are = absurd are
-
-module _ {K P M : Type 0} (known : Known K P M) where
-  searched_on : (changes : Bool) (call : MtuCall) → AreOnPaths (searched known changes call)
-  searched_on true call = tt
-  searched_on false call = tt
-
-  data_on : (is_data changes : Bool) (call : MtuCall) → AreOnPaths (cond is_data (searched known changes call) [])
-  data_on true changes call = searched_on changes call
-  data_on false changes call = tt
-
-  acked_with : (own : Bool) (call : ControllerCall) (entries : List PathsEntry) → AreOnPaths entries
-      → AreOnPaths (cond own (on_current (tells call) ∷ []) [] ++ entries)
-  acked_with true call entries are = are
-  acked_with false call entries are = are
-
-  acked_on : (space : SpaceId) (now number : ℕ) (app_limited : Bool) (packet : Option (Packet P M))
-      → AreOnPaths (acked_entry known now app_limited packet ++ acked_search known space number packet)
-  acked_on space now number app_limited None = tt
-  acked_on space now number app_limited (Some packet) =
-      acked_with (is_own known packet && packet.ack_eliciting) _ (acked_search known space number (Some packet))
-      (data_on (is_data space) (is_path_probe space number known.paths.current.state) (acks_packet number packet.size))
-
-  lost_on : (space : SpaceId) (number : ℕ) (packet : Option (Packet P M))
-      → AreOnPaths (lost_search known space number packet)
-  lost_on space number None = tt
-  lost_on space number (Some packet) =
-      data_on (is_data space) false (loss_call number packet.size known.paths.current.state.discovery)
+  one_stays : (entry : PathsEntry) → stays_there (path_kind entry) ≡ true → (log : List PathsEntry)
+      → generations (entry ∷ log) ≡ generations log
+  one_stays (on name entry) is log = on_stays name entry log
+  one_stays (moves following) is log = absurd (false≢true is)
+  one_stays drops_previous is log = absurd (false≢true is)
 
 -- ---- what an event does to the generations
 
@@ -108,13 +75,11 @@ made_by history = both (paths_made history) (generation_of Previous history)
 module _ {K Q S M P : Type 0} (q : QueueMeaning Q S M P) (settings : PathSettings K) (first : PathMaking K)
     (known : Known K P M)
     (earlier : History Q S M P) (log : List PathsEntry) (same : generations settings first log ≡ made_by earlier) where
-  stays : (entries : List PathsEntry) → AreOnPaths entries
-      → generations settings first (entries ++ log) ≡ made_by earlier
-  stays entries are = all_stay settings first entries log are ∙ same
-
-  kept : (event : Event Q S M P) (answer : Answer Q) → AreOnPaths (answered q known event answer).paths
+  kept : (event : Event Q S M P) (answer : Answer Q) → is_by stays_there event ≡ true
       → generations settings first ((answered q known event answer).paths ++ log) ≡ made_by earlier
-  kept event answer are = stays (answered q known event answer).paths are
+  kept event answer is =
+      paths_kept q known (λ entries. generations settings first (entries ++ log) ≡ made_by earlier) stays_there same
+      (λ entry entries stays made. one_stays settings first entry stays (entries ++ log) ∙ made) event (Ok answer) is
 
   moved : (now : ℕ) (remote : SocketAddr) (is_fresh : Bool)
       → generations settings first (moves (following known now remote is_fresh) ∷ log)
@@ -127,46 +92,20 @@ module _ {K Q S M P : Type 0} (q : QueueMeaning Q S M P) (settings : PathSetting
       ≡ made_by ((event, Ok answer) ∷ earlier)
   answer_makes (NewPath now remote is_fresh) answer = moved now remote is_fresh
   answer_makes DropPrevious answer = ap (λ (g : OfPaths ℕ). both g.current None) same
-  answer_makes (Transmit now bytes true) Transmitted = kept (Transmit now bytes true) Transmitted tt
-  answer_makes (Transmit now bytes true) (Delayed until) = kept (Transmit now bytes true) (Delayed until) tt
-  answer_makes (Transmit now bytes true) answer = same
-  answer_makes (Transmit now bytes false) answer = kept (Transmit now bytes false) answer tt
-  answer_makes (Send space now size eliciting largest queue frames) answer =
-      kept (Send space now size eliciting largest queue frames) answer tt
-  answer_makes (DatagramIn path bytes) answer = kept (DatagramIn path bytes) answer tt
-  answer_makes (Validated path) answer = kept (Validated path) answer tt
-  answer_makes (Sample delay rtt) answer = kept (Sample delay rtt) answer tt
-  answer_makes (PacerCheck now bytes) answer = kept (PacerCheck now bytes) answer tt
-  answer_makes (Congestion now sent persistent bytes) answer = kept (Congestion now sent persistent bytes) answer tt
-  answer_makes (EndAcks now app_limited largest) answer = kept (EndAcks now app_limited largest) answer tt
-  answer_makes (Acked space now number app_limited) answer =
-      kept (Acked space now number app_limited) answer
-      (acked_on known space now number app_limited (packet_at (tracked_known known space) number))
-  answer_makes (Lost space number) answer =
-      kept (Lost space number) answer (lost_on known space number (packet_at (tracked_known known space) number))
-  answer_makes (PollMtu now) (Probe number size) = kept (PollMtu now) (Probe number size) tt
-  answer_makes (PollMtu now) answer = kept (PollMtu now) answer tt
-  answer_makes (PeerLimit size) answer = kept (PeerLimit size) answer tt
-  answer_makes (LossesDone now) answer =
-      kept (LossesDone now) answer (searched_on known (reports known.paths.current.state.discovery) (losses_end now))
-  answer_makes (ResetPath now) answer = kept (ResetPath now) answer tt
-  answer_makes (Received space now number eliciting) (New arm) = same
-  answer_makes (Received space now number eliciting) answer = same
-  answer_makes (AckFrequencyIn frame) (Flag true) = same
-  answer_makes (AckFrequencyIn frame) (Flag false) = same
-  answer_makes (AckFrequencyIn frame) answer = same
-  answer_makes event answer = same
+  answer_makes event answer = kept event answer refl
 
   refusal_makes : (event : Event Q S M P) (refusal : Refusal)
-      → generations settings first ((refused event refusal).paths ++ log) ≡ made_by ((event, Err refusal) ∷ earlier)
-  refusal_makes (AckFrequencyIn frame) DelayTooSmall = same
-  refusal_makes (AckFrequencyIn frame) refusal = same
+      → generations settings first log ≡ made_by ((event, Err refusal) ∷ earlier)
+  refusal_makes (NewPath now remote is_fresh) refusal = same
   refusal_makes event refusal = same
 
   reply_makes : (event : Event Q S M P) (reply : Reply Q)
       → generations settings first ((entries_of q known event reply).paths ++ log) ≡ made_by ((event, reply) ∷ earlier)
   reply_makes event (Ok answer) = answer_makes event answer
-  reply_makes event (Err refusal) = refusal_makes event refusal
+  reply_makes event (Err refusal) =
+      refused_keeps event refusal
+      (λ (e : Entries P M). generations settings first (e.paths ++ log) ≡ made_by ((event, Err refusal) ∷ earlier))
+      (refusal_makes event refusal)
 
 module _ {F K Q S M P : Type 0} (beginning : Beginning F K Q S M P) where
   all_made : (history : History Q S M P) → generations (settings_of beginning) (first_path beginning)

@@ -8,24 +8,25 @@ use Rattle.std.proofs.lemmas.Bool.{cond-true, cond-false, lt-leb}
 use Rattle.std.proofs.lemmas.Slice.Eq.{bytes_eq-Decides}
 use Rattle.recovery_base.specs.declared.below.ids.NewConnectionId.{NewConnectionId}
 use Rattle.recovery_ids.specs.RemoteIds.{HeldId, Table, RemoteIds, IsLeastHeld, AreInWindow, Repeats, active_connection_id_limit, with_id, with_frame, without_id}
-use Rattle.recovery_ids.specs.RemoteLog.{RemoteEntry, given, used, replaced, remote_ids_with, remote_ids_by}
+use Rattle.recovery_ids.specs.RemoteLog.{given, used, replaced, remote_ids_with, remote_ids_by}
 use Rattle.recovery_ids.proofs.RemoteLogLaws.{gives, uses, uses_none, replaces}
 use Rattle.recovery_events.specs.declared.event.Event.{Event}
-use Rattle.recovery_events.specs.declared.event.Event.TheVariants.{Received, AckFrequencyIn, PollMtu, Transmit, NewId, NextId, InitialId}
+use Rattle.recovery_events.specs.declared.event.Event.TheVariants.{NewId, NextId, InitialId}
 use Rattle.recovery_events.specs.declared.event.Answer.{Answer}
-use Rattle.recovery_events.specs.declared.event.Answer.TheVariants.{New, Flag, Probe, Transmitted, Delayed, Retire, Done}
+use Rattle.recovery_events.specs.declared.event.Answer.TheVariants.{Retire, Done}
 use Rattle.recovery_events.specs.declared.event.Refusal.{Refusal}
-use Rattle.recovery_events.specs.declared.event.Refusal.TheVariants.{NoMemory, DelayTooSmall, NumberTooLarge, BadRetirePriorTo, Retired, ExceedsLimit, Conflict, NotInitialId}
-use Rattle.quic_recovery.specs.Entries.{answered, refused, logs_of}
+use Rattle.recovery_events.specs.declared.event.Refusal.TheVariants.{NoMemory, NumberTooLarge, BadRetirePriorTo, Retired, ExceedsLimit, Conflict, NotInitialId}
+use Rattle.quic_recovery.specs.Entries.{Entries, nothing, answered, logs_of}
 use Rattle.quic_recovery.specs.History.{Beginning, History, Reply, Throughout}
 use Rattle.quic_recovery.specs.IdReplies.{FrameReply, IsFrameAnswer, IsNextAnswer, InitialReply}
-use Rattle.quic_recovery.specs.Known.{known_by}
+use Rattle.quic_recovery.specs.Known.{Known, known_by}
 use Rattle.quic_recovery.specs.Logs.{onto}
 use Rattle.quic_recovery.specs.Replies.{AlwaysAnswers}
 use Rattle.quic_recovery.specs.Told.{Told}
 use Rattle.quic_recovery.specs.Promises.GivenIds.{id_under, retired_below, least_from, active_id}
 use Rattle.quic_recovery.specs.Promises.PeerIds.{AcceptsIds, frame_reply, move_reply, moved, repeats}
 use Rattle.quic_recovery.proofs.AmplificationLaws.{throughout_kept}
+use Rattle.quic_recovery.proofs.EntryKinds.{plain, plainly_keeps, refused_keeps}
 use Rattle.quic_recovery.proofs.ReplyLaws.{refused_by}
 use Rattle.quic_recovery.proofs.TableLaws.{least_held, not_held, only_refusal}
 
@@ -476,48 +477,32 @@ module _ {F K Q S M P : Type 0} (beginning : Beginning F K Q S M P) where
   }
 
   module _ (before : History Q S M P) (same : HoldsIds before) where
-    abbrev After : Event Q S M P → Reply Q → Option RemoteEntry → Type 0
-    After event reply entry =
+    abbrev After : Event Q S M P → Reply Q → Entries P M → Type 0
+    After event reply entries =
         SameIds initial_id ((event, reply) ∷ before)
-        (remote_ids_by initial_id (onto entry (logs_of beginning before).remote_ids))
+        (remote_ids_by initial_id (onto entries.remote_ids (logs_of beginning before).remote_ids))
+
+    abbrev known : Known K P M
+    known = known_by beginning (logs_of beginning before)
 
     answer_holds : (event : Event Q S M P) (answer : Answer Q) → Told beginning before event (Ok answer)
-        → After event (Ok answer)
-        (answered beginning.queue (known_by beginning (logs_of beginning before)) event answer).remote_ids
+        → After event (Ok answer) (answered beginning.queue known (plain event) Done)
     answer_holds (NewId frame) answer told = frame_step initial_id before (ids_by before) same frame answer told
     answer_holds NextId answer told = next_step initial_id before (ids_by before) same answer told
     answer_holds (InitialId id) answer told = initial_step initial_id before (ids_by before) same id answer told
-    answer_holds (Received space now number eliciting) (New arm) told =
-        record { held = same.held; retired = same.retired; window = same.window }
-    answer_holds (AckFrequencyIn frame) (Flag true) told =
-        record { held = same.held; retired = same.retired; window = same.window }
-    answer_holds (AckFrequencyIn frame) (Flag false) told =
-        record { held = same.held; retired = same.retired; window = same.window }
-    answer_holds (PollMtu now) (Probe number size) told =
-        record { held = same.held; retired = same.retired; window = same.window }
-    answer_holds (Transmit now bytes true) Transmitted told =
-        record { held = same.held; retired = same.retired; window = same.window }
-    answer_holds (Transmit now bytes true) (Delayed until) told =
-        record { held = same.held; retired = same.retired; window = same.window }
-    answer_holds (Transmit now bytes true) answer told =
-        record { held = same.held; retired = same.retired; window = same.window }
-    answer_holds (Transmit now bytes false) answer told =
-        record { held = same.held; retired = same.retired; window = same.window }
     answer_holds event answer told = record { held = same.held; retired = same.retired; window = same.window }
 
-    refusal_holds : (event : Event Q S M P) (refusal : Refusal)
-        → After event (Err refusal) (refused event refusal).remote_ids
-    refusal_holds (AckFrequencyIn frame) DelayTooSmall =
-        record { held = same.held; retired = same.retired; window = same.window }
-    refusal_holds (AckFrequencyIn frame) refusal =
-        record { held = same.held; retired = same.retired; window = same.window }
+    refusal_holds : (event : Event Q S M P) (refusal : Refusal) → After event (Err refusal) nothing
+    refusal_holds NextId refusal = record { held = same.held; retired = same.retired; window = same.window }
     refusal_holds event refusal = record { held = same.held; retired = same.retired; window = same.window }
 
     -- an event that was told keeps that
     pub keeps_ids : (event : Event Q S M P) (reply : Reply Q) → Told beginning before event reply
         → HoldsIds ((event, reply) ∷ before)
-    keeps_ids event (Ok answer) told = answer_holds event answer told
-    keeps_ids event (Err refusal) told = refusal_holds event refusal
+    keeps_ids event (Ok answer) told =
+        plainly_keeps beginning.queue known event answer (After event (Ok answer)) (answer_holds event answer told)
+    keeps_ids event (Err refusal) told =
+        refused_keeps event refusal (After event (Err refusal)) (refusal_holds event refusal)
 
     -- the active id by the history
     pub active_told : active_id before ≡ (known_by beginning (logs_of beginning before)).remote_ids.active

@@ -1,5 +1,5 @@
 -- The next timeout is the least moment that the history itself says is set: the clause `timers` of `run`.
-use Rattle.std.proofs.Common.{◌≡◌, ◌≤◌, ◌<◌, ℕ, min, map, true, false, List, [], ◌∷◌, Option, None, Some, Ok, Err, ◌⊎◌, inl, inr, refl, sym, ◌∙◌, ap, subst, arith}
+use Rattle.std.proofs.Common.{◌≡◌, ◌≤◌, ◌<◌, ℕ, min, map, List, [], ◌∷◌, Option, None, Some, Ok, Err, ◌⊎◌, inl, inr, refl, sym, ◌∙◌, ap, subst, arith}
 use Rattle.std.specs.Prelude.{if◌then◌else◌}
 use Rattle.std.proofs.lemmas.Bool.{cases_lt}
 use Rattle.recovery_base.specs.declared.timer.Timer.{Timer}
@@ -7,50 +7,40 @@ use Rattle.recovery_base.specs.declared.timer.Timer.TheVariants.{LossDetection, 
 use Rattle.recovery_base.specs.TimerLog.{TimerEntry, last_set}
 use Rattle.recovery_base.specs.Timers.{same_timer, IsLeastMoment}
 use Rattle.recovery_events.specs.declared.event.Event.{Event}
-use Rattle.recovery_events.specs.declared.event.Event.TheVariants.{Received, AckFrequencyIn, PollMtu, Transmit, SetTimer, StopTimer, NextTimeout}
+use Rattle.recovery_events.specs.declared.event.Event.TheVariants.{SetTimer, StopTimer, NextTimeout}
 use Rattle.recovery_events.specs.declared.event.Answer.{Answer}
-use Rattle.recovery_events.specs.declared.event.Answer.TheVariants.{New, Flag, Probe, Transmitted, Delayed, Timeout}
+use Rattle.recovery_events.specs.declared.event.Answer.TheVariants.{Done, Timeout}
 use Rattle.recovery_events.specs.declared.event.Refusal.{Refusal}
-use Rattle.recovery_events.specs.declared.event.Refusal.TheVariants.{NoMemory, DelayTooSmall}
-use Rattle.quic_recovery.specs.Entries.{answered, refused, entries_of, logs_of}
+use Rattle.recovery_events.specs.declared.event.Refusal.TheVariants.{NoMemory}
+use Rattle.quic_recovery.specs.Entries.{Entries, nothing, answered, entries_of, logs_of}
 use Rattle.quic_recovery.specs.History.{Beginning, History, Reply, QueueMeaning}
 use Rattle.quic_recovery.specs.Known.{Known, known_by}
 use Rattle.quic_recovery.specs.Logs.{onto}
 use Rattle.quic_recovery.specs.Told.{Told}
 use Rattle.quic_recovery.specs.Promises.Timeouts.{earlier_of, every_timer, least, moment_of, TellsTimers}
+use Rattle.quic_recovery.proofs.EntryKinds.{plain, plainly_keeps, refused_keeps}
 
 -- ---- the moments are those of the log
 
 module _ {K Q S M P : Type 0} (q : QueueMeaning Q S M P) (known : Known K P M) (earlier : History Q S M P)
     (log : List TimerEntry) (timer : Timer) (same : moment_of earlier timer ≡ last_set timer log) where
+  abbrev After : Event Q S M P → Reply Q → Entries P M → Type 0
+  After event reply entries = moment_of ((event, reply) ∷ earlier) timer ≡ last_set timer (onto entries.timers log)
+
   answer_same : (event : Event Q S M P) (answer : Answer Q)
-      → moment_of ((event, Ok answer) ∷ earlier) timer ≡ last_set timer
-      (onto (answered q known event answer).timers log)
+      → After event (Ok answer) (answered q known (plain event) Done)
   answer_same (SetTimer other time) answer = ap (λ o. if same_timer timer other then Some time else o) same
   answer_same (StopTimer other) answer = ap (λ o. if same_timer timer other then None else o) same
-  answer_same (Received space now number eliciting) (New arm) = same
-  answer_same (Received space now number eliciting) answer = same
-  answer_same (AckFrequencyIn frame) (Flag true) = same
-  answer_same (AckFrequencyIn frame) (Flag false) = same
-  answer_same (AckFrequencyIn frame) answer = same
-  answer_same (PollMtu now) (Probe number size) = same
-  answer_same (PollMtu now) answer = same
-  answer_same (Transmit now bytes true) Transmitted = same
-  answer_same (Transmit now bytes true) (Delayed until) = same
-  answer_same (Transmit now bytes true) answer = same
-  answer_same (Transmit now bytes false) answer = same
   answer_same event answer = same
 
-  refusal_same : (event : Event Q S M P) (refusal : Refusal)
-      → moment_of ((event, Err refusal) ∷ earlier) timer ≡ last_set timer (onto (refused event refusal).timers log)
-  refusal_same (AckFrequencyIn frame) DelayTooSmall = same
-  refusal_same (AckFrequencyIn frame) refusal = same
+  refusal_same : (event : Event Q S M P) (refusal : Refusal) → After event (Err refusal) nothing
+  refusal_same (SetTimer other time) refusal = same
   refusal_same event refusal = same
 
-  reply_same : (event : Event Q S M P) (reply : Reply Q)
-      → moment_of ((event, reply) ∷ earlier) timer ≡ last_set timer (onto (entries_of q known event reply).timers log)
-  reply_same event (Ok answer) = answer_same event answer
-  reply_same event (Err refusal) = refusal_same event refusal
+  reply_same : (event : Event Q S M P) (reply : Reply Q) → After event reply (entries_of q known event reply)
+  reply_same event (Ok answer) =
+      plainly_keeps q known event answer (After event (Ok answer)) (answer_same event answer)
+  reply_same event (Err refusal) = refused_keeps event refusal (After event (Err refusal)) (refusal_same event refusal)
 
 module _ {F K Q S M P : Type 0} (beginning : Beginning F K Q S M P) where
   all_same : (history : History Q S M P) (timer : Timer)

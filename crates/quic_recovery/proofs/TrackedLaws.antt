@@ -1,6 +1,7 @@
 -- A packet is tracked by its space exactly where the history says so; and each number that was given out, once at most,
 -- has one fate. The promises on what is tracked rest on it.
 use Rattle.std.proofs.Common.{◌≡◌, ◌≤◌, ◌+◌, ℕ, ◌==◌, ◌&&◌, ◌||◌, not, Bool, true, false, cond, List, [], ◌∷◌, Option, None, Some, Ok, Err, refl, sym, ap, subst, arith}
+use Rattle.std.proofs.lemmas.Bool.{false≢true}
 use Rattle.std.specs.Prelude.{is_some, sum_by}
 use Rattle.std.specs.BTreeMap.{is_at}
 use Rattle.std.specs.Cmp.{nat_cmp_total, tied_itself}
@@ -13,7 +14,7 @@ use Rattle.recovery_base.specs.Spaces.{same_space}
 use Rattle.recovery_ledger.specs.Departures.{one_if_same}
 use Rattle.recovery_ledger.specs.Packets.{Packet, Packets, packet_at, entry_at, numbered, is_silent_above, least_number, forgotten_silent, silent_above}
 use Rattle.recovery_ledger.specs.Probes.{ProbeFound, pending_stands, moves, nothing_found}
-use Rattle.recovery_ledger.specs.SpaceLog.{SpaceEntry, heard, heard_again, sends, acknowledged, loses, probes, takes_pending, feeds_back, emptied, ack_goes, ack_is_late, asked}
+use Rattle.recovery_ledger.specs.SpaceLog.{SpaceEntry, sends, acknowledged, loses, probes, emptied}
 use Rattle.recovery_ledger.specs.Tracked.{Sent, sent_by, sent_less, sent_more, sent_moved, forgotten_by}
 use Rattle.recovery_ledger.proofs.CarryLaws.{sum-carrying}
 use Rattle.recovery_ledger.proofs.CountLaws.{is_forgotten}
@@ -21,19 +22,19 @@ use Rattle.recovery_ledger.proofs.LedgerLaws.{gone, sum-sent_onto}
 use Rattle.recovery_ledger.proofs.PacketLaws.{found-le-sum, sum-without}
 use Rattle.recovery_skips.proofs.SkipLaws.{number_from_above}
 use Rattle.recovery_events.specs.declared.event.Event.{Event}
-use Rattle.recovery_events.specs.declared.event.Event.TheVariants.{Received, Send, Acked, Lost, AckFrequencyIn, AcksSent, AckDelayTimeout, DiscardSpace, PollMtu, Transmit, Ecn, QueueProbe, TakePending}
+use Rattle.recovery_events.specs.declared.event.Event.TheVariants.{Send, Acked, Lost, DiscardSpace, PollMtu}
 use Rattle.recovery_events.specs.declared.event.Answer.{Answer}
 use Rattle.recovery_events.specs.declared.event.Answer.TheVariants as answers
-use Rattle.recovery_events.specs.declared.event.Answer.TheVariants.{New, Flag, Probe, Transmitted, Delayed}
+use Rattle.recovery_events.specs.declared.event.Answer.TheVariants.{Probe}
 use Rattle.recovery_events.specs.declared.event.Refusal.{Refusal}
-use Rattle.recovery_events.specs.declared.event.Refusal.TheVariants.{DelayTooSmall}
-use Rattle.quic_recovery.specs.Entries.{answered, found_in, logs_of}
+use Rattle.quic_recovery.specs.Entries.{Entries, nothing, answered, logs_of}
 use Rattle.quic_recovery.specs.History.{Beginning, History, QueueMeaning, Reply}
 use Rattle.quic_recovery.specs.Known.{Known, known_by, number_in, packet_now}
 use Rattle.quic_recovery.specs.Logs.{onto}
 use Rattle.quic_recovery.specs.Promises.Fates.{more_if, times as times_in, is_given, is_acked, is_lost, is_forgotten as is_forgotten_in, is_discarded}
 use Rattle.quic_recovery.specs.Promises.Tracked.{is_tracked}
 use Rattle.quic_recovery.specs.Told.{Told, ProbeOutReply}
+use Rattle.quic_recovery.proofs.EntryKinds.{keeps_packets, space_kind, space_kept, refused_keeps}
 
 -- ---- a number among those that are tracked
 
@@ -365,10 +366,16 @@ module _ {F K Q S M P : Type 0} (beginning : Beginning F K Q S M P) (before : Hi
   After entry tracked given departed = Tracks n (sent_by beginning.queue.words (onto entry log)) tracked given departed
 
   -- an entry that leaves what is tracked
-  stays : (b : Bool) (entry : SpaceEntry P M) → After (Some entry) tracked_now given_now departed_now
-      → After (cond b (Some entry) None) tracked_now given_now departed_now
-  stays true entry first = first
-  stays false entry first = here
+  unmoved : (entry : SpaceEntry P M) → keeps_packets (space_kind entry) ≡ true
+      → After (Some entry) tracked_now given_now departed_now
+  unmoved (sends number packet) keeps = absurd (false≢true keeps)
+  unmoved (acknowledged number) keeps = absurd (false≢true keeps)
+  unmoved (loses number) keeps = absurd (false≢true keeps)
+  unmoved emptied keeps = absurd (false≢true keeps)
+  unmoved (probes immediate found) keeps =
+      moved_tracks n (sent_in beginning before space) tracked_now given_now departed_now here
+      beginning.queue.words.empty found
+  unmoved entry keeps = here
 
   goes : (b out : Bool) (entry : SpaceEntry P M)
       → (b ≡ true → After (Some entry) (out || tracked_now) (more_if out given_now) departed_now)
@@ -472,39 +479,27 @@ module _ {F K Q S M P : Type 0} (beginning : Beginning F K Q S M P) (before : Hi
       let entry : SpaceEntry P M = emptied in
       subst (λ d. After (cond b (Some entry) None) (not b && tracked_now) given_now d)
       (discarded_more acked_now lost_now forgotten_now discarded_now (b && tracked_now)) (empties b)
-  answer_tracks (Received there now number eliciting) (New arm) told =
-      stays (same_space there space) (heard now number eliciting) here
-  answer_tracks (Received there now number eliciting) answer told =
-      stays (same_space there space) (heard_again number) here
-  answer_tracks (AckFrequencyIn frame) (Flag true) told = stays (same_space Data space) (asked frame) here
-  answer_tracks (AckFrequencyIn frame) (Flag false) told = here
-  answer_tracks (AckFrequencyIn frame) answer told = here
-  answer_tracks (AcksSent there) answer told = stays (same_space there space) ack_goes here
-  answer_tracks (AckDelayTimeout there) answer told = stays (same_space there space) ack_is_late here
-  answer_tracks (Ecn there newly counts) answer told = stays (same_space there space) (feeds_back counts) here
-  answer_tracks (QueueProbe there immediate streams) answer told =
-      let found = found_in known beginning.queue.words streams there in
-      stays (same_space there space) (probes immediate found)
-      (moved_tracks n (sent_in beginning before space) tracked_now given_now departed_now here
-      beginning.queue.words.empty found)
-  answer_tracks (TakePending there) answer told = stays (same_space there space) takes_pending here
-  answer_tracks (Transmit now bytes true) Transmitted told = here
-  answer_tracks (Transmit now bytes true) (Delayed until) told = here
-  answer_tracks (Transmit now bytes true) answer told = here
-  answer_tracks (Transmit now bytes false) answer told = here
-  answer_tracks event answer told = here
+  answer_tracks event answer told =
+      space_kept beginning.queue known space (λ entry. After entry tracked_now given_now departed_now) keeps_packets here
+      unmoved event (Ok answer) refl
 
   abbrev Replied : Event Q S M P → Reply Q → Type 0
   Replied event reply = TracksIn beginning ((event, reply) ∷ before) space n
 
-  refusal_tracks : (event : Event Q S M P) (refusal : Refusal) → Replied event (Err refusal)
-  refusal_tracks (AckFrequencyIn frame) DelayTooSmall = here
-  refusal_tracks (AckFrequencyIn frame) refusal = here
+  abbrev Refused : Event Q S M P → Refusal → Entries P M → Type 0
+  Refused event refusal entries =
+      let after : History Q S M P = (event, Err refusal) ∷ before in
+      After (entries.spaces space) (is_tracked space n after) (times_in (is_given space n) after)
+      (departed_in space n after)
+
+  refusal_tracks : (event : Event Q S M P) (refusal : Refusal) → Refused event refusal nothing
+  refusal_tracks (PollMtu now) refusal = here
   refusal_tracks event refusal = here
 
   reply_tracks : (event : Event Q S M P) (reply : Reply Q) → Told beginning before event reply → Replied event reply
   reply_tracks event (Ok answer) told = answer_tracks event answer told
-  reply_tracks event (Err refusal) told = refusal_tracks event refusal
+  reply_tracks event (Err refusal) told =
+      refused_keeps event refusal (Refused event refusal) (refusal_tracks event refusal)
 
 -- ---- throughout a run
 

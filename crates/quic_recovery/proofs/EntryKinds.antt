@@ -1,0 +1,334 @@
+-- Of what kinds the entries are that an event may make in the log of a space and in that of the paths. A law over such a
+-- log names the events of the kinds that it reads; what every other event makes keeps it (`space_kept`, `paths_kept`).
+use Rattle.std.proofs.Common.{◌≡◌, ℕ, ◌&&◌, Bool, true, false, cond, List, [], ◌∷◌, ◌++◌, Option, None, Some, Ok, Err, refl, sym, subst}
+use Rattle.std.proofs.lemmas.Bool.{and_parts}
+use Rattle.recovery_base.specs.declared.below.SpaceId.{SpaceId}
+use Rattle.recovery_base.specs.declared.below.SpaceId.TheVariants.{Data}
+use Rattle.recovery_base.specs.Spaces.{same_space}
+use Rattle.recovery_ledger.specs.Packets.{Packet, packet_at}
+use Rattle.recovery_ledger.specs.SpaceLog.{SpaceEntry, heard, heard_again, sends, acknowledged, loses, probes, takes_pending, feeds_back, emptied, ack_goes, ack_is_late, asked}
+use Rattle.recovery_congestion.specs.Calls.{ControllerCall}
+use Rattle.recovery_mtud.specs.Discovery.{is_data, is_probe, reports}
+use Rattle.recovery_mtud.specs.DiscoveryLog.{MtuCall, is_limited, losses_end, acks as acks_packet, loses as loses_packet, loses_probe}
+use Rattle.recovery_paths.specs.declared.live_paths.PathName.TheVariants.{Current, Previous}
+use Rattle.recovery_paths.specs.PathLog.{PathsEntry, on, moves, drops_previous, on_current, receives, is_validated, samples, tells, searches, asks, transmits, passes, is_reset}
+use Rattle.recovery_paths.specs.PathStates.{is_path_probe}
+use Rattle.recovery_events.specs.declared.event.Event.{Event}
+use Rattle.recovery_events.specs.declared.event.Event.TheVariants.{Received, Send, Acked, Lost, AckFrequencyIn, AcksSent, AckDelayTimeout, NextTimeout, DiscardSpace, DatagramIn, Validated, Sample, Transmit, PacerCheck, Congestion, EndAcks, PollMtu, PeerLimit, LossesDone, Ecn, QueueProbe, TakePending, NewPath, ResetPath, DropPrevious}
+use Rattle.recovery_events.specs.declared.event.Answer.{Answer}
+use Rattle.recovery_events.specs.declared.event.Answer.TheVariants.{New, Flag, Done, Transmitted, Delayed, Probe}
+use Rattle.recovery_events.specs.declared.event.Refusal.{Refusal}
+use Rattle.recovery_events.specs.declared.event.Refusal.TheVariants.{DelayTooSmall}
+use Rattle.quic_recovery.specs.Entries.{Entries, nothing, answered, refused, entries_of, acked_entry, acked_search, lost_search, searched, is_own}
+use Rattle.quic_recovery.specs.History.{QueueMeaning, Reply}
+use Rattle.quic_recovery.specs.Known.{Known, tracked_known}
+
+-- ---- kinds
+
+pub data SpaceKind : Type 0 where
+  hearing : SpaceKind
+  sending : SpaceKind
+  acknowledging : SpaceKind
+  losing : SpaceKind
+  probing : SpaceKind
+  taking : SpaceKind
+  counting : SpaceKind
+  emptying : SpaceKind
+  answering : SpaceKind
+  delaying : SpaceKind
+  requesting : SpaceKind
+  idling : SpaceKind
+
+abbrev pub space_kind : {P M : Type 0} → SpaceEntry P M → SpaceKind
+space_kind (heard now number eliciting) = hearing
+space_kind (heard_again number) = hearing
+space_kind (sends number packet) = sending
+space_kind (acknowledged number) = acknowledging
+space_kind (loses number) = losing
+space_kind (probes immediate found) = probing
+space_kind takes_pending = taking
+space_kind (feeds_back counts) = counting
+space_kind emptied = emptying
+space_kind ack_goes = answering
+space_kind ack_is_late = delaying
+space_kind (asked frame) = requesting
+
+-- no packet goes out
+abbrev pub sends_none : SpaceKind → Bool
+sends_none sending = false
+sends_none kind = true
+
+-- nor does one leave
+abbrev pub keeps_packets : SpaceKind → Bool
+keeps_packets sending = false
+keeps_packets acknowledging = false
+keeps_packets losing = false
+keeps_packets emptying = false
+keeps_packets kind = true
+
+pub data PathKind : Type 0 where
+  receiving : PathKind
+  validating : PathKind
+  sampling : PathKind
+  telling : PathKind
+  -- the search sees a packet leave, takes a limit, or sees something else
+  departing : PathKind
+  limiting : PathKind
+  searching : PathKind
+  asking : PathKind
+  transmitting : PathKind
+  passing : PathKind
+  resetting : PathKind
+  moving : PathKind
+  dropping : PathKind
+  -- on the previous path
+  elsewhere : PathKind
+
+abbrev pub call_kind : MtuCall → PathKind
+call_kind (acks_packet number bytes) = departing
+call_kind (loses_packet number bytes) = departing
+call_kind loses_probe = departing
+call_kind (is_limited limit) = limiting
+call_kind call = searching
+
+abbrev pub path_kind : PathsEntry → PathKind
+path_kind (on name (receives bytes)) = receiving
+path_kind (on name is_validated) = validating
+path_kind (on Previous entry) = elsewhere
+path_kind (on Current (samples delay rtt)) = sampling
+path_kind (on Current (tells call)) = telling
+path_kind (on Current (searches call)) = call_kind call
+path_kind (on Current (asks now bytes)) = asking
+path_kind (on Current (transmits bytes)) = transmitting
+path_kind (on Current (passes now bytes)) = passing
+path_kind (on Current (is_reset now)) = resetting
+path_kind (moves following) = moving
+path_kind drops_previous = dropping
+
+-- ---- what an event may be, by the event alone
+
+module _ {Q S M P : Type 0} where
+  abbrev pub kind_of : Event Q S M P → SpaceKind
+  kind_of (Received space now number eliciting) = hearing
+  kind_of (Send space now size eliciting largest queue frames) = sending
+  kind_of (Acked space now number app_limited) = acknowledging
+  kind_of (Lost space number) = losing
+  kind_of (AckFrequencyIn frame) = requesting
+  kind_of (AcksSent space) = answering
+  kind_of (AckDelayTimeout space) = delaying
+  kind_of (DiscardSpace space) = emptying
+  kind_of (PollMtu now) = sending
+  kind_of (Ecn space newly counts) = counting
+  kind_of (QueueProbe space immediate streams) = probing
+  kind_of (TakePending space) = taking
+  kind_of event = idling
+
+  -- whether all that it may be to the paths is of these kinds
+  abbrev pub is_by : (PathKind → Bool) → Event Q S M P → Bool
+  is_by is (Send space now size eliciting largest queue frames) = is telling
+  is_by is (Acked space now number app_limited) = is telling && is departing
+  is_by is (Lost space number) = is departing
+  is_by is (DatagramIn path bytes) = is receiving
+  is_by is (Validated path) = is validating
+  is_by is (Sample delay rtt) = is sampling
+  is_by is (Transmit now bytes checked) = is transmitting && (is passing && is asking)
+  is_by is (PacerCheck now bytes) = is asking
+  is_by is (Congestion now sent persistent bytes) = is telling
+  is_by is (EndAcks now app_limited largest) = is telling
+  is_by is (PollMtu now) = is telling && is searching
+  is_by is (PeerLimit size) = is limiting
+  is_by is (LossesDone now) = is telling && is searching
+  is_by is (NewPath now remote is_fresh) = is moving
+  is_by is (ResetPath now) = is resetting
+  is_by is DropPrevious = is dropping
+  is_by is event = true
+
+  -- an event whose entries are read off its answer, and those in spaces and on paths apart, stands for one that is nothing
+  abbrev pub plain : Event Q S M P → Event Q S M P
+  plain (Received space now number eliciting) = NextTimeout
+  plain (AckFrequencyIn frame) = NextTimeout
+  plain (PollMtu now) = NextTimeout
+  plain (Transmit now bytes checked) = NextTimeout
+  plain event = event
+
+-- a refused event is nothing, but to the requests
+abbrev pub but_requests : {P M : Type 0} → Entries P M → Entries P M
+but_requests entries = record entries { requests = None }
+
+pub refused_nothing : {Q S M P : Type 0} (event : Event Q S M P) (refusal : Refusal)
+    → but_requests (refused event refusal) ≡ nothing
+refused_nothing (AckFrequencyIn frame) DelayTooSmall = refl
+refused_nothing (AckFrequencyIn frame) refusal = refl
+refused_nothing event refusal = refl
+
+-- what holds of nothing holds of what a refused event is
+pub refused_keeps : {Q S M P : Type 0} (event : Event Q S M P) (refusal : Refusal) (IsKept : Entries P M → Type 0)
+    → IsKept nothing → IsKept (but_requests (refused event refusal))
+refused_keeps event refusal IsKept kept = subst IsKept (sym (refused_nothing event refusal)) kept
+
+-- ---- in one space
+
+module _ {K Q S M P : Type 0} (q : QueueMeaning Q S M P) (known : Known K P M) (space : SpaceId)
+    (IsKept : Option (SpaceEntry P M) → Type 0) (is_idle : SpaceKind → Bool)
+    (none : IsKept None)
+    (each : (entry : SpaceEntry P M) → is_idle (space_kind entry) ≡ true → IsKept (Some entry)) where
+  pick : (there : SpaceId) (entry : SpaceEntry P M) → is_idle (space_kind entry) ≡ true
+      → IsKept (cond (same_space there space) (Some entry) None)
+  pick there entry idle = go (same_space there space)
+    where
+      go : (b : Bool) → IsKept (cond b (Some entry) None)
+      go true = each entry idle
+      go false = none
+
+  answer_kept : (event : Event Q S M P) (answer : Answer Q) → is_idle (kind_of event) ≡ true
+      → IsKept ((answered q known event answer).spaces space)
+  answer_kept (Received there now number eliciting) (New arm) idle = pick there (heard now number eliciting) idle
+  answer_kept (Received there now number eliciting) answer idle = pick there (heard_again number) idle
+  answer_kept (Send there now size eliciting largest queue frames) answer idle = pick there _ idle
+  answer_kept (Acked there now number app_limited) answer idle = pick there (acknowledged number) idle
+  answer_kept (Lost there number) answer idle = pick there (loses number) idle
+  answer_kept (AckFrequencyIn frame) (Flag true) idle = pick Data (asked frame) idle
+  answer_kept (AckFrequencyIn frame) (Flag false) idle = none
+  answer_kept (AckFrequencyIn frame) answer idle = none
+  answer_kept (AcksSent there) answer idle = pick there ack_goes idle
+  answer_kept (AckDelayTimeout there) answer idle = pick there ack_is_late idle
+  answer_kept (DiscardSpace there) answer idle = pick there emptied idle
+  answer_kept (PollMtu now) (Probe number size) idle = pick Data _ idle
+  answer_kept (PollMtu now) answer idle = none
+  answer_kept (Ecn there newly counts) answer idle = pick there (feeds_back counts) idle
+  answer_kept (QueueProbe there immediate streams) answer idle = pick there _ idle
+  answer_kept (TakePending there) answer idle = pick there takes_pending idle
+  answer_kept (Transmit now bytes true) Transmitted idle = none
+  answer_kept (Transmit now bytes true) (Delayed until) idle = none
+  answer_kept (Transmit now bytes true) answer idle = none
+  answer_kept (Transmit now bytes false) answer idle = none
+  answer_kept event answer idle = none
+
+  -- what holds of none, and of entries of some kinds, holds of what an event of those kinds makes
+  pub space_kept : (event : Event Q S M P) (reply : Reply Q) → is_idle (kind_of event) ≡ true
+      → IsKept ((entries_of q known event reply).spaces space)
+  space_kept event (Ok answer) idle = answer_kept event answer idle
+  space_kept event (Err refusal) idle =
+      refused_keeps event refusal (λ (e : Entries P M). IsKept (e.spaces space)) none
+
+-- ---- on the paths
+
+module _ {K Q S M P : Type 0} (q : QueueMeaning Q S M P) (known : Known K P M) (IsKept : List PathsEntry → Type 0)
+    (is : PathKind → Bool) (none : IsKept [])
+    (each : (entry : PathsEntry) (earlier : List PathsEntry) → is (path_kind entry) ≡ true → IsKept earlier
+    → IsKept (entry ∷ earlier)) where
+  told : (call : ControllerCall) (earlier : List PathsEntry) → is telling ≡ true → IsKept earlier
+      → IsKept (on_current (tells call) ∷ earlier)
+  told call earlier quiet kept = each (on_current (tells call)) earlier quiet kept
+
+  seen : (call : MtuCall) → is (call_kind call) ≡ true → IsKept (on_current (searches call) ∷ [])
+  seen call quiet = each (on_current (searches call)) [] quiet none
+
+  changed : (changes : Bool) (call : MtuCall) → is telling ≡ true → is (call_kind call) ≡ true
+      → IsKept (searched known changes call)
+  changed true call quiet sees = told _ _ quiet (seen call sees)
+  changed false call quiet sees = seen call sees
+
+  told_if : (own : Bool) (call : ControllerCall) (earlier : List PathsEntry) → is telling ≡ true → IsKept earlier
+      → IsKept (cond own (on_current (tells call) ∷ []) [] ++ earlier)
+  told_if true call earlier quiet kept = told call earlier quiet kept
+  told_if false call earlier quiet kept = kept
+
+  in_data : (is_data : Bool) (entries : List PathsEntry) → IsKept entries → IsKept (cond is_data entries [])
+  in_data true entries kept = kept
+  in_data false entries kept = none
+
+  acked_kept : (space : SpaceId) (now number : ℕ) (app_limited : Bool) (packet : Option (Packet P M))
+      → is telling ≡ true → is departing ≡ true
+      → IsKept (acked_entry known now app_limited packet ++ acked_search known space number packet)
+  acked_kept space now number app_limited None quiet departs = none
+  acked_kept space now number app_limited (Some packet) quiet departs =
+      told_if (is_own known packet && packet.ack_eliciting) _ (acked_search known space number (Some packet)) quiet
+      (in_data (is_data space) _ (changed (is_path_probe space number known.paths.current.state)
+      (acks_packet number packet.size) quiet departs))
+
+  lost_kept : (space : SpaceId) (number : ℕ) (packet : Option (Packet P M)) → is departing ≡ true
+      → IsKept (lost_search known space number packet)
+  lost_kept space number None departs = none
+  lost_kept space number (Some packet) departs =
+      in_data (is_data space) _ (go (is_probe number known.paths.current.state.discovery))
+    where
+      go : (probe : Bool) → IsKept (searched known false (cond probe loses_probe (loses_packet number packet.size)))
+      go true = seen loses_probe departs
+      go false = seen (loses_packet number packet.size) departs
+
+  one : (entry : PathsEntry) → is (path_kind entry) ≡ true → IsKept (entry ∷ [])
+  one entry quiet = each entry [] quiet none
+
+  answer_keeps : (event : Event Q S M P) (answer : Answer Q) → is_by is event ≡ true
+      → IsKept (answered q known event answer).paths
+  answer_keeps (Send space now size eliciting largest queue frames) answer quiet = told _ [] quiet none
+  answer_keeps (Acked space now number app_limited) answer quiet =
+      let both = and_parts (is telling) (is departing) quiet in
+      acked_kept space now number app_limited (packet_at (tracked_known known space) number) both.0 both.1
+  answer_keeps (Lost space number) answer quiet =
+      lost_kept space number (packet_at (tracked_known known space) number) quiet
+  answer_keeps (DatagramIn path bytes) answer quiet = one (on path (receives bytes)) quiet
+  answer_keeps (Validated path) answer quiet = one (on path is_validated) quiet
+  answer_keeps (Sample delay rtt) answer quiet = one (on_current (samples delay rtt)) quiet
+  answer_keeps (Transmit now bytes true) Transmitted quiet =
+      let both = and_parts (is transmitting) (is passing && is asking) quiet in
+      one (on_current (passes now bytes)) (and_parts (is passing) (is asking) both.1).0
+  answer_keeps (Transmit now bytes true) (Delayed until) quiet =
+      let both = and_parts (is transmitting) (is passing && is asking) quiet in
+      one (on_current (asks now bytes)) (and_parts (is passing) (is asking) both.1).1
+  answer_keeps (Transmit now bytes true) answer quiet = none
+  answer_keeps (Transmit now bytes false) answer quiet =
+      one (on_current (transmits bytes)) (and_parts (is transmitting) (is passing && is asking) quiet).0
+  answer_keeps (PacerCheck now bytes) answer quiet = one (on_current (asks now bytes)) quiet
+  answer_keeps (Congestion now sent persistent bytes) answer quiet = told _ [] quiet none
+  answer_keeps (EndAcks now app_limited largest) answer quiet = told _ [] quiet none
+  answer_keeps (PollMtu now) (Probe number size) quiet =
+      let both = and_parts (is telling) (is searching) quiet in each _ _ both.1 (told _ [] both.0 none)
+  answer_keeps (PollMtu now) answer quiet = seen _ (and_parts (is telling) (is searching) quiet).1
+  answer_keeps (PeerLimit size) answer quiet = seen (is_limited size) quiet
+  answer_keeps (LossesDone now) answer quiet =
+      let both = and_parts (is telling) (is searching) quiet in
+      changed (reports known.paths.current.state.discovery) (losses_end now) both.0 both.1
+  answer_keeps (NewPath now remote is_fresh) answer quiet = one _ quiet
+  answer_keeps (ResetPath now) answer quiet = one (on_current (is_reset now)) quiet
+  answer_keeps DropPrevious answer quiet = one drops_previous quiet
+  answer_keeps (Received space now number eliciting) (New arm) quiet = none
+  answer_keeps (Received space now number eliciting) answer quiet = none
+  answer_keeps (AckFrequencyIn frame) (Flag true) quiet = none
+  answer_keeps (AckFrequencyIn frame) (Flag false) quiet = none
+  answer_keeps (AckFrequencyIn frame) answer quiet = none
+  answer_keeps event answer quiet = none
+
+  -- what holds of none, and of one more that is of some kinds, holds of what an event of those kinds makes
+  pub paths_kept : (event : Event Q S M P) (reply : Reply Q) → is_by is event ≡ true
+      → IsKept (entries_of q known event reply).paths
+  paths_kept event (Ok answer) quiet = answer_keeps event answer quiet
+  paths_kept event (Err refusal) quiet = refused_keeps event refusal (λ (e : Entries P M). IsKept e.paths) none
+
+-- ---- to the other parts
+
+module _ {K Q S M P : Type 0} (q : QueueMeaning Q S M P) (known : Known K P M) where
+  -- what is read off the answer leaves the other parts alone
+  abbrev pub but_logs : Entries P M → Entries P M
+  but_logs entries = record entries { spaces = λ space. None; paths = []; requests = None }
+
+  pub plainly : (event : Event Q S M P) (answer : Answer Q)
+      → but_logs (answered q known event answer) ≡ but_logs (answered q known (plain event) Done)
+  plainly (Received there now number eliciting) (New arm) = refl
+  plainly (Received there now number eliciting) answer = refl
+  plainly (AckFrequencyIn frame) (Flag true) = refl
+  plainly (AckFrequencyIn frame) (Flag false) = refl
+  plainly (AckFrequencyIn frame) answer = refl
+  plainly (PollMtu now) (Probe number size) = refl
+  plainly (PollMtu now) answer = refl
+  plainly (Transmit now bytes true) Transmitted = refl
+  plainly (Transmit now bytes true) (Delayed until) = refl
+  plainly (Transmit now bytes true) answer = refl
+  plainly (Transmit now bytes false) answer = refl
+  plainly event answer = refl
+
+  -- what holds of the entries that an event makes whatever its answer holds of those that it makes
+  pub plainly_keeps : (event : Event Q S M P) (answer : Answer Q) (IsKept : Entries P M → Type 0)
+      → IsKept (but_logs (answered q known (plain event) Done)) → IsKept (but_logs (answered q known event answer))
+  plainly_keeps event answer IsKept kept = subst IsKept (sym (plainly event answer)) kept
