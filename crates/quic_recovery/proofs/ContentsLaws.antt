@@ -297,8 +297,8 @@ module _ {F K Q S M P : Type 0} (beginning : Beginning F K Q S M P) (before : Hi
       ∙ ap (λ s. pending_by words ((logs_of beginning before).spaces s)) (one_space there space at))))
   answer_keeps (TakePending there) answer told = absurd told.1
   answer_keeps event answer told =
-      space_kept beginning.queue known space (λ entry. outgoing_now ≡ held_by (onto entry log) + gone_now) keeps_contents
-      same unmoved event (Ok answer) refl
+      space_kept beginning.queue known space (λ entry. outgoing_now ≡ held_by (onto entry log) + gone_now)
+      keeps_contents same unmoved event (Ok answer) refl
 
   abbrev Refused : Event Q S M P → Refusal → Entries P M → Type 0
   Refused event refusal entries =

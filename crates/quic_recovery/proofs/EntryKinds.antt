@@ -1,5 +1,5 @@
--- Of what kinds the entries are that an event may make in the log of a space and in that of the paths. A law over such a
--- log names the events of the kinds that it reads; what every other event makes keeps it (`space_kept`, `paths_kept`).
+-- Of what kinds the entries are that an event may make in the log of a space and in that of the paths. A law over such
+-- a log names the events of the kinds that it reads; what every other event makes keeps it (`space_kept`, `paths_kept`).
 use Rattle.std.proofs.Common.{◌≡◌, ℕ, ◌&&◌, Bool, true, false, cond, List, [], ◌∷◌, ◌++◌, Option, None, Some, Ok, Err, refl, sym, subst}
 use Rattle.std.proofs.lemmas.Bool.{and_parts}
 use Rattle.recovery_base.specs.declared.below.SpaceId.{SpaceId}
@@ -143,7 +143,7 @@ module _ {Q S M P : Type 0} where
   is_by is DropPrevious = is dropping
   is_by is event = true
 
-  -- an event whose entries are read off its answer, and those in spaces and on paths apart, stands for one that is nothing
+  -- events that are read off their answers are nothing to any part but spaces, requests and paths
   abbrev pub plain : Event Q S M P → Event Q S M P
   plain (Received space now number eliciting) = NextTimeout
   plain (AckFrequencyIn frame) = NextTimeout

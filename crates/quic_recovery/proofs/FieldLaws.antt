@@ -106,7 +106,8 @@ module _ {P M A : Type 0} (says : Packet P M → A) where
   said_moved kept by sent empty (moves number) said = said_carrying by sent.next kept sent.tracked number empty said
 
   -- an entry by which no packet goes out
-  module _ {S : Type 0} (kept : (contents : P) (packet : Packet P M) → says (with_contents contents packet) ≡ says packet)
+  module _ {S : Type 0}
+      (kept : (contents : P) (packet : Packet P M) → says (with_contents contents packet) ≡ says packet)
       (words : QueueWords P S) (by : ℕ → A) (log : List (SpaceEntry P M)) (said : IsSaid by (sent_by words log)) where
     pub said_after : (entry : SpaceEntry P M) → sends_none (space_kind entry) ≡ true
         → IsSaid by (sent_by words (entry ∷ log))

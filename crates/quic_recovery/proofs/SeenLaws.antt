@@ -66,8 +66,8 @@ module _ {F K Q S M P A : Type 0} (beginning : Beginning F K Q S M P) (see : OfP
   answered_seen event given =
       let settings = settings_of beginning in
       let first = first_path beginning in
-      paths_kept beginning.queue known (λ entries. see (pasts_by settings first (entries ++ log)) ≡ see (pasts_of beginning
-      past)) stays_there refl
+      paths_kept beginning.queue known
+      (λ entries. see (pasts_by settings first (entries ++ log)) ≡ see (pasts_of beginning past)) stays_there refl
       (λ entry entries is kept. one_seen settings first see still still_on entry (entries ++ log) is ∙ kept) event
       (Ok given) refl
 

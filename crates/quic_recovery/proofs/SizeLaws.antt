@@ -99,10 +99,9 @@ module _ {F K Q S M P : Type 0} (beginning : Beginning F K Q S M P) where
         (size_of history) sent.next known.numbers.next size new_number sent.last sent.tracked packet refl sized)
     answer_sized (PollMtu now) answer told = sized
     answer_sized event answer told =
-        space_kept beginning.queue known Data (λ entry. IsSizedLog beginning.queue.words (size_of history) (onto entry log))
-        sends_none sized
-        (said_after size_in (λ contents packet. refl) beginning.queue.words (size_of history) log sized) event (Ok answer)
-        refl
+        let words = beginning.queue.words in
+        space_kept beginning.queue known Data (λ entry. IsSizedLog words (size_of history) (onto entry log)) sends_none
+        sized (said_after size_in (λ contents packet. refl) words (size_of history) log sized) event (Ok answer) refl
 
     refusal_sized : (event : Event Q S M P) (refusal : Refusal)
         → IsSizedLog beginning.queue.words (size_of ((event, Err refusal) ∷ history)) log

@@ -480,8 +480,8 @@ module _ {F K Q S M P : Type 0} (beginning : Beginning F K Q S M P) (before : Hi
       subst (λ d. After (cond b (Some entry) None) (not b && tracked_now) given_now d)
       (discarded_more acked_now lost_now forgotten_now discarded_now (b && tracked_now)) (empties b)
   answer_tracks event answer told =
-      space_kept beginning.queue known space (λ entry. After entry tracked_now given_now departed_now) keeps_packets here
-      unmoved event (Ok answer) refl
+      space_kept beginning.queue known space (λ entry. After entry tracked_now given_now departed_now) keeps_packets
+      here unmoved event (Ok answer) refl
 
   abbrev Replied : Event Q S M P → Reply Q → Type 0
   Replied event reply = TracksIn beginning ((event, reply) ∷ before) space n

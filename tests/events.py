@@ -1,0 +1,70 @@
+#!/usr/bin/env python3
+"""Counts in how many files of the library each event is named: in its code and definitions, and in its proofs. Tests, rows and the example
+are apart, and so is the file that declares it. What does not speak of an event should not name it: no event may exceed its bound here,
+nor the mean its own; where fewer files name one, lower them."""
+import pathlib
+import re
+import sys
+
+ROOT = pathlib.Path(__file__).resolve().parent.parent
+APART = re.compile(r"_tests$|^recovery_(rows|refused_memory|embedding)$")
+ROWS = re.compile(r"Rows$|^RowStart$")
+IMPORT = re.compile(r"\bEvent\.TheVariants\.\{([^}]*)\}")
+RENAMED = re.compile(r"\bEvent\.TheVariants as (\w+)")
+COMMENT = re.compile(r"^\s*(//|--).*$", re.M)
+
+# files of code and definitions, and of proofs, that may name each event, and the means
+BOUNDS = """
+Received 10 10, Send 14 13, Acked 17 20, Lost 14 19, NewId 8 4, NextId 8 4, InitialId 9 4, IssueIds 7 6, IdTimeout 6 3,
+PeerRetired 7 4, AckFrequencyIn 7 5, AcksSent 8 5, AckDelayTimeout 7 5, SetTimer 7 4, StopTimer 7 4, NextTimeout 6 5,
+DiscardSpace 11 9, InFlight 7 4, Sample 6 4, DatagramIn 8 5, Validated 8 5, Transmit 10 9, PacerCheck 7 5,
+Congestion 6 4, EndAcks 6 4, PollMtu 15 18, PeerLimit 8 13, LossesDone 11 13, Ecn 7 4, CheckAck 6 3, QueueProbe 7 6,
+TakePending 8 5, NewPath 12 18, ResetPath 8 11, DropPrevious 10 10
+"""
+MEANS = (8.7, 7.6)
+
+
+def files():
+    for room in ("src", "specs", "proofs"):
+        for path in sorted(ROOT.glob(f"crates/*/{room}/**/*.*t")):
+            crate = path.relative_to(ROOT / "crates").parts[0]
+            if not APART.search(crate) and not ROWS.search(path.stem):
+                yield room, path.read_text()
+
+
+def declared(text):
+    """The names of the variants, where this declares the events."""
+    body = re.search(r"^pub enum Event<.*?^}", text, re.M | re.S)
+    return re.findall(r"^    ([A-Z]\w*)", body.group(0), re.M) if body else []
+
+
+def named_in(text, events):
+    text = COMMENT.sub("", text)
+    names = {name.strip().partition(" as ")[0] for found in IMPORT.findall(text) for name in found.split(",")}
+    for alias in ["Event::"] + [f"{name}." for name in RENAMED.findall(text)]:
+        names.update(re.findall(rf"\b{re.escape(alias)}(\w+)", text))
+    return names & set(events)
+
+
+def main():
+    sources = list(files())
+    events = [name for _, text in sources for name in declared(text)]
+    counts = {event: [0, 0] for event in events}
+    for room, text in sources:
+        for event in named_in(text, events):
+            counts[event][room == "proofs"] += 1
+    bounds = {name: (int(ours), int(proofs)) for name, ours, proofs in re.findall(r"(\w+) (\d+) (\d+)", BOUNDS)}
+    means = [round(sum(it) / len(events), 1) for it in zip(*counts.values())]
+    wrong = [f"{name}: {found[0]} and {found[1]} files, and not at most {bounds.get(name)}" for name, found in counts.items()
+             if any(a > b for a, b in zip(found, bounds.get(name, (0, 0))))]
+    wrong += [f"the means: {means}, and not at most {MEANS}"] if any(a > b for a, b in zip(means, MEANS)) else []
+    for fault in wrong:
+        print(f"events: {fault}", file=sys.stderr)
+    most = [max(counts, key=lambda name: counts[name][room]) for room in (0, 1)]
+    print(f"events: {means[0]} files of code and definitions name one on the mean (most {most[0]}, {counts[most[0]][0]}), "
+          f"and {means[1]} of proofs (most {most[1]}, {counts[most[1]][1]})")
+    print(f"events: {len(events) + 1 - len(wrong)} passed, {len(wrong)} failed")
+    return 1 if wrong else 0
+
+
+sys.exit(main())
