@@ -1,6 +1,7 @@
 -- How often the peer is asked to acknowledge, and how often it asks (draft-ietf-quic-ack-frequency-04, sections 4 and
 -- 7).
 use Rattle.std.specs.Prelude.{ℕ, ◌≡◌, ◌≢◌, ◌+◌, ◌-◌, ◌*◌, ◌<◌, ◌≤◌, ◌^◌, ◌⊎◌, min, max, Bool, true, false, Option, None, Some, Result, Ok, Err}
+use Rattle.std.specs.Int.{abs_diff}
 use lib.Chars.{codes}
 use Rattle.recovery_base.specs.declared.below.frames.AckFrequency.{AckFrequency}
 use Rattle.recovery_base.specs.declared.below.frames.TransportError.{TransportError}
@@ -43,13 +44,10 @@ abbrev pub longest_delay : Option (ℕ × ℕ) → ℕ → ℕ
 longest_delay None peer = peer
 longest_delay (Some request) peer = max peer request.1
 
-abbrev pub distance : ℕ → ℕ → ℕ
-distance a b = (a - b) + (b - a)
-
 -- a request is worth sending: none was made yet, or the delay wanted is more than a fifth away from the one asked for
 -- last; a smaller change is not worth a frame, since each sample moves the RTT that the delay follows
 abbrev pub IsWorthSending : ℕ → ℕ → ℕ → Type 0
-IsWorthSending next desired current = (next ≡ 0) ⊎ (current < 5 * distance desired current)
+IsWorthSending next desired current = (next ≡ 0) ⊎ (current < 5 * abs_diff desired current)
 
 -- the frame is no newer than the last (section 4)
 abbrev pub IsStale : Option ℕ → ℕ → Type 0

@@ -29,7 +29,8 @@ reno_made config now mtu = record {
 abbrev pub minimum_window : NewReno → ℕ
 minimum_window reno = 2 * reno.current_mtu
 
--- an acknowledgement counts where the application did not limit and the packet was sent after the start of recovery
+-- an acknowledgement is ignored where the application limited what was sent (RFC 9002, 7.8), and where the packet was
+-- sent before recovery began, or at that moment (RFC 9002, 7.3.2)
 abbrev pub is_ignored : ℕ → Bool → NewReno → Bool
 is_ignored sent limited reno = limited || nat_le sent reno.recovery_start_time
 

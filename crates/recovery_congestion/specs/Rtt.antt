@@ -1,6 +1,8 @@
 -- The estimate of the round-trip time, in nanoseconds (RFC 9002, 5).
 use Rattle.std.specs.Prelude.{ℕ, ◌≡◌, ◌+◌, ◌-◌, ◌*◌, ◌/◌, ◌≤◌, ◌^◌, min, max, List, [], ◌∷◌, Option, None, Some, nat_le, if◌then◌else◌}
 use Rattle.std.specs.Option.{unwrap_or}
+use Rattle.std.specs.Int.{abs_diff}
+use Rattle.recovery_base.specs.Times.{longest_span}
 
 pub record Rtt : Type 0 where
   -- the last sample; before the first one, the initial RTT
@@ -19,16 +21,12 @@ rtt_made initial = record { latest = initial; smoothed = None; variance = initia
 abbrev pub adjusted_rtt : ℕ → ℕ → ℕ → ℕ
 adjusted_rtt least delay sample = if nat_le (least + delay) sample then sample - delay else sample
 
--- how far two are apart
-abbrev pub distance : ℕ → ℕ → ℕ
-distance a b = (a - b) + (b - a)
-
 -- an adjusted sample moves the smoothed value by an eighth, and the variance by a quarter
 abbrev pub rtt_moved : ℕ → ℕ → ℕ → Rtt → Rtt
 rtt_moved adjusted sample smoothed old = record {
   latest = sample;
   smoothed = Some ((7 * smoothed + adjusted) / 8);
-  variance = (3 * old.variance + distance smoothed adjusted) / 4;
+  variance = (3 * old.variance + abs_diff smoothed adjusted) / 4;
   least = min old.least sample;
 }
 
@@ -62,17 +60,13 @@ rtt_get rtt = unwrap_or rtt.smoothed rtt.latest
 abbrev pub rtt_conservative : Rtt → ℕ
 rtt_conservative rtt = max (rtt_get rtt) rtt.latest
 
--- the longest `Duration`
-abbrev pub longest : ℕ
-longest = 2 ^ 64 * 10 ^ 9 - 1
-
 -- the least span that timers can keep (RFC 9002, 6.1.2)
 abbrev pub granularity : ℕ
 granularity = 10 ^ 6
 
 -- the probe timeout without the delay of ACKs (RFC 9002, 6.2.1)
 abbrev pub pto_base_of : Rtt → ℕ
-pto_base_of rtt = min (rtt_get rtt + max (4 * rtt.variance) granularity) longest
+pto_base_of rtt = min (rtt_get rtt + max (4 * rtt.variance) granularity) longest_span
 
 -- what holds of every estimate: it is never below the least sample (RFC 9002, 5.3), or the initial RTT before the first
 -- one

@@ -1,6 +1,6 @@
 //! The estimate of the round-trip time (RFC 9002, 5).
 ghost use Rattle.std.specs.Prelude.{◌≡◌, ◌<◌, ◌≤◌, ◌*◌, ◌^◌, min, max, IsSomeAnd};
-ghost use Rattle.recovery_congestion.specs.Rtt.{rtt_made, rtt_updated, rtt_get, rtt_conservative, pto_base_of, adjusted_rtt, distance, greatest_of, IsAboveLeast, KeepsLeast};
+ghost use Rattle.recovery_congestion.specs.Rtt.{rtt_made, rtt_updated, rtt_get, rtt_conservative, pto_base_of, adjusted_rtt, greatest_of, IsAboveLeast, KeepsLeast};
 
 use recovery_base::time::Duration;
 use std::marker::Model;

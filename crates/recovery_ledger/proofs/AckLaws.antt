@@ -3,6 +3,7 @@
 use Rattle.std.proofs.Common.{◌≡◌, ℕ, ◌<◌, ◌≤◌, ◌⊎◌, inl, inr, ◌↔◌, max, Bool, true, false, cond, IsTrue, IfSome, Option, None, Some, refl, sym, ap, ap₂, subst, ◌∙◌, arith}
 use Rattle.recovery_base.specs.Numbers.{Recent, With, IsLeastMissing, Exceeds}
 use Rattle.std.proofs.lemmas.Bool.{cases_lt}
+use Rattle.std.proofs.lemmas.Option.{none-some}
 use Rattle.recovery_base.specs.Received.{Has}
 use Rattle.recovery_base.proofs.WindowLaws.{HasGreatest, greatest_with}
 use Rattle.recovery_base.proofs.MissingLaws.{has_greatest, reached, stays_reached, least_missing_left, least_missing_cut}
@@ -65,10 +66,7 @@ false_is_not_true e = cc
 -- ---- a timer that is started or goes on
 
 unset : (base : Option ℕ) → base ≡ None → ¬ ((m : ℕ) × (base ≡ Some m))
-unset base none set = none_is_some set.0 (sym none ∙ set.1)
-  where
-    none_is_some : (m : ℕ) → None ≡ Some m → ⊥
-    none_is_some m e = cc
+unset base none set = none-some set.0 (sym none ∙ set.1)
 
 is_none : (base : Option ℕ) → ¬ ((m : ℕ) × (base ≡ Some m)) → base ≡ None
 is_none None unset = refl

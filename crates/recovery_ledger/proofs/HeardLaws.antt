@@ -1,5 +1,6 @@
 -- What one entry more says of the ACKs of a space. `SpaceLaws` and the driver's `ToldLaws` rest on it.
 use Rattle.std.proofs.Common.{◌≡◌, ℕ, ◌<◌, ◌⊎◌, inl, inr, ◌↔◌, Bool, true, nat_lt, IsTrue, Option, None, Some, List, ◌∷◌, if◌then◌else◌, refl, sym, ap, ap₂, subst, ◌∙◌, lt-ltb, ltb-true}
+use Rattle.std.proofs.lemmas.Option.{none-some}
 use Rattle.recovery_base.specs.declared.below.frames.AckFrequency.{AckFrequency}
 use Rattle.recovery_base.specs.Numbers.{Recent, With}
 use Rattle.recovery_base.proofs.WindowLaws.{HasGreatest, iff_trans}
@@ -53,9 +54,6 @@ module _ (Here There : ℕ → Type 0) (greatest : HasGreatest There) (alike : (
       λ why. h.2 (elim why [ inl was ↦ inl (same.0 was) | inr asks ↦ inr ((asks_alike counts).0 asks) ]),
     ),
   )
-
-pub none_is_some : (m : ℕ) → None ≡ Some m → ⊥
-none_is_some m e = cc
 
 same_flag : (a b : Bool) → a ≡ b → IsTrue a ↔ IsTrue b
 same_flag a b e = (λ h. sym e ∙ h, λ h. e ∙ h)
@@ -168,7 +166,7 @@ module _ {P M S : Type 0} (words : QueueWords P S) (log : List (SpaceEntry P M))
   ack_goes_law = record {
     pending = left.pending;
     required = (λ h. false_is_not_true h, λ h. absurd h);
-    started = λ m. (none_is_some m, λ h. absurd h);
+    started = λ m. (none-some m, λ h. absurd h);
     counts = ap counts_acked left.counts;
     silent = refl;
     largest = left.largest;

@@ -3,6 +3,7 @@
 use Rattle.std.proofs.Common.{◌≡◌, ◌≢◌, ℕ, ◌+◌, ◌≤◌, ◌<◌, ◌==◌, inl, inr, Bool, true, false, cond, ◌&&◌, [], ◌∷◌, Option, None, Some, refl, sym, ap, ap₂, subst, ◌∙◌, arith, eq-eqb, ne_eqb}
 use Rattle.std.specs.Prelude.{sum_by, option_map}
 use Rattle.std.proofs.lemmas.List.Sums.{sum_by_push, sum_by-cons}
+use Rattle.std.proofs.lemmas.Option.{none-some}
 use Rattle.recovery_base.specs.declared.below.SpaceId.{SpaceId}
 use Rattle.recovery_base.specs.declared.below.SpaceId.TheVariants.{Initial, Handshake, Data}
 use Rattle.recovery_queue.specs.Queues.{QueueWords}
@@ -319,19 +320,9 @@ module _ {P M : Type 0} where
         → entry_at (tracked_by spaces space) forgotten ≡ Some entry
         → (size_in (generation_of path) entry ≤ (counters_of path).bytes)
         × (eliciting_in (generation_of path) entry ≤ (counters_of path).ack_eliciting)
-    entry_enough None entry e = none_is_some entry e
-      where
-        none_is_some : (x : ℕ × Packet P M) → None ≡ Some x
-            → (size_in (generation_of path) x ≤ (counters_of path).bytes)
-            × (eliciting_in (generation_of path) x ≤ (counters_of path).ack_eliciting)
-        none_is_some x e = cc
+    entry_enough None entry e = absurd (none-some entry e)
     entry_enough (Some number) entry e = go (packet_at (tracked_by spaces space) number) refl e
       where
-        none_is_some : (x : ℕ × Packet P M) → None ≡ Some x
-            → (size_in (generation_of path) x ≤ (counters_of path).bytes)
-            × (eliciting_in (generation_of path) x ≤ (counters_of path).ack_eliciting)
-        none_is_some x e = cc
-
         same_entry : (x y : ℕ × Packet P M) → Some x ≡ Some y → x ≡ y
         same_entry x y e = cc
 
@@ -339,7 +330,7 @@ module _ {P M : Type 0} where
             → numbered number found ≡ Some entry
             → (size_in (generation_of path) entry ≤ (counters_of path).bytes)
             × (eliciting_in (generation_of path) entry ≤ (counters_of path).ack_eliciting)
-        go None absent f = none_is_some entry f
+        go None absent f = absurd (none-some entry f)
         go (Some p) found f =
             let Holds : ℕ × Packet P M → Type 0 = λ x. (size_in (generation_of path) x ≤ (counters_of path).bytes)
             × (eliciting_in (generation_of path) x ≤ (counters_of path).ack_eliciting) in

@@ -8,6 +8,7 @@ use Rattle.std.specs.Cmp.{nat_cmp_is, nat_cmp_total, Equal-is, tied_itself}
 use Rattle.std.specs.BTreeMap.{is_at, insert_entry}
 use Rattle.std.proofs.lemmas.List.Sums.{sum_by-cons}
 use Rattle.std.proofs.lemmas.Map.Lookups.{exact_unsigned}
+use Rattle.std.proofs.lemmas.Option.{none-some}
 pub use Rattle.recovery_slots.proofs.EntryLaws.{AllBelow, all_below}
 use Rattle.recovery_ledger.specs.Packets.{Packet, Packets, packet_at, without, without_some, with_contents, replaced, carrying, AreBelow, HasSize, is_above, is_silent_above, silent_above, least_number, forgotten_silent, forgotten_number, entry_at, entry_number, numbered}
 use Rattle.recovery_ledger.specs.Counts.{silent_count, eliciting_count, size_count}
@@ -272,10 +273,7 @@ module _ {P M : Type 0} where
   pub first_above_found : (last : Option ℕ) (packets : Packets P M) (number : ℕ)
       → least_number (filter (λ entry. is_above last entry.0) packets) ≡ Some number
       → (packet : Packet P M) × (packet_at packets number ≡ Some packet) × (is_above last number ≡ true)
-  first_above_found last [] number e = absurd (none_is_some number e)
-    where
-      none_is_some : (n : ℕ) → None ≡ Some n → ⊥
-      none_is_some n e = cc
+  first_above_found last [] number e = absurd (none-some number e)
   first_above_found last (entry ∷ packets) number e =
       go (is_above last entry.0) refl e (first_above_found last packets number)
     where

@@ -1,5 +1,6 @@
 -- Packet spaces, one entry at a time. The driver's `LeftLaws` rest on it.
 use Rattle.std.proofs.Common.{◌≡◌, ℕ, ◌+◌, ◌-◌, ◌^◌, ◌≤◌, min, max, ◌↔◌, Bool, true, false, cond, if◌then◌else◌, Option, None, Some, List, [], ◌∷◌, refl, sym, ap, subst, ◌∙◌, arith}
+use Rattle.std.proofs.lemmas.Option.{none-some}
 use Rattle.recovery_base.specs.declared.dedup.Dedup.{Dedup}
 use Rattle.recovery_base.specs.Numbers.{Recent, With}
 use Rattle.recovery_base.specs.Received.{Has}
@@ -19,7 +20,7 @@ use Rattle.recovery_base.specs.declared.below.SpaceId.{SpaceId}
 use Rattle.recovery_base.specs.declared.below.SpaceId.TheVariants.{Initial, Handshake, Data}
 use Rattle.recovery_ledger.specs.Spaces.{Spaces, space_of, Space, tracking_of, queued_of, one_probe_more, space_probes, kept_of, acks_of, with_acks, sent_of, after_acknowledging, space_takes, next_number_of, heard_of, SpaceStep, AcksLeft, SpaceLeft}
 use Rattle.recovery_ledger.specs.Tracked.{Sent, sent_by, sent_more, sent_moved}
-use Rattle.recovery_ledger.proofs.HeardLaws.{none_is_some, waits_alike, heard_law, acknowledged_law, ack_goes_law, ack_is_late_law, asked_law}
+use Rattle.recovery_ledger.proofs.HeardLaws.{waits_alike, heard_law, acknowledged_law, ack_goes_law, ack_is_late_law, asked_law}
 use Rattle.recovery_ledger.proofs.ReceivedLaws.{fails, came_greatest}
 
 -- one probe more is asked for
@@ -290,7 +291,7 @@ module _ {P M S : Type 0} (words : QueueWords P S) where
         (record {
           pending = λ n. (λ here. here, λ here. here);
           required = (λ h. absurd (fails false refl h), λ h. absurd h);
-          started = λ m. (none_is_some m, λ h. absurd h);
+          started = λ m. (none-some m, λ h. absurd h);
           counts = refl;
           silent = refl;
           largest = refl;

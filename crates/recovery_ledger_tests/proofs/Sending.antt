@@ -1,5 +1,6 @@
 -- The packets of a space stay below the next number when one is sent: the helper `sent` of the tests rests on it.
 use Rattle.std.proofs.Common.{◌≡◌, ℕ, ◌+◌, ◌<◌, Bool, true, false, cond, [], Option, None, Some, ap, sym, subst, ◌∙◌, arith}
+use Rattle.std.proofs.lemmas.Option.{none-some}
 use Rattle.recovery_ledger.specs.Packets.{Packet, Tracking, no_packets, AreBelow, IsAboveLast, forgotten_number, after_sending, without_some}
 use Rattle.recovery_ledger.specs.Spaces.{Space, tracking_of, packets_of, with_tracking}
 use Rattle.recovery_ledger.proofs.PacketLaws.{all_below, are_below, AllBelow-push, AllBelow-without_some}
@@ -30,8 +31,5 @@ sent_below {P} {M} old new number packet below is = subst (λ (s : Space P M). I
 pub none_below : {P M : Type 0} (space : Space P M) → tracking_of space ≡ no_packets → IsBelow space 0
 none_below {P} {M} space none = record {
   packets = subst (λ (t : Tracking P M). AreBelow t.packets 0) (sym none) (are_below [] 0 tt);
-  last = subst (λ (t : Tracking P M). IsAboveLast t.last_eliciting 0) (sym none) (λ m e. absurd (none_is_some m e));
+  last = subst (λ (t : Tracking P M). IsAboveLast t.last_eliciting 0) (sym none) (λ m e. absurd (none-some m e));
 }
-  where
-    none_is_some : (m : ℕ) → None ≡ Some m → ⊥
-    none_is_some m e = cc

@@ -2,10 +2,11 @@
 use Rattle.std.proofs.Common.{◌≡◌, ℕ, ◌+◌, ◌-◌, ◌<◌, ◌≤◌, Option, Some, None, Bool, true, false, arith, refl, subst}
 use Rattle.std.specs.Prelude.{nat_lt, nat_le, ◌==◌, is_some, if◌then◌else◌, IfSome}
 use Rattle.std.proofs.lemmas.Bool.Decides.{nat_tests}
+use Rattle.std.specs.Int.{abs_diff}
 use Rattle.recovery_mtud.specs.declared.search.Phase.{Phase}
 use Rattle.recovery_mtud.specs.declared.search.Phase.TheVariants.{Initial, Searching, Complete}
 use Rattle.recovery_mtud.specs.declared.search.Probing.{Probing}
-use Rattle.recovery_mtud.specs.Search.{MtuSearch, begun, repeats, narrowed, middle, distance, next_size, size_to_probe, later, probing_in, phase_with, phase_after, search_polled, is_number, phase_acked, search_acked, phase_lost, search_lost, probed_in, probed_size, IsProbingSound, IsPhaseSound, IsSearchSound}
+use Rattle.recovery_mtud.specs.Search.{MtuSearch, begun, repeats, narrowed, middle, next_size, size_to_probe, later, probing_in, phase_with, phase_after, search_polled, is_number, phase_acked, search_acked, phase_lost, search_lost, probed_in, probed_size, IsProbingSound, IsPhaseSound, IsSearchSound}
 
 pub begun_sound : (mtu : ℕ) (search : MtuSearch) → 0 < mtu → 0 < search.limit → IsProbingSound (begun mtu search)
 begun_sound mtu search some_mtu some_limit = (omega (arith, some_mtu, some_limit), omega arith)
@@ -15,9 +16,9 @@ abbrev pub IsPositive : Option ℕ → Type 0
 IsPositive size = IfSome size (λ bytes. 0 < bytes)
 
 pub next_size_positive : (change : ℕ) (p : Probing) → IsPositive (next_size change p)
-next_size_positive change p = near (nat_lt (distance (middle p) p.last) change) refl
+next_size_positive change p = near (nat_lt (abs_diff (middle p) p.last) change) refl
   where
-    upper : (is_far : Bool) → nat_lt (distance (middle p) p.last) change ≡ true
+    upper : (is_far : Bool) → nat_lt (abs_diff (middle p) p.last) change ≡ true
         → nat_le change (p.upper - p.last) ≡ is_far → IsPositive (if is_far then Some p.upper else None)
     upper true close far = grind (arith, nat_tests)
     upper false close far = tt
@@ -26,7 +27,7 @@ next_size_positive change p = near (nat_lt (distance (middle p) p.last) change) 
     halved true zero = tt
     halved false zero = grind (arith, nat_tests)
 
-    near : (close : Bool) → nat_lt (distance (middle p) p.last) change ≡ close
+    near : (close : Bool) → nat_lt (abs_diff (middle p) p.last) change ≡ close
         → IsPositive (if close then (if nat_le change (p.upper - p.last) then Some p.upper else None)
         else (if middle p == 0 then None else Some (middle p)))
     near true close = upper (nat_le change (p.upper - p.last)) close refl

@@ -6,8 +6,9 @@ use Rattle.std.specs.Set.{distinct_count, is_member}
 use Rattle.std.proofs.lemmas.Bool.Decides.{nat_tests}
 use Rattle.std.proofs.lemmas.Bool.{eq-eqb, ne_eqb}
 use Rattle.std.proofs.lemmas.List.Elements.{All-head, All-tail}
+use Rattle.std.specs.Int.{abs_diff}
 use Rattle.recovery_mtud.specs.declared.search.Probing.{Probing}
-use Rattle.recovery_mtud.specs.Search.{distance, narrowed, next_size, repeats, upper_from}
+use Rattle.recovery_mtud.specs.Search.{narrowed, next_size, repeats, upper_from}
 use Rattle.recovery_mtud.proofs.SearchWidths.{Above, Below, Halves, middle_up, middle_down, upper_up, IsNext, IsOver, end_up, end_down, next_some, next_none}
 
 abbrev pub flying : Option ℕ → ℕ
@@ -246,7 +247,7 @@ module _ (upper change start mtu number : ℕ) (probed acked lost : List ℕ) (p
   halves_down tie try wide size (inl near) = absurd (omega (arith, near.1))
   halves_down tie try wide size (inr far) =
       let one : p.last ≡ p.last - 1 + 1 = omega (arith, try.above) in
-      let apart = subst (λ x. change ≤ distance ((p.lower + (p.last - 1)) / 2) x) one far.0 in
+      let apart = subst (λ x. change ≤ abs_diff ((p.lower + (p.last - 1)) / 2) x) one far.0 in
       subst (λ x. Halves tie.further change p.lower (p.last - 1) x) (sym far.1)
       (middle_down tie.further change p.lower (p.last - 1) _ wide (omega (arith, try.above)) refl apart try.down)
 

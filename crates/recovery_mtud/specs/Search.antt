@@ -1,6 +1,7 @@
 -- The search for a path's MTU (RFC 8899, 5; RFC 9000, 14.3): it halves the distance between a size that gets through
 -- and the largest that may. Sizes are in bytes, moments and spans in nanoseconds.
 use Rattle.std.specs.Prelude.{ℕ, ◌+◌, ◌-◌, ◌/◌, ◌^◌, ◌≤◌, ◌<◌, ◌==◌, nat_lt, nat_le, min, max, ⊤, Bool, true, false, ◌&&◌, if◌then◌else◌, Option, Some, None, is_some}
+use Rattle.std.specs.Int.{abs_diff}
 use Rattle.recovery_mtud.specs.declared.config.MtuDiscoveryConfig.{MtuDiscoveryConfig}
 use Rattle.recovery_mtud.specs.declared.search.Phase.{Phase}
 use Rattle.recovery_mtud.specs.declared.search.Phase.TheVariants.{Initial, Searching, Complete}
@@ -46,13 +47,10 @@ narrowed p =
 abbrev pub middle : Probing → ℕ
 middle p = (p.lower + p.upper) / 2
 
-abbrev pub distance : ℕ → ℕ → ℕ
-distance a b = (a - b) + (b - a)
-
 -- the size in the middle; the upper bound, where the middle is too near to the last size and the bound is not; or none
 abbrev pub next_size : ℕ → Probing → Option ℕ
 next_size change p =
-    if nat_lt (distance (middle p) p.last) change
+    if nat_lt (abs_diff (middle p) p.last) change
     then (if nat_le change (p.upper - p.last) then Some p.upper else None)
     else (if middle p == 0 then None else Some (middle p))
 

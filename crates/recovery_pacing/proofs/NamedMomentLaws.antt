@@ -4,9 +4,11 @@ use Rattle.std.proofs.Common.{◌≡◌, ℕ, suc, ◌+◌, ◌-◌, ◌*◌, �
 use Rattle.std.specs.List.{AllByRecursion}
 use Rattle.std.proofs.Math.Nat.{div-add-mod, mod-lt, mul-le-mul_left, mul-le-mul_right}
 use Rattle.std.proofs.lemmas.Bool.{cases_lt, or_parts, leb-false, le-leb, eq-eqb, eqb-false}
+use Rattle.std.proofs.lemmas.Option.{none-some}
+use Rattle.recovery_base.specs.Times.{longest_span}
 use Rattle.recovery_pacing.specs.NamedMoment.{HasRoom, IsAlike, PassesAtMoment}
 use Rattle.recovery_pacing.specs.PacerLog.{PacerEntry, asked, bucket_by}
-use Rattle.recovery_pacing.specs.Pacing.{Bucket, PacerCall, longest_span, credit_of, wait_of, resized, refilled, may_send, capacity_of, is_unpaced, paced, next_moment, delay_of}
+use Rattle.recovery_pacing.specs.Pacing.{Bucket, PacerCall, credit_of, wait_of, resized, refilled, may_send, capacity_of, is_unpaced, paced, next_moment, delay_of}
 use Rattle.recovery_pacing.proofs.PacerLogLaws.{paced-knows}
 use Rattle.recovery_pacing.proofs.ProgressLaws.{resized_alike, short_of}
 
@@ -204,9 +206,6 @@ refilled_sound call old until delays = by_test (may_send call bucket) refl
     bucket : Bucket
     bucket = resized call.rtt call.window call.mtu old
 
-    none_is_some : {A : Type 0} → None ≡ Some until → A
-    none_is_some e = cc
-
     by_test : (pass : Bool) → may_send call bucket ≡ pass
         → (cond pass bucket (refilled call.rtt call.window call.now bucket)).tokens
         ≤ (cond pass bucket (refilled call.rtt call.window call.now bucket)).capacity
@@ -214,7 +213,7 @@ refilled_sound call old until delays = by_test (may_send call bucket) refl
         let left = ap (λ (c : Bool). delay_of call (cond c bucket (refilled call.rtt call.window call.now bucket)))
         is in
         let passes = ap (λ (c : Bool). cond c None (Some (next_moment call bucket))) is in
-        none_is_some (sym passes ∙ sym left ∙ delays)
+        absurd (none-some until (sym passes ∙ sym left ∙ delays))
     by_test false is = omega arith
 
 pub passes_at_moment : (made : Bucket) (entries : List PacerEntry) (later : PacerCall)

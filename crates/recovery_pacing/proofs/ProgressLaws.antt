@@ -3,8 +3,10 @@ use Rattle.std.proofs.Common.{◌≡◌, ℕ, ◌+◌, ◌-◌, ◌*◌, ◌/◌
 use Rattle.std.proofs.Math.Nat.{div-add-mod, mod-lt, mul-le-mul_left, mul-le-mul_right}
 use Rattle.std.proofs.lemmas.Bool.{or_parts, leb-false, le-leb, eq-eqb, eqb-false}
 use Rattle.std.proofs.lemmas.Nat.{le-div}
+use Rattle.std.proofs.lemmas.Option.{none-some}
+use Rattle.recovery_base.specs.Times.{longest_span}
 use Rattle.recovery_pacing.specs.PacerLog.{PacerEntry, asked, took, bucket_by}
-use Rattle.recovery_pacing.specs.Pacing.{Bucket, PacerCall, longest_span, credit_of, wait_of, resized, refilled, may_send, capacity_of, is_unpaced, paced, next_moment, delay_of}
+use Rattle.recovery_pacing.specs.Pacing.{Bucket, PacerCall, credit_of, wait_of, resized, refilled, may_send, capacity_of, is_unpaced, paced, next_moment, delay_of}
 use Rattle.recovery_pacing.proofs.PacerLogLaws.{paced-knows}
 use Rattle.recovery_pacing.specs.Progress.{AsksAgain, PassesInTime, PassesBehind}
 
@@ -56,15 +58,12 @@ pub short_of : (call : PacerCall) (bucket : Bucket) (until : ℕ) → delay_of c
     → (may_send call bucket ≡ false) × (until ≡ next_moment call bucket)
 short_of call bucket until delays = go (may_send call bucket) refl delays
   where
-    none_is_some : {A : Type 0} → None ≡ Some until → A
-    none_is_some e = cc
-
     some_same : (a : ℕ) → Some a ≡ Some until → until ≡ a
     some_same a e = cc
 
     go : (pass : Bool) → may_send call bucket ≡ pass → cond pass None (Some (next_moment call bucket)) ≡ Some until
         → (may_send call bucket ≡ false) × (until ≡ next_moment call bucket)
-    go true is delays = none_is_some delays
+    go true is delays = absurd (none-some until delays)
     go false is delays = (is, some_same (next_moment call bucket) delays)
 
 pub passes_in_time : (call later : PacerCall) (old : Bucket)

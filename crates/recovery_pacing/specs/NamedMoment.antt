@@ -2,8 +2,9 @@
 -- whoever asks in between.
 use Rattle.std.specs.Prelude.{◌≡◌, ℕ, ◌+◌, ◌-◌, ◌*◌, ◌^◌, ◌<◌, ◌≤◌, List, ◌∷◌, ◌++◌, map, length, Option, None, Some}
 use Rattle.std.specs.List.{AllByRecursion}
+use Rattle.recovery_base.specs.Times.{longest_span}
 use Rattle.recovery_pacing.specs.PacerLog.{PacerEntry, asked, bucket_by}
-use Rattle.recovery_pacing.specs.Pacing.{Bucket, PacerCall, longest_span, paced, delay_of}
+use Rattle.recovery_pacing.specs.Pacing.{Bucket, PacerCall, paced, delay_of}
 
 -- with the same RTT, MTU and window
 pub record IsAlike (call other : PacerCall) : Type 0 where

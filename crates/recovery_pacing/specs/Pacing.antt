@@ -1,6 +1,7 @@
 -- A token bucket that paces packets (RFC 9002, 7.7): its bytes fill up at five fourths of a window in each RTT, and
 -- what is sent is taken off. Moments and spans are in nanoseconds.
 use Rattle.std.specs.Prelude.{ℕ, ◌+◌, ◌-◌, ◌*◌, ◌/◌, ◌^◌, ◌<◌, ◌≤◌, min, max, Bool, ◌&&◌, ◌||◌, ◌==◌, nat_le, if◌then◌else◌, Option, None, Some}
+use Rattle.recovery_base.specs.Times.{longest_span}
 
 pub record Bucket : Type 0 where
   -- the most bytes that it takes, and the window and MTU that they were computed for
@@ -29,9 +30,6 @@ capacity_of rtt window mtu = max (10 * mtu) (min (256 * mtu) (window * (2 * 10 ^
 -- the bytes that come in a span of time: the window for each RTT, times N = 5/4 (7.7), rounded down
 abbrev pub credit_of : ℕ → ℕ → ℕ → ℕ
 credit_of rtt window elapsed = 5 * window * elapsed / (4 * rtt)
-
-abbrev pub longest_span : ℕ
-longest_span = 2 ^ 64 * 10 ^ 9 - 1
 
 -- how long it takes until so many bytes have come; the product stops at the longest span
 abbrev pub wait_of : ℕ → ℕ → ℕ → ℕ

@@ -1,7 +1,8 @@
 -- How soon what was delayed passes, where nothing is sent in between (RFC 9002, 7.7).
 use Rattle.std.specs.Prelude.{◌≡◌, ℕ, ◌+◌, ◌*◌, ◌^◌, ◌<◌, ◌≤◌, ⊤, List, ◌∷◌, Option, None, Some}
+use Rattle.recovery_base.specs.Times.{longest_span}
 use Rattle.recovery_pacing.specs.PacerLog.{PacerEntry, asked, bucket_by}
-use Rattle.recovery_pacing.specs.Pacing.{Bucket, PacerCall, longest_span, paced, delay_of}
+use Rattle.recovery_pacing.specs.Pacing.{Bucket, PacerCall, paced, delay_of}
 
 -- divisions round down, so that the moment that is named may come so many nanoseconds early
 abbrev pub rounding_slack : ℕ

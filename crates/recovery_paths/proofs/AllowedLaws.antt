@@ -2,6 +2,7 @@
 -- `PassedLaws` and `SearchedLaws` rest on it.
 use Rattle.std.proofs.Common.{◌≡◌, false, List, [], ◌∷◌, ◌++◌, Option, None, Some, option_map, refl, subst}
 use Rattle.std.specs.Option.{ForSome}
+use Rattle.std.proofs.lemmas.Option.{none-some}
 use Rattle.recovery_congestion.specs.Controllers.{ControllerWords}
 use Rattle.recovery_mtud.proofs.SearchRunLaws.{IsInTurn}
 use Rattle.recovery_paths.specs.declared.live_paths.PathName.TheVariants.{Current, Previous}
@@ -21,9 +22,6 @@ abbrev pub PassesNothing : PathEntry → Type 0
 PassesNothing (passes now bytes) = ⊥
 PassesNothing (searches call) = ⊥
 PassesNothing entry = Unit {0}
-
-none_is_some : {A B : Type 0} {a : A} → None ≡ Some a → B
-none_is_some e = cc
 
 some_same : {A : Type 0} {a b : A} → Some a ≡ Some b → a ≡ b
 some_same e = cc
@@ -68,7 +66,7 @@ module _ {K : Type 0} (settings : PathSettings K) where
     -- on the previous path nothing passes
     previous_kept : (entry : PathEntry) (path : Option (PathPast K)) → PassesNothing entry → ForSome path Holds
         → ForSome (option_map (past_with settings entry) path) Holds
-    previous_kept entry None nothing holds = λ past is. none_is_some is
+    previous_kept entry None nothing holds = λ past is. absurd (none-some _ is)
     previous_kept entry (Some path) nothing holds = λ past is.
         subst Holds (some_same is) (kept.by_entry entry path (allowed_anywhere entry (state_of settings path) nothing)
         (holds path refl))
@@ -81,7 +79,7 @@ module _ {K : Type 0} (settings : PathSettings K) where
     entry_kept (on Previous entry) pasts allowed holds = (holds.0, previous_kept entry pasts.previous allowed holds.1)
     entry_kept (moves following) pasts allowed holds =
         (kept.following following pasts.current holds.0, λ past is. subst Holds (some_same is) holds.0)
-    entry_kept drops_previous pasts allowed holds = (holds.0, λ past is. none_is_some is)
+    entry_kept drops_previous pasts allowed holds = (holds.0, λ past is. absurd (none-some _ is))
 
     -- an event's entries keep it
     pub kept_after : (first : PathMaking K) (entries log : List PathsEntry) → let pasts = pasts_by settings first log in

@@ -2,6 +2,7 @@
 -- `Recovery`, and so each of its calls, rests on it.
 use Rattle.std.proofs.Common.{◌≡◌, ℕ, ◌+◌, ◌<◌, ◌≤◌, Bool, [], ◌∷◌, Option, None, Some, option_map, refl, sym, ap, subst, arith}
 use Rattle.std.specs.Option.{ForSome}
+use Rattle.std.proofs.lemmas.Option.{none-some}
 use Rattle.recovery_base.specs.declared.below.SpaceId.{SpaceId}
 use Rattle.recovery_congestion.specs.Controllers.{ControllerWords}
 use Rattle.recovery_ledger.specs.declared.paths.PathLedger.{PathLedger}
@@ -22,16 +23,13 @@ use Rattle.recovery_paths.specs.PathLog.{OfPaths, on_path_of, moved_to}
 use Rattle.recovery_paths.specs.PathStates.{PathState, Path, on_state, path_acked, path_lost}
 use Rattle.recovery_queue.specs.Queues.{QueueWords}
 
-none_is_some : {A B : Type 0} {a : A} → None ≡ Some a → B
-none_is_some e = cc
-
 some_same : {A : Type 0} {a b : A} → Some a ≡ Some b → a ≡ b
 some_same e = cc
 
 -- what holds of a changed value holds where that is
 for_changed : {A : Type 0} (Holds : A → Type 0) (change : A → A) (old : Option A)
     → ((a : A) → old ≡ Some a → Holds (change a)) → ForSome (option_map change old) Holds
-for_changed Holds change None holds = λ other is. none_is_some is
+for_changed Holds change None holds = λ other is. absurd (none-some _ is)
 for_changed Holds change (Some a) holds = λ other is. subst Holds (some_same is) (holds a refl)
 
 -- ---- the paths change, and none its generation
@@ -101,8 +99,8 @@ module _ {K P M : Type 0} (spaces : Spaces P M) (paths : OfPaths (Path K)) (bala
   pub dropped : AreBalanced spaces (let all : OfPaths (Path K) = record paths { previous = None } in all)
   dropped = record {
     current = balanced.current;
-    previous = λ path is. none_is_some is;
-    older = λ path is. none_is_some is;
+    previous = λ path is. absurd (none-some _ is);
+    older = λ path is. absurd (none-some _ is);
     up_to = balanced.up_to;
     coherent = balanced.coherent;
   }
@@ -299,8 +297,8 @@ pub fresh : {K P M : Type 0} (spaces : Spaces P M) (path : Path K)
     → AreBalanced spaces (let all : OfPaths (Path K) = record { current = path; previous = None } in all)
 fresh spaces path none coherent zero = record {
   current = fresh_balanced spaces path.ledger none zero;
-  previous = λ other is. none_is_some is;
-  older = λ other is. none_is_some is;
+  previous = λ other is. absurd (none-some _ is);
+  older = λ other is. absurd (none-some _ is);
   up_to = up_to_fresh (generation_of path.ledger) spaces none;
   coherent = coherent;
 }

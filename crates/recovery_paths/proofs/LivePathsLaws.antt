@@ -1,6 +1,7 @@
 -- Packets leave the paths that live, one after another: `forget_all` rests on it.
 use Rattle.std.proofs.Common.{◌≡◌, ℕ, ◌∷◌, Option, None, Some, option_map, refl, ap, subst}
 use Rattle.std.specs.Option.{ForSome}
+use Rattle.std.proofs.lemmas.Option.{none-some}
 use Rattle.recovery_ledger.specs.InFlight.{IsCountedIn}
 use Rattle.recovery_ledger.specs.Packets.{Packet, Packets}
 use Rattle.recovery_ledger.specs.Paths.{generation_of, counters_of}
@@ -8,9 +9,6 @@ use Rattle.recovery_ledger.proofs.LedgerLaws.{first_leaves}
 use Rattle.recovery_paths.specs.LivePaths.{on_ledger, IsCountedOnEach, AreCountedOnEach, ledger_without, paths_without, left_by}
 use Rattle.recovery_paths.specs.PathLog.{OfPaths, each_path}
 use Rattle.recovery_paths.specs.PathStates.{Path}
-
-none_is_some : {A B : Type 0} {a : A} → None ≡ Some a → B
-none_is_some e = cc
 
 some_same : {A : Type 0} {a b : A} → Some a ≡ Some b → a ≡ b
 some_same e = cc
@@ -34,7 +32,7 @@ module _ {K P M : Type 0} (entry : ℕ × Packet P M) (rest : Packets P M) where
 
   previous_counted : (path : Option (Path K)) → ForSome path (AreCountedBy (entry ∷ rest))
       → ForSome (option_map (left_by entry.1) path) (AreCountedBy rest)
-  previous_counted None counted = λ other is. none_is_some is
+  previous_counted None counted = λ other is. absurd (none-some _ is)
   previous_counted (Some path) counted = λ other is.
       let Q : Path K → Type 0 = AreCountedBy rest in
       subst Q (some_same is) (first_leaves path.ledger entry rest (counted path refl)).1

@@ -1,6 +1,7 @@
 -- What was transmitted checked had passed the pacer right before. The driver's `PacingLaws` rest on it.
 use Rattle.std.proofs.Common.{◌≡◌, List, [], ◌++◌, None, Some, refl}
 use Rattle.std.proofs.lemmas.Bool.{false≢true}
+use Rattle.std.proofs.lemmas.Option.{none-some}
 use Rattle.recovery_pacing.proofs.PacerLogLaws.{HavePassed}
 use Rattle.recovery_paths.specs.PathMaking.{PathMaking, PathSettings, bucket_of}
 use Rattle.recovery_paths.specs.PathLog.{OnEachPath, PathsEntry, PathEntry, PathPast, Following, pasts_by, each_path, state_of, known_of, past_with, past_following, fresh, goes_on, receives, is_validated, samples, tells, searches, asks, transmits, passes, is_reset}
@@ -9,9 +10,6 @@ use Rattle.recovery_paths.proofs.AllowedLaws.{IsAllowed, IsKept, AreAllowed, kep
 -- on one path, since its pacer was made
 abbrev pub HavePassedOn : {K : Type 0} → PathPast K → Type 0
 HavePassedOn past = HavePassed (bucket_of past.making.pacer) past.pacing
-
-none_is_some : {A B : Type 0} {a : A} → None ≡ Some a → B
-none_is_some e = cc
 
 module _ {K : Type 0} (settings : PathSettings K) where
   -- an entry keeps that
@@ -42,4 +40,4 @@ module _ {K : Type 0} (settings : PathSettings K) where
       kept_after settings HavePassedOn kept
 
   pub passed_at_first : (first : PathMaking K) → OnEachPath HavePassedOn (pasts_by settings first [])
-  passed_at_first first = (tt, λ past is. none_is_some is)
+  passed_at_first first = (tt, λ past is. absurd (none-some _ is))

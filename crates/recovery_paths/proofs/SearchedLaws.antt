@@ -1,6 +1,7 @@
 -- How each path is searched: all of them by the same settings, each from a discovery to which nothing was told, and
 -- with each limit in turn. The driver's `SearchLaws` rest on it.
 use Rattle.std.proofs.Common.{ℕ, ◌≡◌, Bool, List, [], ◌∷◌, ◌++◌, Option, None, Some, if◌then◌else◌, refl}
+use Rattle.std.proofs.lemmas.Option.{none-some}
 use Rattle.recovery_config.specs.declared.config.TransportConfig.{TransportConfig}
 use Rattle.recovery_config.specs.Settings.{initial_mtu_of}
 use Rattle.recovery_mtud.specs.declared.config.MtuDiscoveryConfig.{MtuDiscoveryConfig}
@@ -22,9 +23,6 @@ pub record IsSearchedBy (settings : Option MtuDiscoveryConfig) (made : Discovery
 
 abbrev pub IsPathSearchedBy : {K : Type 0} → Option MtuDiscoveryConfig → PathPast K → Type 0
 IsPathSearchedBy by past = IsSearchedBy by past.making.discovery past.searched
-
-none_is_some : {A B : Type 0} {a : A} → None ≡ Some a → B
-none_is_some e = cc
 
 -- one more call that is in turn
 searched_after : (by : Option MtuDiscoveryConfig) (made : Discovery) (call : MtuCall) (earlier : List MtuCall)
@@ -87,4 +85,4 @@ module _ {K : Type 0} (settings : PathSettings K) (by : Option MtuDiscoveryConfi
 
   pub searched_at_first : (first : PathMaking K) → IsSearchedBy by first.discovery []
       → OnEachPath (IsPathSearchedBy by) (pasts_by settings first [])
-  searched_at_first first searched = (searched, λ past is. none_is_some is)
+  searched_at_first first searched = (searched, λ past is. absurd (none-some _ is))

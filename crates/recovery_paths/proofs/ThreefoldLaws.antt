@@ -2,6 +2,7 @@
 -- `run` rests on it.
 use Rattle.std.proofs.Common.{ℕ, ◌≡◌, ◌≤◌, ◌*◌, ◌&&◌, Bool, true, false, not, nat_lt, List, [], ◌++◌, None, Some, sym, arith}
 use Rattle.std.proofs.lemmas.Bool.{ltb-false}
+use Rattle.std.proofs.lemmas.Option.{none-some}
 use Rattle.recovery_paths.specs.PathMaking.{PathMaking, PathSettings}
 use Rattle.recovery_paths.specs.PathLog.{OnEachPath, PathsEntry, PathEntry, PathPast, Following, pasts_by, each_path, state_of, known_of, past_with, past_following, fresh, goes_on, receives, is_validated, samples, tells, searches, asks, transmits, passes, is_reset}
 use Rattle.recovery_paths.specs.Threefold.{IsWithinThreefold}
@@ -9,9 +10,6 @@ use Rattle.recovery_paths.proofs.AllowedLaws.{IsAllowed, IsKept, AreAllowed, kep
 
 true_is_not_false : {A : Type 0} → true ≡ false → A
 true_is_not_false e = cc
-
-none_is_some : {A B : Type 0} {a : A} → None ≡ Some a → B
-none_is_some e = cc
 
 -- what is not blocked, though the address is not validated, is within the limit
 unblocked : (validated : Bool) (received sent : ℕ) → (not validated && nat_lt (3 * received) sent) ≡ false
@@ -52,4 +50,4 @@ module _ {K : Type 0} (settings : PathSettings K) where
       kept_after settings IsWithinThreefold kept
 
   pub within_at_first : (first : PathMaking K) → OnEachPath IsWithinThreefold (pasts_by settings first [])
-  within_at_first first = (λ unproved checked. omega arith, λ past is. none_is_some is)
+  within_at_first first = (λ unproved checked. omega arith, λ past is. absurd (none-some _ is))

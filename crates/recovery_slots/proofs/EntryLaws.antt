@@ -8,6 +8,7 @@ use Rattle.std.specs.BTreeMap.{is_at}
 use Rattle.std.specs.Map.{lookup, remove_entry, set_value}
 use Rattle.std.proofs.lemmas.Bool.{cases_lt}
 use Rattle.std.proofs.lemmas.List.{set_at, set-set, length-set, length-drop, get_or-set_same, reverse-append}
+use Rattle.std.proofs.lemmas.Option.{none-some}
 use Rattle.recovery_slots.specs.declared.slots.Slot.{Slot}
 use Rattle.recovery_slots.specs.Slots.{filed, entries_of, item_at, AreRising, IsSlotAt, Divides, IsHeldAt, IsAboveAll, IsFrontEmpty, IsBackFrom, Replaces, Finds, is_filled, is_below, is_from, first_number, AreFrom, StaysRising}
 use Rattle.recovery_slots.proofs.SlotLaws.{at_itself, slot_at, slot_within, one_slot}
@@ -564,10 +565,7 @@ module _ {T : Type 0} where
       MatchOption f (item_at slots number ≡ None) (λ p. (item : T) × IsHeldAt slots number p item)) is finds.place
 
   pub none_of_some : (item : T) (found : Option T) (P : Type 0) → found ≡ Some item → IfNone found P
-  none_of_some item None P is = absurd (none_is_some is)
-    where
-      none_is_some : None ≡ Some item → ⊥
-      none_is_some e = cc
+  none_of_some item None P is = absurd (none-some item is)
   none_of_some item (Some it) P is = tt
 
   pub closed_kept : (slots : List (Slot T))
@@ -632,10 +630,7 @@ module _ {T : Type 0} where
     where
       go : (es : List (ℕ × T)) → None ≡ first_number es → es ≡ []
       go [] e = refl
-      go (entry ∷ es) e = absurd (none_is_some e)
-        where
-          none_is_some : None ≡ Some entry.0 → ⊥
-          none_is_some f = cc
+      go (entry ∷ es) e = absurd (none-some entry.0 e)
 
   pub first_filed : (old new : List (ℕ × T)) (number : ℕ) (item : T)
       → Some number ≡ first_number (filter (is_from 0) old) → Some item ≡ lookup (is_at (nat_cmp number)) old
@@ -681,11 +676,9 @@ module _ {T : Type 0} where
           some_is_none : Some number ≡ None → ⊥
           some_is_none g = cc
       go (entry ∷ es) e f =
-          absurd (none_is_some (f ∙ ap (λ (b : Bool). cond b (Some entry.1) (lookup (is_at (nat_cmp number)) es)) at))
+          absurd (none-some entry.1
+          (f ∙ ap (λ (b : Bool). cond b (Some entry.1) (lookup (is_at (nat_cmp number)) es)) at))
         where
-          none_is_some : None ≡ Some entry.1 → ⊥
-          none_is_some g = cc
-
           same : (m n : ℕ) → Some m ≡ Some n → m ≡ n
           same m n g = cc
 
