@@ -1,6 +1,6 @@
 -- What each event may be to the paths, and that it keeps the bound on what goes to an address that is not validated.
--- The promises on datagrams, pacers and searches rest on it.
-use Rattle.std.proofs.Common.{ℕ, ◌≡◌, Bool, true, false, cond, List, [], ◌∷◌, Option, None, Some, Ok, Err, refl}
+-- `ThreefoldLaws`, `PacingLaws` and `SearchLaws` rest on it.
+use Rattle.std.proofs.Common.{ℕ, ◌≡◌, Bool, true, false, cond, [], ◌∷◌, Option, None, Some, Ok, Err, refl}
 use Rattle.std.proofs.lemmas.Bool.{false_from_ne_true, false≢true}
 use Rattle.recovery_base.specs.declared.below.SpaceId.{SpaceId}
 use Rattle.recovery_congestion.specs.Controllers.{ControllerWords}
@@ -19,9 +19,8 @@ use Rattle.recovery_events.specs.declared.event.Event.{Event}
 use Rattle.recovery_events.specs.declared.event.Event.TheVariants.{PeerLimit, Transmit}
 use Rattle.recovery_events.specs.declared.event.Answer.{Answer}
 use Rattle.recovery_events.specs.declared.event.Answer.TheVariants.{Transmitted, Delayed, Blocked}
-use Rattle.quic_recovery.specs.Amplification.{pasts_of}
-use Rattle.quic_recovery.specs.Entries.{Entries, answered, entries_of, logs_of}
-use Rattle.quic_recovery.specs.History.{Beginning, History, QueueMeaning, Reply, ThroughoutFrom}
+use Rattle.quic_recovery.specs.Entries.{Entries, answered, entries_of, logs_of, pasts_of}
+use Rattle.quic_recovery.specs.History.{Beginning, History, QueueMeaning, Reply}
 use Rattle.quic_recovery.specs.Known.{Known, known_by, first_path, settings_of}
 use Rattle.quic_recovery.specs.Told.{Told, ToldBy, delayed_or}
 use Rattle.quic_recovery.proofs.EntryKinds.{PathKind, passing, limiting, elsewhere, call_kind, path_kind, paths_kept, refused_keeps}
@@ -94,24 +93,6 @@ module _ {K Q S M P : Type 0} (q : QueueMeaning Q S M P) (settings : PathSetting
   is_allowed event (Ok answer) told = answer_allowed event answer told
   is_allowed event (Err refusal) told =
       refused_keeps event refusal (λ (e : Entries P M). AreAllowed settings known.paths e.paths) tt
-
--- what holds of an event because of what each event keeps holds throughout a run
-module _ {F K Q S M P : Type 0} (beginning : Beginning F K Q S M P) (Kept : History Q S M P → Type 0)
-    (Holds : History Q S M P → Event Q S M P → Reply Q → Type 0) where
-  pub throughout_kept : ((before : History Q S M P) (event : Event Q S M P) (reply : Reply Q)
-      → Told beginning before event reply → Kept before → Kept ((event, reply) ∷ before))
-      → ((before : History Q S M P) (event : Event Q S M P) (reply : Reply Q) → Told beginning before event reply
-      → Kept before → Holds before event reply)
-      → (before : History Q S M P) (events : List (Event Q S M P)) (replies : List (Reply Q))
-      → ThroughoutFrom (Told beginning) before events replies → Kept before → ThroughoutFrom Holds before events replies
-  throughout_kept keeps holds before [] [] told kept = tt
-  throughout_kept keeps holds before (event ∷ events) (reply ∷ replies) told kept = (
-    holds before event reply told.0 kept,
-    throughout_kept keeps holds ((event, reply) ∷ before) events replies told.1
-        (keeps before event reply told.0 kept),
-  )
-  throughout_kept keeps holds before [] (reply ∷ replies) told kept = absurd told
-  throughout_kept keeps holds before (event ∷ events) [] told kept = absurd told
 
 module _ {F K Q S M P : Type 0} (beginning : Beginning F K Q S M P) where
   -- an event keeps the bound

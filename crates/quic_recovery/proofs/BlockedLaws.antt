@@ -9,13 +9,13 @@ use Rattle.recovery_events.specs.declared.event.Event.TheVariants.{Transmit}
 use Rattle.recovery_events.specs.declared.event.Answer.{Answer}
 use Rattle.recovery_events.specs.declared.event.Answer.TheVariants.{Transmitted, Blocked}
 use Rattle.recovery_events.specs.declared.event.Refusal.TheVariants.{Overflow}
-use Rattle.quic_recovery.specs.Amplification.{pasts_of}
+use Rattle.quic_recovery.specs.Entries.{pasts_of}
 use Rattle.quic_recovery.specs.History.{Beginning, History, Reply, Throughout}
 use Rattle.quic_recovery.specs.Known.{settings_of}
 use Rattle.quic_recovery.specs.Replies.{Refuses, AlwaysAnswers}
 use Rattle.quic_recovery.specs.Told.{Told, Is, delayed_or, transmit_answer}
 use Rattle.quic_recovery.specs.Promises.Blocked.{IsPassage, BlocksExactly}
-use Rattle.quic_recovery.proofs.AmplificationLaws.{throughout_kept}
+use Rattle.quic_recovery.proofs.Runs.{throughout_kept}
 use Rattle.quic_recovery.proofs.DatagramLaws.{Flow, FlowsAgree, flows_at_first, flows_after}
 
 -- what the table answers is one of what the promise allows
@@ -50,14 +50,14 @@ module _ {F K Q S M P : Type 0} (beginning : Beginning F K Q S M P) where
       → BlocksExactly beginning.config.validated before (Transmit now bytes checked) reply
   transmit_told before now bytes checked reply told agree =
       let path = state_of (settings_of beginning) (pasts_of beginning before).current in
-      let large = nat_le (2 ^ 64) (path.sent + bytes) in
+      let large = nat_le (2 ^ 64) (path.total_sent + bytes) in
       let Verdict : Flow → Type 0 = λ f. IsPassage (nat_le (2 ^ 64) (f.went + bytes)) checked
       (not f.validated && nat_lt (3 * f.came) (f.went + bytes)) reply in
       subst Verdict (sym agree.0)
       (decide checked (is_blocked path bytes) (transmit_answer beginning.words now bytes checked path)
-      (fits Q beginning.words now bytes checked path) (2 ^ 64 ≤ path.sent + bytes) large
-      (le-leb (2 ^ 64) (path.sent + bytes))
-      (leb-true (2 ^ 64) (path.sent + bytes)) reply told)
+      (fits Q beginning.words now bytes checked path) (2 ^ 64 ≤ path.total_sent + bytes) large
+      (le-leb (2 ^ 64) (path.total_sent + bytes))
+      (leb-true (2 ^ 64) (path.total_sent + bytes)) reply told)
 
   blocked_told : (before : History Q S M P) (event : Event Q S M P) (reply : Reply Q)
       → Told beginning before event reply

@@ -15,7 +15,7 @@ use Rattle.recovery_ledger.specs.Queued.{joined_with, joined_found, pending_by}
 use Rattle.recovery_ledger.specs.SpaceLog.{SpaceEntry, sends, acknowledged, loses, probes, takes_pending, emptied}
 use Rattle.recovery_ledger.specs.Tracked.{Sent, sent_by, sent_moved, forgotten_by}
 use Rattle.recovery_ledger.proofs.LedgerLaws.{gone as gone_by, sum-sent_onto}
-use Rattle.recovery_ledger.proofs.PacketLaws.{sum-without, without-absent, some_packet, no_packet}
+use Rattle.recovery_ledger.proofs.PacketLaws.{sum-without, without-absent, some_packet, none_found}
 use Rattle.recovery_queue.specs.Queues.{QueueWords}
 use Rattle.recovery_events.specs.declared.event.Event.{Event}
 use Rattle.recovery_events.specs.declared.event.Event.TheVariants.{Send, PollMtu, Acked, DiscardSpace, TakePending}
@@ -61,7 +61,7 @@ module _ {P M S : Type 0} (words : QueueWords P S) (measure : P → ℕ) (adds :
   sum_replaced : (packets : Packets P M) (n : ℕ) (packet other : Packet P M) → packet_at packets n ≡ Some packet
       → sum_by carries (replaced n (Some other) packets) + measure packet.retransmits ≡ sum_by carries packets
       + measure other.retransmits
-  sum_replaced [] n packet other found = no_packet packet found
+  sum_replaced [] n packet other found = none_found packet found
   sum_replaced (entry ∷ packets) n packet other found =
       go (is_at (nat_cmp n) entry.0) found (λ there. sum_replaced packets n packet other there)
     where

@@ -14,8 +14,7 @@ use Rattle.recovery_events.specs.declared.event.Event.TheVariants.{Transmit, Dat
 use Rattle.recovery_events.specs.declared.event.Answer.{Answer}
 use Rattle.recovery_events.specs.declared.event.Answer.TheVariants.{Transmitted, Delayed}
 use Rattle.recovery_events.specs.declared.event.Refusal.{Refusal}
-use Rattle.quic_recovery.specs.Amplification.{pasts_of}
-use Rattle.quic_recovery.specs.Entries.{Entries, answered, logs_of}
+use Rattle.quic_recovery.specs.Entries.{Entries, answered, logs_of, pasts_of}
 use Rattle.quic_recovery.specs.History.{Beginning, History, Reply}
 use Rattle.quic_recovery.specs.Known.{Known, known_by, first_path, settings_of}
 use Rattle.quic_recovery.specs.Told.{Told, OnPath}

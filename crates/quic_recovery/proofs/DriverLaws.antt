@@ -1,5 +1,5 @@
 -- What an event does to one space is a step of all three. The steps of calls (`SendLaws`, `ProbeStepLaws`,
--- `PathStepLaws`, `LeavingLaws`) rest on it.
+-- `PathStepLaws`, `AckedLostLaws`) rest on it.
 use Rattle.std.proofs.Common.{◌≡◌, ℕ, ◌<◌, ◌^◌, ap₂, arith, Bool, false, List, [], ◌∷◌, Option, Some, Result, IfOk, OnErr, Ok, Err, refl, sym, ap, subst}
 use Rattle.recovery_base.specs.declared.below.SpaceId.{SpaceId}
 use Rattle.recovery_base.specs.declared.below.SpaceId.TheVariants.{Initial, Handshake, Data}

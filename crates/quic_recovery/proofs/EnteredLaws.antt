@@ -16,14 +16,13 @@ use Rattle.recovery_events.specs.declared.event.Event.TheVariants.{PollMtu, Acke
 use Rattle.recovery_events.specs.declared.event.Answer.{Answer}
 use Rattle.recovery_paths.specs.declared.live_paths.PathName.TheVariants.{Current, Previous}
 use Rattle.recovery_events.specs.declared.event.Refusal.{Refusal}
-use Rattle.quic_recovery.specs.Amplification.{pasts_of}
-use Rattle.quic_recovery.specs.Entries.{Entries, acked_entry, acked_search, is_own, logs_of, lost_search, searched}
+use Rattle.quic_recovery.specs.Entries.{Entries, acked_entry, acked_search, is_own, logs_of, lost_search, searched, pasts_of}
 use Rattle.quic_recovery.specs.History.{Beginning, History, Reply, Throughout}
 use Rattle.quic_recovery.specs.Known.{Known, first_path, known_by, settings_of, tracked_known}
-use Rattle.quic_recovery.specs.Told.{Told, ProbeOutReply}
+use Rattle.quic_recovery.specs.Told.{Told, MtuProbeReply}
 use Rattle.quic_recovery.proofs.EntryKinds.{PathKind, departing, limiting, searching, resetting, moving, elsewhere, call_kind, path_kind, paths_kept, refused_keeps}
 use Rattle.quic_recovery.proofs.SearchSaid.{EntersAsTold, data_packet, entries_on, of_packet}
-use Rattle.quic_recovery.proofs.AmplificationLaws.{throughout_kept}
+use Rattle.quic_recovery.proofs.Runs.{throughout_kept}
 
 -- the search sees nothing of it, nor does it begin anew
 abbrev is_unseen : PathKind → Bool
@@ -136,7 +135,7 @@ module _ {F K Q S M P : Type 0} (beginning : Beginning F K Q S M P) (past : Hist
   log = (logs_of beginning past).paths
 
   polled : (now : ℕ) (given : Answer Q) (size : Option ℕ) → poll_of now known.paths.current.state.discovery ≡ size
-      → ProbeOutReply beginning.queue known now size (Ok given) → IsEntered (PollMtu now) given
+      → MtuProbeReply beginning.queue known now size (Ok given) → IsEntered (PollMtu now) given
   polled now given None is told =
       let entries = entries_on (pasts_of beginning past).current in
       subst (IsEntered (PollMtu now)) (sym told) (ap (λ p. poll_entry now known.numbers.next p ∷ entries) is)

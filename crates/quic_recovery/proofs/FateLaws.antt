@@ -18,8 +18,7 @@ use Rattle.recovery_events.specs.declared.event.Event.{Event}
 use Rattle.recovery_events.specs.declared.event.Event.TheVariants.{Acked, Lost}
 use Rattle.recovery_events.specs.declared.event.Answer.{Answer}
 use Rattle.recovery_events.specs.declared.event.Refusal.{Refusal}
-use Rattle.quic_recovery.specs.Amplification.{pasts_of}
-use Rattle.quic_recovery.specs.Entries.{Entries, nothing, answered, entries_of, acked_entry, acked_search, lost_search, searched, is_own, logs_of}
+use Rattle.quic_recovery.specs.Entries.{Entries, nothing, answered, entries_of, acked_entry, acked_search, lost_search, searched, is_own, logs_of, pasts_of}
 use Rattle.quic_recovery.specs.History.{Beginning, History, QueueMeaning, Reply}
 use Rattle.quic_recovery.specs.Known.{Known, known_by, first_path, settings_of, tracked_known}
 use Rattle.quic_recovery.specs.Promises.Once.{departures_of}

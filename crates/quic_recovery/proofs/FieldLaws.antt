@@ -9,7 +9,7 @@ use Rattle.recovery_ledger.specs.Packets.{Packet, Packets, packet_at, without, w
 use Rattle.recovery_ledger.specs.Probes.{ProbeFound, pending_stands, moves, nothing_found}
 use Rattle.recovery_ledger.specs.SpaceLog.{SpaceEntry, sends, acknowledged, loses, probes, emptied}
 use Rattle.recovery_ledger.specs.Tracked.{Sent, sent_by, sent_moved}
-use Rattle.recovery_ledger.proofs.PacketLaws.{number_at, some_packet, no_packet}
+use Rattle.recovery_ledger.proofs.PacketLaws.{number_at, some_packet, none_found}
 use Rattle.recovery_queue.specs.Queues.{QueueWords}
 use Rattle.quic_recovery.proofs.EntryKinds.{space_kind, sends_none}
 
@@ -23,7 +23,7 @@ module _ {P M A : Type 0} (says : Packet P M → A) where
     -- so does the packet of a number
     pub said_found : (packets : Packets P M) → AreSaid by limit packets → (number : ℕ) (packet : Packet P M)
         → packet_at packets number ≡ Some packet → says packet ≡ by number
-    said_found [] said number packet found = no_packet packet found
+    said_found [] said number packet found = none_found packet found
     said_found (entry ∷ packets) said number packet found = go (is_at (nat_cmp number) entry.0) refl found
         (said_found packets said.2 number packet)
       where

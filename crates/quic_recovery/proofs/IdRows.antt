@@ -141,16 +141,16 @@ module _ (Q S M P : Type 0) (queue : Q) (frames : M) (remote : SocketAddr) where
 
   -- ---- what is tracked: packets 0 and 1 went out, then 2 on another path, and 0 was acknowledged
 
-  abbrev sent : ℕ → Happened
-  sent n = (event.Send Data 5 100 true None queue frames, Ok (answer.Sent n None))
+  abbrev row_sent : ℕ → Happened
+  row_sent n = (event.Send Data 5 100 true None queue frames, Ok (answer.Sent n None))
 
   abbrev flight : History Q S M P
   flight =
       (event.Acked Data 9 0 false, Ok (answer.Acked false))
-      ∷ sent 2
+      ∷ row_sent 2
       ∷ (event.NewPath 6 remote true, Ok answer.Done)
-      ∷ sent 1
-      ∷ sent 0
+      ∷ row_sent 1
+      ∷ row_sent 0
       ∷ []
 
   one_is : is_tracked Data 1 flight ≡ true

@@ -47,7 +47,7 @@ use Rattle.quic_recovery.specs.Logs.{onto}
 use Rattle.quic_recovery.specs.Parts.{Parts}
 use Rattle.quic_recovery.specs.State.{InFlightLeft, LeftBy, LimitStep, SkippingStep, Steps, ChangesBy, Changes, known_to, numbering_of}
 use Rattle.quic_recovery.proofs.AboveLaws.{beside_stays}
-use Rattle.quic_recovery.proofs.LogLaws.{left_by}
+use Rattle.quic_recovery.proofs.LogLaws.{left_by_entry}
 use Rattle.quic_recovery.proofs.PartLaws.{discarded_law}
 
 module _ {F K Q S M P : Type 0} (beginning : Beginning F K Q S M P) where
@@ -199,19 +199,23 @@ module _ {F K Q S M P : Type 0} (beginning : Beginning F K Q S M P) where
     spaces = spaces;
     beside = λ space. beside_stays beginning.queue.words (entries.spaces space) _ _ (steps.spaces space)
         ∙ left.beside space;
-    discarded = left_by DiscardedStep DiscardedLeft discarded_law entries.discarded logs.discarded _ _ left.discarded
+    discarded =
+        left_by_entry DiscardedStep DiscardedLeft discarded_law entries.discarded logs.discarded _ _ left.discarded
         steps.discarded;
     skipping = skipping_law (entries.spaces Data) (logs.spaces Data) (next_number_of (space_of Data old.spaces))
         old.skipping new.skipping (ap (λ (s : Sent P M). s.next) (left.spaces Data).sent) left.skipping steps.skipping;
-    frequency = left_by RequestStep (FrequencyLeft first) (request_law first) entries.requests logs.requests _ _
+    frequency = left_by_entry RequestStep (FrequencyLeft first) (request_law first) entries.requests logs.requests _ _
         left.frequency steps.frequency;
-    timers = left_by TimerStep TimersLeft timer_law entries.timers logs.timers _ _ left.timers steps.timers;
-    remote_ids = left_by RemoteStep (RemoteIdsLeft initial) (remote_law initial) entries.remote_ids logs.remote_ids _ _
+    timers = left_by_entry TimerStep TimersLeft timer_law entries.timers logs.timers _ _ left.timers steps.timers;
+    remote_ids =
+        left_by_entry RemoteStep (RemoteIdsLeft initial) (remote_law initial) entries.remote_ids logs.remote_ids _ _
         left.remote_ids steps.remote_ids;
-    local_ids = left_by LocalStep (LocalIdsLeft ids) (local_law ids) entries.local_ids logs.local_ids _ _ left.local_ids
+    local_ids =
+        left_by_entry LocalStep (LocalIdsLeft ids) (local_law ids) entries.local_ids logs.local_ids _ _ left.local_ids
         steps.local_ids;
     paths = paths;
-    limits = left_by LimitStep (λ log limit. limit ≡ last_limit log) (λ size log old_limit new_limit same step. step)
+    limits =
+        left_by_entry LimitStep (λ log limit. limit ≡ last_limit log) (λ size log old_limit new_limit same step. step)
         entries.limits logs.limits _ _ left.limits steps.limits;
     in_flight = in_flight_law beginning (logs_with entries logs) new.spaces new.paths spaces balanced;
   }
@@ -228,7 +232,7 @@ module _ {F K Q S M P : Type 0} (beginning : Beginning F K Q S M P) where
       spaces : (space : SpaceId)
           → SpaceLeft beginning.queue.words beginning.start ((logs_with entries logs).spaces space)
           (space_of space new.spaces)
-      spaces space = left_by (SpaceStep beginning.queue.words) (SpaceLeft beginning.queue.words beginning.start)
+      spaces space = left_by_entry (SpaceStep beginning.queue.words) (SpaceLeft beginning.queue.words beginning.start)
           (space_law beginning.queue.words beginning.start) (entries.spaces space) (logs.spaces space) _ _
           (left.spaces space) (steps.spaces space)
 

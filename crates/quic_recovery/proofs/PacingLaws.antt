@@ -16,13 +16,13 @@ use Rattle.recovery_events.specs.declared.event.Event.{Event}
 use Rattle.recovery_events.specs.declared.event.Event.TheVariants.{Transmit, PacerCheck}
 use Rattle.recovery_events.specs.declared.event.Answer.{Answer}
 use Rattle.recovery_events.specs.declared.event.Answer.TheVariants.{Ready, Transmitted, Blocked}
-use Rattle.quic_recovery.specs.Amplification.{pasts_of}
-use Rattle.quic_recovery.specs.Entries.{entries_of, logs_of}
+use Rattle.quic_recovery.specs.Entries.{entries_of, logs_of, pasts_of}
 use Rattle.quic_recovery.specs.History.{Beginning, History, Reply, Throughout}
 use Rattle.quic_recovery.specs.Known.{known_by, first_path, settings_of}
 use Rattle.quic_recovery.specs.Pacing.{IsByBalance, OnCall, AtCalls, DelaysByBalance, PassesSoon, PassesWhenNamed, KeepsPace}
 use Rattle.quic_recovery.specs.Told.{Told, delayed_or}
-use Rattle.quic_recovery.proofs.AmplificationLaws.{is_allowed, throughout_kept}
+use Rattle.quic_recovery.proofs.Runs.{throughout_kept}
+use Rattle.quic_recovery.proofs.AmplificationLaws.{is_allowed}
 
 -- a pacer whose checked transmissions had passed keeps its rate
 keeps_pace : {K : Type 0} (past : PathPast K) → HavePassedOn past → AreChecked past.pacing

@@ -30,7 +30,7 @@ use Rattle.quic_recovery.specs.Known.{Known, current_in_flight, number_in, packe
 use Rattle.quic_recovery.specs.Parts.{Parts}
 use Rattle.quic_recovery.specs.Replies.{Answers, Refuses, same_refusal}
 use Rattle.quic_recovery.specs.State.{Changes, Steps, known_to}
-use Rattle.quic_recovery.specs.Told.{InSpace, SendReply, ProbeOutReply}
+use Rattle.quic_recovery.specs.Told.{InSpace, SendReply, MtuProbeReply}
 use Rattle.quic_recovery.proofs.AboveLaws.{both_marks}
 use Rattle.quic_recovery.proofs.DriverLaws.{spaces_step, skips_nothing}
 
@@ -138,7 +138,7 @@ module _ {K Q S M P : Type 0} (q : QueueMeaning Q S M P) (old then : Parts K P M
       let Told : P × M → Type 0 = λ carried. SendReply {Q = Q} (known.spaces Data) (current_in_flight known)
       (number_in known Data) (probe_of carried) (Err refusal) in
       let Out : Option ℕ → Type 0 = λ due. InSpace (known.spaces Data)
-      (Refuses NumbersExhausted (2 ^ 62 ≤ known.numbers.next) (ProbeOutReply q known now due)) (Err refusal) in
+      (Refuses NumbersExhausted (2 ^ 62 ≤ known.numbers.next) (MtuProbeReply q known now due)) (Err refusal) in
       let sent_as : Answer Q =
       Sent (number_in known Data) (forgotten_by (known.spaces Data).sent (probe_of nothing_carried)) in
       record {
@@ -161,7 +161,7 @@ module _ {K Q S M P : Type 0} (q : QueueMeaning Q S M P) (old then : Parts K P M
       → Changes {M = M} q old (PollMtu now) (Ok (Probe number size))
       (record then { paths = record then.paths { current = path } })
   probe_changes number discovery path answer is polled goes_on sent =
-      let Out : Option ℕ → Type 0 = λ due. ProbeOutReply q known now due (Ok (Probe number size)) in
+      let Out : Option ℕ → Type 0 = λ due. MtuProbeReply q known now due (Ok (Probe number size)) in
       let Fitting : P × M → Type 0 = λ carried. ¬ Over carried in
       let Sending : P × M → Type 0 =
       λ carried. Steps q.words (sending known Data now size true None carried.0 carried.1) old then in

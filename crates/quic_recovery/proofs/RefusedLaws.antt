@@ -20,11 +20,11 @@ use Rattle.quic_recovery.specs.Entries.{logs_of}
 use Rattle.quic_recovery.specs.History.{Beginning, History, Reply, Throughout}
 use Rattle.quic_recovery.specs.Known.{SpaceKnown, Known, known_by}
 use Rattle.quic_recovery.specs.Replies.{Refuses, Answers, same_refusal}
-use Rattle.quic_recovery.specs.Told.{Told, EcnAnswer, InSpace, Is, LeaveReply, OnPath, ProbeOutReply}
+use Rattle.quic_recovery.specs.Told.{Told, EcnAnswer, InSpace, Is, LeaveReply, OnPath, MtuProbeReply}
 use Rattle.quic_recovery.specs.Promises.Paths.{generation_of}
 use Rattle.quic_recovery.specs.Promises.Refused.{unless, in_space, RefusesRightly, first_cause}
 use Rattle.quic_recovery.specs.Promises.Tracked.{is_tracked}
-use Rattle.quic_recovery.proofs.AmplificationLaws.{throughout_kept}
+use Rattle.quic_recovery.proofs.Runs.{throughout_kept}
 use Rattle.quic_recovery.proofs.NewNumbersLaws.{all_dropped}
 use Rattle.quic_recovery.proofs.PathLaws.{generation_told}
 use Rattle.quic_recovery.proofs.PeerIdsLaws.{HoldsIds, active_told, holds_first, keeps_ids}
@@ -177,7 +177,7 @@ module _ {F K Q S M P : Type 0} (beginning : Beginning F K Q S M P) where
         mapped None = refl
         mapped (Some path) = refl
 
-    probe_names : (now : ℕ) (due : Option ℕ) → Names None (ProbeOutReply beginning.queue known now due)
+    probe_names : (now : ℕ) (due : Option ℕ) → Names None (MtuProbeReply beginning.queue known now due)
     probe_names now None = answers_name ⊥ _
     probe_names now (Some size) = passes_name refusal.Overflow _ _ (refl, refl, refl, refl) (answers_name _ _)
 

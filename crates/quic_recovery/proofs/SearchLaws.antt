@@ -26,14 +26,14 @@ use Rattle.recovery_events.specs.declared.event.Answer.{Answer}
 use Rattle.recovery_events.specs.declared.event.Answer.TheVariants.{Probe, NoProbe}
 use Rattle.recovery_events.specs.declared.event.Answer.TheVariants as answer
 use Rattle.recovery_events.specs.declared.event.Refusal.TheVariants.{Searching}
-use Rattle.quic_recovery.specs.Amplification.{pasts_of}
-use Rattle.quic_recovery.specs.Entries.{entries_of, logs_of}
+use Rattle.quic_recovery.specs.Entries.{entries_of, logs_of, pasts_of}
 use Rattle.quic_recovery.specs.History.{Beginning, History, QueueMeaning, Reply, Throughout}
 use Rattle.quic_recovery.specs.Known.{Known, known_by, first_path, settings_of}
 use Rattle.quic_recovery.specs.Search.{discovery_settings}
-use Rattle.quic_recovery.specs.Told.{Told, ProbeOutReply}
+use Rattle.quic_recovery.specs.Told.{Told, MtuProbeReply}
 use Rattle.quic_recovery.proofs.SearchSaid.{EndsNear, LimitsOutside, ProbesInTurn, SearchesFew, TellsProbes, MtuByEntries, entries_on, is_in_flight}
-use Rattle.quic_recovery.proofs.AmplificationLaws.{is_allowed, throughout_kept}
+use Rattle.quic_recovery.proofs.Runs.{throughout_kept}
+use Rattle.quic_recovery.proofs.AmplificationLaws.{is_allowed}
 
 not_true : (b : Bool) → (¬ (b ≡ true)) → b ≡ false
 not_true true is_not = absurd (is_not refl)
@@ -64,21 +64,21 @@ where_allowed P false o holds = λ x is. absurd (cc)
 module _ {K Q S M P : Type 0} (q : QueueMeaning Q S M P) (known : Known K P M) (now : ℕ) where
   -- a poll that gives none is not answered by a probe
   unanswered : {A : Type 0} (answer : Option ℕ) (number size : ℕ) → answer ≡ None
-      → ProbeOutReply q known now answer (Ok (Probe number size)) → A
+      → MtuProbeReply q known now answer (Ok (Probe number size)) → A
   unanswered None number size none told = no_probe_is_none told
   unanswered (Some own) number size none told = absurd (cc)
 
 module _ {K Q S M P : Type 0} (q : QueueMeaning Q S M P) (known : Known K P M) (settings : MtuDiscoveryConfig)
     (now next : ℕ) (earlier : List MtuEntry) where
   -- a poll that is answered by a probe gives one
-  probe_out : (answer : Option ℕ) (number size : ℕ) → ProbeOutReply q known now answer (Ok (Probe number size))
+  probe_out : (answer : Option ℕ) (number size : ℕ) → MtuProbeReply q known now answer (Ok (Probe number size))
       → ProbesInSearch settings (poll_entry now next answer ∷ earlier)
       → ProbesInSearch settings (probed now number size ∷ earlier)
   probe_out None number size told inside = no_probe_is_none told
   probe_out (Some own) number size told inside = inside
 
   -- a poll that is answered by no probe gives none
-  none_out : (made : _) (answer : Option ℕ) → ProbeOutReply q known now answer (Ok NoProbe)
+  none_out : (made : _) (answer : Option ℕ) → MtuProbeReply q known now answer (Ok NoProbe)
       → EndsNearBest made settings (poll_entry now next answer ∷ earlier)
       → EndsNearBest made settings (unprobed now ∷ earlier)
   none_out made None told near = near

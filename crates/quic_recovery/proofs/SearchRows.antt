@@ -154,14 +154,14 @@ module _ (Q S M P : Type 0) (queue : Q) (frames : M) where
 
   -- ---- black holes: four bursts of large packets, each a number apart
 
-  abbrev sent : ℕ → Event Q S M P × Reply Q
-  sent n = (event.Send Data 5 1400 true None queue frames, Ok (answer.Sent n None))
+  abbrev row_sent : ℕ → Event Q S M P × Reply Q
+  row_sent n = (event.Send Data 5 1400 true None queue frames, Ok (answer.Sent n None))
 
   abbrev lost : ℕ → Event Q S M P × Reply Q
   lost n = (event.Lost Data n, Ok (answer.Lost false))
 
   abbrev all_sent : History Q S M P
-  all_sent = sent 6 ∷ sent 5 ∷ sent 4 ∷ sent 2 ∷ sent 0 ∷ []
+  all_sent = row_sent 6 ∷ row_sent 5 ∷ row_sent 4 ∷ row_sent 2 ∷ row_sent 0 ∷ []
 
   abbrev three_lost : History Q S M P
   three_lost = lost 4 ∷ lost 2 ∷ lost 0 ∷ all_sent

@@ -10,8 +10,7 @@ use Rattle.recovery_events.specs.declared.event.Event.{Event}
 use Rattle.recovery_events.specs.declared.event.Event.TheVariants.{NewPath, DropPrevious}
 use Rattle.recovery_events.specs.declared.event.Answer.{Answer}
 use Rattle.recovery_events.specs.declared.event.Refusal.{Refusal}
-use Rattle.quic_recovery.specs.Amplification.{pasts_of}
-use Rattle.quic_recovery.specs.Entries.{Entries, logs_of}
+use Rattle.quic_recovery.specs.Entries.{Entries, logs_of, pasts_of}
 use Rattle.quic_recovery.specs.History.{Beginning, History, Reply}
 use Rattle.quic_recovery.specs.Known.{Known, first_path, known_by, settings_of}
 use Rattle.quic_recovery.proofs.EntryKinds.{PathKind, moving, dropping, elsewhere, path_kind, paths_kept, refused_keeps}

@@ -18,7 +18,7 @@ use Rattle.quic_recovery.specs.History.{Beginning, History, Reply}
 use Rattle.quic_recovery.specs.Known.{Known, known_by, packet_now}
 use Rattle.quic_recovery.specs.Logs.{onto}
 use Rattle.quic_recovery.specs.Promises.Bursts.{size_of}
-use Rattle.quic_recovery.specs.Told.{Told, ProbeOutReply}
+use Rattle.quic_recovery.specs.Told.{Told, MtuProbeReply}
 use Rattle.quic_recovery.proofs.EntryKinds.{sends_none, space_kept, refused_keeps}
 use Rattle.quic_recovery.proofs.FieldLaws.{AreSaid, IsSaid, said_after, said_sent}
 
@@ -76,7 +76,7 @@ module _ {F K Q S M P : Type 0} (beginning : Beginning F K Q S M P) where
 
     -- the number of a probe that goes out
     probe_number : (now number size : ℕ) (due : Option ℕ)
-        → ProbeOutReply beginning.queue known now due (Ok (Probe number size)) → known.numbers.next ≡ number
+        → MtuProbeReply beginning.queue known now due (Ok (Probe number size)) → known.numbers.next ≡ number
     probe_number now number size None told = probe_is_not_none number size told
     probe_number now number size (Some own) told = same_probe_number number size known.numbers.next own told.1
 

@@ -15,8 +15,8 @@ use Rattle.quic_recovery.proofs.RowStart.{ack_frame, RowEvent, RowReply, RowHist
 use Rattle.quic_recovery.proofs.RowLaws.{unrefused, small, fits, calm, at_first, starts, stays, in_turn, one_run, unlike, uneven, some_is_none}
 
 module _ (remote : SocketAddr) (random : Stream) where
-  abbrev Tells : RowHistory → RowEvent → RowReply → Type 0
-  Tells = Told (row_start remote random 8 Disabled)
+  abbrev RowTold : RowHistory → RowEvent → RowReply → Type 0
+  RowTold = Told (row_start remote random 8 Disabled)
 
   abbrev TellsAll : RowHistory → Type 0
   TellsAll = AllTold (row_start remote random 8 Disabled)
@@ -37,13 +37,14 @@ module _ (remote : SocketAddr) (random : Stream) where
       ⊳ (unrefused, (λ h. h.0 (omega arith), stays (λ n. n (omega arith))))
       ⊳ (unrefused, (λ h. omega (arith, h.1), starts (λ s. omega (arith, s))))
 
-  refused_number_is_kept : ¬ Tells (drop 2 requests) (event.AckFrequencyIn (ack_frame 5 2000)) (Ok (answer.Flag true))
+  refused_number_is_kept : ¬ RowTold (drop 2 requests) (event.AckFrequencyIn (ack_frame 5 2000)) (Ok (answer.Flag true))
   refused_number_is_kept = λ told. told.1.1.0 refl (omega arith)
 
-  half_a_millisecond_is_not_taken : ¬ Tells [] (event.AckFrequencyIn (ack_frame 5 500)) (Ok (answer.Flag true))
+  half_a_millisecond_is_not_taken : ¬ RowTold [] (event.AckFrequencyIn (ack_frame 5 500)) (Ok (answer.Flag true))
   half_a_millisecond_is_not_taken = λ told. told.1.0 (λ s. s, omega arith)
 
-  stale_is_not_refused : ¬ Tells (drop 2 requests) (event.AckFrequencyIn (ack_frame 5 500)) (Err refusal.DelayTooSmall)
+  stale_is_not_refused : ¬ RowTold (drop 2 requests) (event.AckFrequencyIn (ack_frame 5 500))
+      (Err refusal.DelayTooSmall)
   stale_is_not_refused = λ told. told.1.0 (omega arith)
 
   -- ---- a late ACK: its timer expires, and a probe may be sent with it
@@ -103,10 +104,10 @@ module _ (remote : SocketAddr) (random : Stream) where
         ),
       )
 
-  late_is_done : ¬ Tells [] (event.AckDelayTimeout Data) (Ok (answer.Flag true))
+  late_is_done : ¬ RowTold [] (event.AckDelayTimeout Data) (Ok (answer.Flag true))
   late_is_done = λ told. unlike told.1 refl
 
-  no_ack_is_wrong : ¬ Tells (drop 4 late) (event.QueueProbe Data false tt)
+  no_ack_is_wrong : ¬ RowTold (drop 4 late) (event.QueueProbe Data false tt)
       (Ok (answer.Sendable (record { acks = false; other = true })))
   no_ack_is_wrong = λ told. unrefused (told.1.0.1 (
     inl (omega arith),
@@ -217,14 +218,14 @@ module _ (remote : SocketAddr) (random : Stream) where
       ⊳ (unrefused, refl)
       ⊳ (unrefused, (refl, refl))
 
-  corrupted_is_kept_is_wrong : ¬ Tells (drop 2 marked) (ecn 1 2 1 0) (Ok (answer.Flag false))
+  corrupted_is_kept_is_wrong : ¬ RowTold (drop 2 marked) (ecn 1 2 1 0) (Ok (answer.Flag false))
   corrupted_is_kept_is_wrong = λ told. some_is_none told.1.0
 
-  bleached_is_wrong : ¬ Tells (drop 2 marked) (ecn 1 2 1 0) (Err (refusal.Ecn (text (codes "ECN bleaching"))))
+  bleached_is_wrong : ¬ RowTold (drop 2 marked) (ecn 1 2 1 0) (Err (refusal.Ecn (text (codes "ECN bleaching"))))
   bleached_is_wrong = λ told. let same : 14 ≡ 13 =
       ap (λ words. length (unwrap_or words [])) told.1 in omega (arith, same)
 
-  more_marks_is_no_is_wrong : ¬ Tells (drop 1 marked) (ecn 1 2 0 1) (Ok (answer.Flag false))
+  more_marks_is_no_is_wrong : ¬ RowTold (drop 1 marked) (ecn 1 2 0 1) (Ok (answer.Flag false))
   more_marks_is_no_is_wrong = λ told. unlike told.1.1 refl
 
   -- ---- ranges of acknowledged numbers, first with no skips
@@ -243,10 +244,10 @@ module _ (remote : SocketAddr) (random : Stream) where
       ⊳ (unrefused, (small refl, omega arith))
       ⊳ (unrefused, omega arith)
 
-  backwards_is_wrong : ¬ Tells [] (event.CheckAck Data 9 8) (Ok answer.Done)
+  backwards_is_wrong : ¬ RowTold [] (event.CheckAck Data 9 8) (Ok answer.Done)
   backwards_is_wrong = λ told. told.1.1.0 (omega arith)
 
-  none_is_skipped : ¬ Tells [] (event.CheckAck Data 0 0) (Err refusal.SkippedAcked)
+  none_is_skipped : ¬ RowTold [] (event.CheckAck Data 0 0) (Err refusal.SkippedAcked)
   none_is_skipped = λ told. told.1.1.1
 
   -- the first number is skipped: that shows once the number behind it was given out

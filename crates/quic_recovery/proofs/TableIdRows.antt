@@ -15,8 +15,8 @@ use Rattle.quic_recovery.proofs.RowStart.{RowEvent, RowReply, RowHistory, row_st
 use Rattle.quic_recovery.proofs.RowLaws.{unrefused, small, some_is_none, differ, taken, moves}
 
 module _ (remote : SocketAddr) (random : Stream) where
-  abbrev Tells : RowHistory → RowEvent → RowReply → Type 0
-  Tells = Told (row_start remote random 8 Disabled)
+  abbrev RowTold : RowHistory → RowEvent → RowReply → Type 0
+  RowTold = Told (row_start remote random 8 Disabled)
 
   abbrev TellsAll : RowHistory → Type 0
   TellsAll = AllTold (row_start remote random 8 Disabled)
@@ -68,32 +68,32 @@ module _ (remote : SocketAddr) (random : Stream) where
       ⊳ (λ e. omega (arith, e))
       ⊳ (small refl, omega arith)
 
-  ends_late_is_wrong : ¬ Tells (drop 6 peers) (event.NewId (frame 3 1 8)) (Ok (retires 0 3 8))
+  ends_late_is_wrong : ¬ RowTold (drop 6 peers) (event.NewId (frame 3 1 8)) (Ok (retires 0 3 8))
   unfolding remote_ids_with first_held
   ends_late_is_wrong = λ told. let given =
       told.1.1.1.1.1 in some_is_none (given.3.least 2 (omega arith) (omega (arith, given.4)))
 
-  retired_stays_is_wrong : ¬ Tells (drop 6 peers) (event.NewId (frame 3 1 8)) (Ok (answer.Retire None))
+  retired_stays_is_wrong : ¬ RowTold (drop 6 peers) (event.NewId (frame 3 1 8)) (Ok (answer.Retire None))
   unfolding remote_ids_with first_held
   retired_stays_is_wrong = λ told. omega (arith, told.1.1.1.1.1)
 
-  uncut_is_wrong : ¬ Tells (drop 3 peers) (event.NewId (frame 1000000 1000000 9)) (Ok (retires 3 1000000 9))
+  uncut_is_wrong : ¬ RowTold (drop 3 peers) (event.NewId (frame 1000000 1000000 9)) (Ok (retires 3 1000000 9))
   unfolding remote_ids_with first_held
   uncut_is_wrong = λ told. omega (arith, told.1.1.1.1.1.4)
 
-  last_is_left_is_wrong : ¬ Tells (drop 4 peers) (event.NextId) (Ok (retires 3 4 8))
+  last_is_left_is_wrong : ¬ RowTold (drop 4 peers) (event.NextId) (Ok (retires 3 4 8))
   unfolding remote_ids_with first_held
   last_is_left_is_wrong = λ told. unrefused told.1.is_held
 
-  next_is_held_is_wrong : ¬ Tells (drop 5 peers) (event.NextId) (Ok (answer.Retire None))
+  next_is_held_is_wrong : ¬ RowTold (drop 5 peers) (event.NextId) (Ok (answer.Retire None))
   unfolding remote_ids_with first_held
   next_is_held_is_wrong = λ told. some_is_none (told 3 (omega arith))
 
-  initial_is_gone_is_wrong : ¬ Tells (drop 2 peers) (event.InitialId (replicate 8 1)) (Ok answer.Done)
+  initial_is_gone_is_wrong : ¬ RowTold (drop 2 peers) (event.InitialId (replicate 8 1)) (Ok answer.Done)
   unfolding remote_ids_with first_held
   initial_is_gone_is_wrong = λ told. told.0 (λ e. omega (arith, e))
 
-  bad_frame_is_taken_is_wrong : ¬ Tells (drop 1 peers) (event.NewId (frame 3 4 1)) (Ok (answer.Retire None))
+  bad_frame_is_taken_is_wrong : ¬ RowTold (drop 1 peers) (event.NewId (frame 3 4 1)) (Ok (answer.Retire None))
   unfolding remote_ids_with first_held
   bad_frame_is_taken_is_wrong = λ told. told.1.0 (omega arith)
 
@@ -128,15 +128,15 @@ module _ (remote : SocketAddr) (random : Stream) where
         moves 2000 (replicate 8 3) refl refl refl refl (λ m less. grind (arith, nat_tests, less)),
       )
 
-  other_id_is_taken_is_wrong : ¬ Tells (drop 6 conflicts) (event.NewId (frame 0 0 7)) (Ok (answer.Retire None))
+  other_id_is_taken_is_wrong : ¬ RowTold (drop 6 conflicts) (event.NewId (frame 0 0 7)) (Ok (answer.Retire None))
   unfolding remote_ids_with first_held
   other_id_is_taken_is_wrong = λ told. told.1.1.1.1.0 (λ same. differ refl same.0)
 
-  ninth_is_taken_is_wrong : ¬ Tells (drop 4 conflicts) (event.NewId (frame 8 0 1)) (Ok (answer.Retire None))
+  ninth_is_taken_is_wrong : ¬ RowTold (drop 4 conflicts) (event.NewId (frame 8 0 1)) (Ok (answer.Retire None))
   unfolding remote_ids_with first_held
   ninth_is_taken_is_wrong = λ told. told.1.1.1.0 (omega arith)
 
-  eighth_is_past_is_wrong : ¬ Tells (drop 5 conflicts) (event.NewId (frame 7 0 1)) (Err refusal.ExceedsLimit)
+  eighth_is_past_is_wrong : ¬ RowTold (drop 5 conflicts) (event.NewId (frame 7 0 1)) (Err refusal.ExceedsLimit)
   unfolding remote_ids_with first_held
   eighth_is_past_is_wrong = λ told. omega (arith, told.1.1.1)
 
@@ -168,7 +168,7 @@ module _ (remote : SocketAddr) (random : Stream) where
       ⊳ (small refl, (small refl, omega arith))
       ⊳ (λ n above. grind (arith, nat_tests, above))
 
-  retired_is_taken_is_wrong : ¬ Tells (drop 2 far) (event.NewId (frame 5 0 1)) (Ok (answer.Retire None))
+  retired_is_taken_is_wrong : ¬ RowTold (drop 2 far) (event.NewId (frame 5 0 1)) (Ok (answer.Retire None))
   unfolding remote_ids_with first_held
   retired_is_taken_is_wrong = λ told. told.1.1.0 (omega arith)
 
@@ -189,5 +189,5 @@ module _ (remote : SocketAddr) (random : Stream) where
       ⊳ taken refl refl refl refl (λ same. differ refl same.0)
       ⊳ taken refl refl refl refl ((λ not. not (refl, tt)), omega arith)
 
-  first_is_initial : ¬ Tells [] (event.InitialId (replicate 8 7)) (Err refusal.NotInitialId)
+  first_is_initial : ¬ RowTold [] (event.InitialId (replicate 8 7)) (Err refusal.NotInitialId)
   first_is_initial = λ told. told refl

@@ -38,7 +38,7 @@ use Rattle.recovery_events.specs.Refusals.{refusal_number}
 use Rattle.quic_recovery.specs.Replies.{same_refusal, Refuses, Answers, AlwaysAnswers}
 use Rattle.quic_recovery.specs.Same.{AcksAlike, LooksAlike, SameRefusal, SameAnswer, SameReply}
 use Rattle.quic_recovery.specs.State.{InFlightLeft, Left}
-use Rattle.quic_recovery.specs.Told.{EcnAnswer, InSpace, Is, IsFlag, IsNextTimeout, IsPending, IsProbeAnswer, OnPath, ProbeOutReply, ReceivedAnswer, Told, ToldBy}
+use Rattle.quic_recovery.specs.Told.{EcnAnswer, InSpace, Is, IsFlag, IsNextTimeout, IsPending, IsQueueProbeAnswer, OnPath, MtuProbeReply, ReceivedAnswer, Told, ToldBy}
 
 -- ---- what a test is, by what it says
 
@@ -248,7 +248,7 @@ module _ {Q S M P : Type 0} (q : QueueMeaning Q S M P) where
   pending_agree here one other is_one is_other = absurd is_one
 
   probe_agree : (here : SpaceKnown P M) (streams : S) (heard : Heard) (immediate : Bool) (found : ProbeFound)
-      → Agree (IsProbeAnswer q here streams heard immediate found)
+      → Agree (IsQueueProbeAnswer q here streams heard immediate found)
   probe_agree here streams heard immediate found (answer.Sendable one) (answer.Sendable other) is_one is_other =
       let frames : Bool → Bool → Answer Q = λ acks more. answer.Sendable (record { acks = acks; other = more }) in
       ap₂ frames (same_test _ one.acks other.acks is_one.0 is_other.0) (is_one.1 ∙ sym is_other.1)
@@ -331,7 +331,7 @@ module _ {Q S M P : Type 0} (q : QueueMeaning Q S M P) where
 
   -- ---- the table
 
-  probe_out : {K : Type 0} (known : Known K P M) (now : ℕ) (due : Option ℕ) → Decides (ProbeOutReply q known now due)
+  probe_out : {K : Type 0} (known : Known K P M) (now : ℕ) (due : Option ℕ) → Decides (MtuProbeReply q known now due)
   probe_out known now None = is_decided answer.NoProbe
   probe_out known now (Some size) =
       refuses_decide refusal.Overflow _ _ refl

@@ -12,8 +12,8 @@ use Rattle.quic_recovery.proofs.RowStart.{RowEvent, RowReply, RowHistory, row_st
 use Rattle.quic_recovery.proofs.RowLaws.{unrefused, small, fits, unlike, uneven, some_is_none}
 
 module _ (remote : SocketAddr) (random : Stream) where
-  abbrev Tells : RowHistory → RowEvent → RowReply → Type 0
-  Tells = Told (row_start remote random 8 Disabled)
+  abbrev RowTold : RowHistory → RowEvent → RowReply → Type 0
+  RowTold = Told (row_start remote random 8 Disabled)
 
   abbrev TellsAll : RowHistory → Type 0
   TellsAll = AllTold (row_start remote random 8 Disabled)
@@ -46,19 +46,19 @@ module _ (remote : SocketAddr) (random : Stream) where
       ⊳ (unrefused, (some_is_none, refl))
       ⊳ (unrefused, (small refl, (fits refl refl, refl)))
 
-  probe_is_no_probe_is_wrong : ¬ Tells (drop 6 searches) (event.Acked Data 0 0 false) (Ok (answer.Acked false))
+  probe_is_no_probe_is_wrong : ¬ RowTold (drop 6 searches) (event.Acked Data 0 0 false) (Ok (answer.Acked false))
   probe_is_no_probe_is_wrong = λ told. unlike told.1.1 refl
 
-  second_in_flight_is_wrong : ¬ Tells (drop 7 searches) (event.PollMtu 0) (Ok (answer.Probe 1 1250))
+  second_in_flight_is_wrong : ¬ RowTold (drop 7 searches) (event.PollMtu 0) (Ok (answer.Probe 1 1250))
   second_in_flight_is_wrong = λ told. unlike told.1.1 refl
 
-  lost_once_is_too_large_is_wrong : ¬ Tells (drop 1 searches) (event.PollMtu 0) (Ok (answer.Probe 2 1262))
+  lost_once_is_too_large_is_wrong : ¬ RowTold (drop 1 searches) (event.PollMtu 0) (Ok (answer.Probe 2 1262))
   lost_once_is_too_large_is_wrong = λ told. uneven told.1.1.1 refl
 
-  limit_in_search_is_wrong : ¬ Tells (drop 4 searches) (event.PeerLimit 1400) (Ok answer.Done)
+  limit_in_search_is_wrong : ¬ RowTold (drop 4 searches) (event.PeerLimit 1400) (Ok answer.Done)
   limit_in_search_is_wrong = λ told. told.1.0 refl
 
-  limit_of_none_is_wrong : ¬ Tells (drop 3 searches) (event.PeerLimit 0) (Err refusal.Searching)
+  limit_of_none_is_wrong : ¬ RowTold (drop 3 searches) (event.PeerLimit 0) (Err refusal.Searching)
   limit_of_none_is_wrong = λ told. told.0 refl
 
   -- ---- a search whose probe was discarded goes on until the path is reset
@@ -87,10 +87,10 @@ module _ (remote : SocketAddr) (random : Stream) where
       ⊳ (λ h. omega (arith, h), (unrefused, refl))
       ⊳ refl
 
-  discard_ends_search_is_wrong : ¬ Tells (drop 6 abandoned) (event.PeerLimit 1300) (Ok answer.Done)
+  discard_ends_search_is_wrong : ¬ RowTold (drop 6 abandoned) (event.PeerLimit 1300) (Ok answer.Done)
   discard_ends_search_is_wrong = λ told. told.1.0 refl
 
-  reset_is_done : ¬ Tells [] (event.ResetPath 0) (Ok (answer.Flag true))
+  reset_is_done : ¬ RowTold [] (event.ResetPath 0) (Ok (answer.Flag true))
   reset_is_done = λ told. unlike told refl
 
   -- ---- four bursts of lost packets are a black hole, and the next search waits for a minute
@@ -131,13 +131,13 @@ module _ (remote : SocketAddr) (random : Stream) where
       ⊳ (unrefused, (small refl, refl))
       ⊳ (unrefused, (small refl, (fits refl refl, refl)))
 
-  four_bursts_are_none_is_wrong : ¬ Tells (drop 3 black_hole) (event.LossesDone 0) (Ok (answer.BlackHole false))
+  four_bursts_are_none_is_wrong : ¬ RowTold (drop 3 black_hole) (event.LossesDone 0) (Ok (answer.BlackHole false))
   four_bursts_are_none_is_wrong = λ told. unlike told refl
 
-  three_bursts_are_one_is_wrong : ¬ Tells (drop 4 black_hole) (event.LossesDone 0) (Ok (answer.BlackHole true))
+  three_bursts_are_one_is_wrong : ¬ RowTold (drop 4 black_hole) (event.LossesDone 0) (Ok (answer.BlackHole true))
   three_bursts_are_one_is_wrong = λ told. unlike told refl
 
-  probe_at_once_is_wrong : ¬ Tells (drop 2 black_hole) (event.PollMtu 59999999999) (Ok (answer.Probe 7 1326))
+  probe_at_once_is_wrong : ¬ RowTold (drop 2 black_hole) (event.PollMtu 59999999999) (Ok (answer.Probe 7 1326))
   probe_at_once_is_wrong = λ told. unlike told.1.1 refl
 
   -- ---- a packet that is acknowledged refutes three bursts
@@ -178,7 +178,7 @@ module _ (remote : SocketAddr) (random : Stream) where
       ⊳ (unrefused, (some_is_none, refl))
       ⊳ refl
 
-  refuted_is_reported_is_wrong : ¬ Tells (drop 1 refuted) (event.LossesDone 0) (Ok (answer.BlackHole true))
+  refuted_is_reported_is_wrong : ¬ RowTold (drop 1 refuted) (event.LossesDone 0) (Ok (answer.BlackHole true))
   refuted_is_reported_is_wrong = λ told. unlike told refl
 
   -- ---- a path that goes on takes the search with it, and a fresh one does not
@@ -205,10 +205,10 @@ module _ (remote : SocketAddr) (random : Stream) where
       ⊳ (unrefused, (some_is_none, refl))
       ⊳ (unrefused, (small refl, (fits refl refl, refl)))
 
-  probe_of_another_path_is_wrong : ¬ Tells (drop 2 moved) (event.Acked Data 0 1 false) (Ok (answer.Acked true))
+  probe_of_another_path_is_wrong : ¬ RowTold (drop 2 moved) (event.Acked Data 0 1 false) (Ok (answer.Acked true))
   probe_of_another_path_is_wrong = λ told. unlike told.1.1 refl
 
-  fresh_path_goes_on_is_wrong : ¬ Tells (drop 1 moved) (event.PollMtu 0) (Ok (answer.Probe 2 1389))
+  fresh_path_goes_on_is_wrong : ¬ RowTold (drop 1 moved) (event.PollMtu 0) (Ok (answer.Probe 2 1389))
   fresh_path_goes_on_is_wrong = λ told. uneven told.1.1.1 refl
 
   -- ---- a poll may begin and end a search at once, and the next begins after the interval
@@ -231,7 +231,7 @@ module _ (remote : SocketAddr) (random : Stream) where
       ⊳ (unrefused, (small refl, refl))
       ⊳ (unrefused, (small refl, (fits refl refl, refl)))
 
-  ended_runs_is_wrong : ¬ Tells (drop 3 at_once) (event.PeerLimit 1300) (Err refusal.Searching)
+  ended_runs_is_wrong : ¬ RowTold (drop 3 at_once) (event.PeerLimit 1300) (Err refusal.Searching)
   ended_runs_is_wrong = λ told. unrefused told.1
 
   -- ---- bytes in flight overflow only where a probe is due
@@ -239,13 +239,13 @@ module _ (remote : SocketAddr) (random : Stream) where
   abbrev full : RowHistory
   full = (event.Send Data 0 (2 ^ 64 - 1) true None [] tt, Ok (answer.Sent 0 None)) ∷ []
 
-  probe_overflows : Tells full (event.PollMtu 0) (Err refusal.Overflow)
+  probe_overflows : RowTold full (event.PollMtu 0) (Err refusal.Overflow)
   probe_overflows = (unrefused, (small refl, inl (omega arith)))
 
-  no_probe_overflows_not : Tells ((event.PeerLimit 1200, Ok answer.Done) ∷ full) (event.PollMtu 0) (Ok answer.NoProbe)
+  no_probe_overflows_not : RowTold ((event.PeerLimit 1200, Ok answer.Done) ∷ full) (event.PollMtu 0) (Ok answer.NoProbe)
   no_probe_overflows_not = (unrefused, (small refl, refl))
 
-  no_probe_is_wrong : ¬ Tells ((event.PeerLimit 1200, Ok answer.Done) ∷ full) (event.PollMtu 0) (Err refusal.Overflow)
+  no_probe_is_wrong : ¬ RowTold ((event.PeerLimit 1200, Ok answer.Done) ∷ full) (event.PollMtu 0) (Err refusal.Overflow)
   no_probe_is_wrong = λ told. told.1.1
 
   -- ---- a packet of the same number in another space is no probe

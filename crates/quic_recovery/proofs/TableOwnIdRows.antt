@@ -16,8 +16,8 @@ use Rattle.quic_recovery.proofs.RowStart.{RowEvent, RowReply, RowHistory, row_st
 use Rattle.quic_recovery.proofs.RowLaws.{small, starts, stays, some_is_none, differ, unlike}
 
 module _ (remote : SocketAddr) (random : Stream) (given : Vec IssuedCid) where
-  abbrev Tells : RowHistory → RowEvent → RowReply → Type 0
-  Tells = Told (row_start remote random 8 Disabled)
+  abbrev RowTold : RowHistory → RowEvent → RowReply → Type 0
+  RowTold = Told (row_start remote random 8 Disabled)
 
   abbrev TellsAll : RowHistory → Type 0
   TellsAll = AllTold (row_start remote random 8 Disabled)
@@ -56,31 +56,31 @@ module _ (remote : SocketAddr) (random : Stream) (given : Vec IssuedCid) where
       ⊳ refl
       ⊳ (small refl, differ refl)
 
-  unretired_is_asked_for : ¬ Tells (drop 5 own) (event.IdTimeout) (Ok (answer.Flag false))
+  unretired_is_asked_for : ¬ RowTold (drop 5 own) (event.IdTimeout) (Ok (answer.Flag false))
   unretired_is_asked_for = λ told. unlike told refl
 
-  asked_again_is_wrong : ¬ Tells (drop 2 own) (event.IdTimeout) (Ok (answer.Flag true))
+  asked_again_is_wrong : ¬ RowTold (drop 2 own) (event.IdTimeout) (Ok (answer.Flag true))
   asked_again_is_wrong = λ told. unlike told refl
 
-  room_for_one_is_wrong : ¬ Tells (drop 4 own) (event.PeerRetired 0 2) (Ok (answer.Flag true))
+  room_for_one_is_wrong : ¬ RowTold (drop 4 own) (event.PeerRetired 0 2) (Ok (answer.Flag true))
   room_for_one_is_wrong = λ told. omega (arith, told.1.1.0 refl)
 
-  unissued_is_retired_is_wrong : ¬ Tells (drop 3 own) (event.PeerRetired 3 5) (Ok (answer.Flag true))
+  unissued_is_retired_is_wrong : ¬ RowTold (drop 3 own) (event.PeerRetired 3 5) (Ok (answer.Flag true))
   unissued_is_retired_is_wrong = λ told. told.1.0 (omega arith)
 
-  ids_are_in_use : ¬ Tells [] (event.PeerRetired 0 5) (Err refusal.CidsNotInUse)
+  ids_are_in_use : ¬ RowTold [] (event.PeerRetired 0 5) (Err refusal.CidsNotInUse)
   ids_are_in_use = λ told. omega (arith, told)
 
-  in_order_is_refused_is_wrong : ¬ Tells (drop 1 own) (issued 5 (3 ∷ []) (omega arith)) (Err refusal.BadRange)
+  in_order_is_refused_is_wrong : ¬ RowTold (drop 1 own) (issued 5 (3 ∷ []) (omega arith)) (Err refusal.BadRange)
   in_order_is_refused_is_wrong = λ told. told.1 refl
 
-  ids_take_memory : Tells [] (issued 0 (1 ∷ []) (omega arith)) (Err refusal.NoMemory)
+  ids_take_memory : RowTold [] (issued 0 (1 ∷ []) (omega arith)) (Err refusal.NoMemory)
   ids_take_memory = (small refl, (λ other. other refl, λ none. cc))
 
-  no_ids_take_none : ¬ Tells [] (issued 0 [] (omega arith)) (Err refusal.NoMemory)
+  no_ids_take_none : ¬ RowTold [] (issued 0 [] (omega arith)) (Err refusal.NoMemory)
   no_ids_take_none = λ told. told.1.1 refl
 
-  no_ids_are_issued : Tells [] (issued 0 [] (omega arith)) (Ok answer.Done)
+  no_ids_are_issued : RowTold [] (issued 0 [] (omega arith)) (Ok answer.Done)
   no_ids_are_issued = (small refl, (λ other. other refl, refl))
 
   -- where ids have no bytes none is retired
@@ -158,19 +158,19 @@ module _ (remote : SocketAddr) (random : Stream) (given : Vec IssuedCid) where
       ⊳ refl
       ⊳ ((Idle, refl), λ kind time at. subst (λ m. 50 ≤ unwrap_or m 50) at (from_50 (at_pacing kind) (at_idle kind)))
 
-  later_is_wrong : ¬ Tells (drop 3 timers) (event.NextTimeout) (Ok (answer.Timeout (Some 50)))
+  later_is_wrong : ¬ RowTold (drop 3 timers) (event.NextTimeout) (Ok (answer.Timeout (Some 50)))
   later_is_wrong = λ told. omega (arith, told.1 Pacing 20 refl)
 
-  stopped_is_wrong : ¬ Tells (drop 1 timers) (event.NextTimeout) (Ok (answer.Timeout (Some 20)))
+  stopped_is_wrong : ¬ RowTold (drop 1 timers) (event.NextTimeout) (Ok (answer.Timeout (Some 20)))
   stopped_is_wrong = λ told.
       let below = subst (λ m. 50 ≤ unwrap_or m 50) told.0.1 (from_50 (at_pacing told.0.0) (at_idle told.0.0)) in omega
       (arith, below)
 
-  none_is_wrong : ¬ Tells (drop 1 timers) (event.NextTimeout) (Ok (answer.Timeout None))
+  none_is_wrong : ¬ RowTold (drop 1 timers) (event.NextTimeout) (Ok (answer.Timeout None))
   none_is_wrong = λ told. some_is_none (told Idle)
 
-  set_is_done : ¬ Tells [] (event.SetTimer Idle 50) (Ok (answer.Timeout (Some 50)))
+  set_is_done : ¬ RowTold [] (event.SetTimer Idle 50) (Ok (answer.Timeout (Some 50)))
   set_is_done = λ told. unlike told refl
 
-  stop_is_done : ¬ Tells [] (event.StopTimer Idle) (Err refusal.NoMemory)
+  stop_is_done : ¬ RowTold [] (event.StopTimer Idle) (Err refusal.NoMemory)
   stop_is_done = λ told. told

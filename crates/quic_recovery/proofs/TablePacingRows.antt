@@ -11,8 +11,8 @@ use Rattle.quic_recovery.proofs.RowStart.{RowEvent, RowReply, RowHistory, row_st
 use Rattle.quic_recovery.proofs.RowLaws.{unrefused, small, unlike, uneven}
 
 module _ (remote : SocketAddr) (random : Stream) where
-  abbrev Tells : RowHistory → RowEvent → RowReply → Type 0
-  Tells = Told (row_start remote random 8 Disabled)
+  abbrev RowTold : RowHistory → RowEvent → RowReply → Type 0
+  RowTold = Told (row_start remote random 8 Disabled)
 
   abbrev TellsAll : RowHistory → Type 0
   TellsAll = AllTold (row_start remote random 8 Disabled)
@@ -51,13 +51,13 @@ module _ (remote : SocketAddr) (random : Stream) where
       ⊳ (small refl, refl)
       ⊳ (small refl, refl)
 
-  eleventh_passes_is_wrong : ¬ Tells (drop 1 paced) (event.Transmit 0 1200 true) (Ok answer.Transmitted)
+  eleventh_passes_is_wrong : ¬ RowTold (drop 1 paced) (event.Transmit 0 1200 true) (Ok answer.Transmitted)
   eleventh_passes_is_wrong = λ told. unlike told.1 refl
 
-  another_moment_is_wrong : ¬ Tells (drop 1 paced) (event.Transmit 0 1200 true) (Ok (answer.Delayed 266400001))
+  another_moment_is_wrong : ¬ RowTold (drop 1 paced) (event.Transmit 0 1200 true) (Ok (answer.Delayed 266400001))
   another_moment_is_wrong = λ told. uneven told.1 refl
 
-  not_validated_there : ¬ Tells [] (event.Validated Previous) (Ok answer.Done)
+  not_validated_there : ¬ RowTold [] (event.Validated Previous) (Ok answer.Done)
   not_validated_there = λ told. told.0 tt
 
   -- ---- no time counts twice
@@ -76,7 +76,7 @@ module _ (remote : SocketAddr) (random : Stream) where
       ⊳ refl
       ⊳ refl
 
-  earlier_is_wrong : ¬ Tells (drop 1 checks) (event.PacerCheck 0 12001) (Ok (answer.Delayed 22200))
+  earlier_is_wrong : ¬ RowTold (drop 1 checks) (event.PacerCheck 0 12001) (Ok (answer.Delayed 22200))
   earlier_is_wrong = λ told. uneven told refl
 
   -- ---- the clock steps back, and the bucket fills from the moment when it was made

@@ -13,8 +13,8 @@ use Rattle.quic_recovery.proofs.RowStart.{RowEvent, RowReply, RowHistory, row_st
 use Rattle.quic_recovery.proofs.RowLaws.{unrefused, small, fits, unlike, uneven, some_is_none}
 
 module _ (remote : SocketAddr) (random : Stream) where
-  abbrev Tells : RowHistory → RowEvent → RowReply → Type 0
-  Tells = Told (row_start remote random 8 Disabled)
+  abbrev RowTold : RowHistory → RowEvent → RowReply → Type 0
+  RowTold = Told (row_start remote random 8 Disabled)
 
   abbrev TellsAll : RowHistory → Type 0
   TellsAll = AllTold (row_start remote random 8 Disabled)
@@ -39,13 +39,13 @@ module _ (remote : SocketAddr) (random : Stream) where
       ⊳ (small refl, refl)
       ⊳ (small refl, refl)
 
-  fourth_passes_is_wrong : ¬ Tells (drop 1 amplified) (event.Transmit 0 1200 true) (Ok answer.Transmitted)
+  fourth_passes_is_wrong : ¬ RowTold (drop 1 amplified) (event.Transmit 0 1200 true) (Ok answer.Transmitted)
   fourth_passes_is_wrong = λ told. unlike told.1 refl
 
-  third_is_blocked_is_wrong : ¬ Tells (drop 2 amplified) (event.Transmit 0 1200 true) (Ok answer.Blocked)
+  third_is_blocked_is_wrong : ¬ RowTold (drop 2 amplified) (event.Transmit 0 1200 true) (Ok answer.Blocked)
   third_is_blocked_is_wrong = λ told. unlike told.1 refl
 
-  unchecked_passes : Tells (drop 1 amplified) (event.Transmit 0 1200 false) (Ok answer.Transmitted)
+  unchecked_passes : RowTold (drop 1 amplified) (event.Transmit 0 1200 false) (Ok answer.Transmitted)
   unchecked_passes = (small refl, refl)
 
   -- ---- a datagram that overflows the total does not count
@@ -64,13 +64,13 @@ module _ (remote : SocketAddr) (random : Stream) where
       ⊳ omega arith
       ⊳ (small refl, refl)
 
-  overflow_counts_is_wrong : ¬ Tells (drop 2 many_bytes) (event.DatagramIn Current 1) (Ok answer.Done)
+  overflow_counts_is_wrong : ¬ RowTold (drop 2 many_bytes) (event.DatagramIn Current 1) (Ok answer.Done)
   overflow_counts_is_wrong = λ told. told.0 (omega arith)
 
-  no_datagram_there : ¬ Tells [] (event.DatagramIn Previous 1) (Ok answer.Done)
+  no_datagram_there : ¬ RowTold [] (event.DatagramIn Previous 1) (Ok answer.Done)
   no_datagram_there = λ told. told.0 tt
 
-  sent_overflows : Tells ((event.Transmit 0 (2 ^ 64 - 1) false, Ok answer.Transmitted) ∷ []) (event.Transmit 0 1 true)
+  sent_overflows : RowTold ((event.Transmit 0 (2 ^ 64 - 1) false, Ok answer.Transmitted) ∷ []) (event.Transmit 0 1 true)
       (Err refusal.Overflow)
   sent_overflows = omega arith
 
@@ -100,7 +100,7 @@ module _ (remote : SocketAddr) (random : Stream) where
       ⊳ refl
       ⊳ refl
 
-  counts_on_the_other_is_wrong : ¬ Tells (drop 5 two_paths) (event.InFlight Current) (Ok (answer.InFlight 1200 2))
+  counts_on_the_other_is_wrong : ¬ RowTold (drop 5 two_paths) (event.InFlight Current) (Ok (answer.InFlight 1200 2))
   counts_on_the_other_is_wrong = λ told. uneven told refl
 
   -- ---- an older path is dropped, and its packets stay tracked
@@ -129,22 +129,22 @@ module _ (remote : SocketAddr) (random : Stream) where
       ⊳ refl
       ⊳ tt
 
-  older_path_stays_is_wrong : ¬ Tells (drop 5 dropped) (event.InFlight Previous) (Ok (answer.InFlight 500 1))
+  older_path_stays_is_wrong : ¬ RowTold (drop 5 dropped) (event.InFlight Previous) (Ok (answer.InFlight 500 1))
   older_path_stays_is_wrong = λ told. uneven told refl
 
-  drops_twice_is_wrong : ¬ Tells (drop 1 dropped) (event.DropPrevious) (Ok answer.Done)
+  drops_twice_is_wrong : ¬ RowTold (drop 1 dropped) (event.DropPrevious) (Ok answer.Done)
   drops_twice_is_wrong = λ told. told.0 tt
 
-  drops_not_is_wrong : ¬ Tells (drop 2 dropped) (event.DropPrevious) (Err refusal.NoSuchPath)
+  drops_not_is_wrong : ¬ RowTold (drop 2 dropped) (event.DropPrevious) (Err refusal.NoSuchPath)
   drops_not_is_wrong = λ told. told
 
-  going_on_takes_memory : Tells [] (event.NewPath 0 remote false) (Err refusal.NoMemory)
+  going_on_takes_memory : RowTold [] (event.NewPath 0 remote false) (Err refusal.NoMemory)
   going_on_takes_memory = (small refl, refl)
 
-  fresh_takes_none : ¬ Tells [] (event.NewPath 0 remote true) (Err refusal.NoMemory)
+  fresh_takes_none : ¬ RowTold [] (event.NewPath 0 remote true) (Err refusal.NoMemory)
   fresh_takes_none = λ told. unrefused told.1
 
-  current_is_there : ¬ Tells [] (event.Validated Current) (Err refusal.NoSuchPath)
+  current_is_there : ¬ RowTold [] (event.Validated Current) (Err refusal.NoSuchPath)
   current_is_there = λ told. told
 
   -- ---- what is not checked counts too

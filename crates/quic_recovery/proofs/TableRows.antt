@@ -13,8 +13,8 @@ use Rattle.quic_recovery.proofs.RowStart.{ack_frame, RowEvent, RowReply, RowHist
 use Rattle.quic_recovery.proofs.RowLaws.{unrefused, small, calm, at_first, starts, stays, in_turn, leaves_a_gap, patient, not_far, came_again, too_old, unlike}
 
 module _ (remote : SocketAddr) (random : Stream) where
-  abbrev Tells : RowHistory → RowEvent → RowReply → Type 0
-  Tells = Told (row_start remote random 8 Disabled)
+  abbrev RowTold : RowHistory → RowEvent → RowReply → Type 0
+  RowTold = Told (row_start remote random 8 Disabled)
 
   abbrev TellsAll : RowHistory → Type 0
   TellsAll = AllTold (row_start remote random 8 Disabled)
@@ -138,7 +138,7 @@ module _ (remote : SocketAddr) (random : Stream) where
       ⊳ (unrefused, refl)
 
   -- 3 is missing, two below 5 but one below 4
-  reordered : Tells asked (event.Received Data 3 5 true) (Ok (answer.New false))
+  reordered : RowTold asked (event.Received Data 3 5 true) (Ok (answer.New false))
   reordered = (
     unrefused,
     (
@@ -166,7 +166,7 @@ module _ (remote : SocketAddr) (random : Stream) where
     ),
   )
 
-  near_enough : Tells asked (event.Received Data 3 4 true) (Ok (answer.New true))
+  near_enough : RowTold asked (event.Received Data 3 4 true) (Ok (answer.New true))
   near_enough = (
     unrefused,
     (
@@ -177,37 +177,37 @@ module _ (remote : SocketAddr) (random : Stream) where
 
   -- ---- wrong answers
 
-  one_too_large_is_wrong : ¬ Tells (drop 1 arrivals) (event.Received Data 7 (2 ^ 62) true) (Ok (answer.New true))
+  one_too_large_is_wrong : ¬ RowTold (drop 1 arrivals) (event.Received Data 7 (2 ^ 62) true) (Ok (answer.New true))
   one_too_large_is_wrong = λ told. told.1.0 (omega arith)
 
-  largest_is_refused_is_wrong : ¬ Tells (drop 1 arrivals) (event.Received Data 7 (2 ^ 62 - 1) true)
+  largest_is_refused_is_wrong : ¬ RowTold (drop 1 arrivals) (event.Received Data 7 (2 ^ 62 - 1) true)
       (Err refusal.NumberTooLarge)
   largest_is_refused_is_wrong = λ told. omega (arith, told.1)
 
-  first_is_no_duplicate : ¬ Tells [] (event.Received Data 0 0 true) (Ok answer.Duplicate)
+  first_is_no_duplicate : ¬ RowTold [] (event.Received Data 0 0 true) (Ok answer.Duplicate)
   first_is_no_duplicate = λ told. told.1.1 (inl (λ m came. absurd came))
 
-  first_starts_the_timer : ¬ Tells [] (event.Received Data 0 0 true) (Ok (answer.New false))
+  first_starts_the_timer : ¬ RowTold [] (event.Received Data 0 0 true) (Ok (answer.New false))
   first_starts_the_timer = λ told. unrefused (told.1.1.1.1 (at_first (in_turn 0 0 None (omega arith))))
 
-  second_does_not : ¬ Tells (drop 3 arrivals) (event.Received Data 6 1 true) (Ok (answer.New true))
+  second_does_not : ¬ RowTold (drop 3 arrivals) (event.Received Data 6 1 true) (Ok (answer.New true))
   second_does_not = λ told. (told.1.1.1.0 refl).1 (0, inr (refl, at_first (in_turn 0 0 None (omega arith))))
 
-  again_is_not_new : ¬ Tells (drop 4 arrivals) (event.Received Data 5 0 true) (Ok (answer.New false))
+  again_is_not_new : ¬ RowTold (drop 4 arrivals) (event.Received Data 5 0 true) (Ok (answer.New false))
   again_is_not_new = λ told. came_again 0 (inl refl) told.1.1.0
 
-  too_old_is_not_new : ¬ Tells (drop 3 window) (event.Received Data 0 171 false) (Ok (answer.New false))
+  too_old_is_not_new : ¬ RowTold (drop 3 window) (event.Received Data 0 171 false) (Ok (answer.New false))
   too_old_is_not_new = λ told. too_old 300 (inl refl) (omega arith) told.1.1.0
 
   -- a new number may find no memory, and a duplicate takes none
-  new_takes_memory : Tells [] (event.Received Data 0 0 true) (Err refusal.NoMemory)
+  new_takes_memory : RowTold [] (event.Received Data 0 0 true) (Err refusal.NoMemory)
   new_takes_memory = (unrefused, (small refl, inl (λ m came. absurd came)))
 
-  duplicate_takes_none : ¬ Tells (drop 4 arrivals) (event.Received Data 5 0 true) (Err refusal.NoMemory)
+  duplicate_takes_none : ¬ RowTold (drop 4 arrivals) (event.Received Data 5 0 true) (Err refusal.NoMemory)
   duplicate_takes_none = λ told. came_again 0 (inl refl) told.1.1
 
-  acks_sent_is_done : ¬ Tells [] (event.AcksSent Data) (Ok (answer.Flag true))
+  acks_sent_is_done : ¬ RowTold [] (event.AcksSent Data) (Ok (answer.Flag true))
   acks_sent_is_done = λ told. unlike told.1 refl
 
-  open_space_is_refused_is_wrong : ¬ Tells [] (event.AcksSent Data) (Err refusal.SpaceDiscarded)
+  open_space_is_refused_is_wrong : ¬ RowTold [] (event.AcksSent Data) (Err refusal.SpaceDiscarded)
   open_space_is_refused_is_wrong = unrefused

@@ -13,8 +13,8 @@ use Rattle.quic_recovery.proofs.RowStart.{RowEvent, RowReply, RowHistory, row_st
 use Rattle.quic_recovery.proofs.RowLaws.{unrefused, small, fits, stays, unlike, uneven, differ, some_is_none}
 
 module _ (remote : SocketAddr) (random : Stream) where
-  abbrev Tells : RowHistory → RowEvent → RowReply → Type 0
-  Tells = Told (row_start remote random 8 Disabled)
+  abbrev RowTold : RowHistory → RowEvent → RowReply → Type 0
+  RowTold = Told (row_start remote random 8 Disabled)
 
   abbrev TellsAll : RowHistory → Type 0
   TellsAll = AllTold (row_start remote random 8 Disabled)
@@ -45,30 +45,30 @@ module _ (remote : SocketAddr) (random : Stream) where
       ⊳ (unrefused, refl)
       ⊳ tt
 
-  silent_first_is_wrong : ¬ Tells [] (event.Send Initial 0 500 true None [] tt) (Ok (answer.Sent 1 None))
+  silent_first_is_wrong : ¬ RowTold [] (event.Send Initial 0 500 true None [] tt) (Ok (answer.Sent 1 None))
   silent_first_is_wrong = λ told. uneven told.1.1.1.1 refl
 
-  small_overflow_is_wrong : ¬ Tells [] (event.Send Initial 0 500 true None [] tt) (Err refusal.Overflow)
+  small_overflow_is_wrong : ¬ RowTold [] (event.Send Initial 0 500 true None [] tt) (Err refusal.Overflow)
   small_overflow_is_wrong = λ told. grind (arith, told.1.1.1)
 
-  large_overflow : Tells ((event.Send Data 0 (2 ^ 64 - 1) true None [] tt, Ok (answer.Sent 0 None)) ∷ [])
+  large_overflow : RowTold ((event.Send Data 0 (2 ^ 64 - 1) true None [] tt, Ok (answer.Sent 0 None)) ∷ [])
       (event.Send Initial 0 1 true None [] tt)
       (Err refusal.Overflow)
   large_overflow = (unrefused, (λ h. h, (small refl, inl (omega arith))))
 
-  large_number : Tells [] (event.Send Initial 0 1 true (Some (2 ^ 62)) [] tt) (Err refusal.NumberTooLarge)
+  large_number : RowTold [] (event.Send Initial 0 1 true (Some (2 ^ 62)) [] tt) (Err refusal.NumberTooLarge)
   large_number = (unrefused, omega arith)
 
-  discarded_again_is_wrong : ¬ Tells (drop 4 packets) (event.DiscardSpace Initial) (Ok answer.Done)
+  discarded_again_is_wrong : ¬ RowTold (drop 4 packets) (event.DiscardSpace Initial) (Ok answer.Done)
   discarded_again_is_wrong = λ told. told.0 refl
 
-  still_in_flight_is_wrong : ¬ Tells (drop 4 packets) (event.InFlight Current) (Ok (answer.InFlight 500 1))
+  still_in_flight_is_wrong : ¬ RowTold (drop 4 packets) (event.InFlight Current) (Ok (answer.InFlight 500 1))
   still_in_flight_is_wrong = λ told. uneven told refl
 
-  untracked_is_wrong : ¬ Tells (drop 1 packets) (event.Acked Data 0 9 false) (Ok (answer.Acked false))
+  untracked_is_wrong : ¬ RowTold (drop 1 packets) (event.Acked Data 0 9 false) (Ok (answer.Acked false))
   untracked_is_wrong = λ told. told.1.0 refl
 
-  no_path_is_wrong : ¬ Tells packets (event.InFlight Previous) (Ok (answer.InFlight 0 0))
+  no_path_is_wrong : ¬ RowTold packets (event.InFlight Previous) (Ok (answer.InFlight 0 0))
   no_path_is_wrong = λ told. told.0 tt
 
   -- ---- queues
@@ -91,29 +91,29 @@ module _ (remote : SocketAddr) (random : Stream) where
       ⊳ (unrefused, (some_is_none, refl))
       ⊳ (unrefused, refl)
 
-  moved_is_lost_is_wrong : ¬ Tells (drop 1 queues) (event.TakePending Data) (Ok (answer.Queue (7 ∷ 8 ∷ [])))
+  moved_is_lost_is_wrong : ¬ RowTold (drop 1 queues) (event.TakePending Data) (Ok (answer.Queue (7 ∷ 8 ∷ [])))
   moved_is_lost_is_wrong = λ told. differ refl told.1
 
-  moved_takes_memory : Tells (drop 4 queues) (event.QueueProbe Data false tt) (Err refusal.NoMemory)
+  moved_takes_memory : RowTold (drop 4 queues) (event.QueueProbe Data false tt) (Err refusal.NoMemory)
   moved_takes_memory = (unrefused, tt)
 
-  standing_takes_none : ¬ Tells (drop 3 queues) (event.QueueProbe Data false tt) (Err refusal.NoMemory)
+  standing_takes_none : ¬ RowTold (drop 3 queues) (event.QueueProbe Data false tt) (Err refusal.NoMemory)
   standing_takes_none = λ told. told.1
 
-  ping_is_other : ¬ Tells [] (event.QueueProbe Data false tt)
+  ping_is_other : ¬ RowTold [] (event.QueueProbe Data false tt)
       (Ok (answer.Sendable (record { acks = false; other = false })))
   ping_is_other = λ told. unrefused told.1.1
 
-  joins_take_memory : Tells (drop 2 queues) (event.Lost Data 0) (Err refusal.NoMemory)
+  joins_take_memory : RowTold (drop 2 queues) (event.Lost Data 0) (Err refusal.NoMemory)
   joins_take_memory = (unrefused, (some_is_none, tt))
 
-  acks_take_none : ¬ Tells (drop 2 queues) (event.Acked Data 9 0 false) (Err refusal.NoMemory)
+  acks_take_none : ¬ RowTold (drop 2 queues) (event.Acked Data 9 0 false) (Err refusal.NoMemory)
   acks_take_none = λ told. told.1.1
 
-  no_probe_is_acked : ¬ Tells (drop 2 queues) (event.Acked Data 9 0 false) (Ok (answer.Acked true))
+  no_probe_is_acked : ¬ RowTold (drop 2 queues) (event.Acked Data 9 0 false) (Ok (answer.Acked true))
   no_probe_is_acked = λ told. unlike told.1.1 refl
 
-  tracked_is_refused_is_wrong : ¬ Tells (drop 2 queues) (event.Lost Data 0) (Err refusal.NotTracked)
+  tracked_is_refused_is_wrong : ¬ RowTold (drop 2 queues) (event.Lost Data 0) (Err refusal.NotTracked)
   tracked_is_refused_is_wrong = λ told. some_is_none told.1
 
   -- what is lost is put behind what was lost before
@@ -140,7 +140,7 @@ module _ (remote : SocketAddr) (random : Stream) where
       ⊳ (unrefused, (stays (λ all. all.0), refl))
       ⊳ (unrefused, refl)
 
-  in_front_is_wrong : ¬ Tells (drop 1 joined) (event.TakePending Data) (Ok (answer.Queue (1 ∷ 2 ∷ 3 ∷ [])))
+  in_front_is_wrong : ¬ RowTold (drop 1 joined) (event.TakePending Data) (Ok (answer.Queue (1 ∷ 2 ∷ 3 ∷ [])))
   in_front_is_wrong = λ told. differ refl told.1
 
   -- ---- a PING stays marked

@@ -100,8 +100,8 @@ none_behind (suc n) = sum_by-append (eliciting_in 0) (behind n) ((suc n, silent)
 -- ---- the runs that send them
 
 module _ (remote : SocketAddr) (random : Stream) where
-  abbrev Tells : RowHistory → RowEvent → RowReply → Type 0
-  Tells = Told (row_start remote random 8 Disabled)
+  abbrev RowTold : RowHistory → RowEvent → RowReply → Type 0
+  RowTold = Told (row_start remote random 8 Disabled)
 
   abbrev send : RowEvent
   send = event.Send Data 0 40 false None [] tt
@@ -195,7 +195,7 @@ module _ (remote : SocketAddr) (random : Stream) where
 
   -- what a silent packet more is told, where so many were sent and this one is forgotten
   told_one : (n : ℕ) (forgotten : Option ℕ) → n ≤ 1001 → forgotten_silent None (tracked n) ≡ forgotten
-      → Tells (silents n) send (Ok (answer.Sent n forgotten))
+      → RowTold (silents n) send (Ok (answer.Sent n forgotten))
   told_one n forgotten few is =
       let now = after n few in
       let number = number_now n now in (
@@ -215,30 +215,30 @@ module _ (remote : SocketAddr) (random : Stream) where
 
   -- ---- the rows
 
-  all_are_tracked : Tells (silents 1000) send (Ok (answer.Sent 1000 None))
+  all_are_tracked : RowTold (silents 1000) send (Ok (answer.Sent 1000 None))
   all_are_tracked = told_one 1000 None (omega arith) (none_forgotten 1000 (omega arith))
 
-  zero_is_forgotten : Tells (silents 1001) send (Ok (answer.Sent 1001 (Some 0)))
+  zero_is_forgotten : RowTold (silents 1001) send (Ok (answer.Sent 1001 (Some 0)))
   zero_is_forgotten = told_one 1001 (Some 0) (omega arith) zero_forgotten
 
   abbrev forgotten_in : Answer (List ℕ) → Option ℕ
   forgotten_in (answer.Sent number forgotten) = forgotten
   forgotten_in other = None
 
-  none_is_wrong : ¬ Tells (silents 1001) send (Ok (answer.Sent 1001 None))
+  none_is_wrong : ¬ RowTold (silents 1001) send (Ok (answer.Sent 1001 None))
   none_is_wrong = λ told. some_is_none (ap forgotten_in (zero_is_forgotten.1.1.1.1 ∙ sym told.1.1.1.1))
 
-  one_is_wrong : ¬ Tells (silents 1001) send (Ok (answer.Sent 1001 (Some 1)))
+  one_is_wrong : ¬ RowTold (silents 1001) send (Ok (answer.Sent 1001 (Some 1)))
   one_is_wrong = λ told.
       let same : ◌≡◌ {A = ℕ} 0 1 =
       ap (λ given. unwrap_or (forgotten_in given) 0) (zero_is_forgotten.1.1.1.1 ∙ sym told.1.1.1.1) in
       omega (arith, same)
 
-  too_early_is_wrong : ¬ Tells (silents 1000) send (Ok (answer.Sent 1000 (Some 0)))
+  too_early_is_wrong : ¬ RowTold (silents 1000) send (Ok (answer.Sent 1000 (Some 0)))
   too_early_is_wrong = λ told. some_is_none (ap forgotten_in (told.1.1.1.1 ∙ sym all_are_tracked.1.1.1.1))
 
   -- what is forgotten is in flight no more: 1001 packets before, and 1001 behind
-  before_it : Tells (silents 1001) (event.InFlight Current) (Ok (answer.InFlight 40040 0))
+  before_it : RowTold (silents 1001) (event.InFlight Current) (Ok (answer.InFlight 40040 0))
   before_it =
       sym (ap (λ c. answer.InFlight c.bytes c.ack_eliciting) (in_flight_now 1001 (after 1001 (omega arith)))
       ∙ ap₂ answer.InFlight (ap (λ b. 0 + 0 + b) (bytes_tracked 1001)) (ap (λ e. 0 + 0 + e) (none_elicit 1001)))
@@ -271,7 +271,7 @@ module _ (remote : SocketAddr) (random : Stream) where
       (ap (λ e. 0 + 0 + e) (sum_by-append (eliciting_in 0) (behind 1000) ((1001, silent) ∷ [])
       ∙ ap (λ e. e + 0) (none_behind 1000))))
 
-  behind_it : Tells ((send, Ok (answer.Sent 1001 (Some 0))) ∷ silents 1001) (event.InFlight Current)
+  behind_it : RowTold ((send, Ok (answer.Sent 1001 (Some 0))) ∷ silents 1001) (event.InFlight Current)
       (Ok (answer.InFlight 40040 0))
   behind_it =
       let now = after 1001 (omega arith) in
@@ -282,7 +282,7 @@ module _ (remote : SocketAddr) (random : Stream) where
       ∙ (ap (λ s. flight_then 0 [] [] s) now.sent ∙ flight_behind))))
 
   -- not 1002 packets
-  forgotten_in_flight_is_wrong : ¬ Tells ((send, Ok (answer.Sent 1001 (Some 0))) ∷ silents 1001)
+  forgotten_in_flight_is_wrong : ¬ RowTold ((send, Ok (answer.Sent 1001 (Some 0))) ∷ silents 1001)
       (event.InFlight Current)
       (Ok (answer.InFlight 40080 0))
   forgotten_in_flight_is_wrong = λ told. let same : 40080 ≡ 40040 =

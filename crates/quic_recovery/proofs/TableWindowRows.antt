@@ -13,8 +13,8 @@ use Rattle.quic_recovery.proofs.RowStart.{RowEvent, RowReply, RowHistory, row_st
 use Rattle.quic_recovery.proofs.RowLaws.{unrefused, small, fits, unlike, uneven, some_is_none}
 
 module _ (remote : SocketAddr) (random : Stream) where
-  abbrev Tells : RowHistory → RowEvent → RowReply → Type 0
-  Tells = Told (row_start remote random 8 Disabled)
+  abbrev RowTold : RowHistory → RowEvent → RowReply → Type 0
+  RowTold = Told (row_start remote random 8 Disabled)
 
   abbrev TellsAll : RowHistory → Type 0
   TellsAll = AllTold (row_start remote random 8 Disabled)
@@ -35,10 +35,10 @@ module _ (remote : SocketAddr) (random : Stream) where
       ⊳ refl
       ⊳ refl
 
-  whole_window_is_wrong : ¬ Tells (drop 1 halved) (event.PacerCheck 0 12001) (Ok (answer.Delayed 22200))
+  whole_window_is_wrong : ¬ RowTold (drop 1 halved) (event.PacerCheck 0 12001) (Ok (answer.Delayed 22200))
   whole_window_is_wrong = λ told. uneven told refl
 
-  congestion_is_done : ¬ Tells [] (event.Congestion 2 1 false 1200) (Ok answer.Ready)
+  congestion_is_done : ¬ RowTold [] (event.Congestion 2 1 false 1200) (Ok answer.Ready)
   congestion_is_done = λ told. unlike told refl
 
   -- ---- a sample of 1 ms
@@ -59,7 +59,7 @@ module _ (remote : SocketAddr) (random : Stream) where
       ⊳ refl
       ⊳ refl
 
-  initial_rtt_is_wrong : ¬ Tells (drop 3 sampled) (event.PacerCheck 0 12001) (Ok (answer.Delayed 22200))
+  initial_rtt_is_wrong : ¬ RowTold (drop 3 sampled) (event.PacerCheck 0 12001) (Ok (answer.Delayed 22200))
   initial_rtt_is_wrong = λ told. uneven told refl
 
   abbrev unpaced : RowHistory
@@ -76,10 +76,10 @@ module _ (remote : SocketAddr) (random : Stream) where
       ⊳ refl
       ⊳ refl
 
-  zero_rtt_delays_is_wrong : ¬ Tells (drop 2 unpaced) (event.PacerCheck 0 12001) (Ok (answer.Delayed 0))
+  zero_rtt_delays_is_wrong : ¬ RowTold (drop 2 unpaced) (event.PacerCheck 0 12001) (Ok (answer.Delayed 0))
   zero_rtt_delays_is_wrong = λ told. unlike told refl
 
-  ends_are_done : ¬ Tells [] (event.EndAcks 0 false None) (Err refusal.NoMemory)
+  ends_are_done : ¬ RowTold [] (event.EndAcks 0 false None) (Err refusal.NoMemory)
   ends_are_done = λ told. told
 
   -- ---- a probe that is acknowledged grows the window too
@@ -102,7 +102,7 @@ module _ (remote : SocketAddr) (random : Stream) where
       ⊳ (unrefused, (some_is_none, refl))
       ⊳ refl
 
-  probe_grows_nothing_is_wrong : ¬ Tells (drop 1 grown) (event.PacerCheck 0 13261) (Ok answer.Ready)
+  probe_grows_nothing_is_wrong : ¬ RowTold (drop 1 grown) (event.PacerCheck 0 13261) (Ok answer.Ready)
   probe_grows_nothing_is_wrong = λ told. unlike told refl
 
   -- ---- one reduction in a recovery, whose start may move back
@@ -133,10 +133,10 @@ module _ (remote : SocketAddr) (random : Stream) where
       ⊳ refl
       ⊳ refl
 
-  twice_in_a_recovery_is_wrong : ¬ Tells (drop 5 recoveries) (event.PacerCheck 0 12001) (Ok (answer.Delayed 88800))
+  twice_in_a_recovery_is_wrong : ¬ RowTold (drop 5 recoveries) (event.PacerCheck 0 12001) (Ok (answer.Delayed 88800))
   twice_in_a_recovery_is_wrong = λ told. uneven told refl
 
-  sample_is_done : ¬ Tells [] (event.Sample 0 1000000) (Ok answer.Ready)
+  sample_is_done : ¬ RowTold [] (event.Sample 0 1000000) (Ok answer.Ready)
   sample_is_done = λ told. unlike told refl
 
   -- ---- a packet of another path, or one that elicits no ACK, grows nothing

@@ -2,22 +2,21 @@
 use Rattle.std.proofs.Common.{◌≡◌, ◌≤◌, ◌*◌, Bool, true, false, [], ◌∷◌, List, None, Some, Option, option_map, refl, sym, subst, arith}
 use Rattle.std.specs.Option.{ForSome}
 use Rattle.std.proofs.lemmas.List.Sums.{AllPass-from_list_all, list_all-from_AllPass}
+use Rattle.std.proofs.lemmas.Option.{none-some}
 use Rattle.recovery_paths.specs.declared.live_paths.PathName.TheVariants.{Current, Previous}
 use Rattle.recovery_paths.specs.PathLog.{OfPaths, OnEachPath, PathPast, Transmission, each_path}
 use Rattle.recovery_paths.specs.Threefold.{IsWithinThreefold}
 use Rattle.recovery_paths.proofs.ThreefoldLaws.{within_at_first}
 use Rattle.recovery_events.specs.declared.event.Event.{Event}
-use Rattle.quic_recovery.specs.Amplification.{pasts_of}
+use Rattle.quic_recovery.specs.Entries.{pasts_of}
 use Rattle.quic_recovery.specs.History.{Beginning, History, Reply, Throughout}
 use Rattle.quic_recovery.specs.Known.{first_path, settings_of}
 use Rattle.quic_recovery.specs.Told.{Told}
 use Rattle.quic_recovery.specs.Promises.Datagrams.{datagrams_on, is_validated}
 use Rattle.quic_recovery.specs.Promises.Threefold.{KeepsThreefold, SendsThreefold}
-use Rattle.quic_recovery.proofs.AmplificationLaws.{after_one, throughout_kept}
+use Rattle.quic_recovery.proofs.Runs.{throughout_kept}
+use Rattle.quic_recovery.proofs.AmplificationLaws.{after_one}
 use Rattle.quic_recovery.proofs.DatagramLaws.{Flow, flow_of, flow_by, AreFlows, IsFlowWhereLives, FlowsAgree, flows_at_first, flows_after}
-
-none_is_some : {A B : Type 0} {a : A} → None ≡ Some a → B
-none_is_some e = cc
 
 some_same : {A : Type 0} {a b : A} → Some a ≡ Some b → a ≡ b
 some_same e = cc
@@ -47,7 +46,7 @@ module _ {K Q S M P : Type 0} where
   to_previous : (validated : Bool) (here : History Q S M P) (past : Option (PathPast K))
       → IsFlowWhereLives validated here (option_map flow_of past) → IsBounded (flow_by validated here)
       → ForSome past IsWithinThreefold
-  to_previous validated here None is bounded = λ past none. none_is_some none
+  to_previous validated here None is bounded = λ past none. absurd (none-some _ none)
   to_previous validated here (Some past) is bounded =
       λ other some. subst IsWithinThreefold (some_same some) (to_past past (subst IsBounded is bounded))
 

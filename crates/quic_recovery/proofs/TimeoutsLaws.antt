@@ -2,6 +2,7 @@
 use Rattle.std.proofs.Common.{◌≡◌, ◌≤◌, ◌<◌, ℕ, min, map, List, [], ◌∷◌, Option, None, Some, Ok, Err, ◌⊎◌, inl, inr, refl, sym, ◌∙◌, ap, subst, arith}
 use Rattle.std.specs.Prelude.{if◌then◌else◌}
 use Rattle.std.proofs.lemmas.Bool.{cases_lt}
+use Rattle.std.proofs.lemmas.Option.{none-some}
 use Rattle.recovery_base.specs.declared.timer.Timer.{Timer}
 use Rattle.recovery_base.specs.declared.timer.Timer.TheVariants.{LossDetection, Idle, Close, KeyDiscard, PathValidation, KeepAlive, Pacing, PushNewCid, MaxAckDelay}
 use Rattle.recovery_base.specs.TimerLog.{TimerEntry, last_set}
@@ -61,14 +62,11 @@ abbrev IsLeast : List (Option ℕ) → Option ℕ → Type 0
 IsLeast ms None = (y : ℕ) → ¬ In (Some y) ms
 IsLeast ms (Some x) = In (Some x) ms × ((y : ℕ) → In (Some y) ms → x ≤ y)
 
-none_is_some : {A : Type 0} {y : ℕ} → (let none : Option ℕ = None in Some y ≡ none) → A
-none_is_some e = cc
-
 same_some : {x y : ℕ} → (let some : Option ℕ = Some x in some ≡ Some y) → x ≡ y
 same_some e = cc
 
 skip_in : (ms : List (Option ℕ)) (y : ℕ) → In (Some y) (None ∷ ms) → In (Some y) ms
-skip_in ms y (inl is) = none_is_some is
+skip_in ms y (inl is) = absurd (none-some _ (sym is))
 skip_in ms y (inr there) = there
 
 skips : (ms : List (Option ℕ)) (m : Option ℕ) → IsLeast ms m → IsLeast (None ∷ ms) m
@@ -127,7 +125,8 @@ module _ (f : Timer → Option ℕ) where
 
   one_least : (told found : Option ℕ) → IsLeastMoment f told → IsLeast (map f every_timer) found → told ≡ found
   one_least None None told is = refl
-  one_least None (Some x) told is = let t = from_timer every_timer (Some x) is.0 in none_is_some (t.1 ∙ told t.0)
+  one_least None (Some x) told is =
+      let t = from_timer every_timer (Some x) is.0 in absurd (none-some _ (sym (t.1 ∙ told t.0)))
   one_least (Some y) None told is = absurd (is y (set_in told.0.0 y told.0.1))
   one_least (Some y) (Some x) told is =
       let t = from_timer every_timer (Some x) is.0 in

@@ -33,7 +33,7 @@ use Rattle.quic_recovery.specs.Known.{Known, known_by, number_in, packet_now}
 use Rattle.quic_recovery.specs.Logs.{onto}
 use Rattle.quic_recovery.specs.Promises.Fates.{more_if, times as times_in, is_given, is_acked, is_lost, is_forgotten as is_forgotten_in, is_discarded}
 use Rattle.quic_recovery.specs.Promises.Tracked.{is_tracked}
-use Rattle.quic_recovery.specs.Told.{Told, ProbeOutReply}
+use Rattle.quic_recovery.specs.Told.{Told, MtuProbeReply}
 use Rattle.quic_recovery.proofs.EntryKinds.{keeps_packets, space_kind, space_kept, refused_keeps}
 
 -- ---- a number among those that are tracked
@@ -294,7 +294,7 @@ one_space there space e = cc
 
 pub probe_number : {K Q S M P : Type 0} (q : QueueMeaning Q S M P) (known : Known K P M) (now : ℕ) (due : Option ℕ)
     (number size : ℕ)
-    → ProbeOutReply q known now due (Ok (Probe number size)) → number ≡ known.numbers.next
+    → MtuProbeReply q known now due (Ok (Probe number size)) → number ≡ known.numbers.next
 probe_number q known now None number size told = cc
 probe_number q known now (Some due) number size told = let is = told.1 in cc
 

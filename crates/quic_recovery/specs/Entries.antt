@@ -11,7 +11,7 @@ use Rattle.recovery_events.specs.declared.event.Answer.TheVariants.{New, Flag, T
 use Rattle.recovery_events.specs.declared.event.Refusal.{Refusal}
 use Rattle.recovery_events.specs.declared.event.Refusal.TheVariants.{DelayTooSmall}
 use Rattle.quic_recovery.specs.History.{Beginning, History, Reply, QueueMeaning}
-use Rattle.quic_recovery.specs.Known.{Known, Logs, no_logs, known_by, number_in, packet_now, tracked_known, current_in_flight}
+use Rattle.quic_recovery.specs.Known.{Known, Logs, no_logs, known_by, number_in, packet_now, tracked_known, current_in_flight, first_path, settings_of}
 use Rattle.recovery_ids.specs.LocalLog.{LocalEntry, issues, passes, retires}
 use Rattle.quic_recovery.specs.Logs.{onto}
 use Rattle.recovery_congestion.specs.Calls.{ControllerCall, sends as sends_bytes, acks, ends_acks, congests, takes_mtu}
@@ -20,7 +20,7 @@ use Rattle.recovery_ledger.specs.Probes.{ProbeFound, probe_found}
 use Rattle.recovery_mtud.specs.Discovery.{is_data, reports}
 use Rattle.recovery_mtud.specs.DiscoveryLog.{MtuCall, polls, is_limited, losses_end, discovery_after, acks as acks_packet}
 use Rattle.recovery_paths.specs.PathStates.{loss_call, is_path_probe}
-use Rattle.recovery_paths.specs.PathLog.{PathsEntry, Following, on, moves, drops_previous, fresh, goes_on, on_current, receives, is_validated, samples, searches, tells, asks, transmits, passes, is_reset}
+use Rattle.recovery_paths.specs.PathLog.{PathsEntry, Following, on, moves, drops_previous, fresh, goes_on, on_current, receives, is_validated, samples, searches, tells, asks, transmits, passes, is_reset, OfPaths, PathPast, pasts_by}
 use Rattle.recovery_ids.specs.RemoteLog.{RemoteEntry, given, used, replaced}
 use Rattle.recovery_acks.specs.RequestLog.{RequestEntry, taken, too_small}
 use Rattle.recovery_base.specs.Spaces.{same_space}
@@ -224,3 +224,7 @@ logs_of beginning [] = no_logs
 logs_of beginning (happened ∷ earlier) =
     let logs = logs_of beginning earlier in
     logs_with (entries_of beginning.queue (known_by beginning logs) happened.0 happened.1) logs
+
+-- all that happened on each path that lives
+abbrev pub pasts_of : {F K Q S M P : Type 0} → Beginning F K Q S M P → History Q S M P → OfPaths (PathPast K)
+pasts_of beginning history = pasts_by (settings_of beginning) (first_path beginning) (logs_of beginning history).paths

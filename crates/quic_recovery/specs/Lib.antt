@@ -1,5 +1,4 @@
 pub mod Above
-pub mod Amplification
 pub mod Entries
 pub mod History
 pub mod IdReplies

@@ -118,8 +118,8 @@ module _ {F K Q S M P : Type 0} (built : F → ℕ → ℕ → K) (words : Contr
 
 -- the same of recoveries
 module _ {F Q R C K S M P : Type 0} {f : _} {c : _} {q : _} {m : _} {r : _} where
-  abbrev pub HasCome : Recovery F Q R C K S M P f c q m r → Type 0
-  HasCome recovery = CameSomehow f.built c.words (queue_meaning q.contents q.words q.blank) (parts_of recovery)
+  abbrev pub HasPast : Recovery F Q R C K S M P f c q m r → Type 0
+  HasPast recovery = CameSomehow f.built c.words (queue_meaning q.contents q.words q.blank) (parts_of recovery)
 
   abbrev pub Goes : Recovery F Q R C K S M P f c q m r → Event Q S M P → Reply Q → Recovery F Q R C K S M P f c q m r
       → Type 0

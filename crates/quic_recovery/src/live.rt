@@ -2,7 +2,7 @@
 ghost use Rattle.std.specs.Prelude.{◌≡◌, ◌≤◌, ◌^◌, IfOk};
 ghost use Rattle.recovery_skips.specs.Skips.{IsSkips};
 ghost use Rattle.quic_recovery.specs.Above.{marks_at, with_marks_at};
-ghost use Rattle.quic_recovery.specs.Past.{Came, Goes, HasCome, Went, no_past};
+ghost use Rattle.quic_recovery.specs.Past.{Came, Goes, HasPast, Went, no_past};
 ghost use Rattle.quic_recovery.specs.State.{parts_of, begun, known_to, Does, InFlightLeft};
 
 use crate::driver::{Recovery, RecoveryConfig};
@@ -23,7 +23,7 @@ use std::alloc::Global;
 #[derive(Drop)]
 pub struct LiveRecovery<F: ControllerFactory, Q: RetransmitQueue, R: Rng> {
     recovery: Recovery<F, Q, R>,
-    ghost came: { ∥ HasCome recovery ∥₁ },
+    ghost came: { ∥ HasPast recovery ∥₁ },
 }
 
 impl<F, Q, R> LiveRecovery<F, Q, R>

@@ -6,12 +6,13 @@ use Rattle.recovery_congestion.specs.Calls.{ControllerCall, sends, acks, ends_ac
 -- one call, whose MTU is above zero where it tells one
 pub sound-told : {K : Type 0} {words : ControllerWords K} {IsSound : K → Type 0} → ControllerLaws words IsSound
     → (call : ControllerCall) → IsPositiveCall call → (k : K) → IsSound k → IsSound (told words call k)
-sound-told laws (sends now bytes number) positive k sound = laws.sent now bytes number k sound
-sound-told laws (acks now sent bytes limited rtt) positive k sound = laws.acked now sent bytes limited rtt k sound
+sound-told laws (sends now bytes number) positive k sound = laws.on_sent now bytes number k sound
+sound-told laws (acks now sent bytes limited rtt) positive k sound = laws.on_ack now sent bytes limited rtt k sound
 sound-told laws (ends_acks now in_flight limited largest) positive k sound =
-    laws.end_acks now in_flight limited largest k sound
-sound-told laws (congests now sent persistent lost) positive k sound = laws.congestion now sent persistent lost k sound
-sound-told laws (takes_mtu mtu) positive k sound = laws.mtu mtu k positive sound
+    laws.on_end_acks now in_flight limited largest k sound
+sound-told laws (congests now sent persistent lost) positive k sound =
+    laws.on_congestion_event now sent persistent lost k sound
+sound-told laws (takes_mtu mtu) positive k sound = laws.on_mtu_update mtu k positive sound
 
 -- all calls, from a sound content
 pub sound-content_by : {K : Type 0} {words : ControllerWords K} {IsSound : K → Type 0} → ControllerLaws words IsSound

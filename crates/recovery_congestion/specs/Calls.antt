@@ -12,11 +12,11 @@ pub data ControllerCall : Type 0 where
 
 -- the content after a call
 abbrev pub told : {K : Type 0} → ControllerWords K → ControllerCall → K → K
-told words (sends now bytes number) k = words.sent now bytes number k
-told words (acks now sent bytes limited rtt) k = words.acked now sent bytes limited rtt k
-told words (ends_acks now in_flight limited largest) k = words.end_acks now in_flight limited largest k
-told words (congests now sent persistent lost) k = words.congestion now sent persistent lost k
-told words (takes_mtu mtu) k = words.mtu mtu k
+told words (sends now bytes number) k = words.on_sent now bytes number k
+told words (acks now sent bytes limited rtt) k = words.on_ack now sent bytes limited rtt k
+told words (ends_acks now in_flight limited largest) k = words.on_end_acks now in_flight limited largest k
+told words (congests now sent persistent lost) k = words.on_congestion_event now sent persistent lost k
+told words (takes_mtu mtu) k = words.on_mtu_update mtu k
 
 -- the content after calls, the newest first, from the content that was built
 abbrev pub content_by : {K : Type 0} → ControllerWords K → K → List ControllerCall → K

@@ -6,27 +6,27 @@ use Rattle.recovery_congestion.specs.declared.congestion.ControllerMetrics.{Cont
 -- what each call does to the content K of a controller
 pub record ControllerWords (K : Type 0) : Type 0 where
   -- moment, bytes, number of the last packet
-  pub sent : ℕ → ℕ → ℕ → K → K
+  pub on_sent : ℕ → ℕ → ℕ → K → K
   -- moment, moment of sending, bytes, whether the application limits, RTT
-  pub acked : ℕ → ℕ → ℕ → Bool → Rtt → K → K
+  pub on_ack : ℕ → ℕ → ℕ → Bool → Rtt → K → K
   -- moment, bytes in flight, whether the application limits, largest number acknowledged
-  pub end_acks : ℕ → ℕ → Bool → Option ℕ → K → K
+  pub on_end_acks : ℕ → ℕ → Bool → Option ℕ → K → K
   -- moment, moment of sending, whether persistent, bytes lost
-  pub congestion : ℕ → ℕ → Bool → ℕ → K → K
+  pub on_congestion_event : ℕ → ℕ → Bool → ℕ → K → K
   -- the new MTU
-  pub mtu : ℕ → K → K
+  pub on_mtu_update : ℕ → K → K
   pub window : K → ℕ
   pub metrics : K → ControllerMetrics
   pub initial : K → ℕ
 
 -- every call keeps a content sound, as long as MTUs are above zero, and a sound content has a window above zero
 pub record ControllerLaws {K : Type 0} (words : ControllerWords K) (IsSound : K → Type 0) : Type 0 where
-  pub sent : (now bytes number : ℕ) (k : K) → IsSound k → IsSound (words.sent now bytes number k)
-  pub acked : (now sent bytes : ℕ) (limited : Bool) (rtt : Rtt) (k : K) → IsSound k
-      → IsSound (words.acked now sent bytes limited rtt k)
-  pub end_acks : (now in_flight : ℕ) (limited : Bool) (largest : Option ℕ) (k : K) → IsSound k
-      → IsSound (words.end_acks now in_flight limited largest k)
-  pub congestion : (now sent : ℕ) (persistent : Bool) (lost : ℕ) (k : K) → IsSound k
-      → IsSound (words.congestion now sent persistent lost k)
-  pub mtu : (mtu : ℕ) (k : K) → 0 < mtu → IsSound k → IsSound (words.mtu mtu k)
+  pub on_sent : (now bytes number : ℕ) (k : K) → IsSound k → IsSound (words.on_sent now bytes number k)
+  pub on_ack : (now sent bytes : ℕ) (limited : Bool) (rtt : Rtt) (k : K) → IsSound k
+      → IsSound (words.on_ack now sent bytes limited rtt k)
+  pub on_end_acks : (now in_flight : ℕ) (limited : Bool) (largest : Option ℕ) (k : K) → IsSound k
+      → IsSound (words.on_end_acks now in_flight limited largest k)
+  pub on_congestion_event : (now sent : ℕ) (persistent : Bool) (lost : ℕ) (k : K) → IsSound k
+      → IsSound (words.on_congestion_event now sent persistent lost k)
+  pub on_mtu_update : (mtu : ℕ) (k : K) → 0 < mtu → IsSound k → IsSound (words.on_mtu_update mtu k)
   pub window : (k : K) → IsSound k → 0 < words.window k

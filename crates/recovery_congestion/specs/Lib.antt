@@ -1,8 +1,8 @@
 pub mod Calls
 pub mod Controllers
-pub mod Estimators
+pub mod EstimatorView
 pub mod NewReno
-pub mod RenoConfigs
+pub mod RenoConfigView
 pub mod RenoLaws
 pub mod RenoSettings
 pub mod Rtt

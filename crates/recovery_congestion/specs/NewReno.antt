@@ -89,11 +89,11 @@ IsRenoSound reno = (0 < reno.window) × (0 < reno.current_mtu)
 
 abbrev pub reno_words : ControllerWords NewReno
 reno_words = record {
-  sent = λ now bytes number reno. reno;
-  acked = λ now sent bytes limited rtt reno. reno_acked sent bytes limited reno;
-  end_acks = λ now in_flight limited largest reno. reno;
-  congestion = λ now sent persistent lost reno. reno_congested now sent persistent reno;
-  mtu = reno_with_mtu;
+  on_sent = λ now bytes number reno. reno;
+  on_ack = λ now sent bytes limited rtt reno. reno_acked sent bytes limited reno;
+  on_end_acks = λ now in_flight limited largest reno. reno;
+  on_congestion_event = λ now sent persistent lost reno. reno_congested now sent persistent reno;
+  on_mtu_update = reno_with_mtu;
   window = λ reno. reno.window;
   metrics = reno_metrics;
   initial = λ reno. reno.config.initial_window;

@@ -43,10 +43,10 @@ sound-congested now sent persistent reno sound =
 
 pub reno_laws : ControllerLaws reno_words IsRenoSound
 reno_laws = record {
-  sent = λ now bytes number reno sound. sound;
-  acked = λ now sent bytes limited rtt reno sound. sound-acked sent bytes limited reno sound;
-  end_acks = λ now in_flight limited largest reno sound. sound;
-  congestion = λ now sent persistent lost reno sound. sound-congested now sent persistent reno sound;
-  mtu = λ mtu reno positive sound. (omega (arith, sound.0), positive);
+  on_sent = λ now bytes number reno sound. sound;
+  on_ack = λ now sent bytes limited rtt reno sound. sound-acked sent bytes limited reno sound;
+  on_end_acks = λ now in_flight limited largest reno sound. sound;
+  on_congestion_event = λ now sent persistent lost reno sound. sound-congested now sent persistent reno sound;
+  on_mtu_update = λ mtu reno positive sound. (omega (arith, sound.0), positive);
   window = λ reno sound. sound.0;
 }

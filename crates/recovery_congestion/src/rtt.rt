@@ -25,7 +25,7 @@ impl Model for RttEstimator {
 
     ghost Value = { Rtt };
 
-    ghost use Rattle.recovery_congestion.specs.Estimators.{rtt_in, rtt_back};
+    ghost use Rattle.recovery_congestion.specs.EstimatorView.{rtt_in, rtt_back};
 
     ghost view = { rtt_in };
 

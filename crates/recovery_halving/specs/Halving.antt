@@ -15,11 +15,11 @@ IsHalvingSound halving = (0 < halving.window) × (0 < halving.current_mtu)
 
 abbrev pub halving_words : ControllerWords Halving
 halving_words = record {
-  sent = λ now bytes number halving. halving;
-  acked = λ now sent bytes limited rtt halving. halving;
-  end_acks = λ now in_flight limited largest halving. halving;
-  congestion = λ now sent persistent lost halving. halved halving;
-  mtu = λ mtu halving. record halving { current_mtu = mtu };
+  on_sent = λ now bytes number halving. halving;
+  on_ack = λ now sent bytes limited rtt halving. halving;
+  on_end_acks = λ now in_flight limited largest halving. halving;
+  on_congestion_event = λ now sent persistent lost halving. halved halving;
+  on_mtu_update = λ mtu halving. record halving { current_mtu = mtu };
   window = λ halving. halving.window;
   metrics = λ halving. record { congestion_window = halving.window; ssthresh = None; pacing_rate = None };
   initial = λ halving. halving.initial;
@@ -27,10 +27,10 @@ halving_words = record {
 
 pub halving_laws : ControllerLaws halving_words IsHalvingSound
 halving_laws = record {
-  sent = λ now bytes number halving sound. sound;
-  acked = λ now sent bytes limited rtt halving sound. sound;
-  end_acks = λ now in_flight limited largest halving sound. sound;
-  congestion = λ now sent persistent lost halving sound. (omega (arith, sound.1), sound.1);
-  mtu = λ mtu halving positive sound. (sound.0, positive);
+  on_sent = λ now bytes number halving sound. sound;
+  on_ack = λ now sent bytes limited rtt halving sound. sound;
+  on_end_acks = λ now in_flight limited largest halving sound. sound;
+  on_congestion_event = λ now sent persistent lost halving sound. (omega (arith, sound.1), sound.1);
+  on_mtu_update = λ mtu halving positive sound. (sound.0, positive);
   window = λ halving sound. sound.0;
 }

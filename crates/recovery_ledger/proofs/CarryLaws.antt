@@ -7,7 +7,7 @@ use Rattle.recovery_queue.specs.Queues.{QueueWords}
 use Rattle.recovery_ledger.specs.Packets.{Packet, Packets, Tracking, packet_at, without, with_contents, replaced, carrying, contents_or, after_carrying, after_taking}
 use Rattle.recovery_ledger.specs.Queued.{joined_with}
 use Rattle.recovery_ledger.specs.Spaces.{Space, packets_of, tracking_of, space_moves, space_loses, space_takes}
-use Rattle.recovery_ledger.proofs.PacketLaws.{some_packet, no_packet, sum-replaced, without-absent}
+use Rattle.recovery_ledger.proofs.PacketLaws.{some_packet, none_found, sum-replaced, without-absent}
 
 module _ {P M : Type 0} where
   -- a packet in its own place
@@ -45,7 +45,7 @@ module _ {P M : Type 0} where
 
   replaced_found : (packets : Packets P M) (number : ℕ) (packet other : Packet P M)
       → packet_at packets number ≡ Some packet → packet_at (replaced number (Some other) packets) number ≡ Some other
-  replaced_found [] number packet other found = no_packet packet found
+  replaced_found [] number packet other found = none_found packet found
   replaced_found (entry ∷ packets) number packet other found =
       go (is_at (nat_cmp number) entry.0) refl found (replaced_found packets number packet other)
     where
@@ -132,7 +132,7 @@ module _ {P M : Type 0} where
   pub lost_holds : (Holds : Packet P M → Type 0) (found : Option (Packet P M)) (contents : P) (packet : Packet P M)
       → option_map (with_contents contents) found ≡ Some packet
       → ((old : Packet P M) → found ≡ Some old → Holds (with_contents contents old)) → Holds packet
-  lost_holds Holds None contents packet is holds = no_packet packet is
+  lost_holds Holds None contents packet is holds = none_found packet is
   lost_holds Holds (Some old) contents packet is holds =
       subst Holds (some_packet (with_contents contents old) packet is) (holds old refl)
 

@@ -97,11 +97,11 @@ unfolding in_data
 in_flight-other_path = refl
 
 -- the largest number that was acknowledged, with the moment when its packet was sent
-largest_acknowledged-none : largest_acknowledged words 5 both_sent ≡ record { number = None; sent = 5 }
+largest_acknowledged-none : largest_acknowledged words 5 both_sent ≡ record { number = None; time_sent = 5 }
 largest_acknowledged-none = refl
 
 largest_acknowledged-second : largest_acknowledged words 5 (acknowledged 0 ∷ acknowledged 1 ∷ both_sent)
-    ≡ record { number = Some 1; sent = 8 }
+    ≡ record { number = Some 1; time_sent = 8 }
 largest_acknowledged-second = refl
 
 kept_by-given_out : (kept_by words 5 both_sent).given_out ≡ 2

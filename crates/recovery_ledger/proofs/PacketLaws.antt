@@ -32,11 +32,11 @@ module _ {P M : Type 0} where
   pub some_packet : (first second : Packet P M) → Some first ≡ Some second → first ≡ second
   some_packet first second e = cc
 
-  pub no_packet : {A : Type 0} (packet : Packet P M) → None ≡ Some packet → A
-  no_packet packet e = cc
+  pub none_found : {A : Type 0} (packet : Packet P M) → None ≡ Some packet → A
+  none_found packet e = cc
 
   pub are_below : (packets : Packets P M) (limit : ℕ) → AllBelow packets limit → AreBelow packets limit
-  are_below [] limit below number packet found = no_packet packet found
+  are_below [] limit below number packet found = none_found packet found
   are_below (entry ∷ packets) limit below number packet found =
       go (is_at (nat_cmp number) entry.0) refl found (are_below packets limit below.1 number packet)
     where
@@ -59,7 +59,7 @@ module _ {P M : Type 0} where
 
   pub without-append : (packets more : Packets P M) (number : ℕ) (packet : Packet P M)
       → packet_at packets number ≡ Some packet → without (packets ++ more) number ≡ without packets number ++ more
-  without-append [] more number packet found = no_packet packet found
+  without-append [] more number packet found = none_found packet found
   without-append (entry ∷ packets) more number packet found =
       go (is_at (nat_cmp number) entry.0) found (without-append packets more number packet)
     where
@@ -72,7 +72,7 @@ module _ {P M : Type 0} where
 
   pub packet_at-append : (packets more : Packets P M) (number : ℕ) (packet : Packet P M)
       → packet_at packets number ≡ Some packet → packet_at (packets ++ more) number ≡ Some packet
-  packet_at-append [] more number packet found = no_packet packet found
+  packet_at-append [] more number packet found = none_found packet found
   packet_at-append (entry ∷ packets) more number packet found =
       go (is_at (nat_cmp number) entry.0) found (packet_at-append packets more number packet)
     where
@@ -132,7 +132,7 @@ module _ {P M : Type 0} where
   pub sum-without : (f : ℕ × Packet P M → ℕ) (packets : Packets P M) (number : ℕ) (packet : Packet P M)
       → packet_at packets number ≡ Some packet
       → sum_by f (without packets number) + f (number, packet) ≡ sum_by f packets
-  sum-without f [] number packet found = no_packet packet found
+  sum-without f [] number packet found = none_found packet found
   sum-without f (entry ∷ packets) number packet found =
       go (is_at (nat_cmp number) entry.0) refl found (sum-without f packets number packet)
     where
@@ -156,7 +156,7 @@ module _ {P M : Type 0} where
   pub sum-replaced : (f : ℕ × Packet P M → ℕ) (packets : Packets P M) (number : ℕ) (packet other : Packet P M)
       → packet_at packets number ≡ Some packet
       → ((n : ℕ) → f (n, other) ≡ f (n, packet)) → sum_by f (replaced number (Some other) packets) ≡ sum_by f packets
-  sum-replaced f [] number packet other found alike = no_packet packet found
+  sum-replaced f [] number packet other found alike = none_found packet found
   sum-replaced f (entry ∷ packets) number packet other found alike = go (is_at (nat_cmp number) entry.0) found
       (λ there. sum-replaced f packets number packet other there alike)
     where
@@ -333,7 +333,7 @@ module _ {P M : Type 0} where
       go : (b : Bool) → cond b (Some entry.1) (packet_at packets number) ≡ None
           → (packet_at packets number ≡ None → without packets number ≡ packets)
           → cond b packets (entry ∷ without packets number) ≡ entry ∷ packets
-      go true e later = no_packet entry.1 (sym e)
+      go true e later = none_found entry.1 (sym e)
       go false e later = ap (λ (es : Packets P M). entry ∷ es) (later e)
 
   -- ---- the number that is forgotten is that of a packet

@@ -59,10 +59,11 @@ module _ {P M : Type 0} where
       go (is_above old.largest_acked_packet number) old.largest_acked_packet old.largest_acked_packet_sent
     where
       go : (b : Bool) (n : Option ℕ) (sent : ℕ) → (let a : Acknowledged =
-          record { number = cond b (Some number) n; sent = cond b packet.time_sent sent } in record (kept_of old)
+          record { number = cond b (Some number) n; time_sent = cond b packet.time_sent sent } in record (kept_of old)
           { largest = a }) ≡ record (kept_of old) {
             largest = cond b
-                (record { number = Some number; sent = packet.time_sent }) (record { number = n; sent = sent });
+                (record { number = Some number; time_sent = packet.time_sent })
+                (record { number = n; time_sent = sent });
           }
       go true n sent = refl
       go false n sent = refl

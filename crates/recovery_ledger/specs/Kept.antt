@@ -9,13 +9,13 @@ use Rattle.recovery_ledger.specs.Tracked.{sent_by}
 -- a number that was acknowledged, and when its packet was sent
 pub record Acknowledged : Type 0 where
   pub number : Option ℕ
-  pub sent : ℕ
+  pub time_sent : ℕ
 
 -- the greater of a number that was acknowledged and one that is now, if its packet is tracked
 abbrev pub acknowledged_with : {P M : Type 0} → Option (Packet P M) → ℕ → Acknowledged → Acknowledged
 acknowledged_with None number old = old
 acknowledged_with (Some packet) number old =
-    if is_above old.number number then record { number = Some number; sent = packet.time_sent } else old
+    if is_above old.number number then record { number = Some number; time_sent = packet.time_sent } else old
 
 -- when the last ack-eliciting packet was sent
 abbrev pub last_eliciting_sent : {P M : Type 0} → List (SpaceEntry P M) → Option ℕ
@@ -49,7 +49,7 @@ module _ {P M S : Type 0} (words : QueueWords P S) where
   -- the largest number that was acknowledged; before the first none, and the moment when the space
   -- was made
   abbrev pub largest_acknowledged : ℕ → List (SpaceEntry P M) → Acknowledged
-  largest_acknowledged start [] = record { number = None; sent = start }
+  largest_acknowledged start [] = record { number = None; time_sent = start }
   largest_acknowledged start (acknowledged number ∷ earlier) =
       acknowledged_with (packet_at (sent_by words earlier).tracked number) number
       (largest_acknowledged start earlier)

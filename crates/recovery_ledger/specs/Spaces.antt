@@ -81,7 +81,7 @@ sent_of space = record {
 -- what is kept of the packets sent
 abbrev pub kept_of : {P M : Type 0} → Space P M → Kept
 kept_of space = record {
-  largest = record { number = space.largest_acked_packet; sent = space.largest_acked_packet_sent };
+  largest = record { number = space.largest_acked_packet; time_sent = space.largest_acked_packet_sent };
   last_sent = space.time_of_last_ack_eliciting_packet;
   probes = space.loss_probes;
   given_out = space.sent_with_keys;
@@ -203,7 +203,7 @@ SubtractsLargest None old new = new ≡ old
 SubtractsLargest (Some largest) old new = SubtractsBelow old largest new
 
 -- a tracked packet was acknowledged
-pub record SpaceAcks {P M : Type 0} (number : ℕ) (old new : Space P M) : Type 0 where
+pub record SpaceAcked {P M : Type 0} (number : ℕ) (old new : Space P M) : Type 0 where
   pub packet : Packet P M
   pub found : packet_at (packets_of old) number ≡ Some packet
   pub subtracts : SubtractsLargest packet.largest_acked (acks_of old) (acks_of new)
@@ -215,8 +215,8 @@ abbrev pub space_empties : {P M : Type 0} → Space P M → Space P M
 space_empties space = with_tracking (record (tracking_of space) { packets = [] }) space
 
 -- an ACK was sent
-abbrev pub space_acked : {P M : Type 0} → Space P M → Space P M
-space_acked space = with_acks (acks_sent (acks_of space)) space
+abbrev pub space_acks_sent : {P M : Type 0} → Space P M → Space P M
+space_acks_sent space = with_acks (acks_sent (acks_of space)) space
 
 -- the timer for a late ACK expired
 abbrev pub space_late : {P M : Type 0} → Space P M → Space P M
@@ -313,14 +313,14 @@ module _ {P M S : Type 0} (words : QueueWords P S) where
       ((n : ℕ) → Has new.dedup n ↔ Recent (With number (Has old.dedup)) n) × (new ≡ old)
   SpaceStep (sends number packet) old new =
       (next_number_of old ≤ number) × (new ≡ space_sends number packet old)
-  SpaceStep (acknowledged number) old new = SpaceAcks number old new
+  SpaceStep (acknowledged number) old new = SpaceAcked number old new
   SpaceStep (loses number) old new = new ≡ space_loses words number old
   SpaceStep (probes immediate found) old new =
       new ≡ space_probes words immediate found (one_probe_more old)
   SpaceStep takes_pending old new = new ≡ space_hands_out words old
   SpaceStep (feeds_back counts) old new = new ≡ space_fed_back counts old
   SpaceStep emptied old new = new ≡ space_discards words old
-  SpaceStep ack_goes old new = new ≡ space_acked old
+  SpaceStep ack_goes old new = new ≡ space_acks_sent old
   SpaceStep ack_is_late old new = new ≡ space_late old
   SpaceStep (asked frame) old new = new ≡ space_asked frame old
 

@@ -1,12 +1,12 @@
 pub mod BurstRuns
 pub mod Bursts
-pub mod Detectors
-pub mod Discoveries
+pub mod DetectorView
+pub mod DiscoveryView
 pub mod Discovery
 pub mod DiscoveryLog
 pub mod MtuEntries
 pub mod Search
 pub mod SearchRuns
-pub mod Searches
+pub mod SearchView
 pub mod Settings
-pub mod Sizes
+pub mod BurstsView

@@ -22,7 +22,7 @@ impl Model for Bursts {
 
     ghost Value = { List ℕ };
 
-    ghost use Rattle.recovery_mtud.specs.Sizes.{sizes_in, IsPadded, padded, padded-sizes_in};
+    ghost use Rattle.recovery_mtud.specs.BurstsView.{sizes_in, IsPadded, padded, padded-sizes_in};
 
     ghost view = { sizes_in };
 

@@ -36,7 +36,7 @@ impl Model for Detector {
 
     ghost Value = { LossBursts };
 
-    ghost use Rattle.recovery_mtud.specs.Detectors.{bursts_in, bursts_back};
+    ghost use Rattle.recovery_mtud.specs.DetectorView.{bursts_in, bursts_back};
 
     ghost view = { bursts_in };
 

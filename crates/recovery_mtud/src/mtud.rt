@@ -31,7 +31,7 @@ impl Model for MtuDiscovery {
 
     ghost Value = { Discovery };
 
-    ghost use Rattle.recovery_mtud.specs.Discoveries.{discovery_in, discovery_back};
+    ghost use Rattle.recovery_mtud.specs.DiscoveryView.{discovery_in, discovery_back};
 
     ghost view = { discovery_in };
 

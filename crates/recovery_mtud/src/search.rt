@@ -50,7 +50,7 @@ impl Model for Search {
 
     ghost Value = { MtuSearch };
 
-    ghost use Rattle.recovery_mtud.specs.Searches.{search_in, search_back};
+    ghost use Rattle.recovery_mtud.specs.SearchView.{search_in, search_back};
 
     ghost view = { search_in };
 

@@ -11,27 +11,27 @@ asks bytes now = record { bytes = bytes; rtt = 4; mtu = 1; window = 3; now = now
 abbrev after : List PacerEntry → Bucket
 after = bucket_by (bucket_made 4 3 1 0)
 
-abbrev sent : List PacerEntry
-sent = took 191 true ∷ asked (asks 191 0) ∷ []
+abbrev took_191 : List PacerEntry
+took_191 = took 191 true ∷ asked (asks 191 0) ∷ []
 
 -- 252 bytes and the 15 / 4 that come in four nanoseconds fit, and pass at the moment that was named
-has_room : HasRoom (asks 252 0) 0 (paced (asks 252 0) (after sent))
+has_room : HasRoom (asks 252 0) 0 (paced (asks 252 0) (after took_191))
 has_room = record { room = omega arith; uncut = omega arith; window = omega arith }
 
-until : delay_of (asks 252 0) (paced (asks 252 0) (after sent)) ≡ Some 200
+until : delay_of (asks 252 0) (paced (asks 252 0) (after took_191)) ≡ Some 200
 until = refl
 
-passes : delay_of (asks 252 200) (paced (asks 252 200) (after (asked (asks 252 0) ∷ sent))) ≡ None
+passes : delay_of (asks 252 200) (paced (asks 252 200) (after (asked (asks 252 0) ∷ took_191))) ≡ None
 passes = refl
 
 -- 253 bytes do not fit beside them, and are delayed again
-no_room : ¬ HasRoom (asks 253 0) 0 (paced (asks 253 0) (after sent))
+no_room : ¬ HasRoom (asks 253 0) 0 (paced (asks 253 0) (after took_191))
 no_room room = let room = room.room in omega (arith, room)
 
-until_too : delay_of (asks 253 0) (paced (asks 253 0) (after sent)) ≡ Some 200
+until_too : delay_of (asks 253 0) (paced (asks 253 0) (after took_191)) ≡ Some 200
 until_too = refl
 
-delayed_again : delay_of (asks 253 200) (paced (asks 253 200) (after (asked (asks 253 0) ∷ sent))) ≡ Some 204
+delayed_again : delay_of (asks 253 200) (paced (asks 253 200) (after (asked (asks 253 0) ∷ took_191))) ≡ Some 204
 delayed_again = refl
 
 -- each question in between may cost a byte: with two of them 251 bytes have no room, and are delayed again

@@ -1,5 +1,5 @@
 pub mod Pacing
-pub mod Pacers
+pub mod PacerView
 pub mod PacerLog
 pub mod NamedMoment
 pub mod Progress

@@ -30,7 +30,7 @@ pub struct Pacer {
 
 impl Model for Pacer {
     ghost use Rattle.recovery_pacing.specs.Pacing.{Bucket, IsBucketSound};
-    ghost use Rattle.recovery_pacing.specs.Pacers.{bucket_in};
+    ghost use Rattle.recovery_pacing.specs.PacerView.{bucket_in};
 
     ghost Value = { Bucket };
 

@@ -48,8 +48,8 @@ module _ {K P M : Type 0} where
   }
 
   -- a packet leaves its path
-  abbrev pub left_by : Packet P M → Path K → Path K
-  left_by packet = on_ledger (λ ledger. after_leaving ledger packet)
+  abbrev pub path_left_by : Packet P M → Path K → Path K
+  path_left_by packet = on_ledger (λ ledger. after_leaving ledger packet)
 
   -- all packets of a space leave
   abbrev pub paths_without : Packets P M → OfPaths (Path K) → OfPaths (Path K)
@@ -59,7 +59,7 @@ module _ {K P M : Type 0} where
   abbrev pub paths_losing : SpaceId → ℕ → Packet P M → OfPaths (Path K) → OfPaths (Path K)
   paths_losing space number packet paths = record {
     current = path_lost space number packet paths.current;
-    previous = option_map (left_by packet) paths.previous;
+    previous = option_map (path_left_by packet) paths.previous;
   }
 
   -- a packet is acknowledged
@@ -67,5 +67,5 @@ module _ {K P M : Type 0} where
       → OfPaths (Path K)
   paths_acking words space number now app_limited packet paths = record {
     current = path_acked words space number now app_limited packet paths.current;
-    previous = option_map (left_by packet) paths.previous;
+    previous = option_map (path_left_by packet) paths.previous;
   }

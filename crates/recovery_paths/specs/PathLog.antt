@@ -148,8 +148,8 @@ module _ {K : Type 0} (settings : PathSettings K) where
   state_of past = record {
     remote = past.making.remote;
     validated = past.validated;
-    received = total past.datagrams;
-    sent = total_transmitted past.transmissions;
+    total_recvd = total past.datagrams;
+    total_sent = total_transmitted past.transmissions;
     discovery = discovery_by past.making.discovery past.searched;
     rtt = rtt_by past.making.rtt past.samples_taken;
     controller = content_by settings.words past.making.controller past.calls;

@@ -78,8 +78,8 @@ abbrev pub state_made : {K : Type 0} → PathMaking K → PathState K
 state_made making = record {
   remote = making.remote;
   validated = making.validated;
-  received = 0;
-  sent = 0;
+  total_recvd = 0;
+  total_sent = 0;
   discovery = making.discovery;
   rtt = rtt_made making.rtt;
   controller = making.controller;
@@ -103,8 +103,8 @@ module _ {K : Type 0} (words : ControllerWords K) where
   state_going_on remote now old = record {
     remote = remote;
     validated = false;
-    received = 0;
-    sent = 0;
+    total_recvd = 0;
+    total_sent = 0;
     discovery = old.discovery;
     rtt = old.rtt;
     controller = old.controller;

@@ -19,8 +19,8 @@ pub record PathState (K : Type 0) : Type 0 where
   -- the peer was seen to receive at this address
   pub validated : Bool
   -- the bytes of the datagrams that came in, and of those transmitted
-  pub received : ℕ
-  pub sent : ℕ
+  pub total_recvd : ℕ
+  pub total_sent : ℕ
   -- the MTU in use, and the search for it
   pub discovery : Discovery
   pub rtt : Rtt
@@ -61,12 +61,12 @@ module _ {K : Type 0} where
 
   -- with so many bytes more, an address that is not validated would get more than three times what came from it
   abbrev pub is_blocked : PathState K → ℕ → Bool
-  is_blocked path bytes = not path.validated && nat_lt (3 * path.received) (path.sent + bytes)
+  is_blocked path bytes = not path.validated && nat_lt (3 * path.total_recvd) (path.total_sent + bytes)
 
   -- ---- what changes a path, whatever its controller
 
   abbrev pub after_receiving : ℕ → PathState K → PathState K
-  after_receiving bytes path = record path { received = path.received + bytes }
+  after_receiving bytes path = record path { total_recvd = path.total_recvd + bytes }
 
   abbrev pub after_validation : PathState K → PathState K
   after_validation path = record path { validated = true }
@@ -83,7 +83,8 @@ module _ {K : Type 0} where
   with_discovery discovery path = record path { discovery = discovery }
 
   abbrev pub after_transmitting : ℕ → PathState K → PathState K
-  after_transmitting bytes path = record path { sent = path.sent + bytes; pacer = less_tokens bytes path.pacer }
+  after_transmitting bytes path =
+      record path { total_sent = path.total_sent + bytes; pacer = less_tokens bytes path.pacer }
 
   -- ---- what the search sees
 

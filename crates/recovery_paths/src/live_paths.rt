@@ -6,7 +6,7 @@ ghost use Rattle.recovery_ledger.specs.InFlight.{Overflows};
 ghost use Rattle.recovery_ledger.specs.Packets.{forgotten_entry, after_sending};
 ghost use Rattle.recovery_ledger.specs.Paths.{generation_of, counters_of, IsCountedOn};
 ghost use Rattle.recovery_ledger.specs.Spaces.{tracking_of, with_tracking, packets_of, space_empties};
-ghost use Rattle.recovery_paths.specs.LivePaths.{IsCountedOnEach, AreCountedOnEach, CanTrackOn, paths_after_sending, paths_without, paths_losing, paths_acking, left_by};
+ghost use Rattle.recovery_paths.specs.LivePaths.{IsCountedOnEach, AreCountedOnEach, CanTrackOn, paths_after_sending, paths_without, paths_losing, paths_acking, path_left_by};
 ghost use Rattle.recovery_paths.specs.PathLog.{path_of, on_path_of, moved_to, each_path};
 ghost use Rattle.recovery_paths.specs.declared.live_paths.PathName.TheVariants.{Current};
 ghost use Rattle.recovery_paths.specs.PathStates.{on_state, with_marks, after_receiving, after_telling, after_validation, is_path_probe};
@@ -98,7 +98,7 @@ impl<C: Controller + Drop> LivePaths<C> {
         ensures ok { OnOk result (self.new ≡ on_path_of name (on_state (after_receiving bytes)) self.old) }
         ensures no_path { IsErrOf result DatagramError.NoSuchPath ↔ (path_of name self.old ≡ None) }
         ensures overflow { IsErrOf result DatagramError.Overflow
-            ↔ IsSomeAnd (path_of name self.old) (λ path. 2 ^ 64 ≤ path.state.received + bytes) }
+            ↔ IsSomeAnd (path_of name self.old) (λ path. 2 ^ 64 ≤ path.state.total_recvd + bytes) }
         ensures err { OnErr result (self.new ≡ self.old) }
     {
         match name {
@@ -251,7 +251,7 @@ impl<C: Controller + Drop> LivePaths<C> {
     /// Counts a packet on its path no more.
     fn remove_in_flight<Q: RetransmitQueue>(&mut self, packet: &SentPacket<Q>)
         requires { IsCountedOnEach self.old packet.now }
-        ensures { self.new ≡ each_path (left_by packet.now) self.old }
+        ensures { self.new ≡ each_path (path_left_by packet.now) self.old }
     {
         self.current.remove_in_flight(packet);
         self.remove_from_previous(packet);
@@ -261,7 +261,7 @@ impl<C: Controller + Drop> LivePaths<C> {
     fn remove_from_previous<Q: RetransmitQueue>(&mut self, packet: &SentPacket<Q>)
         requires { ForSome self.old.previous (λ path. IsCountedOn path.ledger packet.now) }
         ensures { self.new
-            ≡ record self.old { previous = option_map (left_by packet.now) self.old.previous } }
+            ≡ record self.old { previous = option_map (path_left_by packet.now) self.old.previous } }
     {
         if let Some(path) = &mut self.previous {
             path.remove_in_flight(packet);

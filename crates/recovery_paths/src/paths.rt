@@ -109,8 +109,8 @@ impl<C: Controller> Model for PathData<C> {
       state = record {
         remote = path.remote;
         validated = path.validated;
-        received = path.total_recvd;
-        sent = path.total_sent;
+        total_recvd = path.total_recvd;
+        total_sent = path.total_sent;
         discovery = path.mtud;
         rtt = path.rtt;
         controller = C.content path.congestion;
@@ -295,8 +295,8 @@ impl<C: Controller + Drop> PathData<C> {
     /// A datagram came in on the path, of so many bytes.
     pub fn receive_datagram(&mut self, bytes: u64) -> Result<(), TotalOverflow>
         ensures ok { OnOk result (self.new ≡ on_state (after_receiving bytes) self.old) }
-        ensures overflow { OnErr result (2 ^ 64 ≤ self.old.state.received + bytes) }
-        ensures fits { OnOk result (self.old.state.received + bytes < 2 ^ 64) }
+        ensures overflow { OnErr result (2 ^ 64 ≤ self.old.state.total_recvd + bytes) }
+        ensures fits { OnOk result (self.old.state.total_recvd + bytes < 2 ^ 64) }
         ensures err { OnErr result (self.new ≡ self.old) }
     {
         let Some(total) = self.total_recvd.checked_add(bytes) else {
@@ -410,14 +410,14 @@ impl<C: Controller + Drop> PathData<C> {
 
     /// Whether the total sent has room for so many bytes more.
     pub fn has_room(&self, bytes: u16) -> bool
-        ensures { Decides result (self.now.state.sent + bytes < 2 ^ 64) }
+        ensures { Decides result (self.now.state.total_sent + bytes < 2 ^ 64) }
     {
         self.total_sent.checked_add(u64::from(bytes)).is_some()
     }
 
     /// A datagram of so many bytes is transmitted: the total has them, and the pacer takes its tokens off.
     pub fn transmit(&mut self, bytes: u16)
-        requires { self.old.state.sent + bytes < 2 ^ 64 }
+        requires { self.old.state.total_sent + bytes < 2 ^ 64 }
         ensures { self.new ≡ on_state (after_transmitting bytes) self.old }
     {
         self.total_sent += u64::from(bytes);

@@ -5,7 +5,7 @@ use Rattle.std.specs.Io.KnownBytes.{Appends, Keeps}
 use Rattle.recovery_replay.specs.declared.replay.Outcome.{Outcome}
 use Rattle.recovery_replay.specs.declared.replay.Outcome.TheVariants.{Ended, WriteFailed, OutOfMemory, WrongArguments}
 use Rattle.recovery_replay.specs.declared.script.Ending.TheVariants.{Whole, BadLine, ReadFailed}
-use Rattle.recovery_replay.specs.Replay.{error_text, Tells}
+use Rattle.recovery_replay.specs.Replay.{error_text, TellsOutcome}
 use Rattle.recovery_replay.specs.Writing.{AppendsFront}
 
 pub appends_more : (before mid after : Option (List ℕ)) (front bytes : List ℕ) → Appends before mid front
@@ -35,7 +35,7 @@ none_front (Some old) None f = absurd f.1
 none_front (Some old) (Some new) f = f.1 ∙ ap (λ (bs : List ℕ). old ++ bs) (take-nil f.0) ∙ append-nil old
 
 pub tells : (outcome : Outcome) (before after : Option (List ℕ)) → AppendsFront before after (error_text outcome)
-    → Tells outcome before after
+    → TellsOutcome outcome before after
 tells (Ended Whole) before after f = none_front before after f
 tells (Ended (BadLine n)) before after f = f
 tells (Ended ReadFailed) before after f = f

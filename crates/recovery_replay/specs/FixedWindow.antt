@@ -11,11 +11,11 @@ IsFixedSound fixed = 0 < fixed.window
 
 abbrev pub fixed_words : ControllerWords FixedWindow
 fixed_words = record {
-  sent = λ now bytes number fixed. fixed;
-  acked = λ now sent bytes limited rtt fixed. fixed;
-  end_acks = λ now in_flight limited largest fixed. fixed;
-  congestion = λ now sent persistent lost fixed. fixed;
-  mtu = λ mtu fixed. fixed;
+  on_sent = λ now bytes number fixed. fixed;
+  on_ack = λ now sent bytes limited rtt fixed. fixed;
+  on_end_acks = λ now in_flight limited largest fixed. fixed;
+  on_congestion_event = λ now sent persistent lost fixed. fixed;
+  on_mtu_update = λ mtu fixed. fixed;
   window = λ fixed. fixed.window;
   metrics = λ fixed. record { congestion_window = fixed.window; ssthresh = None; pacing_rate = None };
   initial = λ fixed. fixed.window;
@@ -23,10 +23,10 @@ fixed_words = record {
 
 pub fixed_laws : ControllerLaws fixed_words IsFixedSound
 fixed_laws = record {
-  sent = λ now bytes number fixed sound. sound;
-  acked = λ now sent bytes limited rtt fixed sound. sound;
-  end_acks = λ now in_flight limited largest fixed sound. sound;
-  congestion = λ now sent persistent lost fixed sound. sound;
-  mtu = λ mtu fixed positive sound. sound;
+  on_sent = λ now bytes number fixed sound. sound;
+  on_ack = λ now sent bytes limited rtt fixed sound. sound;
+  on_end_acks = λ now in_flight limited largest fixed sound. sound;
+  on_congestion_event = λ now sent persistent lost fixed sound. sound;
+  on_mtu_update = λ mtu fixed positive sound. sound;
   window = λ fixed sound. sound;
 }

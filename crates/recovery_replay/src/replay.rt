@@ -5,7 +5,7 @@ ghost use Rattle.recovery_replay.specs.Script.{Hears};
 ghost use Rattle.recovery_replay.specs.Replay.{status_of, error_text, settings, skips_with};
 ghost use Rattle.recovery_replay.specs.Replay.{AreArguments, AreRead, IsSeed, IsWindow};
 ghost use Rattle.recovery_replay.specs.Replay.{Runs, RunsOver, Session, PlaysBytes, Plays};
-ghost use Rattle.recovery_replay.specs.Replay.{Tells, EndsSo};
+ghost use Rattle.recovery_replay.specs.Replay.{TellsOutcome, EndsSo};
 
 use crate::fixed_window::FixedWindowConfig;
 use crate::script::{Ending, read_bytes, read_script};
@@ -83,7 +83,7 @@ impl Outcome {
     pub fn report<E: Write>(self, errors: &mut E) -> io::Result<()>
         ensures whole { OnOk result
             (Appends (E.contents errors.old) (E.contents errors.new) (error_text self)) }
-        ensures front { Tells self (E.contents errors.old) (E.contents errors.new) }
+        ensures front { TellsOutcome self (E.contents errors.old) (E.contents errors.new) }
     {
         deliver(errors, self.text().as_str().as_bytes())
     }
@@ -272,7 +272,7 @@ pub fn replay_and_tell<R: Read, W: Write, E: Write>(
         (W.contents output.old) (W.contents output.new) result.0 }
     ensures told { OnOk result.1
         (Appends (E.contents errors.old) (E.contents errors.new) (error_text result.0)) }
-    ensures front { Tells result.0 (E.contents errors.old) (E.contents errors.new) }
+    ensures front { TellsOutcome result.0 (E.contents errors.old) (E.contents errors.new) }
 {
     let outcome = play(alloc, words, input, output);
     (outcome, outcome.report(errors))
@@ -291,7 +291,7 @@ pub fn replay<R: Read, W: Write, E: Write>(
     ensures { EndsSo result (λ outcome.
         Plays words.now (R.remaining input.old) (R.remaining input.new)
         (W.contents output.old) (W.contents output.new) outcome
-        × Tells outcome (E.contents errors.old) (E.contents errors.new)) }
+        × TellsOutcome outcome (E.contents errors.old) (E.contents errors.new)) }
 {
     let (outcome, _) = replay_and_tell(alloc, words, input, output, errors);
     outcome.status()

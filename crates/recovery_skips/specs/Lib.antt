@@ -1,3 +1,3 @@
-pub mod Fields
+pub mod FilterView
 pub mod Filters
 pub mod Skips

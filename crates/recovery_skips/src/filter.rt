@@ -45,7 +45,7 @@ impl Model for PacketNumberFilter {
 
     ghost Value = { Filter };
 
-    ghost use Rattle.recovery_skips.specs.Fields.{filter_in, filter_back};
+    ghost use Rattle.recovery_skips.specs.FilterView.{filter_in, filter_back};
 
     ghost view = { filter_in };
 

@@ -21,11 +21,11 @@ where
     R: Rng + Drop,
 {
     ghost use Rattle.recovery_events.specs.declared.event.Event.TheVariants.{InFlight, Sample, DatagramIn, Validated, Transmit, PacerCheck, Congestion, EndAcks, NewPath, ResetPath, DropPrevious};
-    ghost use Rattle.quic_recovery.specs.State.{Does, Tells};
+    ghost use Rattle.quic_recovery.specs.State.{Does, OnlyTells};
 
     /// What is in flight on a path? (RFC 9002, B.2)
     pub(super) fn in_flight(&self, path: PathName) -> Result<Answer<Q>, Refusal>
-        ensures { Tells (InFlight path) self.now result }
+        ensures { OnlyTells (InFlight path) self.now result }
     {
         match self.paths.in_flight(path) {
             Some(counters) => Ok(Answer::InFlight {

@@ -18,7 +18,7 @@ where
     R: Rng + Drop,
 {
     ghost use Rattle.recovery_events.specs.declared.event.Event.TheVariants.{Ecn, CheckAck, QueueProbe, TakePending};
-    ghost use Rattle.quic_recovery.specs.State.{Does, Tells};
+    ghost use Rattle.quic_recovery.specs.State.{Does, OnlyTells};
 
     /// The counts of ECN of an ACK frame (RFC 9000, 13.4.2).
     pub(super) fn ecn(
@@ -45,7 +45,7 @@ where
         low: u64,
         high: u64,
     ) -> Result<Answer<Q>, Refusal>
-        ensures { Tells (CheckAck space low high) self.now result }
+        ensures { OnlyTells (CheckAck space low high) self.now result }
     {
         if self.discarded.contains(space) {
             return Err(Refusal::SpaceDiscarded);

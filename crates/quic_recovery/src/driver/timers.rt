@@ -18,7 +18,7 @@ where
     R: Rng + Drop,
 {
     ghost use Rattle.recovery_events.specs.declared.event.Event.TheVariants.{SetTimer, StopTimer, NextTimeout};
-    ghost use Rattle.quic_recovery.specs.State.{Does, Tells};
+    ghost use Rattle.quic_recovery.specs.State.{Does, OnlyTells};
 
     /// A timer is set, or set anew.
     pub(super) fn set_timer(&mut self, timer: Timer, time: Instant) -> Result<Answer<Q>, Refusal>
@@ -38,7 +38,7 @@ where
 
     /// When does the next timer expire?
     pub(super) fn next_timeout(&self) -> Result<Answer<Q>, Refusal>
-        ensures { Tells NextTimeout self.now result }
+        ensures { OnlyTells NextTimeout self.now result }
     {
         Ok(Answer::Timeout(self.timers.next_timeout()))
     }

@@ -26,7 +26,7 @@ impl Model for NewRenoConfig {
 
     ghost Value = { RenoSettings };
 
-    ghost use Rattle.recovery_congestion.specs.RenoConfigs.{settings_in, settings_back};
+    ghost use Rattle.recovery_congestion.specs.RenoConfigView.{settings_in, settings_back};
 
     ghost view = { settings_in };
 

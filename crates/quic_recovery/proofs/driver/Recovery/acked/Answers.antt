@@ -7,10 +7,10 @@ use Rattle.recovery_ledger.proofs.CoherentLaws.{coherent_taken}
 use Rattle.recovery_paths.specs.Balance.{AreBalanced}
 use Rattle.recovery_paths.specs.PathLog.{OfPaths}
 use Rattle.recovery_paths.specs.PathStates.{Path}
-use Rattle.recovery_paths.proofs.BalanceLaws.{counted, acked}
+use Rattle.recovery_paths.proofs.BalanceLaws.{counted, balanced_acked}
 use Rattle.quic_recovery.specs.History.{queue_meaning}
 use Rattle.quic_recovery.specs.State.{parts_of}
-use Rattle.quic_recovery.proofs.LeavingLaws.{acked_changes}
+use Rattle.quic_recovery.proofs.AckedLostLaws.{acked_changes}
 use Rattle.quic_recovery.proofs.driver.Recovery.acked.Goals as goal
 
 pub on_packet_acked-probe-requires : goal.on_packet_acked-probe-requires
@@ -48,7 +48,8 @@ invariant_of-self-2 g c =
     AreBalanced (with_space c.args.self.now.spaces c.args.space c.on_acked.new.self) in
     record {
       balanced = subst Sums (sym c.on_packet_acked-probe.ensures.after)
-          (acked c.args.self.now.spaces c.args.self.now.paths balanced c.args.space c.args.number c.in-Some.packet
+          (balanced_acked c.args.self.now.spaces c.args.self.now.paths balanced c.args.space c.args.number
+          c.in-Some.packet
           c.on_acked.new.self found (ap (λ (t : Tracking _ _). t.packets) tracking) coherent
           g.F.Controller.Controller.words c.args.now c.args.app_limited);
       limited = c.args.self.now.limited;

@@ -1,6 +1,6 @@
 use Rattle.std.proofs.Common.{◌≡◌, rules, ◌∙◌}
 use Rattle.std.specs.Prelude.{min}
-use Rattle.recovery_congestion.specs.Estimators.{rtt_in}
+use Rattle.recovery_congestion.specs.EstimatorView.{rtt_in}
 use Rattle.recovery_congestion.proofs.RttLaws.{keeps_lesser}
 use Rattle.recovery_congestion.proofs.rtt.RttEstimator.update.Goals as goal
 

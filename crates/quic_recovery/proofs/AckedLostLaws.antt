@@ -8,11 +8,11 @@ use Rattle.recovery_ledger.specs.Ledger.{tracked_by}
 use Rattle.recovery_ledger.specs.Packets.{Packet, packet_at, with_contents}
 use Rattle.recovery_ledger.specs.Paths.{generation_of}
 use Rattle.recovery_ledger.specs.SpaceLog.{acknowledged, loses}
-use Rattle.recovery_ledger.specs.Spaces.{Space, space_of, with_space, SpaceAcks, SpaceStep}
+use Rattle.recovery_ledger.specs.Spaces.{Space, space_of, with_space, SpaceAcked, SpaceStep}
 use Rattle.recovery_ledger.proofs.ReceivedLaws.{fails}
 use Rattle.recovery_mtud.specs.Discovery.{is_data}
 use Rattle.recovery_mtud.specs.DiscoveryLog.{MtuCall, acks as acks_packet}
-use Rattle.recovery_paths.specs.LivePaths.{left_by, paths_acking, paths_losing}
+use Rattle.recovery_paths.specs.LivePaths.{path_left_by, paths_acking, paths_losing}
 use Rattle.recovery_paths.specs.PathLog.{OfPaths, PathKnown, PathsStep, paths_after, known_with, known_following, paths_known, path_known, paths_marks, on_current, tells, searches}
 use Rattle.recovery_paths.specs.PathStates.{Path, PathState, after_telling, after_searching, is_path_probe, loss_call}
 use Rattle.recovery_events.specs.declared.event.Event.TheVariants.{Acked, Lost}
@@ -26,7 +26,7 @@ use Rattle.quic_recovery.proofs.DriverLaws.{space_changes, skips_nothing}
 
 -- what leaves a path changes nothing that is known of it
 previous_known : {K P M : Type 0} (packet : Packet P M) (path : Option (Path K))
-    → option_map path_known (option_map (left_by packet) path) ≡ option_map path_known path
+    → option_map path_known (option_map (path_left_by packet) path) ≡ option_map path_known path
 previous_known packet None = refl
 previous_known packet (Some path) = refl
 
@@ -108,7 +108,7 @@ module _ {K Q S M P : Type 0} (q : QueueMeaning Q S M P) (old : Parts K P M) (sp
     (packet : Packet P M) (there : Space P M) (paths : OfPaths (Path K)) (probe : Bool)
     (live : is_discarded space old.discarded ≡ false) (found : packet_at (tracked_by old.spaces space) number
     ≡ Some packet) (is_probe : probe ≡ is_path_probe space number old.paths.current.state) where
-  pub acked_changes : (now : ℕ) (app_limited : Bool) → SpaceAcks number (space_of space old.spaces) there
+  pub acked_changes : (now : ℕ) (app_limited : Bool) → SpaceAcked number (space_of space old.spaces) there
       → paths ≡ paths_acking old.settings.words space number now app_limited packet old.paths
       → Changes {M = M} q old (Acked space now number app_limited) (Ok (answer.Acked probe))
       (record old { spaces = with_space old.spaces space there; paths = paths })
@@ -129,7 +129,8 @@ module _ {K Q S M P : Type 0} (q : QueueMeaning Q S M P) (old : Parts K P M) (sp
         steps = space_changes q.words old space (acknowledged number) there old.skipping entries paths step
             (skips_nothing space (acknowledged number) _ old.skipping refl) path_step;
         marks = ap (λ (p : OfPaths (Path K)). paths_marks p) is
-            ∙ both_marks (left_by packet) (λ path. refl) (paths_acking old.settings.words space number now app_limited
+            ∙ both_marks (path_left_by packet) (λ path. refl)
+            (paths_acking old.settings.words space number now app_limited
             packet old.paths).current old.paths refl;
         refused = tt;
       }
@@ -153,7 +154,7 @@ module _ {K Q S M P : Type 0} (q : QueueMeaning Q S M P) (old : Parts K P M) (sp
             (lost_search known space number (packet_at (tracked_by old.spaces space) number)) paths step
             (skips_nothing space (loses number) _ old.skipping refl) path_step;
         marks = ap (λ (p : OfPaths (Path K)). paths_marks p) is
-            ∙ both_marks (left_by lost) (λ path. refl) (paths_losing space number lost old.paths).current old.paths
+            ∙ both_marks (path_left_by lost) (λ path. refl) (paths_losing space number lost old.paths).current old.paths
             refl;
         refused = tt;
       }
