@@ -49,7 +49,8 @@ module _ {T : Type 0} where
   keys-removed test [] = refl
   keys-removed test (e ∷ es) = go (test e.0) (keys-removed test es) where
     go : (here : Bool) → keys_of (remove_entry test es) ≡ remove_key test (keys_of es)
-        → keys_of (cond here es (e ∷ remove_entry test es)) ≡ cond here (keys_of es) (e.0 ∷ remove_key test (keys_of es))
+        → keys_of (cond here es (e ∷ remove_entry test es))
+        ≡ cond here (keys_of es) (e.0 ∷ remove_key test (keys_of es))
     go true later = refl
     go false later = ap (λ ks. e.0 ∷ ks) later
 

@@ -11,7 +11,8 @@ pub push-requires : goal.push-requires
 push-requires c =
     let number = c.loop-number.number in
     let rise : Rise 0 number (numbers_in c.loop-number.numbers) = rw c.loop-number.invariant
-    (Rise-append 0 c.args.first (number - c.args.first) number (numbers_in c.args.numbers.now) c.requires.above (omega arith)) in
+    (Rise-append 0 c.args.first (number - c.args.first) number (numbers_in c.args.numbers.now) c.requires.above
+    (omega arith)) in
     is_above 0 number (entries_of c.loop-number.numbers) rise
 
 pub loop-number-preserved : goal.loop-number-preserved

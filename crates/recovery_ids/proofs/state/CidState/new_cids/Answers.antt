@@ -25,7 +25,8 @@ pub invariant_of-self-2 : goal.invariant_of-self-2
 invariant_of-self-2 c =
     let at = c.self.inside in
     let count = length c.args.ids.now in
-    let numbers = numbers_after (numbers_in at.active_seq) (numbers_in c.issue.new.numbers) at.issued count c.in_ok-issue.ensures.ok in
+    let numbers = numbers_after (numbers_in at.active_seq) (numbers_in c.issue.new.numbers) at.issued count
+    c.in_ok-issue.ensures.ok in
     let deadlines = rw c.in_ok-reserve.ensures.items at c.track_lifetime.ensures in
     let some = positive count (sym c.is_empty.ensures ∙ c.if-is_empty.false) in
     rw (numbers, deadlines) (issued_sound (local_ids at) c.self.invariant count c.args.now some
@@ -35,7 +36,8 @@ pub returns-clause-ok : goal.returns-clause-ok
 returns-clause-ok c =
     let at = c.self.inside in
     let count = length c.args.ids.now in
-    let numbers = numbers_after (numbers_in at.active_seq) (numbers_in c.issue.new.numbers) at.issued count c.in_ok-issue.ensures.ok in
+    let numbers = numbers_after (numbers_in at.active_seq) (numbers_in c.issue.new.numbers) at.issued count
+    c.in_ok-issue.ensures.ok in
     let deadlines = rw c.in_ok-reserve.ensures.items at c.track_lifetime.ensures in
     let some = positive count (sym c.is_empty.ensures ∙ c.if-is_empty.false) in
     rw (numbers, deadlines, ← c.self.view_is) (issued_more (local_ids at) c.self.invariant count c.args.now some)
@@ -44,7 +46,8 @@ pub returns-clause-sound : goal.returns-clause-sound
 returns-clause-sound c =
     let at = c.self.inside in
     let count = length c.args.ids.now in
-    let numbers = numbers_after (numbers_in at.active_seq) (numbers_in c.issue.new.numbers) at.issued count c.in_ok-issue.ensures.ok in
+    let numbers = numbers_after (numbers_in at.active_seq) (numbers_in c.issue.new.numbers) at.issued count
+    c.in_ok-issue.ensures.ok in
     let deadlines = rw c.in_ok-reserve.ensures.items at c.track_lifetime.ensures in
     let some = positive count (sym c.is_empty.ensures ∙ c.if-is_empty.false) in
     rw (numbers, deadlines) (issued_sound (local_ids at) c.self.invariant count c.args.now some
