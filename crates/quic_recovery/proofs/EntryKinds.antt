@@ -1,5 +1,6 @@
 -- Of what kinds the entries are that an event may make in the log of a space and in that of the paths. A law over such
--- a log names the events of the kinds that it reads; what every other event makes keeps it (`space_kept`, `paths_kept`).
+-- a log names the events of the kinds that it reads; what every other event makes keeps it (`space_kept` and
+-- `paths_kept`).
 use Rattle.std.proofs.Common.{◌≡◌, ℕ, ◌&&◌, Bool, true, false, cond, List, [], ◌∷◌, ◌++◌, Option, None, Some, Ok, Err, refl, sym, subst}
 use Rattle.std.proofs.lemmas.Bool.{and_parts}
 use Rattle.recovery_base.specs.declared.below.SpaceId.{SpaceId}
