@@ -14,12 +14,11 @@ use Rattle.recovery_mtud.specs.Search.{later, upper_from}
 use Rattle.recovery_mtud.specs.SearchRuns.{AreLimitsOutside, EndsNearBest, start_upper, acked_sizes, before_search, is_due, lost_sizes, next_activation, probed_sizes, search_of, search_runs}
 use Rattle.recovery_paths.specs.PathMaking.{discovery_with}
 use Rattle.recovery_events.specs.declared.event.Event.{Event}
-use Rattle.recovery_events.specs.declared.event.Event.TheVariants.{Received, AckFrequencyIn, Transmit, PollMtu, Acked, Lost, LossesDone, PeerLimit, ResetPath, NewPath}
+use Rattle.recovery_events.specs.declared.event.Event.TheVariants.{PollMtu, Acked, Lost, LossesDone, PeerLimit, ResetPath, NewPath}
 use Rattle.recovery_events.specs.declared.event.Answer.{Answer}
 use Rattle.recovery_events.specs.declared.event.Answer.TheVariants as answer
 use Rattle.recovery_events.specs.declared.event.Refusal.{Refusal}
-use Rattle.recovery_events.specs.declared.event.Refusal.TheVariants.{DelayTooSmall}
-use Rattle.quic_recovery.specs.Entries.{answered, entries_of, logs_of}
+use Rattle.quic_recovery.specs.Entries.{Entries, nothing as no_entries, answered, entries_of, logs_of}
 use Rattle.quic_recovery.specs.History.{Beginning, History, QueueMeaning, Reply, Throughout}
 use Rattle.quic_recovery.specs.Known.{Known, known_by, last_limit}
 use Rattle.quic_recovery.specs.Logs.{onto}
@@ -29,6 +28,7 @@ use Rattle.quic_recovery.specs.Promises.Mtu.{limit, mtu}
 use Rattle.quic_recovery.specs.Promises.Near.{EndsNearBy, IsNear, next, start}
 use Rattle.quic_recovery.specs.Promises.Probes.{acked_probes, are_some, last_probe, lost_probes, runs}
 use Rattle.quic_recovery.specs.Told.{Told}
+use Rattle.quic_recovery.proofs.EntryKinds.{plain, plainly_keeps, refused_keeps}
 use Rattle.quic_recovery.proofs.SearchSaid.{EndsNear, LimitsOutside, entered_so_far}
 use Rattle.quic_recovery.proofs.FewLaws as few
 use Rattle.quic_recovery.proofs.HolesLaws as holes
@@ -41,32 +41,23 @@ use Rattle.quic_recovery.proofs.SearchSteps.{Facts, facts, seen_as, turned, acke
 module _ {K Q S M P : Type 0} (q : QueueMeaning Q S M P) (known : Known K P M) (earlier : History Q S M P)
     (log : List ℕ)
     (same : limit earlier ≡ last_limit log) where
+  abbrev LimitsAfter : Event Q S M P → Reply Q → Entries P M → Type 0
+  LimitsAfter event reply entries = limit ((event, reply) ∷ earlier) ≡ last_limit (onto entries.limits log)
+
   answer_limits : (event : Event Q S M P) (given : Answer Q)
-      → limit ((event, Ok given) ∷ earlier) ≡ last_limit (onto (answered q known event given).limits log)
+      → LimitsAfter event (Ok given) (answered q known (plain event) answer.Done)
   answer_limits (PeerLimit size) given = refl
-  answer_limits (Received space now number eliciting) (answer.New arm) = same
-  answer_limits (Received space now number eliciting) given = same
-  answer_limits (AckFrequencyIn frame) (answer.Flag true) = same
-  answer_limits (AckFrequencyIn frame) (answer.Flag false) = same
-  answer_limits (AckFrequencyIn frame) given = same
-  answer_limits (PollMtu now) (answer.Probe number size) = same
-  answer_limits (PollMtu now) given = same
-  answer_limits (Transmit now bytes true) answer.Transmitted = same
-  answer_limits (Transmit now bytes true) (answer.Delayed until) = same
-  answer_limits (Transmit now bytes true) given = same
-  answer_limits (Transmit now bytes false) given = same
   answer_limits event given = same
 
-  refusal_limits : (event : Event Q S M P) (refusal : Refusal)
-      → limit ((event, Err refusal) ∷ earlier) ≡ last_limit (onto (entries_of q known event (Err refusal)).limits log)
-  refusal_limits (AckFrequencyIn frame) DelayTooSmall = same
-  refusal_limits (AckFrequencyIn frame) refusal = same
+  refusal_limits : (event : Event Q S M P) (refusal : Refusal) → LimitsAfter event (Err refusal) no_entries
+  refusal_limits (PeerLimit size) refusal = same
   refusal_limits event refusal = same
 
-  reply_limits : (event : Event Q S M P) (reply : Reply Q)
-      → limit ((event, reply) ∷ earlier) ≡ last_limit (onto (entries_of q known event reply).limits log)
-  reply_limits event (Ok given) = answer_limits event given
-  reply_limits event (Err refusal) = refusal_limits event refusal
+  reply_limits : (event : Event Q S M P) (reply : Reply Q) → LimitsAfter event reply (entries_of q known event reply)
+  reply_limits event (Ok given) =
+      plainly_keeps q known event given (LimitsAfter event (Ok given)) (answer_limits event given)
+  reply_limits event (Err refusal) =
+      refused_keeps event refusal (LimitsAfter event (Err refusal)) (refusal_limits event refusal)
 
 limit_known : {F K Q S M P : Type 0} (beginning : Beginning F K Q S M P) (history : History Q S M P)
     → limit history ≡ last_limit (logs_of beginning history).limits

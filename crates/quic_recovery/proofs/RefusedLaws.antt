@@ -1,5 +1,5 @@
 -- Refusals that follow from the history are given exactly where it says so: the clause `refused` of `run`.
-use Rattle.std.proofs.Common.{◌≡◌, ◌≢◌, ℕ, ◌==◌, Bool, true, false, List, [], Option, None, Some, Ok, Err, refl, sym, ap, ◌∙◌, MatchBool}
+use Rattle.std.proofs.Common.{◌≡◌, ◌≢◌, ℕ, ◌==◌, Bool, true, false, List, [], Option, None, Some, Ok, Err, refl, sym, ap, ◌∙◌, MatchBool, arith}
 use Rattle.std.specs.Prelude.{is_some, option_map, if◌then◌else◌}
 use Rattle.std.specs.Bool.{Decides}
 use Rattle.std.proofs.lemmas.Bool.Decides.{Decides-eqb}
@@ -11,7 +11,7 @@ use Rattle.recovery_paths.specs.declared.live_paths.PathName.{PathName}
 use Rattle.recovery_paths.specs.declared.live_paths.PathName.TheVariants.{Previous}
 use Rattle.recovery_paths.specs.PathLog.{PathKnown, path_of}
 use Rattle.recovery_events.specs.declared.event.Event.{Event}
-use Rattle.recovery_events.specs.declared.event.Event.TheVariants.{Received, Send, Acked, Lost, NewId, NextId, InitialId, IssueIds, IdTimeout, PeerRetired, AckFrequencyIn, AcksSent, AckDelayTimeout, SetTimer, StopTimer, NextTimeout, DiscardSpace, InFlight, DatagramIn, Validated, Sample, Transmit, PacerCheck, Congestion, EndAcks, PollMtu, PeerLimit, LossesDone, Ecn, CheckAck, QueueProbe, TakePending, NewPath, ResetPath, DropPrevious}
+use Rattle.recovery_events.specs.declared.event.Event.TheVariants.{Received, Send, Acked, Lost, InitialId, AckFrequencyIn, AcksSent, AckDelayTimeout, DiscardSpace, InFlight, DatagramIn, Validated, PollMtu, Ecn, CheckAck, QueueProbe, TakePending, DropPrevious}
 use Rattle.recovery_events.specs.declared.event.Answer.{Answer}
 use Rattle.recovery_events.specs.declared.event.Refusal.{Refusal}
 use Rattle.recovery_events.specs.declared.event.Refusal.TheVariants as refusal
@@ -54,6 +54,16 @@ module _ {Q : Type 0} where
   answers_name Grows IsAnswer (Ok answer) told = refl
   answers_name Grows IsAnswer (Err NoMemory) told = refl
   answers_name Grows IsAnswer (Err refusal) told = absurd told
+
+  -- none of them is allowed
+  none_named : (Holds : Reply Q → Type 0) → ¬ Holds (Err SpaceDiscarded) → ¬ Holds (Err NotTracked)
+      → ¬ Holds (Err NoSuchPath) → ¬ Holds (Err NotInitialId) → Names None Holds
+  none_named Holds space tracked path initial (Ok answer) told = refl
+  none_named Holds space tracked path initial (Err SpaceDiscarded) told = absurd (space told)
+  none_named Holds space tracked path initial (Err NotTracked) told = absurd (tracked told)
+  none_named Holds space tracked path initial (Err NoSuchPath) told = absurd (path told)
+  none_named Holds space tracked path initial (Err NotInitialId) told = absurd (initial told)
+  none_named Holds space tracked path initial (Err refusal) told = refl
 
   passes : (given other : Refusal) (Cause : Type 0) (Otherwise : Reply Q → Type 0) → same_refusal given other ≡ false
       → Refuses other Cause Otherwise (Err given) → Otherwise (Err given)
@@ -191,48 +201,22 @@ module _ {F K Q S M P : Type 0} (beginning : Beginning F K Q S M P) where
         (passes_name refusal.Overflow _ _ (refl, refl, refl, refl) (answers_name _ _))))
     names (Acked space now number app_limited) = leave_names space ⊥ number _
     names (Lost space number) = leave_names space (Unit {0}) number _
-    names (NewId frame) =
-        passes_name refusal.NumberTooLarge _ _ (refl, refl, refl, refl)
-        (passes_name refusal.BadRetirePriorTo _ _ (refl, refl, refl, refl)
-        (passes_name refusal.Retired _ _ (refl, refl, refl, refl)
-        (passes_name refusal.ExceedsLimit _ _ (refl, refl, refl, refl)
-        (passes_name refusal.Conflict _ _ (refl, refl, refl, refl) (answers_name _ _)))))
-    names NextId = answers_name _ _
     names (InitialId id) = λ reply told. (
         initial_names known.remote_ids.active (known.remote_ids.active == 0) _ (Decides-eqb known.remote_ids.active 0)
         (answers_name _ _) reply told
         ∙ ap (λ (a : ℕ). unless (a == 0) NotInitialId) (sym (active_told beginning history stands.ids))
         )
-    names (IssueIds now ids) =
-        passes_name refusal.NumberTooLarge _ _ (refl, refl, refl, refl)
-        (passes_name refusal.BadRange _ _ (refl, refl, refl, refl) (answers_name _ _))
-    names IdTimeout = answers_name _ _
-    names (PeerRetired sequence limit) =
-        passes_name refusal.CidsNotInUse _ _ (refl, refl, refl, refl)
-        (passes_name refusal.UnissuedCid _ _ (refl, refl, refl, refl) (answers_name _ _))
     names (AckFrequencyIn frame) =
         only_in Data _ (passes_name refusal.DelayTooSmall _ _ (refl, refl, refl, refl) (answers_name _ _))
     names (AcksSent space) = only_in space _ (answers_name _ _)
     names (AckDelayTimeout space) = only_in space _ (answers_name _ _)
-    names (SetTimer timer time) = answers_name _ _
-    names (StopTimer timer) = answers_name _ _
-    names NextTimeout = answers_name _ _
     names (DiscardSpace space) = only_in space _ (answers_name _ _)
     names (InFlight path) = on_path path _ (λ there. answers_name _ _)
     names (DatagramIn path bytes) =
         on_path path _ (λ there. passes_name refusal.Overflow _ _ (refl, refl, refl, refl) (answers_name _ _))
     names (Validated path) = on_path path _ (λ there. answers_name _ _)
-    names (Sample delay rtt) = answers_name _ _
-    names (Transmit now bytes checked) = passes_name refusal.Overflow _ _ (refl, refl, refl, refl) (answers_name _ _)
-    names (PacerCheck now bytes) = answers_name _ _
-    names (Congestion now sent persistent bytes) = answers_name _ _
-    names (EndAcks now app_limited largest) = answers_name _ _
     names (PollMtu now) =
         only_in Data _ (passes_name refusal.NumbersExhausted _ _ (refl, refl, refl, refl) (probe_names now _))
-    names (PeerLimit size) =
-        passes_name refusal.ZeroMtu _ _ (refl, refl, refl, refl)
-        (passes_name refusal.Searching _ _ (refl, refl, refl, refl) (answers_name _ _))
-    names (LossesDone now) = answers_name _ _
     names (Ecn space newly counts) = only_in space _ (ecn_names (known.spaces space) newly counts)
     names (CheckAck space low high) =
         only_in space _
@@ -241,9 +225,10 @@ module _ {F K Q S M P : Type 0} (beginning : Beginning F K Q S M P) where
         (passes_name refusal.SkippedAcked _ _ (refl, refl, refl, refl) (answers_name _ _))))
     names (QueueProbe space immediate streams) = only_in space _ (answers_name _ _)
     names (TakePending space) = only_in space _ (answers_name _ _)
-    names (NewPath now remote is_fresh) = passes_name refusal.Overflow _ _ (refl, refl, refl, refl) (answers_name _ _)
-    names (ResetPath now) = answers_name _ _
     names DropPrevious = on_path Previous _ (λ there. answers_name _ _)
+    names event =
+        none_named _ (λ told. grind (arith, told)) (λ told. grind (arith, told)) (λ told. grind (arith, told))
+        (λ told. grind (arith, told))
 
     -- what an event is told, it is refused rightly
     pub refused_told : (event : Event Q S M P) (reply : Reply Q) → Told beginning history event reply

@@ -28,10 +28,10 @@ use Rattle.recovery_events.specs.declared.event.Answer.TheVariants as answer
 use Rattle.recovery_events.specs.declared.event.Refusal.{Refusal}
 use Rattle.recovery_events.specs.declared.event.Refusal.TheVariants as refusal
 use Rattle.recovery_events.specs.declared.event.Event.{Event}
-use Rattle.recovery_events.specs.declared.event.Event.TheVariants.{Received, Send, Acked, Lost, NewId, NextId, InitialId, IssueIds, IdTimeout, PeerRetired, AckFrequencyIn, AcksSent, AckDelayTimeout, SetTimer, StopTimer, NextTimeout, DiscardSpace, InFlight, DatagramIn, Validated, Sample, Transmit, PacerCheck, Congestion, EndAcks, PollMtu, PeerLimit, LossesDone, Ecn, CheckAck, QueueProbe, TakePending, NewPath, ResetPath, DropPrevious}
+use Rattle.recovery_events.specs.declared.event.Event.TheVariants.{Received, Send, Acked, Lost, NewId, NextId, InitialId, IssueIds, PeerRetired, AckFrequencyIn, AcksSent, AckDelayTimeout, NextTimeout, DiscardSpace, InFlight, DatagramIn, Validated, Transmit, PollMtu, PeerLimit, Ecn, CheckAck, QueueProbe, TakePending, NewPath, DropPrevious}
 use Rattle.quic_recovery.specs.Entries.{found_in, logs_of}
 use Rattle.quic_recovery.specs.History.{Beginning, History, QueueMeaning, Reply}
-use Rattle.quic_recovery.specs.IdReplies.{HasToken, IsFrameAnswer, IsNextAnswer, IsRoom, timeout_answer}
+use Rattle.quic_recovery.specs.IdReplies.{HasToken, IsFrameAnswer, IsNextAnswer, IsRoom}
 use Rattle.quic_recovery.specs.Parts.{Parts}
 use Rattle.quic_recovery.specs.Known.{Known, SpaceKnown, in_flight_on, known_by}
 use Rattle.recovery_events.specs.Refusals.{refusal_number}
@@ -363,7 +363,6 @@ module _ {Q S M P : Type 0} (q : QueueMeaning Q S M P) where
   decides words heard known (IssueIds now ids) =
       refuses_decide refusal.NumberTooLarge _ _ refl
       (refuses_decide refusal.BadRange _ _ refl (answers_decide _ _ (is_agree answer.Done)))
-  decides words heard known IdTimeout = is_decided (timeout_answer known.local_ids)
   decides words heard known (PeerRetired sequence limit) =
       refuses_decide refusal.CidsNotInUse _ _ refl (refuses_decide refusal.UnissuedCid _ _ refl
       (always_decide _ (room_agree (without_number sequence known.local_ids) limit)))
@@ -371,26 +370,19 @@ module _ {Q S M P : Type 0} (q : QueueMeaning Q S M P) where
       in_space (known.spaces Data) _ (refuses_decide refusal.DelayTooSmall _ _ refl (always_decide _ (flag_agree _)))
   decides words heard known (AcksSent space) = in_space (known.spaces space) _ (is_decided answer.Done)
   decides words heard known (AckDelayTimeout space) = in_space (known.spaces space) _ (is_decided answer.Done)
-  decides words heard known (SetTimer timer time) = is_decided answer.Done
-  decides words heard known (StopTimer timer) = is_decided answer.Done
   decides words heard known NextTimeout = always_decide _ (timeout_agree known.moment_of)
   decides words heard known (DiscardSpace space) = in_space (known.spaces space) _ (is_decided answer.Done)
   decides words heard known (InFlight path) = on_path (path_of path known.paths) _ (λ there. is_decided _)
   decides words heard known (DatagramIn path bytes) =
       on_path (path_of path known.paths) _ (λ there. refuses_decide refusal.Overflow _ _ refl (is_decided answer.Done))
   decides words heard known (Validated path) = on_path (path_of path known.paths) _ (λ there. is_decided answer.Done)
-  decides words heard known (Sample delay rtt) = is_decided answer.Done
   decides words heard known (Transmit now bytes checked) = refuses_decide refusal.Overflow _ _ refl (is_decided _)
-  decides words heard known (PacerCheck now bytes) = is_decided _
-  decides words heard known (Congestion now sent persistent bytes) = is_decided answer.Done
-  decides words heard known (EndAcks now app_limited largest) = is_decided answer.Done
   decides words heard known (PollMtu now) =
       in_space (known.spaces Data) _
       (refuses_decide refusal.NumbersExhausted _ _ refl
       (probe_out known now (poll_of now known.paths.current.state.discovery)))
   decides words heard known (PeerLimit size) =
       refuses_decide refusal.ZeroMtu _ _ refl (refuses_decide refusal.Searching _ _ refl (is_decided answer.Done))
-  decides words heard known (LossesDone now) = is_decided _
   decides words heard known (Ecn space newly counts) =
       in_space (known.spaces space) _ (ecn_decides (known.spaces space) newly counts)
   decides words heard known (CheckAck space low high) =
@@ -404,8 +396,8 @@ module _ {Q S M P : Type 0} (q : QueueMeaning Q S M P) where
       in_space (known.spaces space) _ (always_decide _ (pending_agree (known.spaces space)))
   decides words heard known (NewPath now remote is_fresh) =
       refuses_decide refusal.Overflow _ _ refl (answers_decide _ _ (is_agree answer.Done))
-  decides words heard known (ResetPath now) = is_decided answer.Done
   decides words heard known DropPrevious = on_path known.paths.previous _ (λ there. is_decided answer.Done)
+  decides words heard known event = is_decided _
 
 -- ---- what a history decides
 
