@@ -17,7 +17,7 @@ use Rattle.recovery_paths.specs.LivePaths.{on_ledger, CanTrackOn, paths_after_se
 use Rattle.recovery_paths.specs.PathLog.{OfPaths, PathKnown, on_path_of, path_known, paths_known, paths_marks}
 use Rattle.recovery_paths.specs.PathStates.{PathState, Path, on_state, after_telling}
 use Rattle.recovery_paths.specs.declared.live_paths.PathName.TheVariants.{Current}
-use Rattle.recovery_paths.proofs.BalanceLaws.{can_track, balanced_sent}
+use Rattle.recovery_paths.proofs.BalanceLaws.{can_track, paths_balanced_sent}
 use Rattle.recovery_skips.specs.Filters.{Skipping}
 use Rattle.recovery_events.specs.declared.event.Answer.TheVariants.{Sent}
 use Rattle.recovery_events.specs.declared.event.Event.TheVariants.{Send}
@@ -50,7 +50,7 @@ module _ {K P M : Type 0} (spaces : Spaces P M) (paths : OfPaths (Path K)) (bala
   sent_balanced here then small is counts =
       let Come : Space P M → Type 0 = HasGreatestCome in
       let Balanced : OfPaths (Path K) → Type 0 = AreBalanced (with_space spaces space here) in
-      subst Balanced (sym counts) (balanced_sent spaces paths balanced space number packet here own above small
+      subst Balanced (sym counts) (paths_balanced_sent spaces paths balanced space number packet here own above small
       (ap tracking_of is) (ap next_number_of is) (subst Come (sym is) (balanced.coherent space).received))
 
 -- what is known of the paths then: the controller was told

@@ -142,14 +142,14 @@ module _ {K P M : Type 0} (spaces : Spaces P M) (paths : OfPaths (Path K)) (bala
         previous = λ path is. forgotten_counted spaces path.ledger (balanced.previous path is) space packet;
       }
 
-  pub balanced_sent : (space : SpaceId) (number : ℕ) (packet : Packet P M) (here : Space P M)
+  pub paths_balanced_sent : (space : SpaceId) (number : ℕ) (packet : Packet P M) (here : Space P M)
       → packet.path_generation ≡ generation_of paths.current.ledger → next_number_of (space_of space spaces) ≤ number
       → (¬ IsTooLarge packet.largest_acked)
       → tracking_of here ≡ after_sending number packet (tracking_of (space_of space spaces))
       → next_number_of here ≡ number + 1 → HasGreatestCome here
       → AreBalanced (with_space spaces space here)
       (paths_after_sending packet (forgotten_entry packet (tracking_of (space_of space spaces))) paths)
-  balanced_sent space number packet here own above small tracking next received =
+  paths_balanced_sent space number packet here own above small tracking next received =
       let old : Tracking P M = tracking_of (space_of space spaces) in
       let forgotten : Option (ℕ × Packet P M) = forgotten_entry packet old in
       let Up : Packets P M → Type 0 = IsUpTo (generation_of paths.current.ledger) in
@@ -199,11 +199,11 @@ module _ {K P M : Type 0} (spaces : Spaces P M) (paths : OfPaths (Path K)) (bala
         up_to_here space here (subst Up (sym packets) (up_to_taken (generation_of paths.current.ledger)
         (tracked_by spaces space) number (balanced.up_to space)))
 
-    pub balanced_acked : packet_at (tracked_by spaces space) number ≡ Some packet
+    pub paths_balanced_acked : packet_at (tracked_by spaces space) number ≡ Some packet
         → packets_of here ≡ without (tracked_by spaces space) number → IsCoherent here
         → (words : ControllerWords K) (now : ℕ) (app_limited : Bool)
         → AreBalanced (with_space spaces space here) (paths_acking words space number now app_limited packet paths)
-    balanced_acked found packets coherent words now app_limited =
+    paths_balanced_acked found packets coherent words now app_limited =
         changed spaces (with_space spaces space here) paths balanced
         (path_acked words space number now app_limited packet paths.current) (path_left_by packet)
         refl (balanced_taken spaces paths.current.ledger balanced.current space here number packet found packets)
@@ -211,11 +211,11 @@ module _ {K P M : Type 0} (spaces : Spaces P M) (paths : OfPaths (Path K)) (bala
         packet found packets)
         (up_to_left packets) (coherent_with spaces space here balanced.coherent coherent)
 
-    pub balanced_lost : (contents : P)
+    pub paths_balanced_lost : (contents : P)
         → option_map (with_contents contents) (packet_at (tracked_by spaces space) number) ≡ Some packet
         → packets_of here ≡ without (tracked_by spaces space) number → IsCoherent here
         → AreBalanced (with_space spaces space here) (paths_losing space number packet paths)
-    balanced_lost contents handed packets coherent =
+    paths_balanced_lost contents handed packets coherent =
         changed spaces (with_space spaces space here) paths balanced (path_lost space number packet paths.current)
         (path_left_by packet)
         refl (balanced_lost spaces paths.current.ledger balanced.current space here number contents packet handed

@@ -7,7 +7,7 @@ use Rattle.recovery_ledger.proofs.CoherentLaws.{coherent_taken}
 use Rattle.recovery_paths.specs.Balance.{AreBalanced}
 use Rattle.recovery_paths.specs.PathLog.{OfPaths}
 use Rattle.recovery_paths.specs.PathStates.{Path}
-use Rattle.recovery_paths.proofs.BalanceLaws.{counted, balanced_acked}
+use Rattle.recovery_paths.proofs.BalanceLaws.{counted, paths_balanced_acked}
 use Rattle.quic_recovery.specs.History.{queue_meaning}
 use Rattle.quic_recovery.specs.State.{parts_of}
 use Rattle.quic_recovery.proofs.AckedLostLaws.{acked_changes}
@@ -48,7 +48,7 @@ invariant_of-self-2 g c =
     AreBalanced (with_space c.args.self.now.spaces c.args.space c.on_acked.new.self) in
     record {
       balanced = subst Sums (sym c.on_packet_acked-probe.ensures.after)
-          (balanced_acked c.args.self.now.spaces c.args.self.now.paths balanced c.args.space c.args.number
+          (paths_balanced_acked c.args.self.now.spaces c.args.self.now.paths balanced c.args.space c.args.number
           c.in-Some.packet
           c.on_acked.new.self found (ap (λ (t : Tracking _ _). t.packets) tracking) coherent
           g.F.Controller.Controller.words c.args.now c.args.app_limited);

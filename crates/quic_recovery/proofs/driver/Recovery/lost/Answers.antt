@@ -6,7 +6,7 @@ use Rattle.recovery_ledger.proofs.ReceivedLaws.{fails}
 use Rattle.recovery_paths.specs.Balance.{AreBalanced}
 use Rattle.recovery_paths.specs.PathLog.{OfPaths}
 use Rattle.recovery_paths.specs.PathStates.{Path}
-use Rattle.recovery_paths.proofs.BalanceLaws.{balanced_lost, lost_counted_on}
+use Rattle.recovery_paths.proofs.BalanceLaws.{paths_balanced_lost, lost_counted_on}
 use Rattle.recovery_events.specs.declared.event.Event.TheVariants.{Lost}
 use Rattle.recovery_events.specs.declared.event.Refusal.TheVariants.{NoMemory}
 use Rattle.quic_recovery.specs.History.{queue_meaning}
@@ -37,7 +37,7 @@ invariant_of-self g c =
     AreBalanced (with_space c.args.self.now.spaces c.args.space c.lose.new.self) in
     record {
       balanced = subst Sums (sym c.on_packet_lost-probe.ensures.after)
-          (balanced_lost c.args.self.now.spaces c.args.self.now.paths balanced c.args.space c.args.number
+          (paths_balanced_lost c.args.self.now.spaces c.args.self.now.paths balanced c.args.space c.args.number
           c.in-Ok-Some.packet
           c.lose.new.self words.empty handed (ap packets_of left) coherent);
       limited = c.args.self.now.limited;
