@@ -9,10 +9,15 @@ A '*' marks instructions that differ by more than 5% between the numbers of line
     bench/run.py --quick                  a few inputs at 10^4 and 10^5 lines (a minute)
     bench/run.py in_order --lines 1000    these inputs, so many lines
     bench/run.py --jobs 4                 four runs side by side: the figures are the same
+    bench/run.py --careful                beside two programs of plain Rust over the same inputs, one written for speed and one
+                                          as it comes (bench/careful), at 10^5 lines: instructions, and processor time, which is
+                                          the least of some runs in turn on one processor (a quarter of an hour). All must print
+                                          the same
 """
 import argparse
 import concurrent.futures
 import itertools
+import os
 import pathlib
 import random
 import re
@@ -26,6 +31,8 @@ from typing import Callable, Iterator
 ROOT = pathlib.Path(__file__).resolve().parent.parent
 SCRIPT = ROOT / "recovery-replay"
 PROGRAM = ROOT / "crates" / "recovery_program" / "out" / "recovery_program"
+CAREFUL = ROOT / "bench" / "careful"
+FORMS = ["careful", "plain"]  # the programs there
 SPACES = ["initial", "handshake", "data"]
 TIMERS = ["loss-detection", "idle", "close", "key-discard", "path-validation", "keep-alive", "pacing", "push-new-cid",
           "max-ack-delay"]
@@ -388,9 +395,14 @@ INPUTS = [
 
 # ---- what a run takes
 
-def instructions(script, folder):
+def write_lines(an_input, count, script):
+    with open(script, "w") as out:
+        out.writelines(line + "\n" for line in itertools.islice(an_input.lines(), count))
+
+
+def instructions(script, folder, program=PROGRAM):
     """All that the process executes, its start among them."""
-    command = ["valgrind", "--tool=callgrind", f"--callgrind-out-file={folder / 'callgrind.out'}", PROGRAM]
+    command = ["valgrind", "--tool=callgrind", f"--callgrind-out-file={folder / 'callgrind.out'}", program]
     with open(script, "rb") as lines:
         run = subprocess.run(command, stdin=lines, stdout=subprocess.DEVNULL, stderr=subprocess.PIPE, check=True)
     return int(re.search(rb"Collected : (\d+)", run.stderr).group(1))
@@ -411,8 +423,7 @@ def costs(an_input, count):
         script = folder / "script"
 
         def taken(lines):
-            with open(script, "w") as out:
-                out.writelines(line + "\n" for line in itertools.islice(an_input.lines(), lines))
+            write_lines(an_input, lines, script)
             return instructions(script, folder), peak_memory(script, folder)
 
         before = taken(an_input.beginning)
@@ -436,14 +447,87 @@ def row(an_input, counts, pool):
 WIDTH = max(len(each.name) for each in INPUTS)
 
 
+# ---- beside plain Rust
+
+def built(folder):
+    """Our program, and those of bench/careful."""
+    programs = [PROGRAM]
+    for form in FORMS:
+        options = ["--edition", "2024", "-C", "opt-level=3", "-C", "lto", "-C", "codegen-units=1", "-C", "panic=abort"]
+        subprocess.run(["rustc", *options, CAREFUL / f"{form}.rs", "-o", folder / form], check=True)
+        programs.append(folder / form)
+    return programs
+
+
+def processor_time(script, program):
+    """Seconds of one run, the system's part among them."""
+    with open(script, "rb") as lines:
+        run = subprocess.Popen([program], stdin=lines, stdout=subprocess.DEVNULL)
+        _, _, used = os.wait4(run.pid, 0)
+    return used.ru_utime + used.ru_stime
+
+
+def least_times(script, programs, runs):
+    """Of each program the least of so many runs; they run in turn."""
+    times = [[processor_time(script, program) for program in programs] for _ in range(runs)]
+    return [min(each) for each in zip(*times)]
+
+
+def written(script, program):
+    with open(script, "rb") as lines:
+        return subprocess.run([program], stdin=lines, stdout=subprocess.PIPE, check=True).stdout
+
+
+def beside(an_input, count, programs, runs, folder):
+    """Instructions and nanoseconds a line, of each program."""
+    scripts = [folder / "beginning", folder / "whole"]
+    for script, lines in zip(scripts, [an_input.beginning, an_input.beginning + count]):
+        write_lines(an_input, lines, script)
+    wanted, *others = [written(scripts[1], program) for program in programs]
+    if any(other != wanted for other in others):
+        sys.exit(f"bench/run.py: the programs answer {an_input.name} differently")
+    counts = [[instructions(script, folder, program) for program in programs] for script in scripts]
+    times = [least_times(script, programs, runs) for script in scripts]
+    return ([(b - a) / count for a, b in zip(*counts)], [(b - a) * 1e9 / count for a, b in zip(*times)])
+
+
+def in_columns(figures):
+    """Of our program, of the others, and the ratios of ours to theirs."""
+    ours, *others = figures
+    return "".join([*(f"{figure:8,.0f}" for figure in figures), *(f"{ours / other:11.2f}" for other in others)])
+
+
+def print_beside(inputs, counts, runs):
+    """A row for each input, and the mean of the ratios."""
+    os.sched_setaffinity(0, {max(os.sched_getaffinity(0))})
+    titles = "".join(f"{title:>8}" for title in ["ours", *FORMS]) + "".join(f"{'/ ' + form:>11}" for form in FORMS)
+    print(f"{'of each line':{WIDTH}}{'':9}{'instructions':>{len(titles)}}{'nanoseconds':>{len(titles)}}")
+    print(f"{'':{WIDTH}}{'lines':>9}{titles}{titles}")
+    ratios = []
+    with tempfile.TemporaryDirectory() as name:
+        folder = pathlib.Path(name)
+        programs = built(folder)
+        for each in inputs:
+            for count in counts:
+                kinds = beside(each, count, programs, runs, folder)
+                print(f"{each.name:{WIDTH}}{count:9,}", *(in_columns(kind) for kind in kinds), sep="", flush=True)
+                ratios.append([kind[0] / other for kind in kinds for other in kind[1:]])
+    means = [f"{sum(column) / len(column):11.2f}" for column in zip(*ratios)]
+    half = len(means) // 2
+    gap = " " * (8 * (1 + len(FORMS)))
+    print(f"{'mean':{WIDTH}}{'':9}{gap}{''.join(means[:half])}{gap}{''.join(means[half:])}")
+
+
 def main():
     options = argparse.ArgumentParser(description=__doc__, formatter_class=argparse.RawDescriptionHelpFormatter)
     options.add_argument("inputs", nargs="*", metavar="INPUT", help="the names of inputs; none: all")
     options.add_argument("--lines", type=int, nargs="+", help="how many lines are counted")
     options.add_argument("--quick", action="store_true")
     options.add_argument("--jobs", type=int, default=1)
+    options.add_argument("--careful", action="store_true", help="beside programs of plain Rust")
+    options.add_argument("--runs", type=int, default=15, help="of which the least time is taken")
     chosen = options.parse_args()
-    for tool in ["valgrind", "time"]:
+    for tool in ["valgrind", "rustc"] if chosen.careful else ["valgrind", "time"]:
         if not shutil.which(tool):
             return f"bench/run.py: {tool} is not installed"
     unknown = set(chosen.inputs) - {each.name for each in INPUTS}
@@ -452,6 +536,9 @@ def main():
     inputs = [each for each in INPUTS if each.name in chosen.inputs or not chosen.inputs and (each.quick or not chosen.quick)]
     counts = chosen.lines or ([10**4, 10**5] if chosen.quick else [10**4, 10**5, 10**6])
     subprocess.run([SCRIPT], stdin=subprocess.DEVNULL, check=True)
+    if chosen.careful:
+        print_beside(inputs, chosen.lines or [10**5], chosen.runs)
+        return 0
     width = 13 * len(counts)
     print(f"{'of each line':{WIDTH}}{'instructions':>{width}} {'peak bytes':>{width}}")
     print("".join([f"{'lines':{WIDTH}}", *(f"{count:13,}" for count in counts), " ", *(f"{count:13,}" for count in counts)]))

@@ -61,6 +61,7 @@ where
     /// One event, as [`Recovery::apply`] does it. There are a beginning and a past by which the recovery came here; the reply
     /// is what that past says, every promise of whole runs holds at this moment, and from that past the recovery has gone on by
     /// this event and this reply.
+    #[inline(always)]
     pub fn apply(&mut self, event: Event<Q>) -> Result<Answer<Q>, Refusal>
         // What the event is told, by the state before it, and what it changes.
         ensures changes { Does event self.old.recovery result self.new.recovery }

@@ -1,5 +1,5 @@
 //! What is written for each reply: one line.
-ghost use Rattle.std.specs.Prelude.{◌≡◌, IfOk, OnOk, string_bytes};
+ghost use Rattle.std.specs.Prelude.{◌≡◌, ◌++◌, IfOk, OnOk, string_bytes, decimal};
 ghost use Rattle.recovery_answers.specs.Answers.{Writes, new_text, sent_text, done_with_text};
 ghost use Rattle.recovery_answers.specs.Answers.{retire_text, flag_text, timeout_text};
 ghost use Rattle.recovery_answers.specs.Answers.{in_flight_text, delayed_text, probe_text};
@@ -7,6 +7,7 @@ ghost use Rattle.recovery_answers.specs.Answers.{black_hole_text, sendable_text,
 ghost use Rattle.recovery_answers.specs.Answers.{refusal_text};
 ghost use Rattle.recovery_answers.specs.Answers.{answer_text, answer_lines};
 
+use itoa::Buffer;
 use recovery_base::below::{NoMemory, ResetToken};
 use recovery_base::time::Instant;
 use recovery_events::event::{Answer, Refusal};
@@ -14,6 +15,23 @@ use recovery_ledger::spaces::SendableFrames;
 use recovery_queue::items::ItemQueue;
 use std::alloc::{AllocError, Global};
 use std::ops::Range;
+
+/// A text, and a number behind it.
+fn push_number(text: &mut String, before: &str, number: u64) -> Result<(), AllocError>
+    ensures { OnOk result
+        (string_bytes text.new ≡ string_bytes text.old ++ before.now ++ decimal number) }
+{
+    text.push_str(before)?;
+    text.push_str(Buffer::new().format(number))
+}
+
+/// A line of a text and a number.
+fn write_number(text: &mut String, before: &str, number: u64) -> Result<(), AllocError>
+    ensures { OnOk result (Writes text.old (before.now ++ decimal number) text.new) }
+{
+    push_number(text, before, number)?;
+    text.push_str("\n")
+}
 
 /// A line that is always the same.
 fn write_word(text: &mut String, word: &str) -> Result<(), AllocError>
@@ -27,9 +45,9 @@ fn write_new(text: &mut String, arm: bool) -> Result<(), AllocError>
     ensures { OnOk result (Writes text.old (new_text arm) text.new) }
 {
     if arm {
-        writeln!(text, "new arm")
+        write_word(text, "new arm")
     } else {
-        writeln!(text, "new")
+        write_word(text, "new")
     }
 }
 
@@ -37,8 +55,11 @@ fn write_sent(text: &mut String, number: u64, forgotten: Option<u64>) -> Result<
     ensures { OnOk result (Writes text.old (sent_text number forgotten) text.new) }
 {
     match forgotten {
-        None => writeln!(text, "sent {number}"),
-        Some(forgotten) => writeln!(text, "sent {number} forgot {forgotten}"),
+        None => write_number(text, "sent ", number),
+        Some(forgotten) => {
+            push_number(text, "sent ", number)?;
+            write_number(text, " forgot ", forgotten)
+        }
     }
 }
 
@@ -47,9 +68,10 @@ fn write_done_with(text: &mut String, fate: &str, probe: bool) -> Result<(), All
     ensures { OnOk result (Writes text.old (done_with_text fate.now probe) text.new) }
 {
     if probe {
-        writeln!(text, "{fate} probe")
+        text.push_str(fate)?;
+        write_word(text, " probe")
     } else {
-        writeln!(text, "{fate}")
+        write_word(text, fate)
     }
 }
 
@@ -60,8 +82,11 @@ fn write_retire(
     ensures { OnOk result (Writes text.old (retire_text retired.now) text.new) }
 {
     match retired {
-        Some((numbers, _)) => writeln!(text, "retire {} {}", numbers.start, numbers.end),
-        None => writeln!(text, "retire none"),
+        Some((numbers, _)) => {
+            push_number(text, "retire ", numbers.start)?;
+            write_number(text, " ", numbers.end)
+        }
+        None => write_word(text, "retire none"),
     }
 }
 
@@ -81,27 +106,29 @@ fn write_timeout(text: &mut String, time: Option<Instant>) -> Result<(), AllocEr
     ensures { OnOk result (Writes text.old (timeout_text time) text.new) }
 {
     match time {
-        Some(time) => writeln!(text, "timeout {}", time.as_nanos()),
-        None => writeln!(text, "timeout none"),
+        Some(time) => write_number(text, "timeout ", time.as_nanos()),
+        None => write_word(text, "timeout none"),
     }
 }
 
 fn write_in_flight(text: &mut String, bytes: u64, ack_eliciting: u64) -> Result<(), AllocError>
     ensures { OnOk result (Writes text.old (in_flight_text bytes ack_eliciting) text.new) }
 {
-    writeln!(text, "in-flight {bytes} {ack_eliciting}")
+    push_number(text, "in-flight ", bytes)?;
+    write_number(text, " ", ack_eliciting)
 }
 
 fn write_delayed(text: &mut String, until: Instant) -> Result<(), AllocError>
     ensures { OnOk result (Writes text.old (delayed_text until) text.new) }
 {
-    writeln!(text, "delayed {}", until.as_nanos())
+    write_number(text, "delayed ", until.as_nanos())
 }
 
 fn write_probe(text: &mut String, number: u64, size: u16) -> Result<(), AllocError>
     ensures { OnOk result (Writes text.old (probe_text number size) text.new) }
 {
-    writeln!(text, "probe {number} {size}")
+    push_number(text, "probe ", number)?;
+    write_number(text, " ", u64::from(size))
 }
 
 fn write_black_hole(text: &mut String, reported: bool) -> Result<(), AllocError>
@@ -117,12 +144,10 @@ fn write_black_hole(text: &mut String, reported: bool) -> Result<(), AllocError>
 fn write_sendable(text: &mut String, frames: SendableFrames) -> Result<(), AllocError>
     ensures { OnOk result (Writes text.old (sendable_text frames) text.new) }
 {
-    writeln!(
-        text,
-        "sendable {} {}",
-        flag_word(frames.acks),
-        flag_word(frames.other)
-    )
+    text.push_str("sendable ")?;
+    text.push_str(flag_word(frames.acks))?;
+    text.push_str(" ")?;
+    write_flag(text, frames.other)
 }
 
 fn write_queue(text: &mut String, queue: &ItemQueue) -> Result<(), AllocError>
@@ -130,7 +155,7 @@ fn write_queue(text: &mut String, queue: &ItemQueue) -> Result<(), AllocError>
 {
     text.push_str("queue")?;
     for item in queue.items() {
-        write!(text, " {item}")?;
+        push_number(text, " ", *item)?;
     }
     text.push_str("\n")
 }
@@ -138,11 +163,15 @@ fn write_queue(text: &mut String, queue: &ItemQueue) -> Result<(), AllocError>
 fn write_refusal(text: &mut String, refusal: Refusal) -> Result<(), AllocError>
     ensures { OnOk result (Writes text.old (refusal_text refusal) text.new) }
 {
-    let number = refusal.number();
-    let name = refusal.name();
+    push_number(text, "refused ", u64::from(refusal.number()))?;
+    text.push_str(" ")?;
     match refusal {
-        Refusal::Ecn(reason) => writeln!(text, "refused {number} {name} {reason}"),
-        _ => writeln!(text, "refused {number} {name}"),
+        Refusal::Ecn(reason) => {
+            text.push_str(refusal.name())?;
+            text.push_str(" ")?;
+            write_word(text, reason)
+        }
+        _ => write_word(text, refusal.name()),
     }
 }
 

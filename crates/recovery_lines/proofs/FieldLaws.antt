@@ -134,6 +134,15 @@ largest_again (Some n) h =
     ap (λ b. cond b (Some None) (number_of (2 ^ 64) (decimal n) >>= λ m. Some (Some m))) (decimal_is_no_dash n h)
     ∙ ap (λ (o : Option ℕ). o >>= λ m. Some (Some m)) (number_again (2 ^ 64) n (lit≤ tt) h)
 
+-- where a word is a number, it is none of the words for no number
+pub largest_is : (word : List ℕ) (n : ℕ) → number_of (2 ^ 64) word ≡ Some n → largest_of word ≡ Some (Some n)
+unfolding largest_of
+largest_is word n is =
+    let t = number_takes (2 ^ 64) word n is in
+    let apart : bytes_eq word (codes "-") ≡ false =
+    ap (λ (w : List ℕ). bytes_eq w (codes "-")) t.0 ∙ decimal_is_no_dash n t.1 in
+    rw (apart, is) refl
+
 pub largest_field : IsField largest_word (λ l. IfSome l (λ n. n < 2 ^ 64)) largest_of
 largest_field = record { takes = largest_takes; again = largest_again }
 

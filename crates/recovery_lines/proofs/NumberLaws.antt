@@ -131,11 +131,14 @@ taken_digits bytes n digits le = λ i lt.
     let inside : i < n = omega (arith, length-take n bytes) in
     rw (get_or-take n bytes i 0 inside) (digits i inside)
 
--- what is left to room for one digit more
-pub few_small : (bytes : List ℕ) (n : ℕ) → AreDigits bytes n → n ≤ length bytes → n < 19
-    → digits_value 10 (take n bytes) < 10 ^ 18
-few_small bytes n digits le few =
-    digits_value_short by_index (take n bytes) 18 (taken_digits bytes n digits le) (omega (arith, length-take n bytes))
+-- 19 digits fit in 64 bits
+pub few_fit : (bytes : List ℕ) (n : ℕ) → AreDigits bytes n → n ≤ length bytes → n ≤ 19
+    → digits_value 10 (take n bytes) < 2 ^ 64
+few_fit bytes n digits le few =
+    let small : digits_value 10 (take n bytes) < 10 ^ 19 =
+    digits_value_short by_index (take n bytes) 19 (taken_digits bytes n digits le)
+    (omega (arith, length-take n bytes)) in
+    omega arith
 
 -- digits up to a space or to the end
 pub first_read : (bytes : List ℕ) (value end : ℕ) → AreDigits bytes end → end ≤ length bytes → 0 < end

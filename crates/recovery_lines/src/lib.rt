@@ -1,6 +1,8 @@
 //! The lines of a script: which event each spells.
 #![tactic(auto)]
 
+mod blanks;
+mod digits;
 pub mod laws;
 pub mod lines;
 mod words;

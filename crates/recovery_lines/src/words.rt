@@ -1,12 +1,14 @@
 //! The words of a line, read one after the other.
 ghost use Rattle.std.specs.Prelude.{◌≡◌, ◌*◌, ◌<◌, ◌≤◌, ◌^◌, ◌==◌, [], Some, length, take};
-ghost use Rattle.std.specs.Prelude.{Decides, IfOk, OnErr, IsSome, IsSomeAnd};
+ghost use Rattle.std.specs.Prelude.{Decides, IfOk, IfSome, OnErr, IsSome, IsSomeAnd};
 ghost use Rattle.std.specs.List.{position_or_len};
 ghost use Rattle.std.specs.Str.Parse.{digits_value};
 ghost use Rattle.recovery_lines.specs.Words.{words_of};
 ghost use Rattle.recovery_lines.specs.Reading.{AreDigits, IsFirstNumber, Reads, ReadsBy, words_left, first_word, field, flag_of, space_of, timer_of, path_of, largest_of, number_of};
 ghost use Rattle.recovery_lines.specs.Reading.{items_read, AreItemsRead};
 
+use crate::blanks::word_len;
+use crate::digits::leading_digits;
 use recovery_base::below::{NoMemory, SpaceId, VarInt};
 use recovery_base::time::{Duration, Instant};
 use recovery_base::timer::Timer;
@@ -117,39 +119,9 @@ fn path_in(word: &[u8]) -> Option<PathName>
     }
 }
 
-/// The length of the word that bytes begin with.
-fn word_len(bytes: &[u8]) -> usize
-    ensures place { result ≡ position_or_len (λ b. b == 32) bytes.now }
-    ensures fits { result < 2 ^ 63 }
-{
-    let mut end = 0;
-    while end < bytes.len() && bytes[end] != b' ' {
-        end += 1;
-    }
-    end
-}
-
-/// What the digits spell that bytes begin with, at most 19 of them, and how many they are. So many overflow nothing.
-fn leading_digits(bytes: &[u8]) -> (u64, usize)
-    ensures value { result.0 ≡ digits_value 10 (take result.1 bytes.now) }
-    ensures digits { AreDigits bytes.now result.1 }
-    ensures within { result.1 ≤ length bytes.now }
-    ensures fits { result.0 < 2 ^ 64 }
-{
-    let mut value = 0u64;
-    let mut count = 0;
-    while count < bytes.len() && count < 19 {
-        let digit = bytes[count].wrapping_sub(b'0');
-        if digit > 9 {
-            break;
-        }
-        value = value * 10 + u64::from(digit);
-        count += 1;
-    }
-    (value, count)
-}
-
 /// The number that the first word of bytes spells, 0 to `u64::MAX`, and the length of that word.
+#[cold]
+#[inline(never)]
 fn first_number_of_any_length(bytes: &[u8]) -> Option<(u64, usize)>
     ensures { IsFirstNumber (2 ^ 64) bytes.now result }
 {
@@ -157,27 +129,37 @@ fn first_number_of_any_length(bytes: &[u8]) -> Option<(u64, usize)>
     Some((number_in(&bytes[..end])?, end))
 }
 
-/// The number that the first word of bytes spells, 0 to `u64::MAX`, and the length of that word: in one pass, where it
-/// has no more than 19 digits.
-fn first_number(bytes: &[u8]) -> Option<(u64, usize)>
-    ensures { IsFirstNumber (2 ^ 64) bytes.now result }
+/// The same in one pass, where the word has no more than 19 digits; else `None`, whatever it spells.
+#[inline(always)]
+fn first_short_number(bytes: &[u8]) -> Option<(u64, usize)>
+    ensures { IfSome result (λ found. IsFirstNumber (2 ^ 64) bytes.now (Some found)) }
 {
     let (value, end) = leading_digits(bytes);
-    if end == 0 || (end > 1 && bytes[0] == b'0') {
-        return first_number_of_any_length(bytes);
+    if end == 0 || end > 19 || (end > 1 && bytes[0] == b'0') {
+        return None;
     }
     if end < bytes.len() && bytes[end] != b' ' {
-        return first_number_of_any_length(bytes);
+        return None;
     }
     Some((value, end))
 }
 
-/// The span that the first word of bytes spells, and the length of that word. Few spans are longer than
-/// a number.
+/// The same, in one pass for a short word.
+#[inline(always)]
+fn first_number(bytes: &[u8]) -> Option<(u64, usize)>
+    ensures { IsFirstNumber (2 ^ 64) bytes.now result }
+{
+    match first_short_number(bytes) {
+        Some(found) => Some(found),
+        None => first_number_of_any_length(bytes),
+    }
+}
+
+/// The span that the first word of bytes spells, and the length of that word. Few spans are longer than a number.
 fn first_span(bytes: &[u8]) -> Option<(Duration, usize)>
     ensures { IsFirstNumber (2 ^ 64 * 10 ^ 9) bytes.now result }
 {
-    if let Some((nanos, end)) = first_number(bytes) {
+    if let Some((nanos, end)) = first_short_number(bytes) {
         return Some((Duration::from_nanos(nanos), end));
     }
     let end = word_len(bytes);
@@ -222,6 +204,7 @@ impl<'a> Words<'a> {
     }
 
     /// The next word as a number, 0 to `u64::MAX`.
+    #[inline(never)]
     #[tactic(auto, unfolding(crate::specs::Reading::field))]
     pub fn number(&mut self) -> Option<u64>
         ensures { ReadsBy (field (number_of (2 ^ 64))) self.old self.new result }
@@ -291,10 +274,15 @@ impl<'a> Words<'a> {
     }
 
     /// The next word as a packet number, 0 to `u64::MAX`, or as none, which is spelled `-`.
-    #[tactic(auto, unfolding(crate::specs::Reading::field))]
+    #[tactic(auto, using(crate::proofs::FieldLaws::largest_is), unfolding(crate::specs::Reading::field))]
     pub fn largest(&mut self) -> Option<Option<u64>>
         ensures { ReadsBy (field largest_of) self.old self.new result }
     {
+        let rest = self.rest?;
+        if let Some((number, end)) = first_short_number(rest) {
+            self.pass(rest, end);
+            return Some(Some(number));
+        }
         largest_in(self.next()?)
     }
 

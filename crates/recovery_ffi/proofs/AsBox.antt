@@ -1,0 +1,31 @@
+-- The seal and its parts own what a box at the same types owns.
+use mir.Syntax.{impl, tnil, dnil}
+use mathlib.Core.List.{[]}
+use denote.Signature.{Slot, plain}
+use Rattle.std_alloc.proofs.BoxSteps.Form.{Bx}
+use Rattle.std_heap.specs.contracts.Global as Heap
+use Rattle.std_heap.specs.contracts.GlobalAllocator.TheImpl.{ghosts, dict}
+use Rattle.std_heap.proofs.Global.TheLaws as heap
+use Rattle.recovery_ffi.specs.contracts.stack.Stack as Stack
+use Rattle.recovery_ffi.proofs.stack.Stack.TheLaws as stack
+use Rattle.recovery_ffi.specs.contracts.parts.Parts as Parts
+use Rattle.recovery_ffi.specs.contracts.handle.Handle as Handle
+
+abbrev pub E : Bx
+E = record {
+  row = Stack.the_row;
+  laws = stack.the_row_laws;
+  al = record {
+    row = Heap.the_row;
+    laws = heap.the_row_laws;
+    g = ghosts;
+    d = dict;
+    drops = impl [] tnil dnil;
+  };
+}
+
+abbrev pub FromParts : Slot 0
+FromParts = plain (λ _. Parts.the_row Stack.the_row Heap.the_row ghosts)
+
+abbrev pub FromHandle : Slot 0
+FromHandle = plain (λ _. Handle.the_row)

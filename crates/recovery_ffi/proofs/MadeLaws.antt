@@ -1,0 +1,28 @@
+-- What is made is what was asked for.
+use Rattle.std.proofs.Common.{◌≡◌, ℕ, Bool, true, false, List, Option, subst}
+use Rattle.std.specs.declared.net.socket_addr.SocketAddr.{SocketAddr}
+use Rattle.recovery_ffi.specs.declared.controllers.ChosenConfig.{ChosenConfig}
+use Rattle.rand_core.specs.Stream.{Stream}
+use Rattle.quic_recovery.specs.declared.driver.RecoveryConfig.{RecoveryConfig}
+use Rattle.recovery_ffi.specs.Codes.{IsAt}
+use Rattle.recovery_ffi.specs.declared.codes.Address.{Address}
+use Rattle.recovery_ffi.specs.declared.settings.Settings.{Settings}
+use Rattle.recovery_ffi.specs.declared.stack.Stack.{Stack}
+use Rattle.recovery_ffi.specs.Held.{Holds}
+use Rattle.recovery_ffi.specs.Made.{IsFresh, MadeOr}
+use Rattle.recovery_ffi.specs.Settings.{config_of, words_of}
+
+pub made_or : (made : Bool) (settings : Settings) (given : Address) (cid : List ℕ) (now : ℕ) (stack : Stack)
+    (held : Option Stack) (remote : SocketAddr) (config : RecoveryConfig ChosenConfig) (moment : ℕ) (words : Stream)
+    → IsAt given remote → config ≡ config_of settings cid remote → moment ≡ now → words ≡ words_of settings.seed
+    → IsFresh config moment words stack → Holds made stack held → MadeOr made settings given cid now held
+made_or false settings given cid now stack held remote config moment words there e f g fresh holds = holds
+made_or true settings given cid now stack held remote config moment words there e f g fresh holds = record {
+  stack = stack;
+  remote = remote;
+  there = there;
+  held = holds;
+  fresh = subst (λ w. IsFresh (config_of settings cid remote) now w stack) g
+      (subst (λ m. IsFresh (config_of settings cid remote) m words stack) f
+      (subst (λ c. IsFresh c moment words stack) e fresh));
+}

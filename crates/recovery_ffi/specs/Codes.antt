@@ -1,0 +1,51 @@
+-- Enums and what else crosses by numbers.
+use Rattle.std.specs.Prelude.{◌≡◌, ℕ, ◌-◌, ◌^◌, Bool, IsTrue, IsFalse, List, Option, Some, None, min, take, if◌then◌else◌, ◌==◌}
+use Rattle.std.specs.Net.Addr.{ipv4_octets, ipv6_segments, segments_of}
+use Rattle.std.specs.Net.Socket.{v4_ip, v4_port, v6_ip, v6_port, v6_flowinfo, v6_scope_id}
+use Rattle.std.specs.declared.net.socket_addr.SocketAddr.{SocketAddr}
+use Rattle.std.specs.declared.net.socket_addr.SocketAddr.TheVariants.{V4, V6}
+use Rattle.recovery_base.specs.declared.below.SpaceId.{SpaceId}
+use Rattle.recovery_base.specs.declared.below.SpaceId.TheVariants.{Initial, Handshake, Data}
+use Rattle.recovery_base.specs.declared.below.ids.IssuedCid.{IssuedCid}
+use Rattle.recovery_base.specs.declared.timer.Timer.{Timer}
+use Rattle.recovery_base.specs.declared.timer.Timer.TheVariants.{LossDetection, Idle, Close, KeyDiscard, PathValidation, KeepAlive, Pacing, PushNewCid, MaxAckDelay}
+use Rattle.recovery_paths.specs.declared.live_paths.PathName.{PathName}
+use Rattle.recovery_paths.specs.declared.live_paths.PathName.TheVariants.{Current, Previous}
+use Rattle.recovery_ffi.specs.declared.codes.Address.{Address}
+use Rattle.recovery_ffi.specs.declared.codes.Id.{Id}
+
+abbrev pub space_coded : ℕ → SpaceId
+space_coded code = if code == 0 then Initial else (if code == 1 then Handshake else Data)
+
+abbrev pub timer_coded : ℕ → Timer
+timer_coded code =
+    if code == 0 then LossDetection else
+    (if code == 1 then Idle else
+    (if code == 2 then Close else
+    (if code == 3 then KeyDiscard else
+    (if code == 4 then PathValidation else
+    (if code == 5 then KeepAlive else
+    (if code == 6 then Pacing else
+    (if code == 7 then PushNewCid else MaxAckDelay)))))))
+
+abbrev pub path_coded : Bool → PathName
+path_coded previous = if previous then Previous else Current
+
+abbrev pub maybe : Bool → ℕ → Option ℕ
+maybe some number = if some then Some number else None
+
+-- nanoseconds that stop at the end of 64 bits
+abbrev pub nanos_shown : ℕ → ℕ
+nanos_shown span = min span (2 ^ 64 - 1)
+
+-- the address that is given
+abbrev pub IsAt : Address → SocketAddr → Type 0
+IsAt given (V4 address) =
+    IsFalse given.v6 × (ipv4_octets (v4_ip address) ≡ take 4 given.octets) × (v4_port address ≡ given.port)
+IsAt given (V6 address) =
+    IsTrue given.v6 × (ipv6_segments (v6_ip address) ≡ segments_of given.octets) × (v6_port address ≡ given.port)
+    × (v6_flowinfo address ≡ given.flowinfo) × (v6_scope_id address ≡ given.scope_id)
+
+-- an id as it is issued
+abbrev pub issued_of : Id → IssuedCid
+issued_of given = record { sequence = given.sequence; id = take given.len given.bytes; reset_token = given.token }

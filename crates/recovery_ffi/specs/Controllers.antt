@@ -1,0 +1,77 @@
+-- The congestion controllers that a setting chooses between: each call is that of the chosen one.
+use Rattle.std.specs.Prelude.{◌≡◌, ℕ, ◌<◌, None, refl}
+use Rattle.recovery_congestion.specs.Controllers.{ControllerWords, ControllerLaws}
+use Rattle.recovery_congestion.specs.NewReno.{reno_made, reno_words, IsRenoSound}
+use Rattle.recovery_congestion.specs.RenoLaws.{reno_laws}
+use Rattle.recovery_congestion.specs.declared.congestion.ControllerMetrics.{ControllerMetrics}
+use Rattle.recovery_congestion.specs.declared.congestion.new_reno.NewReno.{NewReno}
+use Rattle.recovery_ffi.specs.declared.controllers.Chosen.{Chosen}
+use Rattle.recovery_ffi.specs.declared.controllers.Chosen.TheVariants.{Reno, Fixed}
+use Rattle.recovery_ffi.specs.declared.controllers.ChosenConfig.{ChosenConfig}
+use Rattle.recovery_ffi.specs.declared.controllers.ChosenConfig.TheVariants as config
+
+abbrev pub chosen_made : ChosenConfig → ℕ → ℕ → Chosen
+chosen_made (config.Reno settings) now mtu = Reno (reno_made settings now mtu)
+chosen_made (config.Fixed window) now mtu = Fixed window
+
+-- nothing changes a fixed window
+abbrev pub on_reno : (NewReno → NewReno) → Chosen → Chosen
+on_reno change (Reno reno) = Reno (change reno)
+on_reno change (Fixed window) = Fixed window
+
+abbrev pub window_of : Chosen → ℕ
+window_of (Reno reno) = reno_words.window reno
+window_of (Fixed window) = window
+
+abbrev pub metrics_of : Chosen → ControllerMetrics
+metrics_of (Reno reno) = reno_words.metrics reno
+metrics_of (Fixed window) = record { congestion_window = window; ssthresh = None; pacing_rate = None }
+
+abbrev pub initial_of : Chosen → ℕ
+initial_of (Reno reno) = reno_words.initial reno
+initial_of (Fixed window) = window
+
+abbrev pub chosen_words : ControllerWords Chosen
+chosen_words = record {
+  on_sent = λ now bytes number. on_reno (reno_words.on_sent now bytes number);
+  on_ack = λ now sent bytes limited rtt. on_reno (reno_words.on_ack now sent bytes limited rtt);
+  on_end_acks = λ now in_flight limited largest. on_reno (reno_words.on_end_acks now in_flight limited largest);
+  on_congestion_event = λ now sent persistent lost. on_reno (reno_words.on_congestion_event now sent persistent lost);
+  on_mtu_update = λ mtu. on_reno (reno_words.on_mtu_update mtu);
+  window = window_of;
+  metrics = metrics_of;
+  initial = initial_of;
+}
+
+abbrev pub IsChosenSound : Chosen → Type 0
+IsChosenSound (Reno reno) = IsRenoSound reno
+IsChosenSound (Fixed window) = 0 < window
+
+kept : (change : NewReno → NewReno) → ((reno : NewReno) → IsRenoSound reno → IsRenoSound (change reno))
+    → (chosen : Chosen) → IsChosenSound chosen → IsChosenSound (on_reno change chosen)
+kept change keeps (Reno reno) sound = keeps reno sound
+kept change keeps (Fixed window) sound = sound
+
+positive : (chosen : Chosen) → IsChosenSound chosen → 0 < window_of chosen
+positive (Reno reno) sound = reno_laws.window reno sound
+positive (Fixed window) sound = sound
+
+pub chosen_laws : ControllerLaws chosen_words IsChosenSound
+chosen_laws = record {
+  on_sent = λ now bytes number. kept (reno_words.on_sent now bytes number) (reno_laws.on_sent now bytes number);
+  on_ack = λ now sent bytes limited rtt.
+      kept (reno_words.on_ack now sent bytes limited rtt) (reno_laws.on_ack now sent bytes limited rtt);
+  on_end_acks = λ now in_flight limited largest.
+      kept (reno_words.on_end_acks now in_flight limited largest) (reno_laws.on_end_acks now in_flight limited largest);
+  on_congestion_event = λ now sent persistent lost.
+      kept (reno_words.on_congestion_event now sent persistent lost)
+      (reno_laws.on_congestion_event now sent persistent lost);
+  on_mtu_update = λ mtu chosen above sound.
+      kept (reno_words.on_mtu_update mtu) (λ reno. reno_laws.on_mtu_update mtu reno above) chosen sound;
+  window = positive;
+}
+
+pub chosen_starts : (factory : ChosenConfig) (now mtu : ℕ)
+    → window_of (chosen_made factory now mtu) ≡ initial_of (chosen_made factory now mtu)
+chosen_starts (config.Reno settings) now mtu = refl
+chosen_starts (config.Fixed window) now mtu = refl

@@ -1,0 +1,89 @@
+-- What a recovery is made with.
+use Rattle.std.specs.Prelude.{ℕ, ◌≤◌, ◌<◌, ◌^◌, ◌==◌, min, max, List, Option, None, Some, if◌then◌else◌}
+use Rattle.std.specs.declared.net.socket_addr.SocketAddr.{SocketAddr}
+use Rattle.rand_core.specs.Pcg32Seed.{pcg32_seed}
+use Rattle.rand_core.specs.Steps.{stream_of, steps_u32}
+use Rattle.rand_core.specs.Stream.{Stream}
+use Rattle.rand_pcg.specs.Pcg.{pcg32, pcg32_of_seed}
+use Rattle.recovery_congestion.specs.RenoSettings.{RenoSettings}
+use Rattle.recovery_config.specs.Settings.{settings_with}
+use Rattle.recovery_config.specs.declared.config.TransportConfig.{TransportConfig}
+use Rattle.recovery_mtud.specs.declared.config.MtuDiscoveryConfig.{MtuDiscoveryConfig}
+use Rattle.recovery_queue.specs.Items.{item_words}
+use Rattle.recovery_skips.specs.declared.filter.Skips.{Skips}
+use Rattle.recovery_skips.specs.declared.filter.Skips.TheVariants.{Drawn, Disabled, Starting}
+use Rattle.quic_recovery.specs.declared.driver.RecoveryConfig.{RecoveryConfig}
+use Rattle.quic_recovery.specs.History.{Beginning, begins, queue_meaning}
+use Rattle.recovery_ffi.specs.Controllers.{chosen_made, chosen_words}
+use Rattle.recovery_ffi.specs.declared.controllers.Chosen.{Chosen}
+use Rattle.recovery_ffi.specs.declared.controllers.ChosenConfig.{ChosenConfig}
+use Rattle.recovery_ffi.specs.declared.controllers.ChosenConfig.TheVariants.{Reno, Fixed}
+use Rattle.recovery_ffi.specs.declared.settings.Settings.{Settings}
+use Rattle.recovery_ffi.specs.Codes.{maybe}
+
+-- what a caller keeps
+pub record IsSound (settings : Settings) : Type 0 where
+  pub issued : settings.issued ≤ 2 ^ 62
+  pub first_skip : settings.first_skip < 64
+  pub window : 0 < settings.initial_window
+  pub factor : 0 < settings.loss_denominator
+  pub initial_mtu : 0 < settings.initial_mtu
+  pub min_mtu : 0 < settings.min_mtu
+
+abbrev pub skips_of : ℕ → ℕ → Skips
+skips_of kind first = if kind == 0 then Disabled else (if kind == 1 then Drawn else Starting first)
+
+abbrev pub reno_of : Settings → RenoSettings
+reno_of settings = record {
+  initial_window = settings.initial_window;
+  numerator = settings.loss_numerator;
+  denominator = settings.loss_denominator;
+}
+
+abbrev pub controller_of : Settings → ChosenConfig
+controller_of settings = if settings.controller == 0 then Reno (reno_of settings) else Fixed settings.initial_window
+
+-- how the MTU is searched for: a bound above what UDP carries, and a step of nothing, are stored as the nearest that
+-- serve
+abbrev pub discovery_of : Settings → Option MtuDiscoveryConfig
+discovery_of settings =
+    if settings.searches
+    then Some (record {
+      interval = settings.mtu_interval;
+      upper_bound = min settings.mtu_upper_bound 65527;
+      black_hole_cooldown = settings.black_hole_cooldown;
+      minimum_change = max settings.mtu_minimum_change 1;
+    })
+    else None
+
+abbrev pub transport_of : Settings → TransportConfig ChosenConfig
+transport_of settings = record (settings_with (controller_of settings)) {
+  initial_rtt = settings.initial_rtt;
+  initial_mtu = settings.initial_mtu;
+  min_mtu = settings.min_mtu;
+  mtu_discovery_config = discovery_of settings;
+}
+
+abbrev pub config_of : Settings → List ℕ → SocketAddr → RecoveryConfig ChosenConfig
+config_of settings cid remote = record {
+  transport = transport_of settings;
+  remote = remote;
+  validated = settings.validated;
+  allow_mtud = settings.allow_mtud;
+  max_ack_delay = settings.max_ack_delay;
+  initial_cid = cid;
+  cid_len = settings.cid_len;
+  cid_lifetime = maybe settings.ids_end settings.cid_lifetime;
+  issued = settings.issued;
+  skips = skips_of settings.skips settings.first_skip;
+}
+
+-- the words that are drawn: those of PCG32 with the seed
+abbrev pub words_of : ℕ → Stream
+words_of seed = stream_of (steps_u32 pcg32) (pcg32_of_seed (pcg32_seed 16 seed))
+
+-- how a run begins, over the chosen controller and queues of items
+abbrev pub beginning : RecoveryConfig ChosenConfig → ℕ → Stream
+    → Beginning ChosenConfig Chosen (List ℕ) (Unit {0}) (Unit {0}) (List ℕ)
+beginning config now words =
+    begins chosen_made chosen_words (queue_meaning (λ items. items) item_words tt) config now words

@@ -1,0 +1,243 @@
+//! What of a recovery can be read.
+ghost use Rattle.std.specs.Prelude.{◌≡◌, Some, Decides, option_copied, slice_get};
+ghost use Rattle.recovery_base.specs.Timers.{moment};
+ghost use Rattle.quic_recovery.specs.State.{parts_of};
+ghost use Rattle.recovery_paths.specs.PathLog.{path_of};
+ghost use Rattle.recovery_ffi.specs.Codes.{path_coded, space_coded, timer_coded};
+ghost use Rattle.recovery_ffi.specs.Views.{path_shown, no_path, path_view, moment_shown, ids_shown, range_shown, ranges_in, space_kept, IsSpaceShown};
+
+use crate::codes::{nanos_shown, path_coded, space_coded, timer_coded};
+use crate::stack::{ItemPath, ItemSpace, Stack};
+use quic_recovery::congestion::Controller;
+use quic_recovery::event::PathName;
+use recovery_base::below::ResetToken;
+use std::ops::Range;
+
+/// What is kept for a path: times in nanoseconds, which stop at `u64::MAX`, and sizes in bytes.
+#[repr(C)]
+#[derive(Clone, Copy)]
+pub struct PathView {
+    /// How many bytes may be in flight (RFC 9002, 7).
+    pub window: u64,
+    /// The bytes in flight (RFC 9002, B.2).
+    pub in_flight: u64,
+    /// How many packets in flight elicit an ACK.
+    pub ack_eliciting: u64,
+    /// The bytes of the datagrams transmitted.
+    pub total_sent: u64,
+    /// The bytes of the datagrams that came in.
+    pub total_recvd: u64,
+    /// The best estimate of the RTT: the smoothed one, or the initial one before the first sample (RFC 9002, 5.3).
+    pub rtt: u64,
+    /// The estimate that losses are judged by: the greater of that and the last sample (RFC 9002, 6.1.2).
+    pub rtt_conservative: u64,
+    /// The least sample (RFC 9002, 5.2).
+    pub rtt_min: u64,
+    /// The probe timeout without the peer's delay of ACKs (RFC 9002, 6.2.1).
+    pub pto_base: u64,
+    /// The MTU in use (RFC 9000, 14.3).
+    pub mtu: u16,
+    /// Whether there is such a path; if not, all else is 0.
+    pub lives: bool,
+    /// Whether the peer was seen to receive there (RFC 9000, 8).
+    pub validated: bool,
+}
+
+/// What a packet number space has to send, and what is to be acknowledged in it.
+#[repr(C)]
+#[derive(Clone, Copy)]
+pub struct SpaceView {
+    /// The largest packet number received; 0 before the first.
+    pub largest_received: u64,
+    /// How many ranges of numbers are to be acknowledged.
+    pub ranges: u64,
+    /// Whether the space is not discarded; if it is, all else is 0.
+    pub lives: bool,
+    /// Whether an ACK is required, and some number is to be acknowledged.
+    pub acks: bool,
+    /// Whether there is something else to be sent.
+    pub other: bool,
+}
+
+/// A range of numbers, from the first to one above the last.
+#[repr(C)]
+#[derive(Clone, Copy)]
+pub struct RangeView {
+    /// The first number.
+    pub start: u64,
+    /// One above the last number.
+    pub end: u64,
+    /// Whether there is such a range; if not, all else is 0.
+    pub some: bool,
+}
+
+/// A moment, if there is one.
+#[repr(C)]
+#[derive(Clone, Copy)]
+pub struct MomentView {
+    /// In nanoseconds.
+    pub nanos: u64,
+    /// Whether there is one; if not, all else is 0.
+    pub some: bool,
+}
+
+/// The ids of both ends, and how late ACKs may be.
+#[repr(C)]
+#[derive(Clone, Copy)]
+pub struct IdsView {
+    /// The number of the peer's id in use.
+    pub active: u64,
+    /// How many ids this end has issued.
+    pub issued: u64,
+    /// The peer is asked to retire this end's ids below this number.
+    pub retire_prior_to: u64,
+    /// How late this end's ACKs may be, in nanoseconds, which stop at `u64::MAX`.
+    pub max_ack_delay: u64,
+}
+
+fn show_path(path: &ItemPath) -> PathView
+    ensures { result ≡ path_shown path.now }
+{
+    let in_flight = path.in_flight();
+    PathView {
+        window: path.congestion.window(),
+        in_flight: in_flight.bytes,
+        ack_eliciting: in_flight.ack_eliciting,
+        total_sent: path.total_sent,
+        total_recvd: path.total_recvd,
+        rtt: nanos_shown(path.rtt.get()),
+        rtt_conservative: nanos_shown(path.rtt.conservative()),
+        rtt_min: nanos_shown(path.rtt.min()),
+        pto_base: nanos_shown(path.rtt.pto_base()),
+        mtu: path.current_mtu(),
+        lives: true,
+        validated: path.validated,
+    }
+}
+
+fn no_path() -> PathView
+    ensures { result ≡ no_path }
+{
+    PathView {
+        window: 0,
+        in_flight: 0,
+        ack_eliciting: 0,
+        total_sent: 0,
+        total_recvd: 0,
+        rtt: 0,
+        rtt_conservative: 0,
+        rtt_min: 0,
+        pto_base: 0,
+        mtu: 0,
+        lives: false,
+        validated: false,
+    }
+}
+
+fn show_space(space: &ItemSpace) -> SpaceView
+    ensures { IsSpaceShown (Some space.now) result }
+{
+    let frames = space.can_send(&());
+    SpaceView {
+        largest_received: space.rx_packet,
+        ranges: space.pending_acks.ranges().len() as u64,
+        lives: true,
+        acks: frames.acks,
+        other: frames.other,
+    }
+}
+
+fn show_range(range: Option<&Range<u64>>) -> RangeView
+    ensures { result ≡ range_shown (option_copied range.entry) }
+{
+    match range {
+        Some(range) => RangeView {
+            start: range.start,
+            end: range.end,
+            some: true,
+        },
+        None => RangeView {
+            start: 0,
+            end: 0,
+            some: false,
+        },
+    }
+}
+
+impl Stack {
+    /// What is kept for a path.
+    pub fn path(&self, previous: bool) -> PathView
+        ensures { result ≡ path_view (path_of (path_coded previous) (parts_of self.now.recovery.recovery).paths) }
+    {
+        match path_coded(previous) {
+            PathName::Current => show_path(self.recovery.recovery().current()),
+            PathName::Previous => match self.recovery.recovery().previous() {
+                Some(path) => show_path(path),
+                None => no_path(),
+            },
+        }
+    }
+
+    /// What a space has to send.
+    pub fn space(&self, space: u8) -> SpaceView
+        ensures { IsSpaceShown (space_kept (space_coded space) (parts_of self.now.recovery.recovery)) result }
+    {
+        match self.recovery.recovery().space(space_coded(space)) {
+            Some(space) => show_space(space),
+            None => SpaceView {
+                largest_received: 0,
+                ranges: 0,
+                lives: false,
+                acks: false,
+                other: false,
+            },
+        }
+    }
+
+    /// One of the ranges of numbers that are to be acknowledged in a space, in ascending order.
+    pub fn range(&self, space: u8, index: usize) -> RangeView
+        ensures { result
+            ≡ range_shown (slice_get (ranges_in (space_kept (space_coded space) (parts_of self.now.recovery.recovery))) index) }
+    {
+        match self.recovery.recovery().space(space_coded(space)) {
+            Some(space) => show_range(space.pending_acks.ranges().iter().as_slice().get(index)),
+            None => show_range(None),
+        }
+    }
+
+    /// When a timer expires.
+    pub fn timer(&self, timer: u8) -> MomentView
+        ensures { result ≡ moment_shown (moment (timer_coded timer) (parts_of self.now.recovery.recovery).timers) }
+    {
+        match self.recovery.recovery().timers().get(timer_coded(timer)) {
+            Some(moment) => MomentView {
+                nanos: moment.as_nanos(),
+                some: true,
+            },
+            None => MomentView {
+                nanos: 0,
+                some: false,
+            },
+        }
+    }
+
+    /// The ids of both ends.
+    pub fn ids(&self) -> IdsView
+        ensures { result ≡ ids_shown (parts_of self.now.recovery.recovery) }
+    {
+        let recovery = self.recovery.recovery();
+        IdsView {
+            active: recovery.remote_ids().active_seq(),
+            issued: recovery.local_ids().issued(),
+            retire_prior_to: recovery.local_ids().retire_prior_to(),
+            max_ack_delay: nanos_shown(recovery.ack_frequency().max_ack_delay),
+        }
+    }
+
+    /// Whether this is the token that was answered last.
+    pub fn is_token(&self, token: &[u8; 16]) -> bool
+        ensures { Decides result (self.now.token ≡ token.now) }
+    {
+        self.token == ResetToken::from(*token)
+    }
+}

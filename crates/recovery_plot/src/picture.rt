@@ -1,0 +1,364 @@
+//! A picture: an SVG text that grows by what is drawn.
+
+use crate::axis::{Panel, Point};
+use std::alloc::{AllocError, Global};
+
+/// How many marks an axis has at most.
+const MARKS: u64 = 8;
+
+/// How a line is drawn. Lines differ by their strokes too, so that they are told apart in black and white.
+#[derive(Clone, Copy)]
+pub enum Style {
+    /// A line, dark.
+    Solid,
+    /// Dashes.
+    Dashed,
+    /// Dots.
+    Dotted,
+    /// A thin line, grey.
+    Thin,
+}
+
+impl Style {
+    fn stroke(self) -> &'static str {
+        match self {
+            Style::Solid => "stroke=\"#004080\" stroke-width=\"3\"",
+            Style::Dashed => "stroke=\"#b04000\" stroke-width=\"4\" stroke-dasharray=\"16 8\"",
+            Style::Dotted => "stroke=\"#006030\" stroke-width=\"4\" stroke-dasharray=\"4 8\"",
+            Style::Thin => "stroke=\"#707070\" stroke-width=\"2\"",
+        }
+    }
+
+    fn color(self) -> &'static str {
+        match self {
+            Style::Solid => "#004080",
+            Style::Dashed => "#b04000",
+            Style::Dotted => "#006030",
+            Style::Thin => "#707070",
+        }
+    }
+}
+
+/// How the points of a line are joined.
+#[derive(Clone, Copy)]
+enum Joined {
+    Straight,
+    Stepped,
+}
+
+/// Where a text stands beside its place.
+#[derive(Clone, Copy)]
+enum Anchor {
+    Start,
+    Middle,
+    End,
+}
+
+impl Anchor {
+    fn word(self) -> &'static str {
+        match self {
+            Anchor::Start => "start",
+            Anchor::Middle => "middle",
+            Anchor::End => "end",
+        }
+    }
+}
+
+/// An SVG picture. Each call draws above what was drawn before; where memory is refused, what is drawn is a part.
+#[derive(Drop)]
+pub struct Picture {
+    text: String,
+}
+
+impl Picture {
+    /// An empty picture of so many units, shown half as large in pixels, with a title.
+    pub fn new(alloc: Global, width: u16, height: u16, title: &str) -> Result<Self, AllocError> {
+        let mut picture = Picture {
+            text: String::new(alloc),
+        };
+        writeln!(
+            picture.text,
+            "<svg xmlns=\"http://www.w3.org/2000/svg\" viewBox=\"0 0 {width} {height}\" width=\"{}\" height=\"{}\" font-family=\"sans-serif\" font-size=\"24\">",
+            width / 2,
+            height / 2
+        )?;
+        writeln!(
+            picture.text,
+            "<rect width=\"{width}\" height=\"{height}\" fill=\"white\"/>"
+        )?;
+        picture.write(u64::from(width / 2), 44, Anchor::Middle, title)?;
+        Ok(picture)
+    }
+
+    /// The text of the picture.
+    pub fn finish(self) -> Result<String, AllocError> {
+        let mut text = self.text;
+        text.push_str("</svg>\n")?;
+        Ok(text)
+    }
+
+    /// The frame of a panel, marks with their numbers, and what its axes show. Numbers are in the axes' units.
+    pub fn axes(&mut self, panel: &Panel, x_name: &str, y_name: &str) -> Result<(), AllocError> {
+        self.marks_across(panel)?;
+        self.marks_down(panel)?;
+        writeln!(
+            self.text,
+            "<rect x=\"{}\" y=\"{}\" width=\"{}\" height=\"{}\" fill=\"none\" stroke=\"black\" stroke-width=\"2\"/>",
+            panel.left, panel.top, panel.width, panel.height
+        )?;
+        self.write(panel.right(), panel.bottom() + 62, Anchor::End, x_name)?;
+        self.write(
+            u64::from(panel.left),
+            u64::from(panel.top).saturating_sub(14),
+            Anchor::Start,
+            y_name,
+        )
+    }
+
+    /// A line through points.
+    pub fn line(
+        &mut self,
+        panel: &Panel,
+        points: &[Point],
+        style: Style,
+    ) -> Result<(), AllocError> {
+        self.path(panel, points, Joined::Straight, style)
+    }
+
+    /// A line through points that stays level until the next one.
+    pub fn steps(
+        &mut self,
+        panel: &Panel,
+        points: &[Point],
+        style: Style,
+    ) -> Result<(), AllocError> {
+        self.path(panel, points, Joined::Stepped, style)
+    }
+
+    /// A dot at each point.
+    pub fn dots(
+        &mut self,
+        panel: &Panel,
+        points: &[Point],
+        style: Style,
+    ) -> Result<(), AllocError> {
+        for point in points {
+            writeln!(
+                self.text,
+                "<circle cx=\"{}\" cy=\"{}\" r=\"6\" fill=\"{}\"/>",
+                panel.across(point.x),
+                panel.down(point.y),
+                style.color()
+            )?;
+        }
+        Ok(())
+    }
+
+    /// A ring at each point.
+    pub fn rings(
+        &mut self,
+        panel: &Panel,
+        points: &[Point],
+        style: Style,
+    ) -> Result<(), AllocError> {
+        for point in points {
+            writeln!(
+                self.text,
+                "<circle cx=\"{}\" cy=\"{}\" r=\"7\" fill=\"white\" stroke=\"{}\" stroke-width=\"3\"/>",
+                panel.across(point.x),
+                panel.down(point.y),
+                style.color()
+            )?;
+        }
+        Ok(())
+    }
+
+    /// A bar from the lower edge to each point.
+    pub fn bars(
+        &mut self,
+        panel: &Panel,
+        points: &[Point],
+        style: Style,
+    ) -> Result<(), AllocError> {
+        for point in points {
+            let top = panel.down(point.y);
+            writeln!(
+                self.text,
+                "<rect x=\"{}\" y=\"{top}\" width=\"6\" height=\"{}\" fill=\"{}\"/>",
+                panel.across(point.x),
+                panel.bottom().saturating_sub(top),
+                style.color()
+            )?;
+        }
+        Ok(())
+    }
+
+    /// A short stroke at the lower edge for each value of the axis across.
+    pub fn ticks(&mut self, panel: &Panel, values: &[u64], style: Style) -> Result<(), AllocError> {
+        for value in values {
+            let across = panel.across(*value);
+            let bottom = panel.bottom();
+            writeln!(
+                self.text,
+                "<path {} d=\"M{across} {bottom}V{}\"/>",
+                style.stroke(),
+                bottom.saturating_sub(24)
+            )?;
+        }
+        Ok(())
+    }
+
+    /// What a style stands for: a stroke and its name above a panel, in the column of that number, counted from the right.
+    pub fn legend(
+        &mut self,
+        panel: &Panel,
+        column: u16,
+        name: &str,
+        style: Style,
+    ) -> Result<(), AllocError> {
+        let right = panel.right().saturating_sub(u64::from(column) * 330);
+        let height = u64::from(panel.top).saturating_sub(22);
+        writeln!(
+            self.text,
+            "<path fill=\"none\" {} d=\"M{} {height}H{}\"/>",
+            style.stroke(),
+            right.saturating_sub(310),
+            right.saturating_sub(250)
+        )?;
+        self.write(right.saturating_sub(240), height + 8, Anchor::Start, name)
+    }
+
+    /// A line through points, each of which has another place than the one before.
+    fn path(
+        &mut self,
+        panel: &Panel,
+        points: &[Point],
+        joined: Joined,
+        style: Style,
+    ) -> Result<(), AllocError> {
+        let Some(first) = points.first() else {
+            return Ok(());
+        };
+        let mut last = (panel.across(first.x), panel.down(first.y));
+        write!(
+            self.text,
+            "<path fill=\"none\" {} d=\"M{} {}",
+            style.stroke(),
+            last.0,
+            last.1
+        )?;
+        for point in points {
+            let place = (panel.across(point.x), panel.down(point.y));
+            if place != last {
+                self.join(joined, place)?;
+                last = place;
+            }
+        }
+        writeln!(self.text, "\"/>")
+    }
+
+    /// Goes on to a place.
+    fn join(&mut self, joined: Joined, place: (u64, u64)) -> Result<(), AllocError> {
+        let (across, down) = place;
+        match joined {
+            Joined::Straight => write!(self.text, "L{across} {down}"),
+            Joined::Stepped => write!(self.text, "H{across}V{down}"),
+        }
+    }
+
+    /// Marks with their numbers below a panel.
+    fn marks_across(&mut self, panel: &Panel) -> Result<(), AllocError> {
+        let step = panel.x.step(MARKS);
+        let mut value = panel.x.first_mark(step);
+        for _ in 0..2 * MARKS {
+            if value > panel.x.most {
+                return Ok(());
+            }
+            let (across, bottom) = (panel.across(value), panel.bottom());
+            self.grid(across, bottom, across, u64::from(panel.top))?;
+            self.number(across, bottom + 30, Anchor::Middle, panel.x.number(value))?;
+            value = value.saturating_add(step);
+        }
+        Ok(())
+    }
+
+    /// Marks with their numbers left of a panel.
+    fn marks_down(&mut self, panel: &Panel) -> Result<(), AllocError> {
+        let step = panel.y.step(MARKS);
+        let mut value = panel.y.first_mark(step);
+        for _ in 0..2 * MARKS {
+            if value > panel.y.most {
+                return Ok(());
+            }
+            let (left, down) = (u64::from(panel.left), panel.down(value));
+            self.grid(left, down, panel.right(), down)?;
+            self.number(
+                left.saturating_sub(12),
+                down + 8,
+                Anchor::End,
+                panel.y.number(value),
+            )?;
+            value = value.saturating_add(step);
+        }
+        Ok(())
+    }
+
+    /// A faint line from one place to another.
+    fn grid(
+        &mut self,
+        across: u64,
+        down: u64,
+        to_across: u64,
+        to_down: u64,
+    ) -> Result<(), AllocError> {
+        writeln!(
+            self.text,
+            "<path stroke=\"#d8d8d8\" d=\"M{across} {down}L{to_across} {to_down}\"/>"
+        )
+    }
+
+    /// A number at a place.
+    fn number(
+        &mut self,
+        across: u64,
+        down: u64,
+        anchor: Anchor,
+        number: u64,
+    ) -> Result<(), AllocError> {
+        writeln!(
+            self.text,
+            "<text x=\"{across}\" y=\"{down}\" text-anchor=\"{}\">{number}</text>",
+            anchor.word()
+        )
+    }
+
+    /// A text at a place.
+    fn write(
+        &mut self,
+        across: u64,
+        down: u64,
+        anchor: Anchor,
+        text: &str,
+    ) -> Result<(), AllocError> {
+        write!(
+            self.text,
+            "<text x=\"{across}\" y=\"{down}\" text-anchor=\"{}\">",
+            anchor.word()
+        )?;
+        self.escaped(text)?;
+        writeln!(self.text, "</text>")
+    }
+
+    /// A text in which nothing is taken for a tag.
+    fn escaped(&mut self, text: &str) -> Result<(), AllocError> {
+        for letter in text.chars() {
+            match letter {
+                '<' => self.text.push_str("&lt;")?,
+                '>' => self.text.push_str("&gt;")?,
+                '&' => self.text.push_str("&amp;")?,
+                _ => self.text.push(letter)?,
+            }
+        }
+        Ok(())
+    }
+}

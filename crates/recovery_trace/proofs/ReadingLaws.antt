@@ -1,0 +1,59 @@
+-- One byte more of a line, and its end: `next_line` rests on it.
+use Rattle.std.proofs.Common.{◌≡◌, ◌≢◌, ℕ, zero, suc, ◌+◌, ◌<◌, ◌≤◌, List, [], ◌∷◌, ◌++◌, length, take, Option, refl, sym, ap, ◌∙◌, arith, length-append, length-take, take_all}
+use Rattle.std.specs.Prelude.{All}
+use Rattle.std.proofs.lemmas.List.Elements.{All-nil, All-append, All-cons}
+use Rattle.std.specs.Io.KnownBytes.{Consumes}
+use Rattle.std.proofs.KnownBytes.{Consumes-nil, Consumes-trans}
+use Rattle.recovery_trace.specs.declared.reading.Next.TheVariants.{Line}
+use Rattle.recovery_trace.specs.Reading.{IsLine, Kept}
+
+abbrev IsNoFeed : ℕ → Type 0
+IsNoFeed byte = byte ≢ 10
+
+-- what was taken of a line so far, and what is kept of it
+abbrev pub Taken : Option (List ℕ) → Option (List ℕ) → List ℕ → Type 0
+Taken before now kept = (line : List ℕ) × Kept line kept × Consumes before now line
+
+take_front : (n : ℕ) (xs ys : List ℕ) → take n (take n xs ++ ys) ≡ take n (xs ++ ys)
+take_front zero xs ys = refl
+take_front (suc n) [] ys = refl
+take_front (suc n) (x ∷ xs) ys = ap (λ (l : List ℕ). x ∷ l) (take_front n xs ys)
+
+pub none_taken : (before : Option (List ℕ)) (kept : List ℕ) → kept ≡ [] → Taken before before kept
+none_taken before kept none = ([], record { no_feed = All-nil IsNoFeed; is = none }, Consumes-nil before)
+
+pub one_more : (before now after : Option (List ℕ)) (kept new : List ℕ) (byte : ℕ) → Taken before now kept
+    → byte ≢ 10 → Consumes now after (byte ∷ []) → new ≡ take 4097 (kept ++ byte ∷ []) → Taken before after new
+one_more before now after kept new byte taken no_feed one is =
+    let line = taken.0 in (
+      line ++ byte ∷ [],
+      record {
+        no_feed = All-append IsNoFeed line (byte ∷ []) taken.1.no_feed (All-cons IsNoFeed byte [] no_feed
+            (All-nil IsNoFeed));
+        is = is ∙ ap (λ (l : List ℕ). take 4097 (l ++ byte ∷ [])) taken.1.is ∙ take_front 4097 line (byte ∷ []);
+      },
+      Consumes-trans before now after line (byte ∷ []) taken.2 one,
+    )
+
+pub short : (before now : Option (List ℕ)) (kept : List ℕ) → Taken before now kept → length kept ≤ 4097
+short before now kept taken =
+    let cut : length kept ≡ length (take 4097 taken.0) = ap length taken.1.is in
+    omega (arith, cut, length-take 4097 taken.0)
+
+pub line_over : (before now after : Option (List ℕ)) (kept : List ℕ) → Taken before now kept
+    → Consumes now after (10 ∷ []) → IsLine before after kept Line
+line_over before now after kept taken one =
+    (taken.0, taken.1, Consumes-trans before now after taken.0 (10 ∷ []) taken.2 one)
+
+-- a line of 4097 bytes or fewer with one more, of which 4097 are kept
+pub kept_all : (kept : List ℕ) (byte : ℕ) → length kept ≤ 4096 → kept ++ byte ∷ [] ≡ take 4097 (kept ++ byte ∷ [])
+kept_all kept byte le = sym (take_all 4097 (kept ++ byte ∷ []) (omega (arith, length-append kept (byte ∷ []))))
+
+front : (n : ℕ) (xs ys : List ℕ) → length xs ≡ n → take n (xs ++ ys) ≡ xs
+front zero [] ys e = refl
+front zero (x ∷ xs) ys e = absurd (omega arith)
+front (suc n) [] ys e = absurd (omega arith)
+front (suc n) (x ∷ xs) ys e = ap (λ (l : List ℕ). x ∷ l) (front n xs ys (omega arith))
+
+pub kept_full : (kept : List ℕ) (byte : ℕ) → length kept ≡ 4097 → kept ≡ take 4097 (kept ++ byte ∷ [])
+kept_full kept byte full = sym (front 4097 kept (byte ∷ []) full)

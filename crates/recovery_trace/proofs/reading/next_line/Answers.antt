@@ -1,0 +1,18 @@
+use Rattle.std.proofs.Common.{rules}
+use Rattle.recovery_trace.proofs.ReadingLaws.{line_over, one_more, short}
+use Rattle.recovery_trace.proofs.reading.next_line.Goals as goal
+
+pub returns-in-Ok-Some-eq10 : goal.returns-in-Ok-Some-eq10
+returns-in-Ok-Some-eq10 g c =
+    line_over (g.R.Read.remaining c.args.input.now) (g.R.Read.remaining c.loop.input)
+    (g.R.Read.remaining c.next_byte.new.input) c.loop.line.items c.loop.invariant (search rules)
+
+pub keep-requires : goal.keep-requires
+keep-requires g c = short (g.R.Read.remaining c.args.input.now) (g.R.Read.remaining c.loop.input) c.loop.line.items
+    c.loop.invariant
+
+pub loop-preserved : goal.loop-preserved
+loop-preserved g c =
+    one_more (g.R.Read.remaining c.args.input.now) (g.R.Read.remaining c.loop.input)
+    (g.R.Read.remaining c.next_byte.new.input) c.loop.line.items c.keep.new.line.items c.in-Ok-Some.byte
+    c.loop.invariant (search rules) (search rules) c.in-Ok.ensures

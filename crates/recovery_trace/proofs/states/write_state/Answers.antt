@@ -1,0 +1,15 @@
+use Rattle.std.proofs.Common.{rules, string_bytes}
+use lib.Chars.{codes}
+use Rattle.recovery_ledger.specs.Paths.{counters_of}
+use Rattle.recovery_trace.specs.States.{flight_text, window_text, rtt_text, mtu_text}
+use Rattle.recovery_trace.proofs.StatesLaws.{five}
+use Rattle.recovery_trace.proofs.states.write_state.Goals as goal
+
+pub returns : goal.returns
+returns g c =
+    five c.writeln.result (string_bytes c.args.text.now) (string_bytes c.push_str.new.self)
+    (string_bytes c.write_flight.new.text) (string_bytes c.write_window.new.text) (string_bytes c.write_rtt.new.text)
+    (string_bytes c.writeln.new.self) (codes "{") (flight_text (counters_of c.args.path.now.ledger))
+    (window_text (g.C.Controller.words.metrics c.args.path.now.state.controller)) (rtt_text c.args.path.now.state.rtt)
+    (mtu_text c.args.path.now.state.discovery.mtu) (search rules) (search rules) (search rules) (search rules)
+    (search rules)

@@ -1,0 +1,21 @@
+-- What reading one line takes from an input.
+use Rattle.std.specs.Prelude.{◌≡◌, ◌≢◌, ℕ, ◌<◌, ◌≤◌, List, [], ◌∷◌, ◌++◌, length, take, All, Option, None, Some}
+use Rattle.std.specs.Io.KnownBytes.{Consumes, IsAtEnd}
+use Rattle.recovery_trace.specs.declared.reading.Next.{Next}
+use Rattle.recovery_trace.specs.declared.reading.Next.TheVariants.{Line, Last, End}
+
+-- one byte was taken, or the input is over
+abbrev pub IsByte : Option (List ℕ) → Option (List ℕ) → Option ℕ → Type 0
+IsByte before after None = Consumes before after [] × IsAtEnd after
+IsByte before after (Some byte) = Consumes before after (byte ∷ [])
+
+-- a line of which this is kept: all of it, but of a long one no more than tells that it is long
+pub record Kept (line kept : List ℕ) : Type 0 where
+  pub no_feed : All (λ byte. byte ≢ 10) line
+  pub is : kept ≡ take 4097 line
+
+-- a line was taken and its line feed, or the last line without one, or nothing was left
+abbrev pub IsLine : Option (List ℕ) → Option (List ℕ) → List ℕ → Next → Type 0
+IsLine before after kept Line = (line : List ℕ) × Kept line kept × Consumes before after (line ++ 10 ∷ [])
+IsLine before after kept Last = (line : List ℕ) × Kept line kept × Consumes before after line × IsAtEnd after
+IsLine before after kept End = Consumes before after [] × IsAtEnd after

@@ -1,0 +1,41 @@
+-- The line of a path's state.
+use Rattle.std.specs.Prelude.{ℕ, ◌-◌, ◌/◌, ◌^◌, nat_lt, List, [], ◌++◌, Option, Some, None, decimal, if◌then◌else◌}
+use lib.Chars.{codes}
+use Rattle.recovery_congestion.specs.Controllers.{ControllerWords}
+use Rattle.recovery_congestion.specs.Rtt.{Rtt, rtt_get, pto_base_of}
+use Rattle.recovery_congestion.specs.declared.congestion.ControllerMetrics.{ControllerMetrics}
+use Rattle.recovery_ledger.specs.declared.paths.InFlight.{InFlight}
+use Rattle.recovery_ledger.specs.Paths.{counters_of}
+use Rattle.recovery_paths.specs.PathStates.{Path}
+
+abbrev pub flight_text : InFlight → List ℕ
+flight_text flight =
+    codes "\"bytes_in_flight\":" ++ (decimal flight.bytes ++ (codes ",\"packets_in_flight\":"
+    ++ decimal flight.ack_eliciting))
+
+-- none yet where it is infinite (RFC 9002, B.3), which is 2^64 - 1
+abbrev pub threshold_text : Option ℕ → List ℕ
+threshold_text (Some bytes) = if nat_lt bytes (2 ^ 64 - 1) then codes ",\"ssthresh\":" ++ decimal bytes else []
+threshold_text None = []
+
+abbrev pub window_text : ControllerMetrics → List ℕ
+window_text metrics =
+    codes ",\"congestion_window\":" ++ (decimal metrics.congestion_window ++ threshold_text metrics.ssthresh)
+
+-- in milliseconds, as whole nanoseconds with an exponent
+unfoldable pub spans_text : ℕ → ℕ → ℕ → List ℕ
+spans_text smoothed variance least =
+    codes ",\"smoothed_rtt\":" ++ (decimal smoothed ++ (codes "e-6,\"rtt_variance\":" ++ (decimal variance
+    ++ (codes "e-6,\"min_rtt\":" ++ (decimal least ++ codes "e-6")))))
+
+-- the variance is a fourth of what the probe timeout adds to the best estimate (RFC 9002, 6.2.1)
+abbrev pub rtt_text : Rtt → List ℕ
+rtt_text rtt = spans_text (rtt_get rtt) ((pto_base_of rtt - rtt_get rtt) / 4) rtt.least
+
+abbrev pub mtu_text : ℕ → List ℕ
+mtu_text mtu = codes ",\"mtu\":" ++ (decimal mtu ++ codes "}\n")
+
+abbrev pub state_text : {K : Type 0} → ControllerWords K → Path K → List ℕ
+state_text words path =
+    codes "{" ++ (flight_text (counters_of path.ledger) ++ (window_text (words.metrics path.state.controller)
+    ++ (rtt_text path.state.rtt ++ mtu_text path.state.discovery.mtu)))

@@ -1,0 +1,151 @@
+//! What it is of a line that cannot be read.
+ghost use Rattle.std.specs.Prelude.{◌≤◌, IfOk, IsTrue, length};
+ghost use Rattle.recovery_trace.specs.Faults.{Begins, Names};
+
+use quic_recovery::below::NoMemory;
+use recovery_lines::lines::{LINE_LIMIT, read_event};
+use std::alloc::Global;
+
+/// A line for each event, with words that fit.
+const EXAMPLES: [&str; 35] = [
+    "received data 0 0 1",
+    "send data 0 0 1 -",
+    "acked data 0 0 0",
+    "lost data 0",
+    "new-id 0 0 0",
+    "next-id",
+    "initial-id 0",
+    "issue-ids 0 0 0",
+    "id-timeout",
+    "peer-retired 0 0",
+    "ack-frequency 0 0 0 0",
+    "acks-sent data",
+    "ack-delay-timeout data",
+    "set-timer idle 0",
+    "stop-timer idle",
+    "next-timeout",
+    "discard data",
+    "in-flight current",
+    "sample 0 0",
+    "datagram-in current 0",
+    "validated current",
+    "transmit 0 0 1",
+    "pacer-check 0 0",
+    "congestion 0 0 0 0",
+    "end-acks 0 0 -",
+    "poll-mtu 0",
+    "peer-limit 0",
+    "losses-done 0",
+    "ecn data 0 0 0 0",
+    "check-ack data 0 0",
+    "queue-probe data 0",
+    "take-pending data",
+    "new-path 0 0 0",
+    "reset-path 0",
+    "drop-previous",
+];
+
+/// Why a line spells no event.
+#[derive(Clone, Copy)]
+pub enum Fault {
+    /// It has more than 4096 bytes.
+    TooLong,
+    /// Words are missing at its end.
+    TooShort,
+    /// A word cannot stand where it stands, or is one too many.
+    Word {
+        /// Which word of the line, counted from 1.
+        number: u64,
+        /// Where it begins, in bytes from the line's first.
+        start: usize,
+        /// Where it ends.
+        end: usize,
+    },
+}
+
+/// Where the first word of a line ends that begins at a place or behind it.
+fn word_end(line: &[u8], start: usize) -> usize
+    requires { start ≤ length line.now }
+    ensures from { start ≤ result }
+    ensures within { result ≤ length line.now }
+{
+    let mut end = start;
+    while end < line.len() && line[end] != b' ' {
+        end += 1;
+    }
+    end
+}
+
+/// The example of the event whose name bytes are, or none.
+fn example_of(name: &[u8]) -> Option<&'static [u8]> {
+    for example in EXAMPLES {
+        let bytes = example.as_bytes();
+        if &bytes[..word_end(bytes, 0)] == name {
+            return Some(bytes);
+        }
+    }
+    None
+}
+
+/// Do bytes begin a line that spells an event and goes on so?
+fn begins(alloc: Global, front: &[u8], behind: &[u8]) -> Result<bool, NoMemory>
+    ensures { IfOk result (λ does. IsTrue does → Begins front.now) }
+{
+    let mut line = Vec::new(alloc);
+    if line.extend_from_slice(front).is_err() || line.extend_from_slice(behind).is_err() {
+        return Err(NoMemory);
+    }
+    match read_event(alloc, &line) {
+        Ok(read) => Ok(read.is_some()),
+        Err(refused) => Err(refused),
+    }
+}
+
+/// What stands behind the first word of what may begin with a space.
+fn behind_word(words: &[u8]) -> &[u8] {
+    if words.is_empty() {
+        return words;
+    }
+    &words[word_end(words, 1)..]
+}
+
+/// Which word of a line is the first that the words of an example cannot follow.
+fn fault_beside(alloc: Global, line: &[u8], example: &[u8]) -> Result<Fault, NoMemory>
+    requires { length line.now ≤ 4096 }
+    ensures { IfOk result (Names line.now) }
+{
+    let mut behind = example;
+    let mut start = 0;
+    let mut number = 1;
+    while start <= line.len() {
+        let end = word_end(line, start);
+        behind = behind_word(behind);
+        match begins(alloc, &line[..end], behind) {
+            Ok(true) => {}
+            Ok(false) => return Ok(Fault::Word { number, start, end }),
+            Err(refused) => return Err(refused),
+        }
+        start = end + 1;
+        number += 1;
+    }
+    Ok(Fault::TooShort)
+}
+
+/// Why a line spells no event that is known to spell none. What stands before the word that is named begins a line that
+/// spells one.
+pub fn fault_in(alloc: Global, line: &[u8]) -> Result<Fault, NoMemory>
+    ensures { IfOk result (Names line.now) }
+{
+    if line.len() > LINE_LIMIT {
+        return Ok(Fault::TooLong);
+    }
+    let end = word_end(line, 0);
+    match example_of(&line[..end]) {
+        Some(example) => fault_beside(alloc, line, example),
+        None => Ok(Fault::Word {
+            number: 1,
+            start: 0,
+            end,
+        }),
+    }
+}

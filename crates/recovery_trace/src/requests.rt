@@ -1,0 +1,121 @@
+//! What the arguments ask for.
+use recovery_lines::number_in;
+use recovery_replay::fixed_window::FixedWindowConfig;
+
+/// How the program is called.
+pub const USAGE: &str = "usage: recovery-trace [--state] [--strict] [SEED [WINDOW]]\n";
+
+/// What `--version` writes.
+pub const VERSION: &str = "recovery-trace 0.11.19\n";
+
+/// What `--help` writes behind the usage.
+pub const HELP: &str = "\
+Answers events one at a time: reads a line, writes its answer, reads the next.
+
+  SEED       skips packet numbers as this seed draws them (0 to 18446744073709551615); -, or none: skips none
+  WINDOW     a congestion window that never changes, in bytes, above 0; none: NewReno
+  --state    writes a JSON object behind each answer: what is in flight, the window, the RTT, the MTU
+  --strict   stops at the first line that cannot be read; without it that line is named and passed over
+  --help     writes this
+  --version  writes which recovery this is
+
+Lines are those of recovery-replay. Empty lines, and those that begin with #, are passed over.
+Status: 0, or 1 where reading, writing or memory failed, or 2 where a line or the arguments could not be read.
+";
+
+/// What a trace is to do.
+#[derive(Clone, Copy)]
+pub struct Choice {
+    /// What skipped numbers are drawn by; without it none is skipped.
+    pub seed: Option<u64>,
+    /// The window of each controller, in bytes; without it they are NewReno's.
+    pub fixed: Option<FixedWindowConfig>,
+    /// Whether the state is written behind each answer.
+    pub shows: bool,
+    /// Whether the first line that cannot be read ends the trace.
+    pub is_strict: bool,
+}
+
+/// What the arguments ask for.
+#[derive(Clone, Copy)]
+pub enum Request {
+    /// A trace.
+    Trace(Choice),
+    /// How the program is called.
+    Help,
+    /// Which recovery it is.
+    Version,
+    /// Nothing that it knows.
+    Unknown,
+}
+
+/// How many words that are no flag came already.
+#[derive(Clone, Copy)]
+enum Place {
+    Seed,
+    Window,
+    End,
+}
+
+/// The choice with a seed, where the word is one: a number, or `-` for none.
+fn with_seed(choice: Choice, word: &[u8]) -> Option<Choice> {
+    if word == "-".as_bytes() {
+        return Some(Choice {
+            seed: None,
+            ..choice
+        });
+    }
+    let seed = number_in(word)?;
+    Some(Choice {
+        seed: Some(seed),
+        ..choice
+    })
+}
+
+/// The choice with a window, where the word is one: a number above zero.
+fn with_window(choice: Choice, word: &[u8]) -> Option<Choice> {
+    match number_in(word)? {
+        0 => None,
+        window => Some(Choice {
+            fixed: Some(FixedWindowConfig::new(window)),
+            ..choice
+        }),
+    }
+}
+
+/// The choice with a word that is no flag.
+fn with_word(choice: Choice, place: Place, word: &[u8]) -> Option<(Choice, Place)> {
+    match place {
+        Place::Seed => Some((with_seed(choice, word)?, Place::Window)),
+        Place::Window => Some((with_window(choice, word)?, Place::End)),
+        Place::End => None,
+    }
+}
+
+/// What the words behind the program's name ask for. Flags may stand anywhere; the first of `--help` and `--version` decides,
+/// unless a word before it is unknown.
+pub fn request_of(words: &[String]) -> Request {
+    let mut choice = Choice {
+        seed: None,
+        fixed: None,
+        shows: false,
+        is_strict: false,
+    };
+    let mut place = Place::Seed;
+    for word in words {
+        match word.as_bytes() {
+            b"--help" => return Request::Help,
+            b"--version" => return Request::Version,
+            b"--state" => choice.shows = true,
+            b"--strict" => choice.is_strict = true,
+            word => match with_word(choice, place, word) {
+                Some((with, next)) => {
+                    choice = with;
+                    place = next;
+                }
+                None => return Request::Unknown,
+            },
+        }
+    }
+    Request::Trace(choice)
+}

@@ -1,0 +1,80 @@
+//! The state of a path as one JSON object, by the names that qlog gives to metrics of recovery.
+ghost use Rattle.std.specs.Prelude.{◌≡◌, ◌++◌, OnOk, string_bytes};
+ghost use Rattle.recovery_trace.specs.States.{flight_text, window_text, spans_text, rtt_text, state_text};
+
+use quic_recovery::congestion::{Controller, ControllerMetrics};
+use quic_recovery::paths::{InFlight, PathData};
+use quic_recovery::rtt::RttEstimator;
+use std::alloc::AllocError;
+
+/// Bytes, and packets that elicit an ACK (RFC 9002, B.2).
+fn write_flight(text: &mut String, flight: InFlight) -> Result<(), AllocError>
+    ensures { OnOk result (string_bytes text.new ≡ string_bytes text.old ++ flight_text flight) }
+{
+    let bytes = flight.bytes;
+    let packets = flight.ack_eliciting;
+    write!(
+        text,
+        "\"bytes_in_flight\":{bytes},\"packets_in_flight\":{packets}"
+    )
+}
+
+/// The window and the slow start threshold, in bytes; no threshold where there is none yet (RFC 9002, B.3: infinite).
+fn write_window(text: &mut String, metrics: &ControllerMetrics) -> Result<(), AllocError>
+    ensures { OnOk result (string_bytes text.new ≡ string_bytes text.old ++ window_text metrics.now) }
+{
+    let window = metrics.congestion_window;
+    match metrics.ssthresh {
+        Some(ssthresh) if ssthresh < u64::MAX => write!(
+            text,
+            ",\"congestion_window\":{window},\"ssthresh\":{ssthresh}"
+        ),
+        _ => write!(text, ",\"congestion_window\":{window}"),
+    }
+}
+
+/// Spans in milliseconds, exact: whole nanoseconds with the exponent of a JSON number.
+#[tactic(auto, unfolding(crate::specs::States::spans_text))]
+fn write_spans(
+    text: &mut String,
+    smoothed: u128,
+    variance: u128,
+    least: u128,
+) -> Result<(), AllocError>
+    ensures { OnOk result (string_bytes text.new ≡ string_bytes text.old ++ spans_text smoothed variance least) }
+{
+    write!(
+        text,
+        ",\"smoothed_rtt\":{smoothed}e-6,\"rtt_variance\":{variance}e-6,\"min_rtt\":{least}e-6"
+    )
+}
+
+/// The round-trip times (RFC 9002, 5): the best estimate, its variance as the probe timeout counts it, which is 0.25 ms at
+/// least (RFC 9002, 6.2.1), and the least sample.
+fn write_rtt(text: &mut String, rtt: &RttEstimator) -> Result<(), AllocError>
+    ensures { OnOk result (string_bytes text.new ≡ string_bytes text.old ++ rtt_text rtt.now) }
+{
+    let best = rtt.get();
+    let deviation = rtt.pto_base().saturating_sub(best);
+    write_spans(
+        text,
+        best.as_nanos(),
+        deviation.as_nanos() / 4,
+        rtt.min().as_nanos(),
+    )
+}
+
+/// Appends the line of a path's state. The one refusal is want of memory; nothing is then promised of the text.
+pub fn write_state<C: Controller + Drop>(
+    text: &mut String,
+    path: &PathData<C>,
+) -> Result<(), AllocError>
+    ensures { OnOk result (string_bytes text.new ≡ string_bytes text.old ++ state_text C.words path.now) }
+{
+    text.push_str("{")?;
+    write_flight(text, path.in_flight())?;
+    write_window(text, &path.congestion.metrics())?;
+    write_rtt(text, &path.rtt)?;
+    let mtu = path.current_mtu();
+    writeln!(text, ",\"mtu\":{mtu}}}")
+}

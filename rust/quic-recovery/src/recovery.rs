@@ -1,0 +1,413 @@
+//! The loss recovery of one connection, behind its safe interface.
+use crate::config::{address, ConfigError, RecoveryConfig};
+use crate::event::{Answer, Event, Refusal, SendableFrames};
+use crate::ffi;
+use crate::types::{Instant, PathName, SpaceId, Timer};
+use std::cell::UnsafeCell;
+use std::fmt;
+use std::ops::Range;
+use std::ptr::null_mut;
+use std::time::Duration;
+
+/// What is kept for a path. Spans stop at `u64::MAX` nanoseconds.
+#[derive(Clone, Copy, Debug, PartialEq, Eq)]
+pub struct PathStats {
+    /// How many bytes may be in flight (RFC 9002, 7).
+    pub window: u64,
+    /// The bytes in flight (RFC 9002, B.2).
+    pub in_flight: u64,
+    /// How many packets in flight elicit an ACK.
+    pub ack_eliciting: u64,
+    /// The bytes of the datagrams transmitted.
+    pub total_sent: u64,
+    /// The bytes of the datagrams that came in.
+    pub total_recvd: u64,
+    /// The round-trip time.
+    pub rtt: RttEstimate,
+    /// The MTU in use, in bytes (RFC 9000, 14.3).
+    pub current_mtu: u16,
+    /// Whether the peer was seen to receive there (RFC 9000, 8).
+    pub validated: bool,
+}
+
+/// The estimate of a round-trip time (RFC 9002, 5).
+#[derive(Clone, Copy, Debug, PartialEq, Eq)]
+pub struct RttEstimate {
+    /// The best estimate: the smoothed one, or the initial one before the first sample (RFC 9002, 5.3).
+    pub get: Duration,
+    /// The greater of that and the last sample, by which losses are judged (RFC 9002, 6.1.2).
+    pub conservative: Duration,
+    /// The least sample (RFC 9002, 5.2).
+    pub min: Duration,
+    /// The probe timeout without the peer's delay of ACKs (RFC 9002, 6.2.1).
+    pub pto_base: Duration,
+}
+
+/// What a packet number space has to send.
+#[derive(Clone, Copy, Debug, PartialEq, Eq)]
+pub struct SpaceStats {
+    /// The largest packet number received; 0 before the first.
+    pub largest_received: u64,
+    /// How many ranges of numbers are to be acknowledged.
+    pub ranges: usize,
+    /// What can be sent.
+    pub can_send: SendableFrames,
+}
+
+/// The ids of both ends, and how late ACKs may be.
+#[derive(Clone, Copy, Debug, PartialEq, Eq)]
+pub struct IdStats {
+    /// The number of the peer's id in use.
+    pub active: u64,
+    /// How many ids this end has issued.
+    pub issued: u64,
+    /// The peer is asked to retire this end's ids below this number.
+    pub retire_prior_to: u64,
+    /// How late this end's ACKs may be.
+    pub max_ack_delay: Duration,
+}
+
+/// The loss recovery of one connection. It reads no clock and sends nothing: events with their moments go in, and answers
+/// come out. What each call answers is proved: whatever events came before, the answer is what they say.
+///
+/// It may move to another thread, and be used by one at a time.
+pub struct Recovery {
+    /// It holds a recovery from `new` to `drop`. The library moves its bytes while it reads them, so also to read it a
+    /// pointer is needed through which is written; no call is made within another.
+    handle: UnsafeCell<ffi::Handle>,
+}
+
+// SAFETY: the handle owns one block of memory and all that it leads to. The library has no thread locals and no statics that
+// change, and takes and frees memory by `malloc` and `free`, which any thread may call.
+unsafe impl Send for Recovery {}
+
+impl fmt::Debug for Recovery {
+    fn fmt(&self, f: &mut fmt::Formatter<'_>) -> fmt::Result {
+        f.debug_struct("Recovery")
+            .field("path", &self.path(PathName::Current))
+            .finish_non_exhaustive()
+    }
+}
+
+impl Drop for Recovery {
+    fn drop(&mut self) {
+        // SAFETY: the handle holds a recovery, and is not used again.
+        unsafe { ffi::recovery_ffi_drop(self.handle.get()) }
+    }
+}
+
+fn is_previous(path: PathName) -> bool {
+    path == PathName::Previous
+}
+
+/// An event that is handed to the library.
+///
+/// # Safety
+///
+/// The handle holds a recovery, and nothing else uses it during the call.
+#[inline(always)]
+unsafe fn hand_in(handle: *mut ffi::Handle, event: Event<'_>) -> ffi::Reply {
+    use ffi::*;
+    // SAFETY: as this function's; slices are passed by their own pointers and lengths, ids have at most 20 bytes, numbers of
+    // frames lie below 2^62, and nanoseconds below a second are fewer than 10^9, by their types.
+    unsafe {
+        match event {
+            Event::Received {
+                space,
+                now,
+                number,
+                ack_eliciting,
+            } => recovery_ffi_received(handle, space as u8, now.as_nanos(), number, ack_eliciting),
+            Event::Send {
+                space,
+                now,
+                size,
+                ack_eliciting,
+                largest_acked,
+                queue,
+            } => recovery_ffi_send(
+                handle,
+                space as u8,
+                now.as_nanos(),
+                size,
+                ack_eliciting,
+                largest_acked.is_some(),
+                largest_acked.unwrap_or(0),
+                queue.as_ptr(),
+                queue.len(),
+            ),
+            Event::Acked {
+                space,
+                now,
+                number,
+                app_limited,
+            } => recovery_ffi_acked(handle, space as u8, now.as_nanos(), number, app_limited),
+            Event::Lost { space, number } => recovery_ffi_lost(handle, space as u8, number),
+            Event::NewId(frame) => recovery_ffi_new_id(
+                handle,
+                frame.sequence,
+                frame.retire_prior_to,
+                frame.id.as_ptr(),
+                frame.id.len(),
+                frame.reset_token.bytes(),
+            ),
+            Event::NextId => recovery_ffi_next_id(handle),
+            Event::InitialId(id) => recovery_ffi_initial_id(handle, id.as_ptr(), id.len()),
+            Event::IssueIds { now, ids } => {
+                recovery_ffi_issue_ids(handle, now.as_nanos(), ids.as_ptr().cast::<Id>(), ids.len())
+            }
+            Event::IdTimeout => recovery_ffi_id_timeout(handle),
+            Event::PeerRetired { sequence, limit } => {
+                recovery_ffi_peer_retired(handle, sequence, limit)
+            }
+            Event::AckFrequencyIn(frame) => recovery_ffi_ack_frequency(
+                handle,
+                frame.sequence.into_inner(),
+                frame.ack_eliciting_threshold.into_inner(),
+                frame.request_max_ack_delay.into_inner(),
+                frame.reordering_threshold.into_inner(),
+            ),
+            Event::AcksSent { space } => recovery_ffi_acks_sent(handle, space as u8),
+            Event::AckDelayTimeout { space } => recovery_ffi_ack_delay_timeout(handle, space as u8),
+            Event::SetTimer { timer, time } => {
+                recovery_ffi_set_timer(handle, timer as u8, time.as_nanos())
+            }
+            Event::StopTimer { timer } => recovery_ffi_stop_timer(handle, timer as u8),
+            Event::NextTimeout => recovery_ffi_next_timeout(handle),
+            Event::DiscardSpace { space } => recovery_ffi_discard(handle, space as u8),
+            Event::InFlight { path } => recovery_ffi_in_flight(handle, is_previous(path)),
+            Event::Sample { delay, rtt } => recovery_ffi_sample(
+                handle,
+                delay.as_secs(),
+                delay.subsec_nanos(),
+                rtt.as_secs(),
+                rtt.subsec_nanos(),
+            ),
+            Event::DatagramIn { path, bytes } => {
+                recovery_ffi_datagram_in(handle, is_previous(path), bytes)
+            }
+            Event::Validated { path } => recovery_ffi_validated(handle, is_previous(path)),
+            Event::Transmit {
+                now,
+                bytes,
+                checked,
+            } => recovery_ffi_transmit(handle, now.as_nanos(), bytes, checked),
+            Event::PacerCheck { now, bytes } => {
+                recovery_ffi_pacer_check(handle, now.as_nanos(), bytes)
+            }
+            Event::Congestion {
+                now,
+                sent,
+                persistent,
+                bytes,
+            } => {
+                recovery_ffi_congestion(handle, now.as_nanos(), sent.as_nanos(), persistent, bytes)
+            }
+            Event::EndAcks {
+                now,
+                app_limited,
+                largest,
+            } => recovery_ffi_end_acks(
+                handle,
+                now.as_nanos(),
+                app_limited,
+                largest.is_some(),
+                largest.unwrap_or(0),
+            ),
+            Event::PollMtu { now } => recovery_ffi_poll_mtu(handle, now.as_nanos()),
+            Event::PeerLimit { size } => recovery_ffi_peer_limit(handle, size),
+            Event::LossesDone { now } => recovery_ffi_losses_done(handle, now.as_nanos()),
+            Event::Ecn {
+                space,
+                newly_acked,
+                counts,
+            } => recovery_ffi_ecn(
+                handle,
+                space as u8,
+                newly_acked,
+                counts.ect0,
+                counts.ect1,
+                counts.ce,
+            ),
+            Event::CheckAck { space, low, high } => {
+                recovery_ffi_check_ack(handle, space as u8, low, high)
+            }
+            Event::QueueProbe {
+                space,
+                immediate_ack,
+            } => recovery_ffi_queue_probe(handle, space as u8, immediate_ack),
+            Event::TakePending { space } => recovery_ffi_take_pending(handle, space as u8),
+            Event::NewPath { now, remote, fresh } => {
+                recovery_ffi_new_path(handle, now.as_nanos(), &address(remote), fresh)
+            }
+            Event::ResetPath { now } => recovery_ffi_reset_path(handle, now.as_nanos()),
+            Event::DropPrevious => recovery_ffi_drop_previous(handle),
+        }
+    }
+}
+
+impl Recovery {
+    /// A recovery to which nothing has happened yet, made at the moment `now`. Settings that the library does not take are
+    /// refused.
+    pub fn new(config: &RecoveryConfig, now: Instant) -> Result<Self, ConfigError> {
+        let settings = config.settings()?;
+        let id: &[u8] = &config.initial_cid;
+        let mut handle = ffi::Handle { ptr: null_mut() };
+        // SAFETY: the handle holds nothing, the settings were checked, and an id has at most 20 bytes.
+        let is_made = unsafe {
+            ffi::recovery_ffi_new(
+                &mut handle,
+                &settings,
+                &address(config.remote),
+                id.as_ptr(),
+                id.len(),
+                now.as_nanos(),
+            )
+        };
+        if !is_made {
+            return Err(ConfigError::NoMemory);
+        }
+        Ok(Recovery {
+            handle: UnsafeCell::new(handle),
+        })
+    }
+
+    /// One event, whole or not done: after a refusal the state is as it was before.
+    #[inline]
+    pub fn apply(&mut self, event: Event<'_>) -> Result<Answer, Refusal> {
+        // SAFETY: the handle holds a recovery, and `self` is borrowed alone.
+        let reply = unsafe { hand_in(self.handle.get_mut(), event) };
+        self.read(reply)
+    }
+
+    /// What a reply in numbers says.
+    #[inline]
+    fn read(&self, reply: ffi::Reply) -> Result<Answer, Refusal> {
+        let ffi::Reply {
+            kind,
+            refusal,
+            flag,
+            other,
+            size,
+            first,
+            second,
+        } = reply;
+        Ok(match kind {
+            0 => Answer::New { arm: flag },
+            1 => Answer::Duplicate,
+            2 => Answer::Sent {
+                number: first,
+                forgotten: flag.then_some(second),
+            },
+            3 => Answer::Acked { probe: flag },
+            4 => Answer::Lost { probe: flag },
+            5 => Answer::Retire(flag.then_some(first..second)),
+            6 => Answer::Flag(flag),
+            7 => Answer::Timeout(flag.then_some(Instant::from_nanos(first))),
+            8 => Answer::InFlight {
+                bytes: first,
+                ack_eliciting: second,
+            },
+            9 => Answer::Transmitted,
+            10 => Answer::Blocked,
+            11 => Answer::Delayed(Instant::from_nanos(first)),
+            12 => Answer::Ready,
+            13 => Answer::Probe {
+                number: first,
+                size,
+            },
+            14 => Answer::NoProbe,
+            15 => Answer::BlackHole(flag),
+            16 => Answer::Sendable(SendableFrames { acks: flag, other }),
+            17 => Answer::Queue(self.taken()?),
+            18 => Answer::Done,
+            _ => return Err(Refusal::from_number(refusal, first)),
+        })
+    }
+
+    /// The items that were taken last. Refused by `NoMemory` alone.
+    pub fn taken(&self) -> Result<Vec<u64>, Refusal> {
+        let mut items: Vec<u64> = Vec::new();
+        // SAFETY: the handle holds a recovery, and a slice of no items is written to nowhere.
+        let count = unsafe { ffi::recovery_ffi_taken(self.handle.get(), items.as_mut_ptr(), 0) };
+        if count > 0 {
+            items
+                .try_reserve_exact(count)
+                .map_err(|_| Refusal::NoMemory)?;
+            items.resize(count, 0);
+            // SAFETY: the same, and so many items are there.
+            unsafe { ffi::recovery_ffi_taken(self.handle.get(), items.as_mut_ptr(), count) };
+        }
+        Ok(items)
+    }
+
+    /// Whether these are the bytes of the token that came with the last `Answer::Retire` of an id: by them, at the end of a
+    /// datagram, the peer says that it has lost the connection (RFC 9000, 10.3.1). All zeros before there was one.
+    pub fn is_reset_token(&self, token: &[u8; 16]) -> bool {
+        // SAFETY: the handle holds a recovery, and no other call runs.
+        unsafe { ffi::recovery_ffi_is_token(self.handle.get(), token) }
+    }
+
+    /// What is kept for a path; `None` where there is no such path.
+    pub fn path(&self, path: PathName) -> Option<PathStats> {
+        // SAFETY: the handle holds a recovery, and no other call runs.
+        let view = unsafe { ffi::recovery_ffi_path(self.handle.get(), is_previous(path)) };
+        view.lives.then(|| PathStats {
+            window: view.window,
+            in_flight: view.in_flight,
+            ack_eliciting: view.ack_eliciting,
+            total_sent: view.total_sent,
+            total_recvd: view.total_recvd,
+            rtt: RttEstimate {
+                get: Duration::from_nanos(view.rtt),
+                conservative: Duration::from_nanos(view.rtt_conservative),
+                min: Duration::from_nanos(view.rtt_min),
+                pto_base: Duration::from_nanos(view.pto_base),
+            },
+            current_mtu: view.mtu,
+            validated: view.validated,
+        })
+    }
+
+    /// What a space has to send; `None` once it is discarded.
+    pub fn space(&self, space: SpaceId) -> Option<SpaceStats> {
+        // SAFETY: the handle holds a recovery, and no other call runs.
+        let view = unsafe { ffi::recovery_ffi_space(self.handle.get(), space as u8) };
+        view.lives.then(|| SpaceStats {
+            largest_received: view.largest_received,
+            ranges: usize::try_from(view.ranges).unwrap_or(usize::MAX),
+            can_send: SendableFrames {
+                acks: view.acks,
+                other: view.other,
+            },
+        })
+    }
+
+    /// The ranges of numbers that are to be acknowledged in a space, in ascending order.
+    pub fn ranges(&self, space: SpaceId) -> impl Iterator<Item = Range<u64>> + '_ {
+        (0..).map_while(move |index| {
+            // SAFETY: the handle holds a recovery, and no other call runs.
+            let view = unsafe { ffi::recovery_ffi_range(self.handle.get(), space as u8, index) };
+            view.some.then_some(view.start..view.end)
+        })
+    }
+
+    /// When a timer expires, if it is set.
+    pub fn timer(&self, timer: Timer) -> Option<Instant> {
+        // SAFETY: the handle holds a recovery, and no other call runs.
+        let view = unsafe { ffi::recovery_ffi_timer(self.handle.get(), timer as u8) };
+        view.some.then_some(Instant::from_nanos(view.nanos))
+    }
+
+    /// The ids of both ends, and how late ACKs may be.
+    pub fn ids(&self) -> IdStats {
+        // SAFETY: the handle holds a recovery, and no other call runs.
+        let view = unsafe { ffi::recovery_ffi_ids(self.handle.get()) };
+        IdStats {
+            active: view.active,
+            issued: view.issued,
+            retire_prior_to: view.retire_prior_to,
+            max_ack_delay: Duration::from_nanos(view.max_ack_delay),
+        }
+    }
+}

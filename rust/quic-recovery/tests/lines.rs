@@ -1,0 +1,79 @@
+//! Lines through the crate, beside what the program writes.
+mod common;
+
+use common::{answers, answers_of, fresh, program, root, Events};
+use std::collections::BTreeSet;
+use std::fs;
+
+/// How many random events, unless `QUIC_RECOVERY_EVENTS` says.
+const EVENTS: usize = 100_000;
+
+/// How many events one recovery sees.
+const EACH: usize = 5_000;
+
+fn lines_of(text: &str) -> Vec<String> {
+    text.lines().map(str::to_owned).collect()
+}
+
+/// The examples of the repository, each with what the program writes for it.
+#[test]
+fn examples() {
+    let mut seen = 0;
+    for entry in fs::read_dir(root().join("examples")).unwrap() {
+        let path = entry.unwrap().path();
+        if path.extension().is_some_and(|it| it == "txt") {
+            let script = lines_of(&fs::read_to_string(&path).unwrap());
+            let wanted = lines_of(&fs::read_to_string(path.with_extension("out")).unwrap());
+            let found = answers(&mut fresh(None, None), &script);
+            assert_eq!(found, wanted, "{}", path.display());
+            seen += 1;
+        }
+    }
+    assert!(seen > 5);
+}
+
+/// Random events; with no proved program there is nothing to compare with, and the test says so.
+#[test]
+fn random_events() {
+    let Some(program) = program() else {
+        println!("there is no proved program: ./prove builds it");
+        return;
+    };
+    let count = std::env::var("QUIC_RECOVERY_EVENTS").ok();
+    let count = count.map_or(EVENTS, |it| it.parse().unwrap());
+    for seed in 0..(count / EACH) as u64 {
+        let script = Events::new(seed).lines(EACH);
+        let window = (seed % 3 == 2).then_some(10_000 + 1000 * seed);
+        let seed = (seed % 2 == 1).then_some(seed);
+        let found = answers(&mut fresh(seed, window), &script);
+        let wanted = answers_of(&program, seed, window, &script);
+        for (at, (found, wanted)) in found.iter().zip(&wanted).enumerate() {
+            assert_eq!(found, wanted, "seed {seed:?}, line {at}: {}", script[at]);
+        }
+        assert_eq!(found.len(), wanted.len());
+    }
+}
+
+/// What events come to: each answer, and each refusal but want of memory, that no number is left, and that no ids are in use.
+const KINDS: &str = "new duplicate sent acked lost retire yes no timeout in-flight transmitted blocked delayed ready probe \
+    black-hole sendable queue done NumberTooLarge NotTracked SpaceDiscarded NoSuchPath Searching ZeroMtu Overflow Retired \
+    ExceedsLimit BadRetirePriorTo UnissuedCid DelayTooSmall SkippedAcked Ecn NotInitialId BadRange Conflict";
+
+/// The events that are compared are not all of a few kinds.
+#[test]
+fn random_events_come_to_all() {
+    let mut seen = BTreeSet::new();
+    for seed in 0..20 {
+        let script = Events::new(seed).lines(EACH);
+        for answer in answers(&mut fresh(Some(seed), None), &script) {
+            let mut words = answer.split(' ');
+            let kind = match words.next() {
+                Some("refused") => words.nth(1),
+                other => other,
+            };
+            seen.insert(kind.unwrap().to_owned());
+        }
+    }
+    let wanted: BTreeSet<String> = KINDS.split(' ').map(str::to_owned).collect();
+    assert_eq!(seen, wanted);
+}

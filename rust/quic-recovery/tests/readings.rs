@@ -1,0 +1,174 @@
+//! What of a recovery can be read.
+use quic_recovery::*;
+use std::net::SocketAddr;
+use std::time::Duration;
+
+fn at(nanos: u64) -> Instant {
+    Instant::from_nanos(nanos)
+}
+
+fn fresh() -> Recovery {
+    Recovery::new(&RecoveryConfig::default(), at(0)).unwrap()
+}
+
+fn apply(recovery: &mut Recovery, event: Event<'_>) -> Answer {
+    recovery.apply(event).unwrap()
+}
+
+/// The defaults of RFC 9002: a window of 12,000 bytes, an RTT of 333 ms, and a variance of half of it.
+#[test]
+fn a_fresh_path() {
+    let path = fresh().path(PathName::Current).unwrap();
+    assert_eq!(
+        (path.window, path.in_flight, path.ack_eliciting),
+        (12_000, 0, 0)
+    );
+    assert_eq!(
+        (path.total_sent, path.total_recvd, path.current_mtu),
+        (0, 0, 1200)
+    );
+    let initial = Duration::from_millis(333);
+    let rtt = path.rtt;
+    assert_eq!(
+        (rtt.get, rtt.conservative, rtt.min),
+        (initial, initial, initial)
+    );
+    assert_eq!(rtt.pto_base, Duration::from_millis(333 + 4 * 333 / 2));
+    assert!(!path.validated);
+    assert_eq!(fresh().path(PathName::Previous), None);
+}
+
+#[test]
+fn paths() {
+    let mut recovery = fresh();
+    let delay = Duration::ZERO;
+    for millis in [100, 60] {
+        let rtt = Duration::from_millis(millis);
+        apply(&mut recovery, Event::Sample { delay, rtt });
+    }
+    let path = recovery.path(PathName::Current).unwrap();
+    assert_eq!(path.rtt.get, Duration::from_millis((7 * 100 + 60) / 8));
+    assert_eq!(path.rtt.conservative, Duration::from_millis(95));
+    assert_eq!(path.rtt.min, Duration::from_millis(60));
+    let remote: SocketAddr = "[2001:db8::1]:443".parse().unwrap();
+    let now = at(1);
+    let fresh = true;
+    apply(&mut recovery, Event::NewPath { now, remote, fresh });
+    let current = recovery.path(PathName::Current).unwrap();
+    assert_eq!(current.rtt.get, Duration::from_millis(333));
+    assert_eq!(recovery.path(PathName::Previous), Some(path));
+}
+
+#[test]
+fn spaces() {
+    let mut recovery = fresh();
+    let space = SpaceId::Data;
+    for number in [0, 1, 5, 6, 9] {
+        let now = at(number);
+        let ack_eliciting = true;
+        apply(
+            &mut recovery,
+            Event::Received {
+                space,
+                now,
+                number,
+                ack_eliciting,
+            },
+        );
+    }
+    let found: Vec<_> = recovery.ranges(space).collect();
+    assert_eq!(found, [0..2, 5..7, 9..10]);
+    let stats = recovery.space(space).unwrap();
+    assert_eq!((stats.largest_received, stats.ranges), (9, 3));
+    assert_eq!(
+        stats.can_send,
+        SendableFrames {
+            acks: true,
+            other: false
+        }
+    );
+    let space = SpaceId::Initial;
+    apply(&mut recovery, Event::DiscardSpace { space });
+    assert_eq!(recovery.space(space), None);
+    assert_eq!(recovery.ranges(space).count(), 0);
+}
+
+#[test]
+fn timers() {
+    let mut recovery = fresh();
+    let timer = Timer::Pacing;
+    assert_eq!(recovery.timer(timer), None);
+    apply(&mut recovery, Event::SetTimer { timer, time: at(7) });
+    for it in Timer::VALUES {
+        assert_eq!(recovery.timer(it), (it == timer).then_some(at(7)));
+    }
+}
+
+#[test]
+fn ids() {
+    let mut recovery = fresh();
+    for sequence in [1, 2] {
+        let frame = NewConnectionId {
+            sequence,
+            retire_prior_to: 0,
+            id: ConnectionId::from([sequence as u8; 8]),
+            reset_token: ResetToken::from([sequence as u8; 16]),
+        };
+        apply(&mut recovery, Event::NewId(frame));
+    }
+    assert_eq!(
+        apply(&mut recovery, Event::NextId),
+        Answer::Retire(Some(0..1))
+    );
+    assert_eq!(recovery.ids().active, 1);
+    assert!(recovery.is_reset_token(&[1; 16]));
+    assert!(!recovery.is_reset_token(&[2; 16]));
+    let ids: Vec<IssuedCid> = (1..=3)
+        .map(|it| IssuedCid::new(it, ConnectionId::from([9; 8]), ResetToken::from([9; 16])))
+        .collect();
+    let now = at(5);
+    assert_eq!(
+        apply(&mut recovery, Event::IssueIds { now, ids: &ids }),
+        Answer::Done
+    );
+    let stats = recovery.ids();
+    assert_eq!((stats.issued, stats.retire_prior_to), (4, 0));
+    assert_eq!(stats.max_ack_delay, Duration::from_millis(25));
+    assert_eq!(
+        recovery.apply(Event::IssueIds { now, ids: &ids }),
+        Err(Refusal::BadRange)
+    );
+}
+
+/// Each fault of the counts of ECN (RFC 9000, 13.4.2.1), by counts that have it behind counts (3, 0, 2).
+#[test]
+fn faults_of_ecn() {
+    let rows = [
+        ((2, 0, 2), 0, EcnFault::Ect0Falls),
+        ((3, 0, 1), 0, EcnFault::CeFalls),
+        ((4, 0, 2), 2, EcnFault::Bleached),
+        ((4, 1, 2), 1, EcnFault::Corrupted),
+    ];
+    let space = SpaceId::Data;
+    for ((ect0, ect1, ce), newly_acked, fault) in rows {
+        let mut recovery = fresh();
+        let counts = EcnCounts {
+            ect0: 3,
+            ect1: 0,
+            ce: 2,
+        };
+        let event = Event::Ecn {
+            space,
+            newly_acked: 5,
+            counts,
+        };
+        assert_eq!(apply(&mut recovery, event), Answer::Flag(true));
+        let counts = EcnCounts { ect0, ect1, ce };
+        let event = Event::Ecn {
+            space,
+            newly_acked,
+            counts,
+        };
+        assert_eq!(recovery.apply(event), Err(Refusal::Ecn(fault)));
+    }
+}

@@ -1,0 +1,169 @@
+#!/usr/bin/env python3
+"""recovery-trace as a process: it answers each script that the repository has as the file beside it says, one line at a time, in
+memory that does not grow with the input; what it tells of lines and arguments that it cannot read; the example of its page.
+
+An argument is another program to try in place of the proved one."""
+import json
+import os
+import pathlib
+import re
+import subprocess
+import sys
+import threading
+
+ROOT = pathlib.Path(__file__).resolve().parent.parent
+PROGRAM = ROOT / "crates" / "recovery_trace_program" / "out" / "recovery_trace_program"
+REPLAY = ROOT / "crates" / "recovery_program" / "out" / "recovery_program"
+METRICS = {"bytes_in_flight", "packets_in_flight", "congestion_window", "smoothed_rtt", "rtt_variance", "min_rtt", "mtu"}
+GOOD, ANSWER = "next-timeout", "timeout none"
+USAGE = "usage: recovery-trace [--state] [--strict] [SEED [WINDOW]]\n"
+
+# a line that cannot be read, and what is told of it behind its number
+BAD = [
+    ("nonsense 1", 'cannot read word 1, "nonsense"'),
+    (" next-timeout", 'cannot read word 1, ""'),
+    ("received data 0 x 1", 'cannot read word 4, "x"'),
+    ("received 0 0 0 1", 'cannot read word 2, "0"'),
+    ("received data 18446744073709551616 0 1", 'cannot read word 3, "18446744073709551616"'),
+    ("received data 00 0 1", 'cannot read word 3, "00"'),
+    ("received data 0 0 2", 'cannot read word 5, "2"'),
+    ("received data 0 0 1 ", 'cannot read word 6, ""'),
+    ("send data 0 65536 1 -", 'cannot read word 4, "65536"'),
+    ("send data 0 1200 1 - 7 y", 'cannot read word 8, "y"'),
+    ("issue-ids 0 18446744073709551615 2", 'cannot read word 4, "2"'),
+    ("issue-ids 0 0 65", 'cannot read word 4, "65"'),
+    ("ack-frequency 0 4611686018427387904 0 0", 'cannot read word 3, "4611686018427387904"'),
+    ("set-timer never 0", 'cannot read word 2, "never"'),
+    ("in-flight next", 'cannot read word 2, "next"'),
+    ("next-timeout now", 'cannot read word 2, "now"'),
+    ("lost data \tx", 'cannot read word 3, "\\tx"'),
+    ("lost data " + "9" * 80, 'cannot read word 3, "' + "9" * 64 + '"'),
+    ("received data 0", "words are missing behind the last one"),
+    ("lost data", "words are missing behind the last one"),
+    ("send data 0 1200 1 -" + " 1" * 2039, "longer than 4096 bytes"),
+    ("x" * 5000, "longer than 4096 bytes"),
+]
+
+# arguments, with status, output and errors over one good line
+ARGUMENTS = [
+    ([], 0, ANSWER + "\n", ""),
+    (["7", "24000"], 0, ANSWER + "\n", ""),
+    (["--strict", "-", "18446744073709551615"], 0, ANSWER + "\n", ""),
+    (["--version"], 0, "recovery-trace 0.11.19\n", ""),
+    (["--states"], 2, "", USAGE),
+    (["01"], 2, "", USAGE),
+    (["1", "0"], 2, "", USAGE),
+    (["1", "2", "3"], 2, "", USAGE),
+]
+
+passed = failed = 0
+
+
+def expect(name, found, wanted):
+    global passed, failed
+    if found == wanted:
+        passed += 1
+    else:
+        failed += 1
+        print(f"trace: {name}: {found!r}, and not {wanted!r}", file=sys.stderr, flush=True)
+
+
+def ran(words, given, program=None):
+    run = subprocess.run([program or PROGRAM, *words], input=given, capture_output=True, text=True)
+    return run.returncode, run.stdout, run.stderr
+
+
+def scripts():
+    for script in sorted((ROOT / "examples").glob("*.txt")):
+        expect(script.name, ran([], script.read_text()), (0, script.with_suffix(".out").read_text(), ""))
+        if REPLAY.exists():
+            for words in ["7"], ["-", "24000"]:
+                wanted = ran(words, script.read_text(), REPLAY)
+                expect(f"{script.name} with {words}", ran(words, script.read_text()), wanted)
+
+
+def lockstep():
+    """The answer to a line comes before the next one is sent."""
+    script = ROOT / "examples" / "paths.txt"
+    answers = []
+    with subprocess.Popen([PROGRAM], stdin=subprocess.PIPE, stdout=subprocess.PIPE, text=True, bufsize=1) as run:
+        for line in script.read_text().splitlines():
+            run.stdin.write(line + "\n")
+            run.stdin.flush()
+            answers.append(run.stdout.readline())
+        run.stdin.close()
+        expect("lockstep", (run.wait(), "".join(answers)), (0, script.with_suffix(".out").read_text()))
+
+
+def lines():
+    expect("passed over", ran([], f"# a\n\n{GOOD}\n#{GOOD}\n{GOOD}"), (0, f"{ANSWER}\n{ANSWER}\n", ""))
+    expect("no input", ran([], ""), (0, "", ""))
+    for bad, told in BAD:
+        expect(f"{bad[:40]!r}", ran([], f"{GOOD}\n\n{bad}\n{GOOD}\n"), (2, f"{ANSWER}\n{ANSWER}\n", f"line 3: {told}\n"))
+    strict = ran(["--strict"], f"{GOOD}\n{BAD[0][0]}\n{GOOD}\n")
+    expect("strict", strict, (2, f"{ANSWER}\n", f"line 2: {BAD[0][1]}\n"))
+    expect("the last line", ran([], "lost data 0\nlost data"), (2, "refused 4 NotTracked\n", f"line 2: {BAD[-3][1]}\n"))
+
+
+def arguments():
+    for words, *wanted in ARGUMENTS:
+        expect(f"arguments {words}", ran(words, GOOD + "\n"), tuple(wanted))
+    status, text, errors = ran(["--help"], "")
+    expect("help", (status, text.startswith(USAGE), errors), (0, True, ""))
+    with open("/dev/full", "wb") as full:
+        run = subprocess.run([PROGRAM], input=GOOD.encode(), stdout=full, stderr=subprocess.PIPE)
+    expect("a failed write", (run.returncode, run.stderr), (1, b"recovery-trace: write failed\n"))
+    folder = os.open(ROOT, os.O_RDONLY)
+    run = subprocess.run([PROGRAM], stdin=folder, capture_output=True)
+    expect("a failed read", (run.returncode, run.stdout, run.stderr), (1, b"", b"recovery-trace: read failed\n"))
+
+
+def states():
+    """Every second line is an object with the names of the page."""
+    for script in sorted((ROOT / "examples").glob("*.txt")):
+        answers = script.with_suffix(".out").read_text().splitlines()
+        text = ran(["--state"], script.read_text())[1].splitlines()
+        expect(f"{script.name}: answers", text[::2], answers)
+        names = [set(json.loads(line)) - {"ssthresh"} for line in text[1::2]]
+        expect(f"{script.name}: states", names, [METRICS] * len(answers))
+
+
+def page():
+    text = (ROOT / "docs" / "TRACE.md").read_text()
+    given, wanted = (re.search(rf"```{name}\n(.*?)```", text, re.S)[1] for name in ("trace", "answers"))
+    expect("the example of docs/TRACE.md", ran(["--state"], given), (0, wanted, ""))
+
+
+def peak(count):
+    """The most memory that was held over so many lines, in KiB, once each is answered."""
+    lines = [f"received data {number // 2} {number // 2} 0\nacks-sent data\n" for number in range(0, count, 2)]
+    with subprocess.Popen([PROGRAM], stdin=subprocess.PIPE, stdout=subprocess.PIPE, text=True) as run:
+        feeder = threading.Thread(target=lambda: (run.stdin.writelines(lines), run.stdin.flush()))
+        feeder.start()
+        answered = sum(1 for _ in zip(range(count), run.stdout))
+        held = int(re.search(r"VmHWM:\s*(\d+)", pathlib.Path(f"/proc/{run.pid}/status").read_text())[1])
+        feeder.join()
+        run.stdin.close()
+        expect(f"{count} lines", (answered, run.wait()), (count, 0))
+    return held
+
+
+def memory():
+    few, many = peak(1000), peak(500_000)
+    expect(f"memory: {few} KiB over 1,000 lines, {many} over 500,000", many < few + 1024, True)
+    long = ran([], "x" * 50_000_000 + "\n" + GOOD)
+    expect("a line of 50 MB", long, (2, ANSWER + "\n", "line 1: longer than 4096 bytes\n"))
+
+
+def main():
+    global PROGRAM
+    if len(sys.argv) > 1:
+        PROGRAM = pathlib.Path(sys.argv[1]).resolve()
+    for part in scripts, lockstep, lines, arguments, states, page, memory:
+        part()
+    print(f"trace: {passed} passed, {failed} failed")
+    return int(failed > 0)
+
+
+if __name__ == "__main__":
+    sys.exit(main())
