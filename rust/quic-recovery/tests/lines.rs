@@ -6,7 +6,7 @@ use std::collections::BTreeSet;
 use std::fs;
 
 /// How many random events, unless `QUIC_RECOVERY_EVENTS` says.
-const EVENTS: usize = 100_000;
+const EVENTS: usize = 1_000_000;
 
 /// How many events one recovery sees.
 const EACH: usize = 5_000;
