@@ -237,9 +237,12 @@ def layout():
 
 
 def version():
-    """The crate names the toolchain by which the library is proved."""
-    said = ran("rt version", ["rt", "version"])
-    expect("the kit's line", bool(said) and said.split("\n")[0] in (RUST / "src" / "lib.rs").read_text(), said or "")
+    """The crate names the toolchain by which the library is proved; a later kit of the same logic proves the same."""
+    said = (ran("rt version", ["rt", "version"]) or "").split("\n")[0]
+    kit, _, logic = said.partition(" logic ")
+    named = re.search(r"proved with (\S+) logic (\w+)", (RUST / "src" / "lib.rs").read_text())
+    if expect("the toolchain's logic", bool(named) and named.group(2) == logic, said) and named.group(1) != kit:
+        print(f"rust: this is {kit}, and the crate names {named.group(1)}", file=sys.stderr)
 
 
 def in_c(folder):
