@@ -82,6 +82,13 @@ def scripts():
                 expect(f"{script.name} with {words}", ran(words, script.read_text()), wanted)
 
 
+def recording():
+    """The beginning of a recording of a real connection, as the picture of it has it."""
+    script = (ROOT / "crates" / "recovery_curve" / "stdin").read_text()
+    if REPLAY.exists():
+        expect("a recording", ran([], script), ran([], script, REPLAY))
+
+
 def lockstep():
     """The answer to a line comes before the next one is sent."""
     script = ROOT / "examples" / "paths.txt"
@@ -159,7 +166,7 @@ def main():
     global PROGRAM
     if len(sys.argv) > 1:
         PROGRAM = pathlib.Path(sys.argv[1]).resolve()
-    for part in scripts, lockstep, lines, arguments, states, page, memory:
+    for part in scripts, recording, lockstep, lines, arguments, states, page, memory:
         part()
     print(f"trace: {passed} passed, {failed} failed")
     return int(failed > 0)
