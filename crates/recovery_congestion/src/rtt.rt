@@ -59,6 +59,21 @@ impl RttEstimator {
         }
     }
 
+    /// The last sample, without any delay taken off, or the initial RTT before the first one (RFC 9002, 5.1).
+    pub fn latest(&self) -> Duration
+        ensures { result ≡ self.now.latest }
+    {
+        self.latest
+    }
+
+    /// The mean deviation of the samples, exact and with no least span, or half of the initial RTT before the first one
+    /// (RFC 9002, 5.3: `rttvar`).
+    pub fn variance(&self) -> Duration
+        ensures { result ≡ self.now.variance }
+    {
+        self.variance
+    }
+
     /// The greater of the best estimate and the last sample, by which losses are judged (RFC 9002, 6.1.2).
     pub fn conservative(&self) -> Duration
         ensures { result ≡ rtt_conservative self.now }

@@ -74,6 +74,17 @@ fn play(rt: &impl Abort, path: &Path, start: u64, rows: &[Row]) {
     }
 }
 
+/// Ten packets of the MTU at this rate, and what was sent is no longer among them.
+#[test]
+fn the_bucket_is_told(rt: HostRuntime) {
+    let mut pacer = made(&rt, &FRESH, 0);
+    assert!(rt; pacer.capacity() == 12_000 && pacer.tokens() == 12_000);
+    pacer.on_transmit(1_500);
+    assert!(rt; pacer.capacity() == 12_000 && pacer.tokens() == 10_500);
+    pacer.on_transmit(u16::MAX);
+    assert!(rt; pacer.tokens() == 0);
+}
+
 #[test]
 fn a_burst_passes_and_time_brings_more(rt: HostRuntime) {
     const PATH: Path = (50_000_000, 2_000_000, 1000);

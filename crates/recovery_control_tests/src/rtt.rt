@@ -56,6 +56,20 @@ fn moves_by_an_eighth(rt: HostRuntime) {
     );
 }
 
+/// The last sample and the mean deviation, as RFC 9002, 5.3 computes them.
+#[test]
+fn sample_and_variance_are_told(rt: HostRuntime) {
+    let told = |rtt: &RttEstimator| [rtt.latest().as_nanos(), rtt.variance().as_nanos()];
+    let mut rtt = RttEstimator::new(span(333_000_000));
+    assert!(rt; told(&rtt) == [333_000_000, 166_500_000]);
+    rtt.update(span(0), span(100_000_000));
+    assert!(rt; told(&rtt) == [100_000_000, 50_000_000]);
+    rtt.update(span(10_000_000), span(140_000_000));
+    assert!(rt; told(&rtt) == [140_000_000, 45_000_000]);
+    rtt.update(span(50_000_000), span(120_000_000));
+    assert!(rt; told(&rtt) == [120_000_000, 37_812_500]);
+}
+
 #[test]
 fn first_sample_replaces_a_lesser_initial_rtt(rt: HostRuntime) {
     play(

@@ -57,6 +57,21 @@ impl Pacer {
         }
     }
 
+    /// The most bytes that may go out at once, as the last call of `delay` had it: 10 to 256 times its MTU.
+    pub fn capacity(&self) -> u64
+        ensures { result ≡ self.now.capacity }
+    {
+        self.capacity
+    }
+
+    /// The bytes in the bucket, as the last call left them: what time has brought since is not among them.
+    pub fn tokens(&self) -> u64
+        ensures value { result ≡ self.now.tokens }
+        ensures within { result ≤ self.now.capacity }
+    {
+        self.tokens
+    }
+
     /// A packet of so many bytes was sent. Where fewer tokens are left, none are.
     pub fn on_transmit(&mut self, packet_length: u16)
         ensures leaves { self.new ≡ less_tokens packet_length self.old }

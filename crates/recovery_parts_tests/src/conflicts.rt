@@ -137,3 +137,10 @@ fn the_initial_id_gets_its_token_from_a_frame(rt: HostRuntime) {
         ],
     );
 }
+
+/// A token gives back the bytes that it was made of.
+#[test]
+fn a_token_gives_its_bytes_back(rt: HostRuntime) {
+    let bytes = [0, 1, 2, 3, 4, 5, 6, 7, 8, 9, 10, 11, 12, 13, 254, 255];
+    assert!(rt; ResetToken::from(bytes).to_bytes() == bytes);
+}

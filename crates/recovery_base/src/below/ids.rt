@@ -66,6 +66,15 @@ impl Model for ResetToken {
     ghost inverse = { λ bytes. record { 0 = bytes } };
 }
 
+impl ResetToken {
+    /// Its bytes, as a packet that resets a connection ends with them (RFC 9000, 10.3).
+    pub fn to_bytes(self) -> [u8; 16]
+        ensures { result ≡ self }
+    {
+        self.0
+    }
+}
+
 impl From<[u8; 16]> for ResetToken {
     ghost from_gives = { λ bytes token. token ≡ bytes };
 
