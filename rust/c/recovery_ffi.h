@@ -116,8 +116,16 @@ struct recovery_pathview {
     uint64_t rtt_conservative;
     // The least sample (RFC 9002, 5.2).
     uint64_t rtt_min;
+    // The last sample, or the initial RTT before the first one (RFC 9002, 5.1).
+    uint64_t rtt_latest;
+    // The mean deviation of the samples, or half of the initial RTT before the first one (RFC 9002, 5.3).
+    uint64_t rtt_variance;
     // The probe timeout without the peer's delay of ACKs (RFC 9002, 6.2.1).
     uint64_t pto_base;
+    // The most bytes that the pacer's bucket holds (RFC 9002, 7.7).
+    uint64_t pacer_capacity;
+    // The bytes in that bucket, as the last datagram or question left it: what time has brought since is not among them.
+    uint64_t pacer_tokens;
     // The MTU in use (RFC 9000, 14.3).
     uint16_t mtu;
     // Whether there is such a path; if not, all else is 0.
@@ -283,6 +291,9 @@ struct recovery_reply recovery_ffi_new_path(struct recovery_handle *handle, uint
 
 // How many items the queue that was taken last has; they are written where there is room for all.
 size_t recovery_ffi_taken(struct recovery_handle *handle, uint64_t *out, size_t out_len);
+
+// Writes the bytes of the token that was answered last, all zeros before there was one.
+void recovery_ffi_token(struct recovery_handle *handle, uint8_t *out);
 
 // Whether this is the token that was answered last.
 bool recovery_ffi_is_token(struct recovery_handle *handle, const uint8_t *token);

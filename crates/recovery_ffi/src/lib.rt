@@ -721,6 +721,18 @@ pub extern "C" fn recovery_ffi_taken(alloc: Global, handle: &mut Handle, out: &m
     count
 }
 
+/// Writes the bytes of the token that was answered last, all zeros before there was one.
+#[unsafe(no_mangle)]
+pub extern "C" fn recovery_ffi_token(alloc: Global, handle: &mut Handle, out: &mut [u8; 16])
+    requires { IsHeld handle.old.held }
+    ensures { Reads handle.old.held handle.new.held (λ stack. out.new ≡ stack.token) }
+{
+    let stack = handle.take(alloc);
+    let bytes = stack.token_bytes();
+    *out = bytes;
+    handle.put(stack);
+}
+
 /// Whether this is the token that was answered last.
 #[unsafe(no_mangle)]
 pub extern "C" fn recovery_ffi_is_token(

@@ -33,8 +33,16 @@ pub struct PathView {
     pub rtt_conservative: u64,
     /// The least sample (RFC 9002, 5.2).
     pub rtt_min: u64,
+    /// The last sample, or the initial RTT before the first one (RFC 9002, 5.1).
+    pub rtt_latest: u64,
+    /// The mean deviation of the samples, or half of the initial RTT before the first one (RFC 9002, 5.3).
+    pub rtt_variance: u64,
     /// The probe timeout without the peer's delay of ACKs (RFC 9002, 6.2.1).
     pub pto_base: u64,
+    /// The most bytes that the pacer's bucket holds (RFC 9002, 7.7).
+    pub pacer_capacity: u64,
+    /// The bytes in that bucket, as the last datagram or question left it: what time has brought since is not among them.
+    pub pacer_tokens: u64,
     /// The MTU in use (RFC 9000, 14.3).
     pub mtu: u16,
     /// Whether there is such a path; if not, all else is 0.
@@ -108,7 +116,11 @@ fn show_path(path: &ItemPath) -> PathView
         rtt: nanos_shown(path.rtt.get()),
         rtt_conservative: nanos_shown(path.rtt.conservative()),
         rtt_min: nanos_shown(path.rtt.min()),
+        rtt_latest: nanos_shown(path.rtt.latest()),
+        rtt_variance: nanos_shown(path.rtt.variance()),
         pto_base: nanos_shown(path.rtt.pto_base()),
+        pacer_capacity: path.pacing.capacity(),
+        pacer_tokens: path.pacing.tokens(),
         mtu: path.current_mtu(),
         lives: true,
         validated: path.validated,
@@ -127,7 +139,11 @@ fn no_path() -> PathView
         rtt: 0,
         rtt_conservative: 0,
         rtt_min: 0,
+        rtt_latest: 0,
+        rtt_variance: 0,
         pto_base: 0,
+        pacer_capacity: 0,
+        pacer_tokens: 0,
         mtu: 0,
         lives: false,
         validated: false,
@@ -232,6 +248,13 @@ impl Stack {
             retire_prior_to: recovery.local_ids().retire_prior_to(),
             max_ack_delay: nanos_shown(recovery.ack_frequency().max_ack_delay),
         }
+    }
+
+    /// The bytes of the token that was answered last.
+    pub fn token_bytes(&self) -> [u8; 16]
+        ensures { result ≡ self.now.token }
+    {
+        self.token.to_bytes()
     }
 
     /// Whether this is the token that was answered last.

@@ -121,8 +121,16 @@ pub struct PathView {
     pub rtt_conservative: u64,
     /// The least sample (RFC 9002, 5.2).
     pub rtt_min: u64,
+    /// The last sample, or the initial RTT before the first one (RFC 9002, 5.1).
+    pub rtt_latest: u64,
+    /// The mean deviation of the samples, or half of the initial RTT before the first one (RFC 9002, 5.3).
+    pub rtt_variance: u64,
     /// The probe timeout without the peer's delay of ACKs (RFC 9002, 6.2.1).
     pub pto_base: u64,
+    /// The most bytes that the pacer's bucket holds (RFC 9002, 7.7).
+    pub pacer_capacity: u64,
+    /// The bytes in that bucket, as the last datagram or question left it: what time has brought since is not among them.
+    pub pacer_tokens: u64,
     /// The MTU in use (RFC 9000, 14.3).
     pub mtu: u16,
     /// Whether there is such a path; if not, all else is 0.
@@ -375,6 +383,9 @@ unsafe extern "C" {
 
     /// How many items the queue that was taken last has; they are written where there is room for all.
     pub fn recovery_ffi_taken(handle: *mut Handle, out: *mut u64, out_len: usize) -> usize;
+
+    /// Writes the bytes of the token that was answered last, all zeros before there was one.
+    pub fn recovery_ffi_token(handle: *mut Handle, out: *mut [u8; 16]);
 
     /// Whether this is the token that was answered last.
     pub fn recovery_ffi_is_token(handle: *mut Handle, token: *const [u8; 16]) -> bool;

@@ -38,7 +38,7 @@ pub use config::{
     TransportConfig,
 };
 pub use event::{Answer, EcnFault, Event, Refusal, SendableFrames};
-pub use recovery::{IdStats, PathStats, Recovery, RttEstimate, SpaceStats};
+pub use recovery::{IdStats, PacerStats, PathStats, Recovery, RttEstimate, SpaceStats};
 pub use types::{
     AckFrequency, ConnectionId, EcnCounts, Instant, IssuedCid, NewConnectionId, PathName,
     ResetToken, SpaceId, Timer, VarInt,

@@ -2,7 +2,7 @@
 use crate::config::{address, ConfigError, RecoveryConfig};
 use crate::event::{Answer, Event, Refusal, SendableFrames};
 use crate::ffi;
-use crate::types::{Instant, PathName, SpaceId, Timer};
+use crate::types::{Instant, PathName, ResetToken, SpaceId, Timer};
 use std::cell::UnsafeCell;
 use std::fmt;
 use std::ops::Range;
@@ -24,6 +24,8 @@ pub struct PathStats {
     pub total_recvd: u64,
     /// The round-trip time.
     pub rtt: RttEstimate,
+    /// The pacer's bucket.
+    pub pacer: PacerStats,
     /// The MTU in use, in bytes (RFC 9000, 14.3).
     pub current_mtu: u16,
     /// Whether the peer was seen to receive there (RFC 9000, 8).
@@ -39,8 +41,21 @@ pub struct RttEstimate {
     pub conservative: Duration,
     /// The least sample (RFC 9002, 5.2).
     pub min: Duration,
+    /// The last sample, or the initial RTT before the first one (RFC 9002, 5.1).
+    pub latest: Duration,
+    /// The mean deviation of the samples, or half of the initial RTT before the first one (RFC 9002, 5.3: `rttvar`).
+    pub variance: Duration,
     /// The probe timeout without the peer's delay of ACKs (RFC 9002, 6.2.1).
     pub pto_base: Duration,
+}
+
+/// The bucket of a pacer: one token a byte (RFC 9002, 7.7).
+#[derive(Clone, Copy, Debug, PartialEq, Eq)]
+pub struct PacerStats {
+    /// The most bytes that may go out at once.
+    pub capacity: u64,
+    /// The bytes that it holds, as the last `Transmit` or `PacerCheck` left it: what time has brought since is not among them.
+    pub tokens: u64,
 }
 
 /// What a packet number space has to send.
@@ -341,6 +356,14 @@ impl Recovery {
         Ok(items)
     }
 
+    /// The token that came with the last `Answer::Retire` of an id (RFC 9000, 10.3.1), all zeros before there was one.
+    pub fn reset_token(&self) -> ResetToken {
+        let mut bytes = [0; 16];
+        // SAFETY: the handle holds a recovery, no other call runs, and sixteen bytes are written.
+        unsafe { ffi::recovery_ffi_token(self.handle.get(), &mut bytes) };
+        ResetToken::from(bytes)
+    }
+
     /// Whether these are the bytes of the token that came with the last `Answer::Retire` of an id: by them, at the end of a
     /// datagram, the peer says that it has lost the connection (RFC 9000, 10.3.1). All zeros before there was one.
     pub fn is_reset_token(&self, token: &[u8; 16]) -> bool {
@@ -362,7 +385,13 @@ impl Recovery {
                 get: Duration::from_nanos(view.rtt),
                 conservative: Duration::from_nanos(view.rtt_conservative),
                 min: Duration::from_nanos(view.rtt_min),
+                latest: Duration::from_nanos(view.rtt_latest),
+                variance: Duration::from_nanos(view.rtt_variance),
                 pto_base: Duration::from_nanos(view.pto_base),
+            },
+            pacer: PacerStats {
+                capacity: view.pacer_capacity,
+                tokens: view.pacer_tokens,
             },
             current_mtu: view.mtu,
             validated: view.validated,

@@ -33,7 +33,12 @@ fn a_fresh_path() {
         (rtt.get, rtt.conservative, rtt.min),
         (initial, initial, initial)
     );
+    assert_eq!(
+        (rtt.latest, rtt.variance),
+        (initial, Duration::from_micros(166_500))
+    );
     assert_eq!(rtt.pto_base, Duration::from_millis(333 + 4 * 333 / 2));
+    assert_eq!((path.pacer.capacity, path.pacer.tokens), (12_000, 12_000));
     assert!(!path.validated);
     assert_eq!(fresh().path(PathName::Previous), None);
 }
@@ -50,6 +55,9 @@ fn paths() {
     assert_eq!(path.rtt.get, Duration::from_millis((7 * 100 + 60) / 8));
     assert_eq!(path.rtt.conservative, Duration::from_millis(95));
     assert_eq!(path.rtt.min, Duration::from_millis(60));
+    assert_eq!(path.rtt.latest, Duration::from_millis(60));
+    // three fourths of 50 ms, and a fourth of 40 ms (RFC 9002, 5.3)
+    assert_eq!(path.rtt.variance, Duration::from_micros(47_500));
     let remote: SocketAddr = "[2001:db8::1]:443".parse().unwrap();
     let now = at(1);
     let fresh = true;
@@ -107,6 +115,7 @@ fn timers() {
 #[test]
 fn ids() {
     let mut recovery = fresh();
+    assert_eq!(recovery.reset_token().bytes(), &[0; 16]);
     for sequence in [1, 2] {
         let frame = NewConnectionId {
             sequence,
@@ -121,6 +130,7 @@ fn ids() {
         Answer::Retire(Some(0..1))
     );
     assert_eq!(recovery.ids().active, 1);
+    assert_eq!(recovery.reset_token(), ResetToken::from([1; 16]));
     assert!(recovery.is_reset_token(&[1; 16]));
     assert!(!recovery.is_reset_token(&[2; 16]));
     let ids: Vec<IssuedCid> = (1..=3)
