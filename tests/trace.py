@@ -14,7 +14,7 @@ import threading
 ROOT = pathlib.Path(__file__).resolve().parent.parent
 PROGRAM = ROOT / "crates" / "recovery_trace_program" / "out" / "recovery_trace_program"
 REPLAY = ROOT / "crates" / "recovery_program" / "out" / "recovery_program"
-METRICS = {"bytes_in_flight", "packets_in_flight", "congestion_window", "smoothed_rtt", "rtt_variance", "min_rtt", "mtu"}
+METRICS = {"bytes_in_flight", "packets_in_flight", "congestion_window", "smoothed_rtt", "rtt_variance", "min_rtt", "latest_rtt", "mtu", "pacer_tokens"}
 GOOD, ANSWER = "next-timeout", "timeout none"
 USAGE = "usage: recovery-trace [--state] [--strict] [SEED [WINDOW]]\n"
 

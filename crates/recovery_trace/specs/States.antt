@@ -1,8 +1,8 @@
 -- The line of a path's state.
-use Rattle.std.specs.Prelude.{ℕ, ◌-◌, ◌/◌, ◌^◌, nat_lt, List, [], ◌++◌, Option, Some, None, decimal, if◌then◌else◌}
+use Rattle.std.specs.Prelude.{ℕ, ◌-◌, ◌^◌, nat_lt, List, [], ◌++◌, Option, Some, None, decimal, if◌then◌else◌}
 use lib.Chars.{codes}
 use Rattle.recovery_congestion.specs.Controllers.{ControllerWords}
-use Rattle.recovery_congestion.specs.Rtt.{Rtt, rtt_get, pto_base_of}
+use Rattle.recovery_congestion.specs.Rtt.{Rtt, rtt_get}
 use Rattle.recovery_congestion.specs.declared.congestion.ControllerMetrics.{ControllerMetrics}
 use Rattle.recovery_ledger.specs.declared.paths.InFlight.{InFlight}
 use Rattle.recovery_ledger.specs.Paths.{counters_of}
@@ -23,19 +23,22 @@ window_text metrics =
     codes ",\"congestion_window\":" ++ (decimal metrics.congestion_window ++ threshold_text metrics.ssthresh)
 
 -- in milliseconds, as whole nanoseconds with an exponent
-unfoldable pub spans_text : ℕ → ℕ → ℕ → List ℕ
-spans_text smoothed variance least =
+unfoldable pub spans_text : ℕ → ℕ → ℕ → ℕ → List ℕ
+spans_text smoothed variance least latest =
     codes ",\"smoothed_rtt\":" ++ (decimal smoothed ++ (codes "e-6,\"rtt_variance\":" ++ (decimal variance
-    ++ (codes "e-6,\"min_rtt\":" ++ (decimal least ++ codes "e-6")))))
+    ++ (codes "e-6,\"min_rtt\":" ++ (decimal least ++ (codes "e-6,\"latest_rtt\":" ++ (decimal latest
+    ++ codes "e-6")))))))
 
--- the variance is a fourth of what the probe timeout adds to the best estimate (RFC 9002, 6.2.1)
+-- the best estimate is the initial RTT, and so is the last sample, before the first one (RFC 9002, 5)
 abbrev pub rtt_text : Rtt → List ℕ
-rtt_text rtt = spans_text (rtt_get rtt) ((pto_base_of rtt - rtt_get rtt) / 4) rtt.least
+rtt_text rtt = spans_text (rtt_get rtt) rtt.variance rtt.least rtt.latest
 
-abbrev pub mtu_text : ℕ → List ℕ
-mtu_text mtu = codes ",\"mtu\":" ++ (decimal mtu ++ codes "}\n")
+-- the MTU in use (RFC 9000, 14.3), and the bytes in the pacer's bucket (RFC 9002, 7.7)
+abbrev pub room_text : ℕ → ℕ → List ℕ
+room_text mtu tokens =
+    codes ",\"mtu\":" ++ (decimal mtu ++ (codes ",\"pacer_tokens\":" ++ (decimal tokens ++ codes "}\n")))
 
 abbrev pub state_text : {K : Type 0} → ControllerWords K → Path K → List ℕ
 state_text words path =
     codes "{" ++ (flight_text (counters_of path.ledger) ++ (window_text (words.metrics path.state.controller)
-    ++ (rtt_text path.state.rtt ++ mtu_text path.state.discovery.mtu)))
+    ++ (rtt_text path.state.rtt ++ room_text path.state.discovery.mtu path.state.pacer.tokens)))

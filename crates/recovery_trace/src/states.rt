@@ -40,27 +40,26 @@ fn write_spans(
     smoothed: u128,
     variance: u128,
     least: u128,
+    latest: u128,
 ) -> Result<(), AllocError>
-    ensures { OnOk result (string_bytes text.new ≡ string_bytes text.old ++ spans_text smoothed variance least) }
+    ensures { OnOk result (string_bytes text.new ≡ string_bytes text.old ++ spans_text smoothed variance least latest) }
 {
     write!(
         text,
-        ",\"smoothed_rtt\":{smoothed}e-6,\"rtt_variance\":{variance}e-6,\"min_rtt\":{least}e-6"
+        ",\"smoothed_rtt\":{smoothed}e-6,\"rtt_variance\":{variance}e-6,\"min_rtt\":{least}e-6,\"latest_rtt\":{latest}e-6"
     )
 }
 
-/// The round-trip times (RFC 9002, 5): the best estimate, its variance as the probe timeout counts it, which is 0.25 ms at
-/// least (RFC 9002, 6.2.1), and the least sample.
+/// The round-trip times (RFC 9002, 5): the best estimate, its mean deviation, the least sample and the last one.
 fn write_rtt(text: &mut String, rtt: &RttEstimator) -> Result<(), AllocError>
     ensures { OnOk result (string_bytes text.new ≡ string_bytes text.old ++ rtt_text rtt.now) }
 {
-    let best = rtt.get();
-    let deviation = rtt.pto_base().saturating_sub(best);
     write_spans(
         text,
-        best.as_nanos(),
-        deviation.as_nanos() / 4,
+        rtt.get().as_nanos(),
+        rtt.variance().as_nanos(),
         rtt.min().as_nanos(),
+        rtt.latest().as_nanos(),
     )
 }
 
@@ -76,5 +75,6 @@ pub fn write_state<C: Controller + Drop>(
     write_window(text, &path.congestion.metrics())?;
     write_rtt(text, &path.rtt)?;
     let mtu = path.current_mtu();
-    writeln!(text, ",\"mtu\":{mtu}}}")
+    let tokens = path.pacing.tokens();
+    writeln!(text, ",\"mtu\":{mtu},\"pacer_tokens\":{tokens}}}")
 }

@@ -1,7 +1,7 @@
 use Rattle.std.proofs.Common.{rules, string_bytes}
 use lib.Chars.{codes}
 use Rattle.recovery_ledger.specs.Paths.{counters_of}
-use Rattle.recovery_trace.specs.States.{flight_text, window_text, rtt_text, mtu_text}
+use Rattle.recovery_trace.specs.States.{flight_text, window_text, rtt_text, room_text}
 use Rattle.recovery_trace.proofs.StatesLaws.{five}
 use Rattle.recovery_trace.proofs.states.write_state.Goals as goal
 
@@ -11,5 +11,5 @@ returns g c =
     (string_bytes c.write_flight.new.text) (string_bytes c.write_window.new.text) (string_bytes c.write_rtt.new.text)
     (string_bytes c.writeln.new.self) (codes "{") (flight_text (counters_of c.args.path.now.ledger))
     (window_text (g.C.Controller.words.metrics c.args.path.now.state.controller)) (rtt_text c.args.path.now.state.rtt)
-    (mtu_text c.args.path.now.state.discovery.mtu) (search rules) (search rules) (search rules) (search rules)
-    (search rules)
+    (room_text c.args.path.now.state.discovery.mtu c.args.path.now.state.pacer.tokens) (search rules) (search rules)
+    (search rules) (search rules) (search rules)
