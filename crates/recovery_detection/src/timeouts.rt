@@ -1,0 +1,71 @@
+//! How long to wait before a packet is lost and before a probe goes out (RFC 9002, 6.1.2 and 6.2), and the next timeout of all spaces.
+ghost use Rattle.std.specs.Prelude.{◌≡◌, min, ◌<◌, ◌^◌, ◌*◌, ◌-◌};
+ghost use Rattle.recovery_base.specs.Timers.{earlier_of};
+ghost use Rattle.recovery_detection.specs.Timeouts.{loss_delay_of, probe_timeout_of, up_to_longest, IsEarliest, IsNextTimeout};
+
+use recovery_base::time::{Duration, Instant};
+
+/// The least span that timers keep: a millisecond (RFC 9002, 6.1.2: kGranularity), in nanoseconds.
+const GRANULARITY: u128 = 1_000_000;
+
+/// How long after its sending a packet is lost, where a later one is acknowledged: 9/8 of the greater RTT, at least a millisecond
+/// (RFC 9002, 6.1.2). It stops at `Duration::MAX`.
+pub fn loss_delay(smoothed: Duration, latest: Duration) -> Duration
+    ensures { result ≡ loss_delay_of smoothed latest }
+{
+    let nanos = smoothed.max(latest).as_nanos() * 9 / 8;
+    up_to_longest(nanos.max(GRANULARITY))
+}
+
+/// How long after the last ack-eliciting packet a probe goes out (RFC 9002, 6.2.1). `base` is the smoothed RTT with four times its
+/// variation, as `rtt.pto_base()` has it; `max_ack_delay` is the peer's in the space of 1-RTT packets, and zero in the others; `count`
+/// is how many probe timeouts expired in a row, of which each doubles the span. It stops at `Duration::MAX`.
+pub fn probe_timeout(base: Duration, max_ack_delay: Duration, count: u32) -> Duration
+    ensures { result ≡ probe_timeout_of base max_ack_delay count }
+{
+    let once = base.as_nanos() + max_ack_delay.as_nanos();
+    up_to_longest(once.saturating_mul(2u128.saturating_pow(count)))
+}
+
+/// A span of so many nanoseconds. It stops at `Duration::MAX`.
+fn up_to_longest(nanos: u128) -> Duration
+    ensures { result ≡ up_to_longest nanos }
+{
+    match Duration::checked_from_nanos(nanos) {
+        Some(span) => span,
+        None => Duration::MAX,
+    }
+}
+
+/// The earlier of two moments, where there are any.
+pub fn earlier(first: Option<Instant>, second: Option<Instant>) -> Option<Instant>
+    ensures { result ≡ earlier_of first second }
+{
+    match (first, second) {
+        (None, _) => second,
+        (_, None) => first,
+        (Some(a), Some(b)) => Some(if b < a { b } else { a }),
+    }
+}
+
+/// The earliest of some moments, where there are any.
+fn earliest(moments: &[Option<Instant>]) -> Option<Instant>
+    ensures { IsEarliest moments.now result }
+{
+    let mut least: Option<Instant> = None;
+    for moment in moments {
+        least = earlier(least, *moment);
+    }
+    least
+}
+
+/// What `Timer::LossDetection` is set to: the earliest loss time of the spaces, or else the earliest moment of a probe (RFC 9002,
+/// A.8). Where there is neither, the timer is stopped.
+pub fn next_timeout(losses: &[Option<Instant>], probes: &[Option<Instant>]) -> Option<Instant>
+    ensures { IsNextTimeout losses.now probes.now result }
+{
+    match earliest(losses) {
+        Some(loss) => Some(loss),
+        None => earliest(probes),
+    }
+}
