@@ -1,0 +1,116 @@
+//! ACKs that this end sends (RFC 9000, 13.2).
+use crate::connection::Connection;
+use crate::packets::Outgoing;
+use quic_recovery::below::{AckFrequency, SpaceId};
+use quic_recovery::time::Instant;
+use quic_recovery::timer::Timer;
+use quic_recovery::{Answer, Event, Refusal};
+use recovery_queue::items::ItemQueue;
+use std::alloc::Global;
+
+/// What a packet that came in asks for.
+#[derive(Clone, Copy, Debug)]
+pub enum Heard {
+    /// It may have come before: drop it.
+    Duplicate,
+    /// An ACK is to be sent at once.
+    AckNow,
+    /// The timer for a late ACK runs.
+    AckLater,
+    /// Nothing, or the timer runs already.
+    Nothing,
+}
+
+impl Connection {
+    /// An ack-eliciting packet comes in, before its frames are looked at.
+    pub fn hear(&mut self, space: SpaceId, now: Instant, number: u64) -> Result<Heard, Refusal> {
+        let packet = Event::Received {
+            space,
+            now,
+            number,
+            ack_eliciting: true,
+        };
+        match self.recovery.apply(packet) {
+            Ok(Answer::New { arm }) => self.plan_ack(space, now, arm),
+            Ok(_) => Ok(Heard::Duplicate),
+            Err(refusal) => Err(refusal),
+        }
+    }
+
+    /// The timer for a late ACK is to start: of 1-RTT packets as late as the peer asked last, while one of Initial and Handshake
+    /// packets goes out at once (RFC 9000, 13.2.1).
+    fn plan_ack(&mut self, space: SpaceId, now: Instant, arm: bool) -> Result<Heard, Refusal> {
+        if arm && space == SpaceId::Data {
+            let delay = self.state().ack_frequency().max_ack_delay;
+            self.set_timer(Timer::MaxAckDelay, now + delay)?;
+            return Ok(Heard::AckLater);
+        }
+        if arm {
+            self.tell(Event::AckDelayTimeout { space })?;
+        }
+        Ok(if self.must_acknowledge(space) {
+            Heard::AckNow
+        } else {
+            Heard::Nothing
+        })
+    }
+
+    /// Whether an ACK is to be sent in a packet of its own.
+    fn must_acknowledge(&self, space: SpaceId) -> bool {
+        match self.state().space(space) {
+            Some(here) => here.pending_acks.can_send(),
+            None => false,
+        }
+    }
+
+    /// The timer for a late ACK expired: whether one is to be sent.
+    pub fn ack_timer_expired(&mut self) -> Result<bool, Refusal> {
+        self.stop_timer(Timer::MaxAckDelay)?;
+        self.tell(Event::AckDelayTimeout {
+            space: SpaceId::Data,
+        })?;
+        Ok(self.must_acknowledge(SpaceId::Data))
+    }
+
+    /// An ACK of all numbers goes out in a packet of its own, which congestion control does not count (RFC 9002, 7): the largest
+    /// number in it.
+    pub fn acknowledge(
+        &mut self,
+        alloc: Global,
+        space: SpaceId,
+        now: Instant,
+    ) -> Result<Option<u64>, Refusal> {
+        let largest = self.largest_heard(space);
+        let packet = Outgoing {
+            space,
+            size: 0,
+            ack_eliciting: false,
+            largest_acked: largest,
+        };
+        self.depart(now, packet, ItemQueue::from_items(Vec::new(alloc)))?;
+        self.tell(Event::AcksSent { space })?;
+        if space == SpaceId::Data {
+            self.stop_timer(Timer::MaxAckDelay)?;
+        }
+        Ok(largest)
+    }
+
+    /// The largest number that is to be acknowledged. An ACK frame has all `ranges`, and `ack_delay(now)`.
+    fn largest_heard(&self, space: SpaceId) -> Option<u64> {
+        let here = self.state().space(space)?;
+        let mut largest = None;
+        for range in here.pending_acks.ranges().iter() {
+            largest = Some(range.end.saturating_sub(1));
+        }
+        largest
+    }
+
+    /// The peer asks for fewer ACKs: whether its frame is newer than the last one, and taken.
+    pub fn ask_fewer_acks(&mut self, frame: AckFrequency) -> Result<bool, Refusal> {
+        match self.recovery.apply(Event::AckFrequencyIn(frame)) {
+            Ok(Answer::Flag(is_newer)) => Ok(is_newer),
+            Ok(_) => unreachable!(),
+            Err(refusal) => Err(refusal),
+        }
+    }
+}

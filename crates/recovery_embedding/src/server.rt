@@ -1,0 +1,45 @@
+//! A server whose client is validated, and moves.
+use crate::connection::Connection;
+use crate::failure::Failure;
+use crate::{address, at};
+use quic_recovery::below::SpaceId;
+use quic_recovery::event::PathName;
+use recovery_queue::items::ItemQueue;
+
+/// All acts, in order.
+pub fn live(rt: &(impl Print + AllocGlobal), server: &mut Connection) -> Result<(), Failure> {
+    validate(rt, server)?;
+    follow(rt, server)
+}
+
+/// Until the client's address is validated, three times what came from it goes out at most (RFC 9000, 8.1).
+fn validate(rt: &impl Print, server: &mut Connection) -> Result<(), Failure> {
+    server.datagram_in(PathName::Current, 1200)?;
+    for _ in 0..4 {
+        let departure = server.transmit(at(0), 1200)?;
+        println!(rt; "the server's datagram: {departure:?}")?;
+    }
+    server.address_validated()?;
+    let departure = server.transmit(at(0), 1200)?;
+    println!(rt; "with the address validated: {departure:?}")?;
+    Ok(())
+}
+
+/// The client's port changes, and then its address (RFC 9000, 9.3 and 9.4).
+fn follow(rt: &(impl Print + AllocGlobal), server: &mut Connection) -> Result<(), Failure> {
+    let empty = ItemQueue::from_items(Vec::new(rt.alloc()));
+    server.send(SpaceId::Data, at(900), 1000, empty)?;
+    server.peer_moved(at(1_000), address(1, 4434), 55)?;
+    let before = server.in_flight(PathName::Previous)?;
+    let after = server.in_flight(PathName::Current)?;
+    println!(rt; "another port: {before} bytes in flight on the previous path, {after} here")?;
+    server.datagram_in(PathName::Current, 100)?;
+    println!(rt; "a response that is right: {}", server.path_response(55)?)?;
+    server.peer_moved(at(2_000), address(2, 4434), 56)?;
+    println!(rt;
+        "another address; the old response: {}",
+        server.path_response(55)?
+    )?;
+    server.network_changed(at(3_000))?;
+    Ok(())
+}

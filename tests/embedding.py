@@ -1,0 +1,50 @@
+#!/usr/bin/env python3
+"""Reads docs/EMBEDDING.md beside the program that it walks through: each block of code stands in a source of the program, and each event is
+handed in by the program and named on the page."""
+import pathlib
+import re
+import sys
+import textwrap
+
+ROOT = pathlib.Path(__file__).resolve().parent.parent
+PAGE = ROOT / "docs" / "EMBEDDING.md"
+PROGRAM = ROOT / "crates" / "recovery_embedding" / "src"
+EVENTS = ROOT / "crates" / "recovery_events" / "src" / "event.rt"
+
+
+def plain(text):
+    """Lines without common indentation and without spaces at their ends."""
+    return "\n".join(line.rstrip() for line in textwrap.dedent(text).strip("\n").split("\n"))
+
+
+def blocks(text):
+    """Each block of code, which is indented by four spaces."""
+    return [plain(found) for found in re.findall(r"(?:^\n?(?:    .*\n|\n)+)", text, re.M) if found.strip()]
+
+
+def stands_in(block, source):
+    """Whether these lines stand one behind the other, whatever their common indentation."""
+    wanted, lines = block.split("\n"), source.split("\n")
+    return any(plain("\n".join(lines[at : at + len(wanted)])) == block for at in range(len(lines) - len(wanted) + 1))
+
+
+def events():
+    body = re.search(r"^pub enum Event<.*?^}", EVENTS.read_text(), re.M | re.S).group(0)
+    return re.findall(r"^    ([A-Z]\w*)", body, re.M)
+
+
+def main():
+    page = PAGE.read_text()
+    sources = [it.read_text() for it in sorted(PROGRAM.glob("*.rt"))]
+    found = blocks(page)
+    faults = [f"no source has {block.splitlines()[0]!r}" for block in found if not any(stands_in(block, it) for it in sources)]
+    faults += [f"the program hands in no {it}" for it in events() if not any(re.search(rf"\bEvent::{it}\b", text) for text in sources)]
+    faults += [f"the page does not name {it}" for it in events() if f"`{it}`" not in page]
+    faults += [] if found else ["the page has no block of code"]
+    for fault in faults:
+        print(f"embedding: {fault}", file=sys.stderr)
+    print(f"embedding: {len(found) + 2 * len(events()) - len(faults)} passed, {len(faults)} failed")
+    return 1 if faults else 0
+
+
+sys.exit(main())
