@@ -6,18 +6,22 @@ import sys
 import xml.etree.ElementTree as tree
 
 ROOT = pathlib.Path(__file__).resolve().parent.parent
-PICTURES = [  # the picture, the program and its arguments; the input is the program's own
-    ("connection.svg", "recovery_curve", []),
-    ("connection-fixed.svg", "recovery_curve", ["60000"]),
-    ("tunnel.svg", "recovery_tunnel", []),
+PICTURES = [  # the picture, the program, its arguments, and its input: the program's own, or this text
+    ("connection.svg", "recovery_curve", [], None),
+    ("connection-fixed.svg", "recovery_curve", ["60000"], None),
+    ("tunnel.svg", "recovery_tunnel", [], None),
+    ("pace-unchecked.svg", "recovery_pace", [], "42000 unchecked 110\n"),
+    ("pace-fixed.svg", "recovery_pace", [], "42000 paced 110\n"),
+    ("pace-newreno.svg", "recovery_pace", [], None),
 ]
 
 
-def fault(name, program, arguments):
+def fault(name, program, arguments, script):
     """What is wrong with a picture, if anything is."""
     crate = ROOT / "crates" / program
-    with open(crate / "stdin") as script:
-        ran = subprocess.run([crate / "out" / program, *arguments], stdin=script, stdout=subprocess.PIPE, text=True)
+    if script is None:
+        script = (crate / "stdin").read_text()
+    ran = subprocess.run([crate / "out" / program, *arguments], input=script, stdout=subprocess.PIPE, text=True)
     picture = (ROOT / "docs" / "pictures" / name).read_text()
     if ran.returncode or ran.stdout != picture:
         return f"{program} prints another picture"
@@ -30,8 +34,8 @@ def fault(name, program, arguments):
 
 def main():
     failed = 0
-    for name, program, arguments in PICTURES:
-        found = fault(name, program, arguments)
+    for name, program, arguments, script in PICTURES:
+        found = fault(name, program, arguments, script)
         if found:
             failed += 1
             print(f"pictures: {name}: {found}", file=sys.stderr)

@@ -2,7 +2,7 @@
 
 use crate::curves::Curves;
 use recovery_plot::axis::{Axis, Panel, Point};
-use recovery_plot::picture::{Picture, Style};
+use recovery_plot::picture::{Mark, Picture, Style};
 use std::alloc::{AllocError, Global};
 
 const MILLISECOND: u64 = 1_000_000;
@@ -67,15 +67,15 @@ fn draw_flight(
     picture.steps(panel, &curves.flight, Style::Thin)?;
     picture.steps(panel, &curves.window, Style::Solid)?;
     picture.ticks(panel, &curves.losses, Style::Dashed)?;
-    picture.legend(panel, 2, controller, Style::Solid)?;
-    picture.legend(panel, 1, "bytes in flight", Style::Thin)?;
-    picture.legend(panel, 0, "a packet is lost", Style::Dashed)
+    picture.legend(panel, 2, controller, Mark::Line, Style::Solid)?;
+    picture.legend(panel, 1, "bytes in flight", Mark::Line, Style::Thin)?;
+    picture.legend(panel, 0, "a packet is lost", Mark::Tick, Style::Dashed)
 }
 
 fn draw_rtt(picture: &mut Picture, panel: &Panel, curves: &Curves) -> Result<(), AllocError> {
     picture.axes(panel, "time, ms", "ms")?;
     picture.dots(panel, &curves.samples, Style::Thin)?;
     picture.steps(panel, &curves.smoothed, Style::Solid)?;
-    picture.legend(panel, 1, "smoothed", Style::Solid)?;
-    picture.legend(panel, 0, "measured", Style::Thin)
+    picture.legend(panel, 1, "smoothed", Mark::Line, Style::Solid)?;
+    picture.legend(panel, 0, "measured", Mark::Dot, Style::Thin)
 }

@@ -39,6 +39,24 @@ impl Style {
     }
 }
 
+/// What is drawn: a legend shows it beside its name.
+#[derive(Clone, Copy)]
+pub enum Mark {
+    /// A line or steps.
+    Line,
+    /// A dot.
+    Dot,
+    /// A ring.
+    Ring,
+    /// A short stroke at the lower edge.
+    Tick,
+    /// A bar from the lower edge.
+    Bar,
+}
+
+/// How high a tick is, and the bar of a legend.
+const TICK: u64 = 24;
+
 /// How the points of a line are joined.
 #[derive(Clone, Copy)]
 enum Joined {
@@ -143,13 +161,7 @@ impl Picture {
         style: Style,
     ) -> Result<(), AllocError> {
         for point in points {
-            writeln!(
-                self.text,
-                "<circle cx=\"{}\" cy=\"{}\" r=\"6\" fill=\"{}\"/>",
-                panel.across(point.x),
-                panel.down(point.y),
-                style.color()
-            )?;
+            self.dot(panel.across(point.x), panel.down(point.y), style)?;
         }
         Ok(())
     }
@@ -162,13 +174,7 @@ impl Picture {
         style: Style,
     ) -> Result<(), AllocError> {
         for point in points {
-            writeln!(
-                self.text,
-                "<circle cx=\"{}\" cy=\"{}\" r=\"7\" fill=\"white\" stroke=\"{}\" stroke-width=\"3\"/>",
-                panel.across(point.x),
-                panel.down(point.y),
-                style.color()
-            )?;
+            self.ring(panel.across(point.x), panel.down(point.y), style)?;
         }
         Ok(())
     }
@@ -182,13 +188,8 @@ impl Picture {
     ) -> Result<(), AllocError> {
         for point in points {
             let top = panel.down(point.y);
-            writeln!(
-                self.text,
-                "<rect x=\"{}\" y=\"{top}\" width=\"6\" height=\"{}\" fill=\"{}\"/>",
-                panel.across(point.x),
-                panel.bottom().saturating_sub(top),
-                style.color()
-            )?;
+            let height = panel.bottom().saturating_sub(top);
+            self.bar(panel.across(point.x), top, height, style)?;
         }
         Ok(())
     }
@@ -196,36 +197,85 @@ impl Picture {
     /// A short stroke at the lower edge for each value of the axis across.
     pub fn ticks(&mut self, panel: &Panel, values: &[u64], style: Style) -> Result<(), AllocError> {
         for value in values {
-            let across = panel.across(*value);
-            let bottom = panel.bottom();
-            writeln!(
-                self.text,
-                "<path {} d=\"M{across} {bottom}V{}\"/>",
-                style.stroke(),
-                bottom.saturating_sub(24)
-            )?;
+            self.tick(panel.across(*value), panel.bottom(), style)?;
         }
         Ok(())
     }
 
-    /// What a style stands for: a stroke and its name above a panel, in the column of that number, counted from the right.
+    /// What a mark in a style stands for: the mark and its name above a panel, in the column of that number, counted from the right.
     pub fn legend(
         &mut self,
         panel: &Panel,
         column: u16,
         name: &str,
+        mark: Mark,
         style: Style,
     ) -> Result<(), AllocError> {
-        let right = panel.right().saturating_sub(u64::from(column) * 330);
+        let left = panel
+            .right()
+            .saturating_sub(u64::from(column) * 330)
+            .saturating_sub(310);
         let height = u64::from(panel.top).saturating_sub(22);
+        match mark {
+            Mark::Line => self.stroke(left, left + 60, height, style)?,
+            Mark::Dot => self.dot(left + 50, height, style)?,
+            Mark::Ring => self.ring(left + 50, height, style)?,
+            Mark::Tick => self.tick(left + 50, height + TICK / 2, style)?,
+            Mark::Bar => self.bar(left + 47, height.saturating_sub(TICK / 2), TICK, style)?,
+        }
+        self.write(left + 70, height + 8, Anchor::Start, name)
+    }
+
+    /// A level stroke from one place across to another.
+    fn stroke(
+        &mut self,
+        across: u64,
+        to_across: u64,
+        down: u64,
+        style: Style,
+    ) -> Result<(), AllocError> {
         writeln!(
             self.text,
-            "<path fill=\"none\" {} d=\"M{} {height}H{}\"/>",
+            "<path fill=\"none\" {} d=\"M{across} {down}H{to_across}\"/>",
+            style.stroke()
+        )
+    }
+
+    /// A dot at a place.
+    fn dot(&mut self, across: u64, down: u64, style: Style) -> Result<(), AllocError> {
+        writeln!(
+            self.text,
+            "<circle cx=\"{across}\" cy=\"{down}\" r=\"6\" fill=\"{}\"/>",
+            style.color()
+        )
+    }
+
+    /// A ring at a place.
+    fn ring(&mut self, across: u64, down: u64, style: Style) -> Result<(), AllocError> {
+        writeln!(
+            self.text,
+            "<circle cx=\"{across}\" cy=\"{down}\" r=\"7\" fill=\"white\" stroke=\"{}\" stroke-width=\"3\"/>",
+            style.color()
+        )
+    }
+
+    /// A tick whose lower end is at a place.
+    fn tick(&mut self, across: u64, bottom: u64, style: Style) -> Result<(), AllocError> {
+        writeln!(
+            self.text,
+            "<path {} d=\"M{across} {bottom}V{}\"/>",
             style.stroke(),
-            right.saturating_sub(310),
-            right.saturating_sub(250)
-        )?;
-        self.write(right.saturating_sub(240), height + 8, Anchor::Start, name)
+            bottom.saturating_sub(TICK)
+        )
+    }
+
+    /// A bar whose upper end is at a place.
+    fn bar(&mut self, across: u64, top: u64, height: u64, style: Style) -> Result<(), AllocError> {
+        writeln!(
+            self.text,
+            "<rect x=\"{across}\" y=\"{top}\" width=\"6\" height=\"{height}\" fill=\"{}\"/>",
+            style.color()
+        )
     }
 
     /// A line through points, each of which has another place than the one before.

@@ -2,7 +2,7 @@
 
 use crate::tunnel::{LARGEST, Tunnel};
 use recovery_plot::axis::{Axis, Panel};
-use recovery_plot::picture::{Picture, Style};
+use recovery_plot::picture::{Mark, Picture, Style};
 use std::alloc::{AllocError, Global};
 
 const SECOND: u64 = 1_000_000_000;
@@ -45,11 +45,11 @@ fn draw_search(picture: &mut Picture, tunnel: &Tunnel) -> Result<(), AllocError>
     picture.dots(&panel, &tunnel.arrived, Style::Dotted)?;
     picture.rings(&panel, &tunnel.lost, Style::Dashed)?;
     picture.ticks(&panel, &tunnel.holes, Style::Dashed)?;
-    picture.legend(&panel, 4, "MTU in use", Style::Solid)?;
-    picture.legend(&panel, 3, "not ruled out", Style::Thin)?;
-    picture.legend(&panel, 2, "dot: arrives", Style::Dotted)?;
-    picture.legend(&panel, 1, "ring: is lost", Style::Dashed)?;
-    picture.legend(&panel, 0, "tick: black hole", Style::Dashed)
+    picture.legend(&panel, 4, "MTU in use", Mark::Line, Style::Solid)?;
+    picture.legend(&panel, 3, "not ruled out", Mark::Line, Style::Thin)?;
+    picture.legend(&panel, 2, "arrives", Mark::Dot, Style::Dotted)?;
+    picture.legend(&panel, 1, "is lost", Mark::Ring, Style::Dashed)?;
+    picture.legend(&panel, 0, "a black hole", Mark::Tick, Style::Dashed)
 }
 
 fn draw_burst(picture: &mut Picture, tunnel: &Tunnel) -> Result<(), AllocError> {

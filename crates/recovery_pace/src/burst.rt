@@ -1,0 +1,163 @@
+//! A sender and a link in a closed loop, and what is drawn of them.
+
+use crate::bound::{Asked, Bound};
+use crate::failure::Failure;
+use crate::link::{Link, SIZE};
+use crate::sender::{BEGIN, Sender};
+use quic_recovery::below::NoMemory;
+use quic_recovery::congestion::ControllerFactory;
+use recovery_plot::axis::Point;
+use std::alloc::Global;
+
+/// How many steps a run has at most.
+const STEPS: u64 = 100_000;
+
+/// How many packets go out at one moment at most.
+const AT_ONCE: u64 = 1_000;
+
+/// What is drawn of what was sent. Moments are nanoseconds since the beginning, sizes bytes.
+#[derive(Drop)]
+pub struct Log {
+    total: u64,
+    spans: Bound,
+    /// All bytes that were sent.
+    pub sent: Vec<Point>,
+    /// How many they may be, by the clause `rate`.
+    pub bound: Vec<Point>,
+    /// The moments that the pacer named.
+    pub named: Vec<u64>,
+}
+
+impl Log {
+    fn new(alloc: Global) -> Result<Self, NoMemory> {
+        let mut log = Log {
+            total: 0,
+            spans: Bound::new(alloc),
+            sent: Vec::new(alloc),
+            bound: Vec::new(alloc),
+            named: Vec::new(alloc),
+        };
+        log.sent.push(Point { x: 0, y: 0 })?;
+        Ok(log)
+    }
+
+    /// Notes what the pacer was asked and told.
+    fn asked(&mut self, asked: &Asked) -> Result<(), NoMemory> {
+        let most = self.spans.take(asked, self.total)?;
+        self.bound.push(Point {
+            x: asked.now,
+            y: most,
+        })?;
+        match asked.until {
+            Some(until) if self.named.last() != Some(&until) => self.named.push(until)?,
+            _ => {}
+        }
+        Ok(())
+    }
+
+    /// What was sent by a moment is no more than what may have been sent by any later one.
+    fn settle(&mut self) {
+        let mut least = u64::MAX;
+        for point in self.bound.iter_mut().rev() {
+            least = least.min(point.y);
+            point.y = least;
+        }
+    }
+
+    /// Notes that a packet went out.
+    fn sent(&mut self, now: u64) -> Result<(), NoMemory> {
+        self.total = self.total.saturating_add(u64::from(SIZE));
+        self.sent.push(Point {
+            x: now,
+            y: self.total,
+        })?;
+        Ok(())
+    }
+}
+
+/// The loop.
+#[derive(Drop)]
+pub struct Burst<F: ControllerFactory> {
+    sender: Sender<F>,
+    /// The link, and what happened at its queue.
+    pub link: Link,
+    /// What was sent.
+    pub log: Log,
+    /// The moment until which the sender waits for the pacer, if it does.
+    wake: Option<u64>,
+}
+
+impl<F> Burst<F>
+where
+    F: ControllerFactory + Drop,
+    F::Controller: Drop,
+{
+    pub fn new(alloc: Global, sender: Sender<F>) -> Result<Self, NoMemory> {
+        Ok(Burst {
+            sender,
+            link: Link::new(alloc)?,
+            log: Log::new(alloc)?,
+            wake: None,
+        })
+    }
+
+    /// All that happens up to a moment.
+    pub fn run(&mut self, end: u64) -> Result<(), Failure> {
+        self.send(BEGIN)?;
+        for _ in 0..STEPS {
+            let now = self.next_moment();
+            if now > end {
+                break;
+            }
+            self.step(now)?;
+        }
+        self.link.pass(end)?;
+        self.log.settle();
+        Ok(())
+    }
+
+    /// When something happens next: an ACK is back, the sender may go on, or its probe timer expires, which runs only where nothing is on
+    /// its way.
+    fn next_moment(&self) -> u64 {
+        match (self.link.next_ack(), self.wake) {
+            (Some(ack), Some(wake)) => ack.min(wake),
+            (Some(moment), None) | (None, Some(moment)) => moment,
+            (None, None) => self.sender.probe_moment(),
+        }
+    }
+
+    fn step(&mut self, now: u64) -> Result<(), Failure> {
+        if let Some(number) = self.link.take_ack(now) {
+            self.sender.acknowledged(now, number)?;
+        }
+        self.send(now)
+    }
+
+    /// Packets go out, as window and pacer let them.
+    fn send(&mut self, now: u64) -> Result<(), Failure> {
+        self.wake = None;
+        for _ in 0..AT_ONCE {
+            if !self.may_send(now) {
+                break;
+            }
+            let asked = self.sender.transmit(now)?;
+            self.log.asked(&asked)?;
+            if let Some(until) = asked.until
+                && self.sender.is_checked()
+            {
+                self.wake = Some(until.max(now.saturating_add(1)));
+                break;
+            }
+            let number = self.sender.send(now)?;
+            self.log.sent(now)?;
+            self.link.enter(now, number)?;
+        }
+        Ok(())
+    }
+
+    /// Whether the window has room. A probe goes out beyond it (RFC 9002, 6.2.4).
+    fn may_send(&self, now: u64) -> bool {
+        self.sender.has_room()
+            || (self.link.next_ack().is_none() && now >= self.sender.probe_moment())
+    }
+}

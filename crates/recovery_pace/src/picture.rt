@@ -1,0 +1,100 @@
+//! Two panels: what was sent above, the queue below.
+
+use crate::burst::Log;
+use crate::link::Link;
+use crate::settings::{Settings, Window};
+use recovery_plot::axis::{Axis, Panel, Point};
+use recovery_plot::picture::{Mark, Picture, Style};
+use std::alloc::{AllocError, Global};
+
+const MILLISECOND: u64 = 1_000_000;
+
+const KILOBYTE: u64 = 1_000;
+
+/// The picture of a run.
+pub fn draw(
+    alloc: Global,
+    settings: &Settings,
+    log: &Log,
+    link: &Link,
+) -> Result<String, AllocError> {
+    let title = title(alloc, settings)?;
+    let mut picture = Picture::new(alloc, 1920, 1220, title.as_str())?;
+    let time = Axis {
+        least: 0,
+        most: settings.end,
+        unit: MILLISECOND,
+    };
+    draw_sent(&mut picture, time, log)?;
+    draw_queue(alloc, &mut picture, time, link)?;
+    picture.finish()
+}
+
+fn title(alloc: Global, settings: &Settings) -> Result<String, AllocError> {
+    let pacing = if settings.is_checked {
+        "paced"
+    } else {
+        "unchecked"
+    };
+    match settings.window {
+        Window::NewReno => format!(in alloc; "NewReno, {pacing}"),
+        Window::Fixed(bytes) => format!(in alloc; "A window of {bytes} bytes, {pacing}"),
+    }
+}
+
+fn panel(top: u16, height: u16, x: Axis, most: u64, unit: u64) -> Panel {
+    Panel {
+        left: 130,
+        top,
+        width: 1740,
+        height,
+        x,
+        y: Axis {
+            least: 0,
+            most,
+            unit,
+        },
+    }
+}
+
+fn highest(points: &[Point]) -> u64 {
+    points.iter().map(|point| point.y).max().unwrap_or(0)
+}
+
+fn total(points: &[Point]) -> u64 {
+    points
+        .iter()
+        .fold(0, |sum: u64, point| sum.saturating_add(point.y))
+}
+
+fn draw_sent(picture: &mut Picture, time: Axis, log: &Log) -> Result<(), AllocError> {
+    let most = highest(&log.sent).max(highest(&log.bound));
+    let panel = panel(110, 560, time, most.saturating_add(most / 20), KILOBYTE);
+    picture.axes(&panel, "time, ms", "kB sent")?;
+    picture.ticks(&panel, &log.named, Style::Thin)?;
+    picture.steps(&panel, &log.bound, Style::Dashed)?;
+    picture.steps(&panel, &log.sent, Style::Solid)?;
+    picture.legend(&panel, 2, "bytes sent", Mark::Line, Style::Solid)?;
+    picture.legend(&panel, 1, "bound of rate", Mark::Line, Style::Dashed)?;
+    picture.legend(&panel, 0, "moment named", Mark::Tick, Style::Thin)
+}
+
+fn draw_queue(
+    alloc: Global,
+    picture: &mut Picture,
+    time: Axis,
+    link: &Link,
+) -> Result<(), AllocError> {
+    let panel = panel(820, 280, time, 24, 1);
+    picture.axes(
+        &panel,
+        "time, ms",
+        "packets in the queue, and dropped at a moment",
+    )?;
+    picture.bars(&panel, &link.drops, Style::Dashed)?;
+    picture.steps(&panel, &link.queue, Style::Solid)?;
+    let longest = format!(in alloc; "queue: {} at most", highest(&link.queue))?;
+    let dropped = format!(in alloc; "dropped: {}", total(&link.drops))?;
+    picture.legend(&panel, 1, longest.as_str(), Mark::Line, Style::Solid)?;
+    picture.legend(&panel, 0, dropped.as_str(), Mark::Bar, Style::Dashed)
+}

@@ -1,0 +1,277 @@
+//! A sender that always has more to send.
+ghost use Rattle.std.specs.Prelude.{◌≡◌};
+ghost use Rattle.recovery_skips.specs.Skips.{IsSkips};
+
+use crate::bound::Asked;
+use crate::link::{SIZE, THERE_AND_BACK};
+use quic_recovery::below::{ConnectionId, NoMemory, SpaceId};
+use quic_recovery::config::TransportConfig;
+use quic_recovery::congestion::{Controller, ControllerFactory};
+use quic_recovery::time::{Duration, Instant};
+use quic_recovery::{Answer, Event, LiveRecovery, RecoveryConfig, Refusal};
+use rand_core::SeedableRng;
+use rand_pcg::Pcg32;
+use recovery_queue::items::ItemQueue;
+use recovery_skips::Skips;
+use std::alloc::Global;
+use std::net::{IpAddr, Ipv4Addr, SocketAddr};
+
+/// When it begins, in nanoseconds.
+pub const BEGIN: u64 = 10_000_000;
+
+/// A packet is lost once one that was sent so many packets later is acknowledged (RFC 9002, 6.1.1).
+const PACKET_THRESHOLD: u64 = 3;
+
+/// Controllers of this factory; a validated path of a known round-trip time, whose MTU is not searched for.
+fn config<F: ControllerFactory>(factory: F) -> RecoveryConfig<F>
+    ensures issued { result.issued ≡ 1 }
+    ensures skips { IsSkips result.skips }
+{
+    let mut transport = TransportConfig::with_factory(factory);
+    transport.initial_rtt(Duration::from_nanos(THERE_AND_BACK));
+    RecoveryConfig {
+        transport,
+        remote: SocketAddr::new(IpAddr::V4(Ipv4Addr::new(192, 0, 2, 1)), 4433),
+        validated: true,
+        allow_mtud: false,
+        max_ack_delay: Duration::from_millis(25),
+        initial_cid: ConnectionId::new(&[0xff; 8]),
+        cid_len: 8,
+        cid_lifetime: None,
+        issued: 1,
+        skips: Skips::Disabled,
+    }
+}
+
+/// What the sender keeps of a packet.
+#[derive(Clone, Copy)]
+struct Packet {
+    /// When it was sent, in nanoseconds.
+    sent: u64,
+    is_acked: bool,
+}
+
+/// The sender, over controllers of a factory `F`. Moments are nanoseconds since the beginning.
+#[derive(Drop)]
+pub struct Sender<F: ControllerFactory> {
+    alloc: Global,
+    recovery: LiveRecovery<F, ItemQueue, Pcg32>,
+    is_checked: bool,
+    /// All packets, by their numbers.
+    packets: Vec<Packet>,
+    /// All numbers below are acknowledged or lost.
+    judged: u64,
+}
+
+impl<F> Sender<F>
+where
+    F: ControllerFactory + Drop,
+    F::Controller: Drop,
+{
+    /// A sender whose transmissions are checked, or which goes on where the pacer tells it to wait.
+    pub fn new(alloc: Global, factory: F, is_checked: bool) -> Result<Self, NoMemory> {
+        let rng = Pcg32::seed_from_u64(0);
+        let now = Instant::from_nanos(BEGIN);
+        let recovery = LiveRecovery::new(alloc, config(factory), rng, now)?;
+        Ok(Sender {
+            alloc,
+            recovery,
+            is_checked,
+            packets: Vec::new(alloc),
+            judged: 0,
+        })
+    }
+
+    /// Whether it waits until the moments that the pacer names.
+    pub fn is_checked(&self) -> bool {
+        self.is_checked
+    }
+
+    /// Whether the window has room for a packet (RFC 9002, 7).
+    pub fn has_room(&self) -> bool {
+        let path = self.recovery.recovery().current();
+        let in_flight = path.in_flight().bytes;
+        in_flight.saturating_add(u64::from(SIZE)) <= path.congestion.window()
+    }
+
+    /// A probe timeout behind the last packet (RFC 9002, 6.2.1).
+    pub fn probe_moment(&self) -> u64 {
+        let timeout = nanos(self.recovery.recovery().current().rtt.pto_base());
+        let last = self.packets.last().map_or(BEGIN, |last| last.sent);
+        last.saturating_add(timeout)
+    }
+
+    /// Asks the pacer for a packet, and transmits it: a checked one only where the pacer lets it pass.
+    pub fn transmit(&mut self, now: u64) -> Result<Asked, Refusal> {
+        let before = self.recovery.recovery().current().pacing.tokens();
+        let until = if self.is_checked {
+            self.transmit_checked(now)?
+        } else {
+            self.transmit_at_once(now)?
+        };
+        let path = self.recovery.recovery().current();
+        let capacity = path.pacing.capacity();
+        Ok(Asked {
+            now,
+            window: path.congestion.window(),
+            rtt: nanos(path.rtt.get()),
+            capacity,
+            refilled: before.min(capacity) < u64::from(SIZE),
+            until,
+        })
+    }
+
+    fn transmit_checked(&mut self, now: u64) -> Result<Option<u64>, Refusal> {
+        let datagram = Event::Transmit {
+            now: Instant::from_nanos(now),
+            bytes: SIZE,
+            checked: true,
+        };
+        match self.recovery.apply(datagram) {
+            Ok(Answer::Delayed(until)) => Ok(Some(until.as_nanos())),
+            Ok(_) => Ok(None),
+            Err(refusal) => Err(refusal),
+        }
+    }
+
+    /// The pacer is asked, and whatever it tells, the packet goes out.
+    fn transmit_at_once(&mut self, now: u64) -> Result<Option<u64>, Refusal> {
+        let until = self.ask(now)?;
+        self.tell(Event::Transmit {
+            now: Instant::from_nanos(now),
+            bytes: SIZE,
+            checked: false,
+        })?;
+        Ok(until)
+    }
+
+    fn ask(&mut self, now: u64) -> Result<Option<u64>, Refusal> {
+        let question = Event::PacerCheck {
+            now: Instant::from_nanos(now),
+            bytes: u64::from(SIZE),
+        };
+        match self.recovery.apply(question) {
+            Ok(Answer::Delayed(until)) => Ok(Some(until.as_nanos())),
+            Ok(_) => Ok(None),
+            Err(refusal) => Err(refusal),
+        }
+    }
+
+    /// The packet that was transmitted is tracked from now on: its number.
+    pub fn send(&mut self, now: u64) -> Result<u64, Refusal> {
+        let packet = Event::Send {
+            space: SpaceId::Data,
+            now: Instant::from_nanos(now),
+            size: SIZE,
+            ack_eliciting: true,
+            largest_acked: None,
+            queue: ItemQueue::from_items(Vec::new(self.alloc)),
+            stream_frames: (),
+        };
+        let number = match self.recovery.apply(packet) {
+            Ok(Answer::Sent { number, .. }) => number,
+            Ok(_) => unreachable!(),
+            Err(refusal) => return Err(refusal),
+        };
+        let packet = Packet {
+            sent: now,
+            is_acked: false,
+        };
+        match self.packets.push(packet) {
+            Ok(()) => Ok(number),
+            Err(_) => Err(Refusal::NoMemory),
+        }
+    }
+
+    /// The ACK of a packet comes in (RFC 9002, A.7).
+    pub fn acknowledged(&mut self, now: u64, number: u64) -> Result<(), Refusal> {
+        let sent = self.mark_acked(number);
+        self.tell(Event::Sample {
+            delay: Duration::ZERO,
+            rtt: Duration::from_nanos(now.saturating_sub(sent)),
+        })?;
+        self.tell(Event::Acked {
+            space: SpaceId::Data,
+            now: Instant::from_nanos(now),
+            number,
+            app_limited: false,
+        })?;
+        self.tell(Event::EndAcks {
+            now: Instant::from_nanos(now),
+            app_limited: false,
+            largest: Some(number),
+        })?;
+        self.judge(now, number)
+    }
+
+    /// When a packet was sent that is acknowledged.
+    fn mark_acked(&mut self, number: u64) -> u64 {
+        let place = usize::try_from(number).unwrap_or(usize::MAX);
+        match self.packets.get_mut(place) {
+            Some(packet) => {
+                packet.is_acked = true;
+                packet.sent
+            }
+            None => 0,
+        }
+    }
+
+    /// Packets that were sent the threshold before the one that is acknowledged, and are not, are lost (RFC 9002, 6.1.1).
+    fn judge(&mut self, now: u64, number: u64) -> Result<(), Refusal> {
+        let end = number.saturating_sub(PACKET_THRESHOLD - 1);
+        let mut last = None;
+        let mut bytes: u64 = 0;
+        for earlier in self.judged..end {
+            if let Some(sent) = self.sent_unacked(earlier) {
+                self.tell(Event::Lost {
+                    space: SpaceId::Data,
+                    number: earlier,
+                })?;
+                last = Some(sent);
+                bytes = bytes.saturating_add(u64::from(SIZE));
+            }
+        }
+        self.judged = self.judged.max(end);
+        match last {
+            Some(sent) => self.congested(now, sent, bytes),
+            None => Ok(()),
+        }
+    }
+
+    /// When a packet was sent, unless it is acknowledged.
+    fn sent_unacked(&self, number: u64) -> Option<u64> {
+        let place = usize::try_from(number).ok()?;
+        let packet = self.packets.get(place)?;
+        if packet.is_acked {
+            None
+        } else {
+            Some(packet.sent)
+        }
+    }
+
+    /// All that an ACK shows to be lost was told: so many bytes, the last of them sent at that moment.
+    fn congested(&mut self, now: u64, sent: u64, bytes: u64) -> Result<(), Refusal> {
+        self.tell(Event::LossesDone {
+            now: Instant::from_nanos(now),
+        })?;
+        self.tell(Event::Congestion {
+            now: Instant::from_nanos(now),
+            sent: Instant::from_nanos(sent),
+            persistent: false,
+            bytes,
+        })
+    }
+
+    /// An event whose answer asks for nothing.
+    fn tell(&mut self, event: Event<ItemQueue>) -> Result<(), Refusal> {
+        match self.recovery.apply(event) {
+            Ok(_) => Ok(()),
+            Err(refusal) => Err(refusal),
+        }
+    }
+}
+
+/// A span in nanoseconds, at most 2^64 - 1.
+fn nanos(span: Duration) -> u64 {
+    u64::try_from(span.as_nanos()).unwrap_or(u64::MAX)
+}
