@@ -122,21 +122,19 @@ where
     }
 
     fn transmit_checked(&mut self, now: u64) -> Result<Option<u64>, Refusal> {
-        let datagram = Event::Transmit {
+        self.ask(Event::Transmit {
             now: Instant::from_nanos(now),
             bytes: SIZE,
             checked: true,
-        };
-        match self.recovery.apply(datagram) {
-            Ok(Answer::Delayed(until)) => Ok(Some(until.as_nanos())),
-            Ok(_) => Ok(None),
-            Err(refusal) => Err(refusal),
-        }
+        })
     }
 
     /// The pacer is asked, and whatever it tells, the packet goes out.
     fn transmit_at_once(&mut self, now: u64) -> Result<Option<u64>, Refusal> {
-        let until = self.ask(now)?;
+        let until = self.ask(Event::PacerCheck {
+            now: Instant::from_nanos(now),
+            bytes: u64::from(SIZE),
+        })?;
         self.tell(Event::Transmit {
             now: Instant::from_nanos(now),
             bytes: SIZE,
@@ -145,14 +143,10 @@ where
         Ok(until)
     }
 
-    fn ask(&mut self, now: u64) -> Result<Option<u64>, Refusal> {
-        let question = Event::PacerCheck {
-            now: Instant::from_nanos(now),
-            bytes: u64::from(SIZE),
-        };
+    /// A question to the pacer: the moment that it names, where it tells to wait.
+    fn ask(&mut self, question: Event<ItemQueue>) -> Result<Option<u64>, Refusal> {
         match self.recovery.apply(question) {
-            Ok(Answer::Delayed(until)) => Ok(Some(until.as_nanos())),
-            Ok(_) => Ok(None),
+            Ok(answer) => Ok(named_by(&answer)),
             Err(refusal) => Err(refusal),
         }
     }
@@ -268,6 +262,14 @@ where
             Ok(_) => Ok(()),
             Err(refusal) => Err(refusal),
         }
+    }
+}
+
+/// The moment that an answer names, in nanoseconds, where it tells to wait.
+fn named_by(answer: &Answer<ItemQueue>) -> Option<u64> {
+    match answer {
+        Answer::Delayed(until) => Some(until.as_nanos()),
+        _ => None,
     }
 }
 
