@@ -34,7 +34,7 @@ abbrev pub rtt_text : Rtt → List ℕ
 rtt_text rtt = spans_text (rtt_get rtt) rtt.variance rtt.least rtt.latest
 
 -- the MTU in use (RFC 9000, 14.3), and the bytes in the pacer's bucket (RFC 9002, 7.7)
-abbrev pub room_text : ℕ → ℕ → List ℕ
+unfoldable pub room_text : ℕ → ℕ → List ℕ
 room_text mtu tokens =
     codes ",\"mtu\":" ++ (decimal mtu ++ (codes ",\"pacer_tokens\":" ++ (decimal tokens ++ codes "}\n")))
 

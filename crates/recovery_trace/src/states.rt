@@ -1,6 +1,6 @@
 //! The state of a path as one JSON object, by the names that qlog gives to metrics of recovery.
 ghost use Rattle.std.specs.Prelude.{◌≡◌, ◌++◌, OnOk, string_bytes};
-ghost use Rattle.recovery_trace.specs.States.{flight_text, window_text, spans_text, rtt_text, state_text};
+ghost use Rattle.recovery_trace.specs.States.{flight_text, window_text, spans_text, rtt_text, room_text, state_text};
 
 use quic_recovery::congestion::{Controller, ControllerMetrics};
 use quic_recovery::paths::{InFlight, PathData};
@@ -63,6 +63,14 @@ fn write_rtt(text: &mut String, rtt: &RttEstimator) -> Result<(), AllocError>
     )
 }
 
+/// The MTU in use, and the bytes in the pacer's bucket: the end of the line.
+#[tactic(auto, unfolding(crate::specs::States::room_text))]
+fn write_room(text: &mut String, mtu: u16, tokens: u64) -> Result<(), AllocError>
+    ensures { OnOk result (string_bytes text.new ≡ string_bytes text.old ++ room_text mtu tokens) }
+{
+    writeln!(text, ",\"mtu\":{mtu},\"pacer_tokens\":{tokens}}}")
+}
+
 /// Appends the line of a path's state. The one refusal is want of memory; nothing is then promised of the text.
 pub fn write_state<C: Controller + Drop>(
     text: &mut String,
@@ -74,7 +82,5 @@ pub fn write_state<C: Controller + Drop>(
     write_flight(text, path.in_flight())?;
     write_window(text, &path.congestion.metrics())?;
     write_rtt(text, &path.rtt)?;
-    let mtu = path.current_mtu();
-    let tokens = path.pacing.tokens();
-    writeln!(text, ",\"mtu\":{mtu},\"pacer_tokens\":{tokens}}}")
+    write_room(text, path.current_mtu(), path.pacing.tokens())
 }

@@ -7,9 +7,9 @@ use Rattle.recovery_trace.proofs.states.write_state.Goals as goal
 
 pub returns : goal.returns
 returns g c =
-    five c.writeln.result (string_bytes c.args.text.now) (string_bytes c.push_str.new.self)
+    five c.write_room.result (string_bytes c.args.text.now) (string_bytes c.push_str.new.self)
     (string_bytes c.write_flight.new.text) (string_bytes c.write_window.new.text) (string_bytes c.write_rtt.new.text)
-    (string_bytes c.writeln.new.self) (codes "{") (flight_text (counters_of c.args.path.now.ledger))
+    (string_bytes c.write_room.new.text) (codes "{") (flight_text (counters_of c.args.path.now.ledger))
     (window_text (g.C.Controller.words.metrics c.args.path.now.state.controller)) (rtt_text c.args.path.now.state.rtt)
     (room_text c.args.path.now.state.discovery.mtu c.args.path.now.state.pacer.tokens) (search rules) (search rules)
     (search rules) (search rules) (search rules)
