@@ -11,6 +11,7 @@ use quic_recovery::time::{Duration, Instant};
 use quic_recovery::{Answer, Event, LiveRecovery, RecoveryConfig, Refusal};
 use rand_core::SeedableRng;
 use rand_pcg::Pcg32;
+use recovery_detection::{LossDetector, Sent, loss_delay};
 use recovery_queue::items::ItemQueue;
 use recovery_skips::Skips;
 use std::alloc::Global;
@@ -18,9 +19,6 @@ use std::net::{IpAddr, Ipv4Addr, SocketAddr};
 
 /// When it begins, in nanoseconds.
 pub const BEGIN: u64 = 10_000_000;
-
-/// A packet is lost once one that was sent so many packets later is acknowledged (RFC 9002, 6.1.1).
-const PACKET_THRESHOLD: u64 = 3;
 
 /// Controllers of this factory; a validated path of a known round-trip time, whose MTU is not searched for.
 fn config<F: ControllerFactory>(factory: F) -> RecoveryConfig<F>
@@ -43,24 +41,16 @@ fn config<F: ControllerFactory>(factory: F) -> RecoveryConfig<F>
     }
 }
 
-/// What the sender keeps of a packet.
-#[derive(Clone, Copy)]
-struct Packet {
-    /// When it was sent, in nanoseconds.
-    sent: u64,
-    is_acked: bool,
-}
-
 /// The sender, over controllers of a factory `F`. Moments are nanoseconds since the beginning.
 #[derive(Drop)]
 pub struct Sender<F: ControllerFactory> {
     alloc: Global,
     recovery: LiveRecovery<F, ItemQueue, Pcg32>,
     is_checked: bool,
-    /// All packets, by their numbers.
-    packets: Vec<Packet>,
-    /// All numbers below are acknowledged or lost.
-    judged: u64,
+    /// The packets that are neither acknowledged nor lost.
+    flight: LossDetector,
+    /// When the last packet was sent.
+    last_sent: u64,
 }
 
 impl<F> Sender<F>
@@ -77,8 +67,8 @@ where
             alloc,
             recovery,
             is_checked,
-            packets: Vec::new(alloc),
-            judged: 0,
+            flight: LossDetector::new(alloc),
+            last_sent: BEGIN,
         })
     }
 
@@ -97,8 +87,7 @@ where
     /// A probe timeout behind the last packet (RFC 9002, 6.2.1).
     pub fn probe_moment(&self) -> u64 {
         let timeout = nanos(self.recovery.recovery().current().rtt.pto_base());
-        let last = self.packets.last().map_or(BEGIN, |last| last.sent);
-        last.saturating_add(timeout)
+        self.last_sent.saturating_add(timeout)
     }
 
     /// Asks the pacer for a packet, and transmits it: a checked one only where the pacer lets it pass.
@@ -167,79 +156,70 @@ where
             Ok(_) => unreachable!(),
             Err(refusal) => return Err(refusal),
         };
-        let packet = Packet {
-            sent: now,
-            is_acked: false,
+        let packet = Sent {
+            number,
+            sent: Instant::from_nanos(now),
+            size: SIZE,
+            ack_eliciting: true,
         };
-        match self.packets.push(packet) {
-            Ok(()) => Ok(number),
-            Err(_) => Err(Refusal::NoMemory),
+        if self.flight.on_sent(packet).is_err() {
+            return Err(Refusal::NoMemory);
         }
+        self.last_sent = now;
+        Ok(number)
     }
 
     /// The ACK of a packet comes in (RFC 9002, A.7).
     pub fn acknowledged(&mut self, now: u64, number: u64) -> Result<(), Refusal> {
-        let sent = self.mark_acked(number);
+        let acked = match self.flight.on_ack(number, number) {
+            Ok(acked) => acked,
+            Err(_) => return Err(Refusal::NoMemory),
+        };
+        for packet in &acked {
+            self.arrived(now, packet)?;
+        }
+        self.judge(now)
+    }
+
+    fn arrived(&mut self, now: u64, packet: &Sent) -> Result<(), Refusal> {
         self.tell(Event::Sample {
             delay: Duration::ZERO,
-            rtt: Duration::from_nanos(now.saturating_sub(sent)),
+            rtt: Instant::from_nanos(now) - packet.sent,
         })?;
         self.tell(Event::Acked {
             space: SpaceId::Data,
             now: Instant::from_nanos(now),
-            number,
+            number: packet.number,
             app_limited: false,
         })?;
         self.tell(Event::EndAcks {
             now: Instant::from_nanos(now),
             app_limited: false,
-            largest: Some(number),
-        })?;
-        self.judge(now, number)
+            largest: Some(packet.number),
+        })
     }
 
-    /// When a packet was sent that is acknowledged.
-    fn mark_acked(&mut self, number: u64) -> u64 {
-        let place = usize::try_from(number).unwrap_or(usize::MAX);
-        match self.packets.get_mut(place) {
-            Some(packet) => {
-                packet.is_acked = true;
-                packet.sent
-            }
-            None => 0,
-        }
-    }
-
-    /// Packets that were sent the threshold before the one that is acknowledged, and are not, are lost (RFC 9002, 6.1.1).
-    fn judge(&mut self, now: u64, number: u64) -> Result<(), Refusal> {
-        let end = number.saturating_sub(PACKET_THRESHOLD - 1);
+    /// The packets that are lost now (RFC 9002, 6.1).
+    fn judge(&mut self, now: u64) -> Result<(), Refusal> {
+        let rtt = self.recovery.recovery().current().rtt;
+        let delay = loss_delay(rtt.get(), rtt.latest());
+        let lost = match self.flight.detect_lost(Instant::from_nanos(now), delay) {
+            Ok(lost) => lost,
+            Err(_) => return Err(Refusal::NoMemory),
+        };
         let mut last = None;
         let mut bytes: u64 = 0;
-        for earlier in self.judged..end {
-            if let Some(sent) = self.sent_unacked(earlier) {
-                self.tell(Event::Lost {
-                    space: SpaceId::Data,
-                    number: earlier,
-                })?;
-                last = Some(sent);
-                bytes = bytes.saturating_add(u64::from(SIZE));
-            }
+        for packet in &lost {
+            self.tell(Event::Lost {
+                space: SpaceId::Data,
+                number: packet.number,
+            })?;
+            last = Some(packet.sent.as_nanos());
+            bytes = bytes.saturating_add(u64::from(packet.size));
         }
-        self.judged = self.judged.max(end);
         match last {
             Some(sent) => self.congested(now, sent, bytes),
             None => Ok(()),
-        }
-    }
-
-    /// When a packet was sent, unless it is acknowledged.
-    fn sent_unacked(&self, number: u64) -> Option<u64> {
-        let place = usize::try_from(number).ok()?;
-        let packet = self.packets.get(place)?;
-        if packet.is_acked {
-            None
-        } else {
-            Some(packet.sent)
         }
     }
 
