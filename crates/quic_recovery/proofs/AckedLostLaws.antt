@@ -5,19 +5,19 @@ use Rattle.recovery_base.specs.declared.below.SpaceId.{SpaceId}
 use Rattle.recovery_congestion.specs.Calls.{acks, takes_mtu}
 use Rattle.recovery_ledger.specs.Discarded.{is_discarded}
 use Rattle.recovery_ledger.specs.Ledger.{tracked_by}
-use Rattle.recovery_ledger.specs.Packets.{Packet, packet_at, with_contents}
+use Rattle.recovery_ledger.specs.Packets.{Packet, packet_at}
 use Rattle.recovery_ledger.specs.Paths.{generation_of}
-use Rattle.recovery_ledger.specs.SpaceLog.{acknowledged, loses}
-use Rattle.recovery_ledger.specs.Spaces.{Space, space_of, with_space, SpaceAcked, SpaceStep}
+use Rattle.recovery_ledger.specs.SpaceLog.{acknowledged}
+use Rattle.recovery_ledger.specs.Spaces.{Space, space_of, with_space, SpaceAcked}
 use Rattle.recovery_ledger.proofs.ReceivedLaws.{fails}
 use Rattle.recovery_mtud.specs.Discovery.{is_data}
 use Rattle.recovery_mtud.specs.DiscoveryLog.{MtuCall, acks as acks_packet}
-use Rattle.recovery_paths.specs.LivePaths.{path_left_by, paths_acking, paths_losing}
+use Rattle.recovery_paths.specs.LivePaths.{path_left_by, paths_acking}
 use Rattle.recovery_paths.specs.PathLog.{OfPaths, PathKnown, PathsStep, paths_after, known_with, known_following, paths_known, path_known, paths_marks, on_current, tells, searches}
-use Rattle.recovery_paths.specs.PathStates.{Path, PathState, after_telling, after_searching, is_path_probe, loss_call}
-use Rattle.recovery_events.specs.declared.event.Event.TheVariants.{Acked, Lost}
+use Rattle.recovery_paths.specs.PathStates.{Path, PathState, after_telling, after_searching, is_path_probe}
+use Rattle.recovery_events.specs.declared.event.Event.TheVariants.{Acked}
 use Rattle.recovery_events.specs.declared.event.Answer.TheVariants as answer
-use Rattle.quic_recovery.specs.Entries.{acked_entry, acked_search, lost_search}
+use Rattle.quic_recovery.specs.Entries.{acked_entry, acked_search}
 use Rattle.quic_recovery.specs.History.{QueueMeaning}
 use Rattle.quic_recovery.specs.Parts.{Parts}
 use Rattle.quic_recovery.specs.State.{Changes, known_to}
@@ -76,29 +76,6 @@ module _ {K P M : Type 0} (old : Parts K P M) (space : SpaceId) (number : ℕ) (
       go false true false = refl
       go false false probe = refl
 
-  pub lost_path : PathsStep old.settings (lost_search (known_to old) space number (Some packet)) (paths_known old.paths)
-      (paths_known (paths_losing space number packet old.paths))
-  lost_path = ap (with_previous _) (previous_known packet old.paths.previous) ∙ go (is_data space)
-    where
-      call : MtuCall
-      call = loss_call number packet.size old.paths.current.state.discovery
-
-      path : Path K
-      path = old.paths.current
-
-      go : (in_data : Bool) → let known : OfPaths (PathKnown K) =
-          record {
-            current = record {
-              generation = generation_of path.ledger;
-              state = cond in_data (after_searching call path.state) path.state;
-            };
-            previous = option_map path_known old.paths.previous;
-          } in
-          known ≡ paths_after (known_with old.settings) (known_following old.settings)
-          (cond in_data (on_current (searches call) ∷ []) []) (paths_known old.paths)
-      go true = refl
-      go false = refl
-
 some_is_not_none : {P M : Type 0} (packet : Packet P M) → Some packet ≡ None → ⊥
 some_is_not_none packet e = cc
 
@@ -132,29 +109,5 @@ module _ {K Q S M P : Type 0} (q : QueueMeaning Q S M P) (old : Parts K P M) (sp
             ∙ both_marks (path_left_by packet) (λ path. refl)
             (paths_acking old.settings.words space number now app_limited
             packet old.paths).current old.paths refl;
-        refused = tt;
-      }
-
-  -- the packet that was lost is handed back without its contents
-  pub lost_changes : (lost : Packet P M) → lost ≡ with_contents q.words.empty packet
-      → SpaceStep q.words (loses number) (space_of space old.spaces) there
-      → paths ≡ paths_losing space number lost old.paths
-      → Changes {M = M} q old (Lost space number) (Ok (answer.Lost probe))
-      (record old { spaces = with_space old.spaces space there; paths = paths })
-  lost_changes lost emptied step is =
-      let known = known_to old in
-      let Stepped : Option (Packet P M) → Type 0 =
-      λ p. PathsStep old.settings (lost_search known space number p) (paths_known old.paths) (paths_known paths) in
-      let same = ap (λ (p : Packet P M). paths_losing space number p old.paths) emptied in
-      let path_step = subst Stepped (sym found) (ap (λ (p : OfPaths (Path K)). paths_known p) (is ∙ same)
-      ∙ lost_path old space number packet) in
-      record {
-        told = (fails _ live, ((λ none. some_is_not_none packet (sym found ∙ none)), ap (λ b. answer.Lost b) is_probe));
-        steps = space_changes q.words old space (loses number) there old.skipping
-            (lost_search known space number (packet_at (tracked_by old.spaces space) number)) paths step
-            (skips_nothing space (loses number) _ old.skipping refl) path_step;
-        marks = ap (λ (p : OfPaths (Path K)). paths_marks p) is
-            ∙ both_marks (path_left_by lost) (λ path. refl) (paths_losing space number lost old.paths).current old.paths
-            refl;
         refused = tt;
       }

@@ -1,6 +1,6 @@
 -- What each event may be to the paths, and that it keeps the bound on what goes to an address that is not validated.
 -- `ThreefoldLaws`, `PacingLaws` and `SearchLaws` rest on it.
-use Rattle.std.proofs.Common.{ℕ, ◌≡◌, Bool, true, false, cond, [], ◌∷◌, Option, None, Some, Ok, Err, refl}
+use Rattle.std.proofs.Common.{ℕ, ◌≡◌, Bool, true, false, cond, ◌∷◌, Option, None, Some, Ok, Err, refl}
 use Rattle.std.proofs.lemmas.Bool.{false_from_ne_true, false≢true}
 use Rattle.recovery_base.specs.declared.below.SpaceId.{SpaceId}
 use Rattle.recovery_congestion.specs.Controllers.{ControllerWords}

@@ -74,12 +74,6 @@ module _ {K P M : Type 0} (settings : PathSettings K) (first : PathMaking K) (lo
   searched_seen true call = refl
   searched_seen false call = refl
 
-  data_seen : (in_data changes : Bool) (call : MtuCall)
-      → entries_with (if in_data then searched known changes call else [])
-      ≡ (if in_data then seen call ∷ before else before)
-  data_seen true changes call = searched_seen changes call
-  data_seen false changes call = refl
-
   acked_with : (own : Bool) (call : ControllerCall) (entries : List PathsEntry)
       → entries_with ((if own then on_current (tells call) ∷ [] else []) ++ entries) ≡ entries_with entries
   acked_with true call entries = refl

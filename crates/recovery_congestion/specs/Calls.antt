@@ -1,5 +1,5 @@
 -- What a controller was told, and the content that this leaves (RFC 9002, 7 and appendix B).
-use Rattle.std.specs.Prelude.{ℕ, ◌<◌, ⊤, Bool, List, [], ◌∷◌, Option}
+use Rattle.std.specs.Prelude.{ℕ, Bool, List, [], ◌∷◌, Option}
 use Rattle.recovery_congestion.specs.Rtt.{Rtt}
 use Rattle.recovery_congestion.specs.Controllers.{ControllerWords}
 
@@ -22,16 +22,3 @@ told words (takes_mtu mtu) k = words.on_mtu_update mtu k
 abbrev pub content_by : {K : Type 0} → ControllerWords K → K → List ControllerCall → K
 content_by words built [] = built
 content_by words built (call ∷ earlier) = told words call (content_by words built earlier)
-
--- an MTU that is told is above zero
-abbrev pub IsPositiveCall : ControllerCall → Type 0
-IsPositiveCall (sends now bytes number) = ⊤
-IsPositiveCall (acks now sent bytes limited rtt) = ⊤
-IsPositiveCall (ends_acks now in_flight limited largest) = ⊤
-IsPositiveCall (congests now sent persistent lost) = ⊤
-IsPositiveCall (takes_mtu mtu) = 0 < mtu
-
--- all MTUs that are told are above zero
-abbrev pub ArePositiveCalls : List ControllerCall → Type 0
-ArePositiveCalls [] = ⊤
-ArePositiveCalls (call ∷ earlier) = IsPositiveCall call × ArePositiveCalls earlier

@@ -47,14 +47,6 @@ module _ (ids : LocalIds) (sound : AreSound ids) where
   pub waits_answer : holds_unretired ids.retire_prior_to ids.retire_prior_to ids ≡ false
   waits_answer = list_any-nowhere ids.retire_prior_to ids.unretired
 
-  -- where none is, the marks move on
-  moved : LocalIds
-  moved = record ids {
-    deadlines = drop 1 ids.deadlines;
-    retired_below = ids.retire_prior_to;
-    retire_prior_to = next_mark ids.retire_prior_to ids.deadlines;
-  }
-
   pub moves : any_below ids.retire_prior_to ids ≡ false →
       record ids {
         deadlines = drop 1 ids.deadlines;

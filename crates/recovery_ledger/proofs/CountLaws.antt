@@ -119,16 +119,6 @@ module _ {P M : Type 0} where
         bound = counted.bound;
       }
 
-  pub counted_written : (packets new : Packets P M) (last : Option ℕ) (silent sized : ℕ)
-      → AreCounted packets last silent sized → (number : ℕ) (packet written : Packet P M) (contents : P)
-      → packet_at packets number ≡ Some packet
-      → written ≡ with_contents contents packet → new ≡ replaced number (Some written) packets
-      → AreCounted new last silent sized
-  counted_written packets new last silent sized counted number packet written contents found is set =
-      subst (λ (es : Packets P M). AreCounted es last silent sized)
-      (sym (set ∙ ap (λ (p : Packet P M). replaced number (Some p) packets) is))
-      (counted_carrying packets last silent sized counted number packet contents found)
-
   -- one more silent packet, for one that is forgotten
   pub counted_forgetting : (packets : Packets P M) (last : Option ℕ) (silent sized : ℕ)
       (counted : AreCounted packets last silent sized) (number : ℕ) (packet : Packet P M) → IsAboveLast last number

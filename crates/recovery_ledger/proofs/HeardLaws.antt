@@ -10,7 +10,7 @@ use Rattle.recovery_acks.specs.Runs.{IsInHighest}
 use Rattle.recovery_acks.proofs.AckLaws.{out_of_order_by}
 use Rattle.recovery_acks.proofs.RunLaws.{highest_alike}
 use Rattle.recovery_queue.specs.Queues.{QueueWords}
-use Rattle.recovery_ledger.specs.Acks.{AckCounts, AcksSaid, ToAcknowledge, IsRequired, AsksAtOnce, Arms, StartedAt, heard_by, acks_by, counts_by, counts_with, counts_acked, counts_asked}
+use Rattle.recovery_ledger.specs.Acks.{AckCounts, ToAcknowledge, IsRequired, AsksAtOnce, Arms, StartedAt, heard_by, acks_by, counts_by, counts_with, counts_acked, counts_asked}
 use Rattle.recovery_ledger.specs.Packets.{Packet, packet_at, is_above, largest_acked_by}
 use Rattle.recovery_ledger.specs.Received.{CameIn}
 use Rattle.recovery_ledger.specs.SpaceLog.{SpaceEntry, heard, acknowledged, ack_goes, ack_is_late, asked}
@@ -57,11 +57,6 @@ module _ (Here There : ℕ → Type 0) (greatest : HasGreatest There) (alike : (
 
 same_flag : (a b : Bool) → a ≡ b → IsTrue a ↔ IsTrue b
 same_flag a b e = (λ h. sym e ∙ h, λ h. e ∙ h)
-
--- some number waits, by the space or by the log
-pub waits_alike : (said : AcksSaid) (acks : Acks) → AcksLeft said acks → ((n : ℕ) × IsPending acks n)
-    ↔ ((n : ℕ) × said.pending n)
-waits_alike said acks left = (λ h. (h.0, (left.pending h.0).0 h.1), λ h. (h.0, (left.pending h.0).1 h.1))
 
 module _ {P M S : Type 0} (words : QueueWords P S) (log : List (SpaceEntry P M)) (old : Acks)
     (left : AcksLeft (acks_by words log) old) where

@@ -52,13 +52,6 @@ module _ {P M : Type 0} where
         ap (λ b. cond (b && packet.ack_eliciting) 1 0) same in
         (omega (arith, size, enough), omega (arith, one, eliciting))
 
-  -- a packet of another path leaves nothing
-  pub not_leaving : (path : PathLedger) (packet : Packet P M) → packet.path_generation ≢ generation_of path
-      → after_leaving path packet ≡ path
-  not_leaving path packet other = ap (λ (b : Bool). with_counters
-      (cond b (without_packet (counters_of path) packet) (counters_of path)) path)
-      (ne_eqb packet.path_generation (generation_of path) other)
-
   -- ---- one space among three
 
   pub sums_replaced : (f : ℕ × Packet P M → ℕ) (spaces : Spaces P M) (space : SpaceId) (here : Space P M) (a b : ℕ)

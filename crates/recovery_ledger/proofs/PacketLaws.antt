@@ -2,10 +2,9 @@
 -- tracked packets rests on it.
 use Rattle.std.proofs.Common.{◌≡◌, ◌≢◌, ℕ, ◌+◌, ◌<◌, ◌≤◌, ◌==◌, inl, inr, Bool, true, false, not, cond, ◌&&◌, nat_lt, [], ◌∷◌, ◌++◌, length, filter, Option, None, Some, refl, sym, ap, ◌∙◌, arith, ne_eqb}
 use Rattle.std.specs.Prelude.{sum_by, option_map}
-use Rattle.std.specs.Ordering.{nat_cmp, is_eq, match_ordering}
-use Rattle.std.specs.declared.cmp.Ordering.TheVariants.{Greater}
-use Rattle.std.specs.Cmp.{nat_cmp_is, nat_cmp_total, Equal-is, tied_itself}
-use Rattle.std.specs.BTreeMap.{is_at, insert_entry}
+use Rattle.std.specs.Ordering.{nat_cmp, is_eq}
+use Rattle.std.specs.Cmp.{nat_cmp_total, Equal-is, tied_itself}
+use Rattle.std.specs.BTreeMap.{is_at}
 use Rattle.std.proofs.lemmas.List.Sums.{sum_by-cons}
 use Rattle.std.proofs.lemmas.Map.Lookups.{exact_unsigned}
 use Rattle.std.proofs.lemmas.Option.{none-some}
@@ -21,10 +20,6 @@ at_itself number = ap is_eq (tied_itself nat_cmp_total number)
 
 no_number : {A : Type 0} (number : ℕ) → None ≡ Some number → A
 no_number number e = cc
-
-both_true : (a b : Bool) → (a && b) ≡ true → (a ≡ true) × (b ≡ true)
-both_true true b e = (refl, e)
-both_true false b e = cc
 
 module _ {P M : Type 0} where
   -- ---- look-ups
@@ -46,16 +41,6 @@ module _ {P M : Type 0} where
       go true at e later = let h : entry.0 ≡ number = number_at number entry.0 at in let below_first : entry.0 < limit =
           below.0 in omega arith
       go false at e later = later e
-
-  -- a number above all others goes to the end
-  pub insert_at_end : (packets : Packets P M) (number : ℕ) (packet : Packet P M) → AllBelow packets number
-      → insert_entry nat_cmp packets number packet ≡ packets ++ (number, packet) ∷ []
-  insert_at_end [] number packet below = refl
-  insert_at_end (entry ∷ packets) number packet below =
-      let above : nat_cmp number entry.0 ≡ Greater = sym (nat_cmp_is number entry.0 Greater below.0) in
-      ap (λ o. match_ordering o ((number, packet) ∷ entry ∷ packets) ((entry.0, packet) ∷ packets)
-      (entry ∷ insert_entry nat_cmp packets number packet)) above
-      ∙ ap (λ (es : Packets P M). entry ∷ es) (insert_at_end packets number packet below.1)
 
   pub without-append : (packets more : Packets P M) (number : ℕ) (packet : Packet P M)
       → packet_at packets number ≡ Some packet → without (packets ++ more) number ≡ without packets number ++ more

@@ -8,19 +8,18 @@ use Rattle.recovery_base.proofs.WindowLaws.{left_with, iff_trans}
 use Rattle.recovery_base.specs.Ranges.{InRanges}
 use Rattle.recovery_acks.specs.Acks.{Acks, new_acks}
 use Rattle.recovery_queue.specs.Queues.{QueueWords}
-use Rattle.recovery_ledger.specs.declared.spaces.SendableFrames.{SendableFrames}
-use Rattle.recovery_ledger.specs.Acks.{acks_by, heard_by}
+use Rattle.recovery_ledger.specs.Acks.{acks_by}
 use Rattle.recovery_ledger.specs.Kept.{Acknowledged, Kept, kept_by, one_more, acknowledged_with, largest_acknowledged}
 use Rattle.recovery_ledger.specs.Packets.{Packet, Tracking, no_packets, packet_at, is_above, without}
-use Rattle.recovery_ledger.specs.Probes.{ProbeFound, pending_stands, moves, nothing_found, probe_found}
-use Rattle.recovery_ledger.specs.Queued.{Queued, marks_with, joined_with, has_other, pending_by, queued_by, IsSendable}
+use Rattle.recovery_ledger.specs.Probes.{ProbeFound, pending_stands, moves, nothing_found}
+use Rattle.recovery_ledger.specs.Queued.{Queued, marks_with, joined_with, queued_by}
 use Rattle.recovery_ledger.specs.Received.{CameIn}
 use Rattle.recovery_ledger.specs.SpaceLog.{SpaceEntry, heard, heard_again, sends, acknowledged, loses, probes, takes_pending, feeds_back, emptied, ack_goes, ack_is_late, asked}
 use Rattle.recovery_base.specs.declared.below.SpaceId.{SpaceId}
 use Rattle.recovery_base.specs.declared.below.SpaceId.TheVariants.{Initial, Handshake, Data}
-use Rattle.recovery_ledger.specs.Spaces.{Spaces, space_of, Space, tracking_of, queued_of, one_probe_more, space_probes, kept_of, acks_of, with_acks, sent_of, after_acknowledging, space_takes, next_number_of, heard_of, SpaceStep, AcksLeft, SpaceLeft}
+use Rattle.recovery_ledger.specs.Spaces.{Spaces, space_of, Space, tracking_of, queued_of, one_probe_more, space_probes, kept_of, acks_of, with_acks, sent_of, after_acknowledging, space_takes, next_number_of, SpaceStep, AcksLeft, SpaceLeft}
 use Rattle.recovery_ledger.specs.Tracked.{Sent, sent_by, sent_more, sent_moved}
-use Rattle.recovery_ledger.proofs.HeardLaws.{waits_alike, heard_law, acknowledged_law, ack_goes_law, ack_is_late_law, asked_law}
+use Rattle.recovery_ledger.proofs.HeardLaws.{heard_law, acknowledged_law, ack_goes_law, ack_is_late_law, asked_law}
 use Rattle.recovery_ledger.proofs.ReceivedLaws.{fails, came_greatest}
 
 -- one probe more is asked for
@@ -258,28 +257,6 @@ module _ {P M S : Type 0} (words : QueueWords P S) where
         kept = left.kept;
         queued = left.queued;
       })
-
-  -- what a probe finds, by the space or by the log
-  pub found_law : (start : ℕ) (log : List (SpaceEntry P M)) (left : Space P M) → SpaceLeft words start log left
-      → (streams : S)
-      → probe_found words streams left.pending (tracking_of left).packets
-      ≡ probe_found words streams (pending_by words log) (sent_by words log).tracked
-  found_law start log space left streams =
-      ap (λ (q : Queued P). probe_found words streams q.pending (tracking_of space).packets) left.queued
-      ∙ ap (λ (s : Sent P M). probe_found words streams (pending_by words log) s.tracked) left.sent
-
-  -- what there is to send, by the space or by the log
-  pub sendable_law : (start : ℕ) (log : List (SpaceEntry P M)) (left : Space P M) → SpaceLeft words start log left
-      → (streams : S) (frames : SendableFrames) → IsSendable words streams (heard_of left) (queued_of left) frames
-      → IsSendable words streams (heard_by words log) (queued_by words log) frames
-  sendable_law start log space left streams frames is =
-      let waits = waits_alike (acks_by words log) (acks_of space) left.acks in (
-        (
-          λ h. let both = is.0.0 h in (left.acks.required.0 both.0, waits.0 both.1),
-          λ h. is.0.1 (left.acks.required.1 h.0, waits.1 h.1),
-        ),
-        is.1 ∙ ap (has_other words streams) left.queued,
-      )
 
   -- a space in which nothing happened yet
   pub fresh_space : (start : ℕ) (fresh : Space P M) → ((n : ℕ) → ¬ Has fresh.dedup n) → acks_of fresh ≡ new_acks []

@@ -50,10 +50,6 @@ no_first_number limit bytes words read is none first =
     subst (IsFirstNumber limit bytes) none first in
     rw (is, f.1, n) refl
 
--- a word ends within its bytes
-pub end_fits : (bytes : List ℕ) (end : ℕ) → end ≡ position_or_len (λ b. b == 32) bytes → end ≤ length bytes
-end_fits bytes end is = subst (λ (n : ℕ). n ≤ length bytes) (sym is) (prefix_len-le-length (λ b. not (b == 32)) bytes)
-
 no_words : (bytes : List ℕ) → words_of bytes ≡ [] → ⊥
 no_words bytes none = let f =
     some_first bytes in some_none _ _ (first_word (words_of bytes)) (sym f.1) (ap first_word none) where

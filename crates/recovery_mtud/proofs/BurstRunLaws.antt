@@ -1,8 +1,7 @@
 -- Whole runs of the detection of black holes: a report needs four bursts, and comes at four. The driver's `BurstLaws`
 -- rest on it.
-use Rattle.std.proofs.Common.{◌≡◌, ℕ, Option, Some, None, is_some, Bool, true, false, List, [], ◌∷◌, refl, sym, ap, min, arith, ◌∙◌, subst}
-use Rattle.std.specs.Prelude.{nat_lt, ◌&&◌, ◌||◌, if◌then◌else◌, filter}
-use Rattle.std.specs.List.{list_all}
+use Rattle.std.proofs.Common.{◌≡◌, ℕ, Option, Some, None, is_some, Bool, true, false, List, [], ◌∷◌, refl, sym, ap, arith, ◌∙◌, subst}
+use Rattle.std.specs.Prelude.{nat_lt, ◌||◌, if◌then◌else◌, filter}
 use Rattle.std.specs.Option.{option_map}
 use Rattle.std.proofs.lemmas.Bool.Decides.{nat_tests}
 use Rattle.recovery_mtud.specs.Search.{search_reported}
@@ -10,7 +9,7 @@ use Rattle.recovery_mtud.specs.Bursts.{LossBursts, bursts_made, bursts_closed, i
 use Rattle.recovery_mtud.specs.Discovery.{Discovery, poll_of, reports, size_of_probe, taking, reset_in}
 use Rattle.recovery_mtud.specs.DiscoveryLog.{MtuCall, polls, is_limited, acks, loses_probe, loses, losses_end, resets, discovery_after, discovery_by}
 use Rattle.recovery_mtud.specs.MtuEntries.{IsUntold, MtuEntry, probed, unprobed, limited, acked, probe_lost, lost, losses_over, reported, reset, poll_entry, entry_of, entries_by, probe_in_flight, size_at, min_mtu_in_use}
-use Rattle.recovery_mtud.specs.BurstRuns.{Loss, open_run, least_size, is_above, standing, unanswered, larger_acked, acked_numbers, lost_numbers, AreFatesApart, AreFourStanding, AreFourUnanswered, ReportNeedsFour, ReportComesAtFour}
+use Rattle.recovery_mtud.specs.BurstRuns.{open_run, is_above, standing, unanswered, larger_acked, acked_numbers, lost_numbers, AreFatesApart, AreFourStanding, AreFourUnanswered}
 use Rattle.recovery_mtud.proofs.EntryLaws.{Holds, holds_by, size_in_held}
 use Rattle.recovery_mtud.proofs.BurstCounts.{has, has_more}
 use Rattle.recovery_mtud.proofs.BurstTies.{Needy, Coming, needy_acked, needy_probed, needy_lost, needy_ended, needy_report, needy_made, coming_acked, coming_acked_small, coming_probed, coming_lost, coming_ended, coming_report, coming_made}
@@ -195,59 +194,6 @@ pub four_report : (made : Discovery) → IsUntold made → (calls : List MtuCall
     → AreFourUnanswered made (entries_by made calls) → reports (discovery_by made calls) ≡ true
 four_report made new calls many = coming_report _ _ _ _ (discovery_by made calls).bursts (coming_by made new calls) many
 
--- a report needs four bursts that closed since the last one or a reset, all their packets above the least MTU, and were
--- not refuted
-pub report_needs_four : (made : Discovery) → IsUntold made → (calls : List MtuCall)
-    → AreFatesApart (entries_by made calls) → ReportNeedsFour made (entries_by made calls)
-report_needs_four made new [] apart = tt
-report_needs_four made new (call ∷ earlier) apart =
-    go call (apart_before (entry_of call (discovery_by made earlier)) (entries_by made earlier) apart)
-  where
-    polled : (now next : ℕ) (answer : Option ℕ)
-        → ReportNeedsFour made (poll_entry now next answer ∷ entries_by made earlier)
-    polled now next None = tt
-    polled now next (Some size) = tt
-
-    go : (call : MtuCall) → AreFatesApart (entries_by made earlier)
-        → ReportNeedsFour made (entry_of call (discovery_by made earlier) ∷ entries_by made earlier)
-    go (polls now next) apart = polled now next _
-    go (is_limited limit) apart = tt
-    go (acks number bytes) apart = tt
-    go loses_probe apart = tt
-    go (loses number bytes) apart = tt
-    go (losses_end now) apart = ended (reports (discovery_by made earlier)) refl
-      where
-        ended : (hole : Bool) → reports (discovery_by made earlier) ≡ hole
-            → ReportNeedsFour made ((if hole then reported now else losses_over) ∷ entries_by made earlier)
-        ended true is = four_stand made new earlier apart is
-        ended false is = tt
-    go (resets mtu min_mtu) apart = tt
-
--- a report comes where four have closed with no acknowledgement since, past every number that was acknowledged
-pub report_comes_at_four : (made : Discovery) → IsUntold made → (calls : List MtuCall)
-    → ReportComesAtFour made (entries_by made calls)
-report_comes_at_four made new [] = tt
-report_comes_at_four made new (call ∷ earlier) = go call
-  where
-    polled : (now next : ℕ) (answer : Option ℕ)
-        → ReportComesAtFour made (poll_entry now next answer ∷ entries_by made earlier)
-    polled now next None = tt
-    polled now next (Some size) = tt
-
-    go : (call : MtuCall) → ReportComesAtFour made (entry_of call (discovery_by made earlier) ∷ entries_by made earlier)
-    go (polls now next) = polled now next _
-    go (is_limited limit) = tt
-    go (acks number bytes) = tt
-    go loses_probe = tt
-    go (loses number bytes) = tt
-    go (losses_end now) = ended (reports (discovery_by made earlier)) refl
-      where
-        ended : (hole : Bool) → reports (discovery_by made earlier) ≡ hole
-            → ReportComesAtFour made ((if hole then reported now else losses_over) ∷ entries_by made earlier)
-        ended true is = tt
-        ended false is = λ many. (let no : true ≡ false = sym (four_report made new earlier many) ∙ is in absurd (cc))
-    go (resets mtu min_mtu) = tt
-
 -- ---- numbers by the calls
 
 abbrev pub acked_in_calls : List MtuCall → List ℕ
@@ -296,17 +242,3 @@ pub fates_apart_by : (made : Discovery) (calls : List MtuCall)
 fates_apart_by made calls apart number good =
     let same = numbers_by made calls in
     ap (has number) same.1 ∙ apart number (sym (ap (has number) same.0) ∙ good)
-
--- the least packet of a burst is above a size exactly where all its packets are
-pub above_is_all : (size : ℕ) (loss : Loss) (losses : List Loss)
-    → is_above size (loss ∷ losses) ≡ list_all (λ other. nat_lt size other.bytes) (loss ∷ losses)
-above_is_all size loss [] = go (nat_lt size loss.bytes)
-  where
-    go : (above : Bool) → above ≡ (above && true)
-    go true = refl
-    go false = refl
-above_is_all size loss (other ∷ losses) = least loss.bytes (least_size (other ∷ losses))
-    ∙ ap (λ rest. nat_lt size loss.bytes && rest) (above_is_all size other losses)
-  where
-    least : (a b : ℕ) → nat_lt size (min a b) ≡ (nat_lt size a && nat_lt size b)
-    least a b = grind (arith, nat_tests)

@@ -3,9 +3,9 @@ use Rattle.std.proofs.Common.{◌≡◌, ◌⊎◌, inl, inr, ⊎_elim, ℕ, suc
 use Rattle.std.specs.Prelude.{nat_lt, nat_le, ◌==◌, ◌&&◌, ◌||◌, not, if◌then◌else◌, filter}
 use Rattle.std.specs.List.{list_any}
 use Rattle.std.proofs.lemmas.Bool.Decides.{nat_tests}
-use Rattle.std.proofs.lemmas.Bool.{and_parts, eqb-true, leb-true, lt-ltb, ltb-true}
+use Rattle.std.proofs.lemmas.Bool.{eqb-true, leb-true, lt-ltb, ltb-true}
 use Rattle.recovery_mtud.specs.declared.detector.Burst.{Burst}
-use Rattle.recovery_mtud.specs.Bursts.{LossBursts, bursts_made, bursts_probed, bursts_acked, with_burst, is_suspicious, with_suspicious, closing, bursts_closed, joins, burst_with, bursts_lost, is_black_hole}
+use Rattle.recovery_mtud.specs.Bursts.{LossBursts, bursts_made, bursts_probed, bursts_acked, with_burst, is_suspicious, closing, bursts_closed, joins, burst_with, bursts_lost, is_black_hole}
 use Rattle.recovery_mtud.specs.BurstRuns.{Loss, follows, if_any, from_first, least_size, is_above, is_past}
 use Rattle.recovery_mtud.proofs.BurstCounts.{one, tally, AllAbove, length-filter, tally-filter, tally-same, all-filter, all-kept, tally-all, tally-raise, max_test, length-with_burst, tally-with_burst, all-with_burst, has, past_has, has_more, has_head}
 
@@ -411,12 +411,6 @@ some_counted : (test : List Loss → Bool) (bursts : List (List Loss)) → list_
 some_counted test [] any = absurd (cc)
 some_counted test (burst ∷ bursts) any =
     subst (λ (b : Bool). 0 < length (if b then burst ∷ from_first test bursts else [])) (sym any) (omega arith)
-
-none_counted : (test : List Loss → Bool) (bursts : List (List Loss)) → list_any test bursts ≡ false
-    → length (from_first test bursts) ≡ 0
-none_counted test [] any = refl
-none_counted test (burst ∷ bursts) any =
-    ap (λ (b : Bool). length (if b then burst ∷ from_first test bursts else [])) any
 
 count_at_most : (above past any : Bool) (n : ℕ) → count_with above past any n ≤ suc n
 count_at_most true true any n = omega arith

@@ -12,7 +12,7 @@ use Rattle.recovery_mtud.specs.Search.{MtuSearch, begun, size_to_probe, later, p
 use Rattle.recovery_mtud.specs.Bursts.{LossBursts, bursts_acked, is_suspicious, with_suspicious, closing, bursts_closed, joins, burst_with, bursts_lost, is_black_hole, bursts_ended}
 use Rattle.recovery_mtud.specs.Discovery.{Discovery, discovery_made, discovery_disabled, flight_of, is_probe, is_searching_of, size_in, poll_of, taking, within}
 use Rattle.recovery_mtud.specs.DiscoveryLog.{MtuCall, polls, is_limited, acks, loses_probe, loses, losses_end, resets, discovery_after, discovery_by, kept_limit}
-use Rattle.recovery_mtud.specs.MtuEntries.{IsUntold, MtuEntry, reported, losses_over, poll_entry, entry_of, entries_by, AtEach, MtuProbe, unless_number, probe_in_flight, size_at, limit_in_use, min_mtu_in_use, mtu_in_use}
+use Rattle.recovery_mtud.specs.MtuEntries.{IsUntold, MtuEntry, reported, losses_over, poll_entry, entry_of, entries_by, MtuProbe, unless_number, probe_in_flight, size_at, limit_in_use, min_mtu_in_use, mtu_in_use}
 use Rattle.recovery_mtud.specs.SearchRuns.{search_runs}
 
 -- ---- the probe that a discovery holds
@@ -435,12 +435,6 @@ pub is_probe_by : (made : Discovery) → IsUntold made → (calls : List MtuCall
 is_probe_by made new calls number =
     is_number_held number (discovery_by made calls).search
     ∙ ap (λ probe. is_some (size_at number probe)) (holds_by made new calls).probe
-
--- what holds whatever is told holds at each moment
-pub at_each : (made : Discovery) (P : List MtuEntry → Type 0) → ((calls : List MtuCall) → P (entries_by made calls))
-    → (calls : List MtuCall) → AtEach P (entries_by made calls)
-at_each made P always [] = always []
-at_each made P always (call ∷ earlier) = (always (call ∷ earlier), at_each made P always earlier)
 
 -- a discovery that was made, enabled or not, was told nothing
 pub discovery_made_untold : (mtu min_mtu : ℕ) (limit : Option ℕ) (settings : MtuDiscoveryConfig)

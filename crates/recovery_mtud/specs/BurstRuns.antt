@@ -1,6 +1,6 @@
 -- Whole runs of the detection of black holes (RFC 8899, 4.3), over what a discovery was told and answered. Every list
 -- here has the newest entry first.
-use Rattle.std.specs.Prelude.{◌≡◌, ℕ, ◌+◌, ◌≤◌, ◌==◌, nat_lt, nat_eq, min, ⊤, Bool, true, false, ◌||◌, if◌then◌else◌, Option, is_some, List, [], ◌∷◌, ◌++◌, length, filter}
+use Rattle.std.specs.Prelude.{◌≡◌, ℕ, ◌+◌, ◌≤◌, ◌==◌, nat_lt, nat_eq, min, Bool, true, false, ◌||◌, if◌then◌else◌, Option, is_some, List, [], ◌∷◌, ◌++◌, length, filter}
 use Rattle.std.specs.List.{list_all, list_any}
 use Rattle.std.specs.Set.{is_member}
 use Rattle.recovery_mtud.specs.Discovery.{Discovery}
@@ -133,15 +133,3 @@ module _ (made : Discovery) where
       let least = min_mtu_in_use made entries in
       let bursts = filter (is_above least) (if_any (open_run entries) ++ unanswered least entries) in
       4 ≤ length (from_first (is_past (larger_acked least entries)) bursts)
-
-  -- where a black hole is reported, four stand
-  abbrev pub ReportNeedsFour : List MtuEntry → Type 0
-  ReportNeedsFour [] = ⊤
-  ReportNeedsFour (reported now ∷ earlier) = AreFourStanding earlier
-  ReportNeedsFour (entry ∷ earlier) = ⊤
-
-  -- where none is, no four have closed unanswered
-  abbrev pub ReportComesAtFour : List MtuEntry → Type 0
-  ReportComesAtFour [] = ⊤
-  ReportComesAtFour (losses_over ∷ earlier) = AreFourUnanswered earlier → ⊥
-  ReportComesAtFour (entry ∷ earlier) = ⊤

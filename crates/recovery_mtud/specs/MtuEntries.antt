@@ -56,11 +56,6 @@ abbrev pub entries_by : Discovery → List MtuCall → List MtuEntry
 entries_by made [] = []
 entries_by made (call ∷ earlier) = entry_of call (discovery_by made earlier) ∷ entries_by made earlier
 
--- what holds at each moment
-abbrev pub AtEach : (List MtuEntry → Type 0) → List MtuEntry → Type 0
-AtEach P [] = P []
-AtEach P (entry ∷ earlier) = P (entry ∷ earlier) × AtEach P earlier
-
 -- ---- the probe in flight
 
 pub record MtuProbe : Type 0 where

@@ -1,4 +1,3 @@
-pub mod PacingLaws
 mod PacingRows
 mod BalanceLaws
 pub mod PacerLogLaws

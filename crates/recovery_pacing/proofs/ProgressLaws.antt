@@ -8,7 +8,7 @@ use Rattle.recovery_base.specs.Times.{longest_span}
 use Rattle.recovery_pacing.specs.PacerLog.{PacerEntry, asked, took, bucket_by}
 use Rattle.recovery_pacing.specs.Pacing.{Bucket, PacerCall, credit_of, wait_of, resized, refilled, may_send, capacity_of, is_unpaced, paced, next_moment, delay_of}
 use Rattle.recovery_pacing.proofs.PacerLogLaws.{paced-knows}
-use Rattle.recovery_pacing.specs.Progress.{AsksAgain, PassesInTime, PassesBehind}
+use Rattle.recovery_pacing.specs.Progress.{PassesInTime, PassesBehind}
 
 -- in the time of the wait and the slack the bytes that were short have come
 waited : (rtt window short elapsed : ℕ) → 0 < rtt → 0 < window → rtt * short ≤ longest_span

@@ -18,7 +18,7 @@ use Rattle.recovery_ledger.proofs.LedgerLaws.{balanced_kept, balanced_probed, ba
 use Rattle.recovery_paths.specs.Balance.{AreBalanced}
 use Rattle.recovery_paths.specs.declared.live_paths.PathName.{PathName}
 use Rattle.recovery_paths.specs.declared.live_paths.PathName.TheVariants.{Current, Previous}
-use Rattle.recovery_paths.specs.LivePaths.{on_ledger, ledger_without, IsCountedOnEach, AreCountedOnEach, CanTrackOn, paths_after_sending, path_left_by, paths_without, paths_losing, paths_acking}
+use Rattle.recovery_paths.specs.LivePaths.{on_ledger, ledger_without, IsCountedOnEach, CanTrackOn, paths_after_sending, path_left_by, paths_without, paths_losing, paths_acking}
 use Rattle.recovery_paths.specs.PathLog.{OfPaths, on_path_of, moved_to}
 use Rattle.recovery_paths.specs.PathStates.{PathState, Path, on_state, path_acked, path_lost}
 use Rattle.recovery_queue.specs.Queues.{QueueWords}
@@ -94,16 +94,6 @@ module _ {K P M : Type 0} (spaces : Spaces P M) (paths : OfPaths (Path K)) (bala
       balanced.current (λ path is. refl) balanced.previous balanced.up_to balanced.coherent
 
   -- ---- the paths that live change
-
-  -- the previous path is dropped
-  pub dropped : AreBalanced spaces (let all : OfPaths (Path K) = record paths { previous = None } in all)
-  dropped = record {
-    current = balanced.current;
-    previous = λ path is. absurd (none-some _ is);
-    older = λ path is. absurd (none-some _ is);
-    up_to = balanced.up_to;
-    coherent = balanced.coherent;
-  }
 
   -- another path is used, of a new generation
   pub moved : (path : Path K) → path.ledger ≡ fresh_ledger (generation_of paths.current.ledger + 1)
@@ -241,14 +231,7 @@ module _ {K P M : Type 0} (spaces : Spaces P M) (paths : OfPaths (Path K)) (bala
         coherent = coherent_with spaces space here balanced.coherent
             (coherent_probed words (space_of space spaces) (balanced.coherent space) immediate found);
       }
-
   -- ---- a space is emptied
-
-  pub all_counted : (space : SpaceId) → AreCountedOnEach paths (tracked_by spaces space)
-  all_counted space = (
-    space_counted spaces paths.current.ledger balanced.current space,
-    λ path is. space_counted spaces path.ledger (balanced.previous path is) space,
-  )
 
 -- all that is left leaves
 left_all : {P M : Type 0} (then : PathLedger) (all rest : Packets P M) (ledger : PathLedger)

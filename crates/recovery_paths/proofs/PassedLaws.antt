@@ -1,5 +1,5 @@
 -- What was transmitted checked had passed the pacer right before. The driver's `PacingLaws` rest on it.
-use Rattle.std.proofs.Common.{◌≡◌, List, [], ◌++◌, None, Some, refl}
+use Rattle.std.proofs.Common.{List, [], ◌++◌, refl}
 use Rattle.std.proofs.lemmas.Bool.{false≢true}
 use Rattle.std.proofs.lemmas.Option.{none-some}
 use Rattle.recovery_pacing.proofs.PacerLogLaws.{HavePassed}

@@ -2,7 +2,7 @@
 use Rattle.std.proofs.Common.{◌≡◌, List, [], ◌∷◌, ◌++◌, Option, None, Some, option_map, refl, ap, ◌∙◌}
 use Rattle.recovery_paths.specs.declared.live_paths.PathName.TheVariants.{Current, Previous}
 use Rattle.recovery_paths.specs.PathMaking.{PathMaking, PathSettings}
-use Rattle.recovery_paths.specs.PathLog.{OfPaths, PathsEntry, PathEntry, PathPast, PathKnown, Following, paths_with, paths_after, pasts_by, each_path, state_of, state_with, past_with, past_following, known_of, known_with, known_following, PathsStep, PathsLeft, on, moves, drops_previous, fresh, goes_on, receives, is_validated, samples, tells, searches, asks, transmits, passes, is_reset}
+use Rattle.recovery_paths.specs.PathLog.{OfPaths, PathsEntry, PathEntry, PathPast, PathKnown, Following, paths_with, paths_after, pasts_by, each_path, past_with, past_following, known_of, known_with, known_following, PathsStep, PathsLeft, on, moves, drops_previous, fresh, goes_on, receives, is_validated, samples, tells, searches, asks, transmits, passes, is_reset}
 
 -- what is mapped after a change is the change of what is mapped
 option-each : {P Q : Type 0} (f : P → Q) (change : P → P) (changed : Q → Q) → ((p : P) → changed (f p) ≡ f (change p))
@@ -59,8 +59,3 @@ module _ {K : Type 0} (settings : PathSettings K) where
       → PathsLeft settings first (entries ++ log) new
   paths_law first entries log old new left step = step ∙ ap (paths_after (known_with settings)
       (known_following settings) entries) left ∙ each-after first entries log
-
-  -- what is kept after an entry
-  pub state_of-with : (entry : PathEntry) (past : PathPast K)
-      → state_with settings entry (state_of settings past) ≡ state_of settings (past_with settings entry past)
-  state_of-with entry past = ap (λ (k : PathKnown K). k.state) (known_of-with entry past)

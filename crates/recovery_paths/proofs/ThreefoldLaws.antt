@@ -1,6 +1,6 @@
 -- Checked transmissions keep the bound on what goes to an address that is not validated. The clause `threefold` of
 -- `run` rests on it.
-use Rattle.std.proofs.Common.{ℕ, ◌≡◌, ◌≤◌, ◌*◌, ◌&&◌, Bool, true, false, not, nat_lt, List, [], ◌++◌, None, Some, sym, arith}
+use Rattle.std.proofs.Common.{ℕ, ◌≡◌, ◌≤◌, ◌*◌, ◌&&◌, Bool, true, false, not, nat_lt, List, [], ◌++◌, sym, arith}
 use Rattle.std.proofs.lemmas.Bool.{ltb-false}
 use Rattle.std.proofs.lemmas.Option.{none-some}
 use Rattle.recovery_paths.specs.PathMaking.{PathMaking, PathSettings}

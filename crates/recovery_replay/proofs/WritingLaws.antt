@@ -1,12 +1,7 @@
 -- Writing in pieces: `deliver` rests on it.
-use Rattle.std.proofs.Common.{◌≡◌, ℕ, ◌+◌, ◌-◌, ◌≤◌, List, [], ◌++◌, length, arith, length-drop, take, drop, length-drop, Option, Some, None, sym, ap, subst, ◌∙◌, append_assoc, append-nil}
-use Rattle.std.proofs.Math.Seq.{take-add, take-length, take-nil}
+use Rattle.std.proofs.Common.{◌≡◌, ℕ, ◌+◌, ◌-◌, ◌≤◌, List, ◌++◌, length, arith, length-drop, take, drop, length-drop, Option, Some, None, sym, ap, subst, ◌∙◌, append_assoc}
+use Rattle.std.proofs.Math.Seq.{take-add, take-length}
 use Rattle.std.specs.Io.KnownBytes.{Appends, Keeps}
-use Rattle.recovery_replay.specs.declared.replay.Outcome.{Outcome}
-use Rattle.recovery_replay.specs.declared.replay.Outcome.TheVariants.{Ended, WriteFailed, OutOfMemory, WrongArguments}
-use Rattle.recovery_replay.specs.declared.script.Ending.TheVariants.{Whole, BadLine, ReadFailed}
-use Rattle.recovery_replay.specs.Replay.{error_text, TellsOutcome}
-use Rattle.recovery_replay.specs.Writing.{AppendsFront}
 
 pub appends_more : (before mid after : Option (List ℕ)) (front bytes : List ℕ) → Appends before mid front
     → Appends mid after bytes → Appends before after (front ++ bytes)
@@ -28,20 +23,6 @@ pub written_more : (before mid after : Option (List ℕ)) (bytes : List ℕ) (w 
     → Appends mid after (take n (drop w bytes)) → Appends before after (take (w + n) bytes)
 written_more before mid after bytes w n a b = subst (Appends before after) (sym (take-add w n bytes))
     (appends_more before mid after (take w bytes) (take n (drop w bytes)) a b)
-
-pub none_front : (before after : Option (List ℕ)) → AppendsFront before after [] → Keeps before after
-none_front None after f = tt
-none_front (Some old) None f = absurd f.1
-none_front (Some old) (Some new) f = f.1 ∙ ap (λ (bs : List ℕ). old ++ bs) (take-nil f.0) ∙ append-nil old
-
-pub tells : (outcome : Outcome) (before after : Option (List ℕ)) → AppendsFront before after (error_text outcome)
-    → TellsOutcome outcome before after
-tells (Ended Whole) before after f = none_front before after f
-tells (Ended (BadLine n)) before after f = f
-tells (Ended ReadFailed) before after f = f
-tells WriteFailed before after f = f
-tells OutOfMemory before after f = f
-tells WrongArguments before after f = f
 
 -- what is written up to w of the bytes
 pub record Written (before after : Option (List ℕ)) (bytes : List ℕ) (w : ℕ) : Type 0 where

@@ -297,12 +297,6 @@ module _ {T : Type 0} where
       rises_from slots (slot.number + 1) first end (let h : first ≤ slot.number = rising.0 in omega (arith, h))
       rising.2
 
-  pub rises_from_front : (slots : List (Slot T)) (slot : Slot T) (first end : ℕ) → IsSlotAt slots 0 slot
-      → AreRising first slots end → AreRising slot.number slots end
-  rises_from_front [] slot first end at rising = absurd at
-  rises_from_front (head ∷ slots) slot first end at rising = let same : head.number ≡ slot.number =
-      ap (λ (s : Slot T). s.number) at in (omega (arith, same), rising.1, rising.2)
-
   -- ---- one slot more at the end
 
   abbrev pub AllBelow : List (ℕ × T) → ℕ → Type 0

@@ -314,9 +314,6 @@ module _ {T : Type 0} where
 abbrev pub Halves : ℕ → ℕ → ℕ → Type 0
 Halves looks range slots = (digits : ℕ) → slots < 2 ^ digits → (left : ℕ) × (looks + left ≡ digits) × (range < 2 ^ left)
 
-pub halves_from : (range slots : ℕ) → range ≤ slots → Halves 0 range slots
-halves_from range slots within digits fits = (digits, omega arith, omega (arith, within, fits))
-
 pub halved : (looks range slots next : ℕ) → Halves looks range slots → 0 < range → next + next ≤ range
     → Halves (looks + 1) next slots
 halved looks range slots next halves some half digits fits = go (halves digits fits)

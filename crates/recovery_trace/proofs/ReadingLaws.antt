@@ -3,7 +3,7 @@ use Rattle.std.proofs.Common.{◌≡◌, ◌≢◌, ℕ, zero, suc, ◌+◌, ◌
 use Rattle.std.specs.Prelude.{All}
 use Rattle.std.proofs.lemmas.List.Elements.{All-nil, All-append, All-cons}
 use Rattle.std.specs.Io.KnownBytes.{Consumes}
-use Rattle.std.proofs.KnownBytes.{Consumes-nil, Consumes-trans}
+use Rattle.std.proofs.KnownBytes.{Consumes-trans}
 use Rattle.recovery_trace.specs.declared.reading.Next.TheVariants.{Line}
 use Rattle.recovery_trace.specs.Reading.{IsLine, Kept}
 
@@ -18,9 +18,6 @@ take_front : (n : ℕ) (xs ys : List ℕ) → take n (take n xs ++ ys) ≡ take 
 take_front zero xs ys = refl
 take_front (suc n) [] ys = refl
 take_front (suc n) (x ∷ xs) ys = ap (λ (l : List ℕ). x ∷ l) (take_front n xs ys)
-
-pub none_taken : (before : Option (List ℕ)) (kept : List ℕ) → kept ≡ [] → Taken before before kept
-none_taken before kept none = ([], record { no_feed = All-nil IsNoFeed; is = none }, Consumes-nil before)
 
 pub one_more : (before now after : Option (List ℕ)) (kept new : List ℕ) (byte : ℕ) → Taken before now kept
     → byte ≢ 10 → Consumes now after (byte ∷ []) → new ≡ take 4097 (kept ++ byte ∷ []) → Taken before after new

@@ -1,4 +1,4 @@
-use Rattle.std.proofs.Common.{◌+◌, ◌-◌, ◌≡◌, ◌∙◌, ◌∷◌, ◌++◌, [], append_assoc, suc, ap, arith}
+use Rattle.std.proofs.Common.{◌+◌, ◌-◌, ◌≡◌, ◌∙◌, ◌∷◌, [], append_assoc, suc, ap, arith}
 use Rattle.std.specs.Map.{keys_of}
 use Rattle.recovery_slots.specs.Slots.{entries_of}
 use Rattle.recovery_ids.specs.CidState.{numbers_in}
