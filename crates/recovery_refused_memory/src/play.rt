@@ -100,18 +100,35 @@ fn made(alloc: Global, step: u64, hit: &mut Hit) -> Result<(&'static str, Event)
 /// What is read once the events before a step happened, each with memory.
 fn readings_before(alloc: Global, step: u64) -> Result<Readings, Wrong> {
     let mut recovery = fresh(alloc)?;
-    for earlier in 0..step {
-        let (_, event) = event_at(alloc, earlier)?;
+    let read = readings_after(alloc, &mut recovery, step);
+    drop(recovery);
+    read
+}
+
+/// Hands in the first events to a fresh recovery, as many as said, and reads it.
+fn readings_after(alloc: Global, recovery: &mut Scarce, steps: u64) -> Result<Readings, Wrong> {
+    for step in 0..steps {
+        let (_, event) = event_at(alloc, step)?;
         let said = said_by(&recovery.apply(event));
-        compare(earlier, said, wanted_at(earlier))?;
+        compare(step, said, wanted_at(step))?;
     }
-    Ok(readings_of(&recovery))
+    Ok(readings_of(recovery))
+}
+
+/// Hands in the event of a step once: its name, and what it is answered.
+fn hand_in_once(
+    alloc: Global,
+    recovery: &mut Scarce,
+    step: u64,
+    hit: &mut Hit,
+) -> Result<(&'static str, Said), Wrong> {
+    let (name, event) = made(alloc, step, hit)?;
+    Ok((name, said_by(&recovery.apply(event))))
 }
 
 /// Hands in the event of a step, and an equal one where that was refused memory.
 fn hand_in(alloc: Global, recovery: &mut Scarce, step: u64, hit: &mut Hit) -> Result<Said, Wrong> {
-    let (name, event) = made(alloc, step, hit)?;
-    let said = said_by(&recovery.apply(event));
+    let (name, said) = hand_in_once(alloc, recovery, step, hit)?;
     if said != Said::NoMemory {
         return Ok(said);
     }
@@ -119,8 +136,8 @@ fn hand_in(alloc: Global, recovery: &mut Scarce, step: u64, hit: &mut Hit) -> Re
     if readings_of(recovery) != readings_before(alloc, step)? {
         return Err(Wrong::Trace(step));
     }
-    let (_, again) = made(alloc, step, hit)?;
-    Ok(said_by(&recovery.apply(again)))
+    let (_, again) = hand_in_once(alloc, recovery, step, hit)?;
+    Ok(again)
 }
 
 fn compare(step: u64, said: Said, wanted: Said) -> Result<(), Wrong> {
@@ -134,36 +151,64 @@ fn compare(step: u64, said: Said, wanted: Said) -> Result<(), Wrong> {
 /// The events one by one: each is answered as it is to be, if need be when it is handed in anew.
 pub fn play_each(alloc: Global, hit: &mut Hit) -> Result<(), Wrong> {
     let mut recovery = begin(alloc, hit)?;
+    let played = play_steps(alloc, &mut recovery, hit);
+    drop(recovery);
+    played
+}
+
+/// Hands in the events one by one, and compares each answer with the one that is wanted.
+fn play_steps(alloc: Global, recovery: &mut Scarce, hit: &mut Hit) -> Result<(), Wrong> {
     for step in 0..STEPS {
-        let said = hand_in(alloc, &mut recovery, step, hit)?;
+        let said = hand_in(alloc, recovery, step, hit)?;
         compare(step, said, wanted_at(step))?;
     }
     Ok(())
 }
 
+/// Whether the list took the event of a step.
+fn is_added(
+    alloc: Global,
+    events: &mut Vec<Event>,
+    step: u64,
+    hit: &mut Hit,
+) -> Result<bool, Wrong> {
+    let (_, event) = made(alloc, step, hit)?;
+    Ok(events.push(event).is_ok())
+}
+
+/// Adds the event of a step to the list, if need be at the second try.
+fn add(alloc: Global, events: &mut Vec<Event>, step: u64, hit: &mut Hit) -> Result<(), Wrong> {
+    if is_added(alloc, events, step, hit)? {
+        return Ok(());
+    }
+    note(hit, Hit::Outside("a list of events"))?;
+    if is_added(alloc, events, step, hit)? {
+        Ok(())
+    } else {
+        Err(Wrong::Twice)
+    }
+}
+
 fn events_of(alloc: Global, hit: &mut Hit) -> Result<Vec<Event>, Wrong> {
     let mut events = Vec::new(alloc);
     for step in 0..STEPS {
-        let (_, event) = made(alloc, step, hit)?;
-        if events.push(event).is_err() {
-            note(hit, Hit::Outside("a list of events"))?;
-            let (_, again) = made(alloc, step, hit)?;
-            if events.push(again).is_err() {
-                return Err(Wrong::Twice);
-            }
-        }
+        add(alloc, &mut events, step, hit)?;
     }
     Ok(events)
 }
 
+fn run_once(alloc: Global, events: Vec<Event>) -> Result<(Scarce, Vec<Reply>), NoMemory> {
+    Recovery::run(alloc, config(alloc), words(), start(), events)
+}
+
 fn run(alloc: Global, hit: &mut Hit) -> Result<(Scarce, Vec<Reply>), Wrong> {
     let events = events_of(alloc, hit)?;
-    if let Ok(run) = Recovery::run(alloc, config(alloc), words(), start(), events) {
+    if let Ok(run) = run_once(alloc, events) {
         return Ok(run);
     }
     note(hit, Hit::Outside("a run as a whole"))?;
     let again = events_of(alloc, hit)?;
-    Ok(Recovery::run(alloc, config(alloc), words(), start(), again)?)
+    Ok(run_once(alloc, again)?)
 }
 
 /// The step whose event was refused memory, if any; there is at most one.
@@ -194,32 +239,67 @@ fn compare_without(
     readings: Readings,
     hit: &mut Hit,
 ) -> Result<(), Wrong> {
-    let mut recovery = begin(alloc, hit)?;
-    let mut step = 0u64;
-    for reply in replies {
-        if step != refused {
-            let said = hand_in(alloc, &mut recovery, step, hit)?;
-            compare(step, said_by(reply), said)?;
-        }
-        step = step.saturating_add(1);
-    }
-    if readings_of(&recovery) == readings {
+    if readings_without(alloc, refused, replies, hit)? == readings {
         Ok(())
     } else {
         Err(Wrong::Left(refused))
     }
 }
 
+/// What is read after a run without one event, whose answers are those of the run with it.
+fn readings_without(
+    alloc: Global,
+    refused: u64,
+    replies: &[Reply],
+    hit: &mut Hit,
+) -> Result<Readings, Wrong> {
+    let mut recovery = begin(alloc, hit)?;
+    let read = play_without(alloc, &mut recovery, refused, replies, hit);
+    drop(recovery);
+    read
+}
+
+/// Hands in all events but one, compares each answer with that of the run, and reads what is left.
+fn play_without(
+    alloc: Global,
+    recovery: &mut Scarce,
+    refused: u64,
+    replies: &[Reply],
+    hit: &mut Hit,
+) -> Result<Readings, Wrong> {
+    let mut step = 0u64;
+    for reply in replies {
+        if step != refused {
+            let said = hand_in(alloc, recovery, step, hit)?;
+            compare(step, said_by(reply), said)?;
+        }
+        step = step.saturating_add(1);
+    }
+    Ok(readings_of(recovery))
+}
+
 /// The events as one run: each is answered as it is to be, or all but one as if that one were not there.
 pub fn play_run(alloc: Global, hit: &mut Hit) -> Result<(), Wrong> {
     let (left, replies) = run(alloc, hit)?;
-    if let Some(refused) = refused_in(&replies)? {
-        let (name, _) = made(alloc, refused, hit)?;
-        note(hit, Hit::Event(refused, name))?;
-        return compare_without(alloc, refused, &replies, readings_of(&left), hit);
+    let judged = judge(alloc, &left, &replies, hit);
+    drop(left);
+    judged
+}
+
+/// Notes that the event of this step was refused memory.
+fn note_event(alloc: Global, step: u64, hit: &mut Hit) -> Result<(), Wrong> {
+    let (name, _) = made(alloc, step, hit)?;
+    note(hit, Hit::Event(step, name))
+}
+
+/// Judges what a run leaves and what it answers.
+fn judge(alloc: Global, left: &Scarce, replies: &[Reply], hit: &mut Hit) -> Result<(), Wrong> {
+    if let Some(refused) = refused_in(replies)? {
+        note_event(alloc, refused, hit)?;
+        return compare_without(alloc, refused, replies, readings_of(left), hit);
     }
     let mut step = 0u64;
-    for reply in &replies {
+    for reply in replies {
         compare(step, said_by(reply), wanted_at(step))?;
         step = step.saturating_add(1);
     }
