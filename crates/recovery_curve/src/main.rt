@@ -82,7 +82,9 @@ where
     let rng = Pcg32::seed_from_u64(0);
     let mut recovery = LiveRecovery::new(alloc, config, rng, Instant::from_nanos(0))?;
     let mut curves = Curves::new(alloc);
-    curves.gather(&mut recovery, events)?;
+    let gathered = curves.gather(&mut recovery, events);
+    drop(recovery);
+    gathered?;
     Ok(curves)
 }
 

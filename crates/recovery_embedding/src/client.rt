@@ -1,7 +1,13 @@
 //! The life of a client's connection, over a path with an RTT of 40 ms.
+use crate::acks::Heard;
 use crate::at;
 use crate::connection::Connection;
 use crate::failure::Failure;
+use crate::lines::{
+    show, show_items, show_number, show_numbers, show_packet, show_refusal, show_value,
+};
+use crate::paths::Departure;
+use quic_recovery::Refusal;
 use quic_recovery::below::{
     AckFrequency, ConnectionId, EcnCounts, NewConnectionId, NoMemory, ResetToken, SpaceId, VarInt,
 };
@@ -41,15 +47,20 @@ pub fn live(rt: &(impl Print + AllocGlobal), client: &mut Connection) -> Result<
 fn handshake(rt: &(impl Print + AllocGlobal), client: &mut Connection) -> Result<(), Failure> {
     let gone = client.transmit(at(0), 1200)?;
     let hello = client.send(SpaceId::Initial, at(0), 1200, item(rt.alloc(), 1)?)?;
-    println!(rt; "Initial {hello} goes out: {gone:?}")?;
+    show_packet(rt, "Initial", hello, "goes out", &gone)?;
     wake(rt, client)?;
-    client.datagram_in(PathName::Current, 1200)?;
-    client.server_id(ConnectionId::new(&[7; 8]))?;
-    let heard = client.hear(SpaceId::Initial, at(40), 0)?;
-    println!(rt; "Initial 0 comes in: {heard:?}")?;
+    let heard = hear_server(client)?;
+    show_value(rt, "Initial 0 comes in", &heard)?;
     arrive(client, SpaceId::Initial, 40, hello)?;
     client.acknowledge(rt.alloc(), SpaceId::Initial, at(40))?;
     Ok(())
+}
+
+/// The server's first datagram comes in, with its id.
+fn hear_server(client: &mut Connection) -> Result<Heard, Refusal> {
+    client.datagram_in(PathName::Current, 1200)?;
+    client.server_id(ConnectionId::new(&[7; 8]))?;
+    client.hear(SpaceId::Initial, at(40), 0)
 }
 
 /// An ACK of one packet comes in, `millis` after the beginning: whether it was a probe of the MTU.
@@ -58,7 +69,7 @@ fn arrive(
     space: SpaceId,
     millis: u64,
     number: u64,
-) -> Result<bool, Failure> {
+) -> Result<bool, Refusal> {
     let ranges = [(number, number)];
     let arrived = client.hear_ack(at(millis), space, &ranges, Duration::ZERO)?;
     Ok(arrived.probe)
@@ -66,16 +77,21 @@ fn arrive(
 
 /// Handshake packets, the end of the Initial and Handshake keys, and the peer's transport parameters.
 fn end_handshake(rt: &(impl Print + AllocGlobal), client: &mut Connection) -> Result<(), Failure> {
-    client.hear(SpaceId::Handshake, at(41), 0)?;
-    client.limit_datagrams(1400)?;
-    let finished = client.send(SpaceId::Handshake, at(41), 300, item(rt.alloc(), 2)?)?;
-    client.drop_keys(SpaceId::Initial)?;
-    arrive(client, SpaceId::Handshake, 81, finished)?;
-    client.drop_keys(SpaceId::Handshake)?;
+    confirm(client, item(rt.alloc(), 2)?)?;
     if let Err(refusal) = client.hear(SpaceId::Handshake, at(82), 1) {
-        println!(rt; "Handshake 1 comes late: {refusal}")?;
+        show_refusal(rt, "Handshake 1 comes late", &refusal)?;
     }
     Ok(())
+}
+
+/// The handshake comes to its end.
+fn confirm(client: &mut Connection, items: ItemQueue) -> Result<(), Refusal> {
+    client.hear(SpaceId::Handshake, at(41), 0)?;
+    client.limit_datagrams(1400)?;
+    let finished = client.send(SpaceId::Handshake, at(41), 300, items)?;
+    client.drop_keys(SpaceId::Initial)?;
+    arrive(client, SpaceId::Handshake, 81, finished)?;
+    client.drop_keys(SpaceId::Handshake)
 }
 
 /// A NEW_CONNECTION_ID frame of the server.
@@ -91,29 +107,47 @@ fn new_id(sequence: u64) -> NewConnectionId {
 /// The server issues an id, and the client uses it.
 fn peer_ids(rt: &impl Print, client: &mut Connection) -> Result<(), Failure> {
     if client.new_id(new_id(1))?.is_none() {
-        println!(rt; "the server's id 1 is held")?;
+        show(rt, "the server's id 1 is held")?;
     }
     if let Some((first, end)) = client.next_id()? {
-        println!(rt; "RETIRE_CONNECTION_ID from {first} to below {end}")?;
+        show_numbers(
+            rt,
+            "RETIRE_CONNECTION_ID from ",
+            first,
+            " to below ",
+            end,
+            "",
+        )?;
     }
-    println!(rt;
-        "a datagram with its token resets: {}",
-        client.is_reset([1; 16])
-    )?;
-    Ok(())
+    show_value(
+        rt,
+        "a datagram with its token resets",
+        &client.is_reset([1; 16]),
+    )
 }
 
 /// The client issues an id; its first one lasts for ten seconds, and the server retires it.
 fn own_ids(rt: &(impl Print + AllocGlobal), client: &mut Connection) -> Result<(), Failure> {
     let number = client.issue_id(rt.alloc(), at(9_000), 9)?;
-    println!(rt; "id {number} is issued")?;
+    show_number(rt, "id ", number, " is issued")?;
     wake(rt, client)?;
     if client.has_expired(Timer::PushNewCid, at(10_000)) && client.id_timer_expired()? {
         let before = client.state().local_ids().retire_prior_to();
-        println!(rt; "ids below {before} are to be retired")?;
+        show_number(rt, "ids below ", before, " are to be retired")?;
     }
     let has_room = client.peer_retired(0, 2)?;
-    println!(rt; "id 0 is retired; room for one more: {has_room}")?;
+    show_value(rt, "id 0 is retired; room for one more", &has_room)
+}
+
+/// Up to which number an ACK goes out.
+fn show_largest(rt: &impl Print, largest: Option<u64>) -> Result<(), Failure> {
+    println!(rt; "an ACK up to {largest:?} goes out")?;
+    Ok(())
+}
+
+/// Whether the peer's ACK_FREQUENCY frame is taken, and what a packet behind it asks for.
+fn show_fewer_acks(rt: &impl Print, is_taken: bool, heard: Heard) -> Result<(), Failure> {
+    println!(rt; "fewer ACKs: {is_taken}; packet 3 comes in: {heard:?}")?;
     Ok(())
 }
 
@@ -121,19 +155,24 @@ fn own_ids(rt: &(impl Print + AllocGlobal), client: &mut Connection) -> Result<(
 fn acknowledge(rt: &(impl Print + AllocGlobal), client: &mut Connection) -> Result<(), Failure> {
     for number in 0..3 {
         let heard = client.hear(SpaceId::Data, at(11_000), number / 2 * 2)?;
-        println!(rt; "packet {} comes in: {heard:?}", number / 2 * 2)?;
+        show_packet(rt, "packet", number / 2 * 2, "comes in", &heard)?;
     }
     let largest = client.acknowledge(rt.alloc(), SpaceId::Data, at(11_000))?;
-    println!(rt; "an ACK up to {largest:?} goes out")?;
+    show_largest(rt, largest)?;
     let is_taken = client.ask_fewer_acks(fewer_acks())?;
     let heard = client.hear(SpaceId::Data, at(11_010), 3)?;
-    println!(rt; "fewer ACKs: {is_taken}; packet 3 comes in: {heard:?}")?;
-    let is_due = client.has_expired(Timer::MaxAckDelay, at(11_049));
-    println!(rt; "an ACK after 39 ms: {is_due}")?;
-    let is_sent = client.ack_timer_expired()?;
-    println!(rt; "after 40 ms: {is_sent}")?;
+    show_fewer_acks(rt, is_taken, heard)?;
+    wait_for_ack(rt, client)?;
     client.acknowledge(rt.alloc(), SpaceId::Data, at(11_050))?;
     Ok(())
+}
+
+/// The timer for a late ACK runs for 40 ms.
+fn wait_for_ack(rt: &impl Print, client: &mut Connection) -> Result<(), Failure> {
+    let is_due = client.has_expired(Timer::MaxAckDelay, at(11_049));
+    show_value(rt, "an ACK after 39 ms", &is_due)?;
+    let is_sent = client.ack_timer_expired()?;
+    show_value(rt, "after 40 ms", &is_sent)
 }
 
 /// An ACK_FREQUENCY frame: an ACK for every tenth packet, 40 ms late at most.
@@ -154,31 +193,42 @@ fn fill_window(
     client.mark_packets(true);
     client.app_limited = false;
     let burst = client.may_burst(at(11_100), 12_000)?;
-    println!(rt; "ten packets in a burst: {burst:?}")?;
+    show_value(rt, "ten packets in a burst", &burst)?;
+    let first = send_all(rt.alloc(), client)?;
+    let in_flight = client.in_flight(PathName::Current)?;
+    let more = client.may_burst(at(11_100), 1200)?;
+    show_flight(rt, in_flight, more)?;
+    wake(rt, client)?;
+    client.stop_timer(Timer::Pacing)?;
+    Ok(first)
+}
+
+/// What the window has room for goes out: the number of the first packet.
+fn send_all(alloc: Global, client: &mut Connection) -> Result<Option<u64>, Failure> {
     let mut first = None;
     for number in 100..120 {
         if !client.has_room(1200) {
             break;
         }
         client.transmit(at(11_100), 1200)?;
-        let sent = client.send(SpaceId::Data, at(11_100), 1200, item(rt.alloc(), number)?)?;
+        let sent = client.send(SpaceId::Data, at(11_100), 1200, item(alloc, number)?)?;
         first = Some(first.unwrap_or(sent));
     }
-    let in_flight = client.in_flight(PathName::Current)?;
-    let more = client.may_burst(at(11_100), 1200)?;
-    println!(rt; "{in_flight} bytes are in flight; one more packet: {more:?}")?;
-    wake(rt, client)?;
-    client.stop_timer(Timer::Pacing)?;
     Ok(first)
+}
+
+/// How much is in flight, and whether more may go out.
+fn show_flight(rt: &impl Print, bytes: u64, more: Departure) -> Result<(), Failure> {
+    println!(rt; "{bytes} bytes are in flight; one more packet: {more:?}")?;
+    Ok(())
 }
 
 /// When the stack is to wake up.
 fn wake(rt: &impl Print, client: &mut Connection) -> Result<(), Failure> {
     match client.next_timeout()? {
-        Some(nanos) => println!(rt; "wake up at {} us", nanos / 1000)?,
-        None => println!(rt; "sleep on")?,
+        Some(nanos) => show_number(rt, "wake up at ", nanos / 1000, " us"),
+        None => show(rt, "sleep on"),
     }
-    Ok(())
 }
 
 /// One ACK comes in, of nine packets behind the first one, which is held for lost (RFC 9002, 6.1.1).
@@ -190,19 +240,22 @@ fn lose(
     let ranges = [(first.saturating_add(1), first.saturating_add(9))];
     let heard = client.hear_ack(at(11_140), SpaceId::Data, &ranges, Duration::ZERO)?;
     client.hear_counts(at(11_140), &heard, counts(9, 0))?;
-    println!(rt; "{} of ten packets arrive", heard.packets)?;
+    show_number(rt, "", heard.packets, " of ten packets arrive")?;
     show_window(rt, client, "one is lost")
+}
+
+/// A window, and what of it is in flight.
+fn show_room(rt: &impl Print, why: &str, window: u64, bytes: u64) -> Result<(), Failure> {
+    println!(rt; "{why}: a window of {window} bytes, {bytes} in flight")?;
+    Ok(())
 }
 
 /// What the path in use has room for.
 fn show_window(rt: &impl Print, client: &Connection, why: &str) -> Result<(), Failure> {
     let path = client.state().current();
-    println!(rt;
-        "{why}: a window of {} bytes, {} in flight",
-        path.congestion.window(),
-        path.in_flight().bytes
-    )?;
-    Ok(())
+    let window = path.congestion.window();
+    let bytes = path.in_flight().bytes;
+    show_room(rt, why, window, bytes)
 }
 
 fn counts(ect0: u64, ce: u64) -> EcnCounts {
@@ -210,31 +263,52 @@ fn counts(ect0: u64, ce: u64) -> EcnCounts {
 }
 
 /// What was lost goes out again, and arrives with a mark; then the server counts what cannot be.
-fn send_again(rt: &(impl Print + AllocGlobal), client: &mut Connection) -> Result<(), Failure> {
+fn send_again(rt: &impl Print, client: &mut Connection) -> Result<(), Failure> {
     let items = client.pending(SpaceId::Data)?;
-    println!(rt; "the items {:?} wait to be sent again", items.items())?;
+    show_items(rt, "the items ", items.items(), " wait to be sent again")?;
     let again = client.send(SpaceId::Data, at(11_150), 1200, items)?;
     client.app_limited = true;
-    let ranges = [(again, again)];
-    let heard = client.hear_ack(at(11_190), SpaceId::Data, &ranges, Duration::ZERO)?;
-    let is_marked = client.hear_counts(at(11_190), &heard, counts(9, 1))?;
-    println!(rt; "packets are marked: {is_marked}")?;
+    let (_, is_marked) = count(client, 11_190, again, counts(9, 1))?;
+    show_value(rt, "packets are marked", &is_marked)?;
     show_window(rt, client, "one is marked")?;
-    let heard = client.hear_ack(at(11_195), SpaceId::Data, &ranges, Duration::ZERO)?;
-    println!(rt; "the same ACK again: {} packets arrive", heard.packets)?;
-    client.hear_counts(at(11_195), &heard, counts(8, 1))?;
-    println!(rt;
-        "packets go out with ECT(0): {}",
-        client.state().current().sending_ecn
-    )?;
-    Ok(())
+    let (packets, _) = count(client, 11_195, again, counts(8, 1))?;
+    show_number(rt, "the same ACK again: ", packets, " packets arrive")?;
+    let sending_ecn = client.state().current().sending_ecn;
+    show_value(rt, "packets go out with ECT(0)", &sending_ecn)
+}
+
+/// An ACK of one packet comes in with counts of marks, `millis` after the beginning: how many packets arrive by it, and whether one of
+/// them is marked.
+fn count(
+    client: &mut Connection,
+    millis: u64,
+    number: u64,
+    marks: EcnCounts,
+) -> Result<(u64, bool), Refusal> {
+    let ranges = [(number, number)];
+    let heard = client.hear_ack(at(millis), SpaceId::Data, &ranges, Duration::ZERO)?;
+    let is_marked = client.hear_counts(at(millis), &heard, marks)?;
+    Ok((heard.packets, is_marked))
 }
 
 /// An ACK of a packet that was not sent: a stack closes the connection (RFC 9000, 13.1).
 fn mistrust(rt: &impl Print, client: &mut Connection) -> Result<(), Failure> {
     if let Err(refusal) = arrive(client, SpaceId::Data, 11_198, 1_000) {
-        println!(rt; "an ACK of number 1000: {refusal}")?;
+        show_refusal(rt, "an ACK of number 1000: refused", &refusal)?;
     }
+    Ok(())
+}
+
+/// Whether the timer of the loss detection expired, and what a probe would have.
+fn show_expiry(
+    rt: &impl Print,
+    is_over: bool,
+    is_probe: bool,
+    items: &[u64],
+) -> Result<(), Failure> {
+    println!(rt;
+        "the timer expired: {is_over}; a probe is due: {is_probe}, with the items {items:?}"
+    )?;
     Ok(())
 }
 
@@ -245,12 +319,8 @@ fn probe(rt: &(impl Print + AllocGlobal), client: &mut Connection) -> Result<(),
     let is_over = client.has_expired(Timer::LossDetection, at(12_000));
     let is_probe = client.loss_timer_expired(at(12_000))?;
     let items = client.probe(SpaceId::Data)?;
-    println!(rt;
-        "the timer expired: {is_over}; a probe is due: {is_probe}, with the items {:?}",
-        items.items()
-    )?;
-    client.transmit_at_once(at(12_000), 600)?;
-    let probe = client.send(SpaceId::Data, at(12_000), 600, items)?;
+    show_expiry(rt, is_over, is_probe, items.items())?;
+    let probe = send_probe(client, items)?;
     wake(rt, client)?;
     arrive(client, SpaceId::Data, 12_040, probe)?;
     show_window(
@@ -259,44 +329,81 @@ fn probe(rt: &(impl Print + AllocGlobal), client: &mut Connection) -> Result<(),
         "the probe arrives, and the other packet is lost",
     )?;
     let items = client.probe(SpaceId::Data)?;
-    println!(rt; "another probe would have the items {:?}", items.items())?;
-    Ok(())
+    show_items(rt, "another probe would have the items ", items.items(), "")
+}
+
+/// A probe goes out at once: its number.
+fn send_probe(client: &mut Connection, items: ItemQueue) -> Result<u64, Refusal> {
+    client.transmit_at_once(at(12_000), 600)?;
+    client.send(SpaceId::Data, at(12_000), 600, items)
+}
+
+/// The size of datagrams on the path in use.
+fn show_mtu(rt: &impl Print, client: &Connection, text: &str) -> Result<(), Failure> {
+    let size = client.state().current().current_mtu();
+    show_number(rt, text, u64::from(size), " bytes")
 }
 
 /// A larger MTU is found; the probe of the next size is lost, which is no sign of congestion.
 fn grow(rt: &(impl Print + AllocGlobal), client: &mut Connection) -> Result<(), Failure> {
-    if let Some((number, size)) = client.probe_mtu(at(13_000))? {
-        client.transmit(at(13_000), size)?;
-        let is_probe = arrive(client, SpaceId::Data, 13_040, number)?;
-        println!(rt; "a probe of {size} bytes arrives: {is_probe}")?;
+    if let Some((size, is_probe)) = arrive_large(client)? {
+        let size = u64::from(size);
+        show_packet(rt, "a probe of", size, "bytes arrives", &is_probe)?;
     }
-    if let Some((_, size)) = client.probe_mtu(at(13_100))? {
-        client.transmit(at(13_100), size)?;
-        let small = client.send(SpaceId::Data, at(13_110), 100, item(rt.alloc(), 300)?)?;
-        arrive(client, SpaceId::Data, 13_150, small)?;
-        println!(rt; "a probe of {size} bytes is lost")?;
+    if let Some(size) = lose_large(client, item(rt.alloc(), 300)?)? {
+        show_number(rt, "a probe of ", u64::from(size), " bytes is lost")?;
         show_window(rt, client, "the window stays")?;
     }
-    println!(rt;
-        "datagrams have {} bytes",
-        client.state().current().current_mtu()
-    )?;
-    Ok(())
+    show_mtu(rt, client, "datagrams have ")
+}
+
+/// A probe of the MTU goes out, and arrives: its size, and whether it was tracked as a probe.
+fn arrive_large(client: &mut Connection) -> Result<Option<(u16, bool)>, Refusal> {
+    let Some((number, size)) = client.probe_mtu(at(13_000))? else {
+        return Ok(None);
+    };
+    client.transmit(at(13_000), size)?;
+    let is_probe = arrive(client, SpaceId::Data, 13_040, number)?;
+    Ok(Some((size, is_probe)))
+}
+
+/// A probe of the MTU goes out and is lost, while a small packet behind it arrives: the size of the probe.
+fn lose_large(client: &mut Connection, items: ItemQueue) -> Result<Option<u16>, Refusal> {
+    let Some((_, size)) = client.probe_mtu(at(13_100))? else {
+        return Ok(None);
+    };
+    client.transmit(at(13_100), size)?;
+    let small = client.send(SpaceId::Data, at(13_110), 100, items)?;
+    arrive(client, SpaceId::Data, 13_150, small)?;
+    Ok(Some(size))
 }
 
 /// Large packets vanish, and small ones arrive.
 fn vanish(rt: &(impl Print + AllocGlobal), client: &mut Connection) -> Result<(), Failure> {
     for round in 140..144 {
-        let now = at(round * 100);
-        client.send(SpaceId::Data, now, 1300, item(rt.alloc(), round)?)?;
-        let small = client.send(SpaceId::Data, now, 1200, item(rt.alloc(), round)?)?;
-        arrive(client, SpaceId::Data, round * 100 + 40, small)?;
-        client.loss_timer_expired(at(round * 100 + 46))?;
-        println!(rt;
-            "a packet of 1300 bytes is lost; datagrams have {} bytes",
-            client.state().current().current_mtu()
+        let large = item(rt.alloc(), round)?;
+        let small = item(rt.alloc(), round)?;
+        send_both(client, round * 100, large, small)?;
+        show_mtu(
+            rt,
+            client,
+            "a packet of 1300 bytes is lost; datagrams have ",
         )?;
     }
+    Ok(())
+}
+
+/// A large and a small packet go out, `millis` after the beginning, and the small one alone arrives.
+fn send_both(
+    client: &mut Connection,
+    millis: u64,
+    large: ItemQueue,
+    small: ItemQueue,
+) -> Result<(), Refusal> {
+    client.send(SpaceId::Data, at(millis), 1300, large)?;
+    let arrived = client.send(SpaceId::Data, at(millis), 1200, small)?;
+    arrive(client, SpaceId::Data, millis.saturating_add(40), arrived)?;
+    client.loss_timer_expired(at(millis.saturating_add(46)))?;
     Ok(())
 }
 
@@ -304,10 +411,10 @@ fn vanish(rt: &(impl Print + AllocGlobal), client: &mut Connection) -> Result<()
 fn close(rt: &impl Print, client: &mut Connection) -> Result<(), Failure> {
     client.close(at(15_000))?;
     let ends = client.next_timeout()?;
-    println!(rt; "closing, until a timer expires: {}", ends.is_some())?;
+    show_value(rt, "closing, until a timer expires", &ends.is_some())?;
     client.drop_keys(SpaceId::Data)?;
     if let Err(refusal) = client.probe(SpaceId::Data) {
-        println!(rt; "a probe: {refusal}")?;
+        show_refusal(rt, "a probe", &refusal)?;
     }
     Ok(())
 }

@@ -9,6 +9,7 @@ mod connection;
 mod failure;
 mod flight;
 mod ids;
+mod lines;
 mod losses;
 mod mtu;
 mod packets;
@@ -43,11 +44,23 @@ fn begin(rt: &impl AllocGlobal, side: Side) -> Result<Connection, Failure> {
     Ok(Connection::new(rt.alloc(), recovery))
 }
 
-fn run(rt: &HostRuntime) -> Result<(), Failure> {
+fn run_client(rt: &HostRuntime) -> Result<(), Failure> {
     let mut client = begin(rt, Side::Client)?;
-    client::live(rt, &mut client)?;
+    let lived = client::live(rt, &mut client);
+    drop(client);
+    lived
+}
+
+fn run_server(rt: &HostRuntime) -> Result<(), Failure> {
     let mut server = begin(rt, Side::Server)?;
-    server::live(rt, &mut server)
+    let lived = server::live(rt, &mut server);
+    drop(server);
+    lived
+}
+
+fn run(rt: &HostRuntime) -> Result<(), Failure> {
+    run_client(rt)?;
+    run_server(rt)
 }
 
 fn main(rt: HostRuntime) -> Result<(), Failure> {

@@ -29,7 +29,7 @@ pub struct Log {
 }
 
 impl Log {
-    fn new(alloc: Global) -> Result<Self, NoMemory> {
+    pub fn new(alloc: Global) -> Result<Self, NoMemory> {
         let mut log = Log {
             total: 0,
             spans: Bound::new(alloc),
@@ -92,13 +92,14 @@ where
     F: ControllerFactory + Drop,
     F::Controller: Drop,
 {
-    pub fn new(alloc: Global, sender: Sender<F>) -> Result<Self, NoMemory> {
-        Ok(Burst {
+    /// A loop in which nothing has happened yet.
+    pub fn new(sender: Sender<F>, link: Link, log: Log) -> Self {
+        Burst {
             sender,
-            link: Link::new(alloc)?,
-            log: Log::new(alloc)?,
+            link,
+            log,
             wake: None,
-        })
+        }
     }
 
     /// All that happens up to a moment.

@@ -9,8 +9,9 @@ mod picture;
 mod sender;
 mod settings;
 
-use burst::Burst;
+use burst::{Burst, Log};
 use failure::Failure;
+use link::Link;
 use picture::draw;
 use quic_recovery::congestion::{ControllerFactory, NewRenoConfig};
 use recovery_replay::fixed_window::FixedWindowConfig;
@@ -25,8 +26,24 @@ where
     F: ControllerFactory + Drop,
     F::Controller: Drop,
 {
+    let (link, log) = (Link::new(alloc)?, Log::new(alloc)?);
     let sender = Sender::new(alloc, factory, settings.is_checked)?;
-    let mut burst = Burst::new(alloc, sender)?;
+    let mut burst = Burst::new(sender, link, log);
+    let picture = picture_of(alloc, settings, &mut burst);
+    drop(burst);
+    picture
+}
+
+/// Runs a burst, and draws it.
+fn picture_of<F>(
+    alloc: Global,
+    settings: &Settings,
+    burst: &mut Burst<F>,
+) -> Result<String, Failure>
+where
+    F: ControllerFactory + Drop,
+    F::Controller: Drop,
+{
     burst.run(settings.end)?;
     Ok(draw(alloc, settings, &burst.log, &burst.link)?)
 }
