@@ -75,7 +75,7 @@ fn told(rt: &impl Abort, recovery: &mut Reno, row: u64, event: Event, want: Repl
 fn check<const N: usize>(rt: &impl Abort, alloc: Global, rows: [(Event, Reply); N])
     requires { N < 1000 }
 {
-    walk(rt, alloc, settings(8), words(), rows);
+    drop(walk(rt, alloc, settings(8), words(), rows));
 }
 
 /// Asserts what the events of a run are replied, one a row, and something of what they leave.
@@ -90,6 +90,7 @@ fn check_left<const N: usize, F: FnOnce(&Reno) -> bool>(
 {
     let recovery = walk(rt, alloc, settings(8), words(), rows);
     let is_wanted = is_left(&recovery);
+    drop(recovery);
     assert!(rt; is_wanted, "what is left");
 }
 

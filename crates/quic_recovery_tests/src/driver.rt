@@ -63,7 +63,7 @@ fn told<R: Rng + Drop>(
 fn check<const N: usize>(rt: &impl Abort, alloc: Global, rows: [(Event, Reply); N])
     requires { N < 1000 }
 {
-    walk(rt, alloc, settings(8), words(), rows);
+    drop(walk(rt, alloc, settings(8), words(), rows));
 }
 
 /// Asserts what the events of a run are replied, one a row, and something of what they leave.
@@ -78,6 +78,7 @@ fn check_left<const N: usize, F: FnOnce(&Reno) -> bool>(
 {
     let recovery = walk(rt, alloc, settings(8), words(), rows);
     let is_wanted = is_left(&recovery);
+    drop(recovery);
     assert!(rt; is_wanted, "what is left");
 }
 
@@ -115,6 +116,7 @@ fn a_fresh_space(rt: HostRuntime) {
             && here.ecn_counters == EcnCounts::ZERO;
         assert!(rt; is_fresh, "a fresh space");
     }
+    drop(recovery);
 }
 
 #[test]
@@ -249,6 +251,7 @@ fn the_least_of_1001_silent_packets_is_forgotten(rt: HostRuntime) {
     ] {
         told(&rt, &mut recovery, row, event, want);
     }
+    drop(recovery);
 }
 
 #[test]

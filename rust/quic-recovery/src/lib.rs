@@ -48,5 +48,5 @@ pub use types::{
 pub const VERSION: &str = concat!(
     "quic-recovery ",
     env!("CARGO_PKG_VERSION"),
-    ", proved with rattle-kit-13b logic dac8208d650f15bf"
+    ", proved with rattle-kit-13f logic dac8208d650f15bf"
 );

@@ -150,4 +150,5 @@ fn no_search(rt: HostRuntime) {
     let recovery = walk(&rt, rt.alloc(), config, words(), rows);
     assert!(rt; recovery.current().current_mtu() == 1000, "the MTU");
     assert!(rt; recovery.peer_limit() == Some(1000), "the limit");
+    drop(recovery);
 }

@@ -112,6 +112,7 @@ fn no_event_changes_marks(rt: HostRuntime) {
         told(&rt, &mut recovery, row, event, want);
         marked(&rt, &recovery, row, current, previous);
     }
+    drop(recovery);
 }
 
 #[test]
@@ -127,6 +128,7 @@ fn marks_of_each_path(rt: HostRuntime) {
     told(&rt, &mut recovery, 2, DROP, DONE);
     replaced(&rt, &mut recovery, PathName::Previous, None);
     marked(&rt, &recovery, 2, FRESH, None);
+    drop(recovery);
 }
 
 /// Nothing but the marks changes.
@@ -138,4 +140,5 @@ fn a_path_that_is_marked(rt: HostRuntime) {
     let is_wanted = leaves_kept(&recovery, None, kept_used());
     assert!(rt; is_wanted, "what is left");
     marked(&rt, &recovery, 0, SET, None);
+    drop(recovery);
 }

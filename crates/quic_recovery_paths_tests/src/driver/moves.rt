@@ -176,6 +176,7 @@ fn a_packet_of_another_path_is_forgotten(rt: HostRuntime) {
     ] {
         told(&rt, &mut recovery, row, event, want);
     }
+    drop(recovery);
 }
 
 /// What a path was sampled, whether it is validated, and its totals, generation and MTU.

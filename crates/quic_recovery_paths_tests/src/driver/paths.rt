@@ -135,7 +135,7 @@ fn a_controller_that_halves(rt: HostRuntime) {
     ];
     let config = settings_with(transport, 8, Skips::Drawn);
     let words = Pcg64::seed_from_u64(1);
-    right(&rt, runs::walk(rt.alloc(), config, words, rows));
+    drop(right(&rt, runs::walk(rt.alloc(), config, words, rows)));
 }
 
 /// A window past 32 bits is not paced.

@@ -144,4 +144,5 @@ fn at_most_64_ranges_are_to_be_acknowledged(rt: HostRuntime) {
         least = end.saturating_add(1);
     }
     assert!(rt; least == 130);
+    drop(recovery);
 }

@@ -61,6 +61,7 @@ fn number_0_is_skipped(rt: HostRuntime) {
     let recovery = walk(&rt, rt.alloc(), skipping(Skips::Starting(0)), words(), rows);
     count(&rt, recovery.space(data), 2, 2);
     count(&rt, recovery.space(initial), 1, 1);
+    drop(recovery);
 }
 
 #[test]
@@ -123,6 +124,7 @@ fn a_probe_passes_a_skip(rt: HostRuntime) {
     let config = skipping(Skips::Starting(1));
     let recovery = walk(&rt, rt.alloc(), config, words(), rows);
     count(&rt, recovery.space(data), 4, 4);
+    drop(recovery);
 }
 
 /// Asserts that of the numbers below the third of three skips the first two are not given out, and that the first is
@@ -144,6 +146,7 @@ fn play_drawn<R: Rng + Drop>(rt: &impl Abort, alloc: Global, rng: R, skips: (u64
     }
     let want = sent(end.saturating_add(1), None);
     told(rt, &mut recovery, end, send(SpaceId::Data, 1, true), want);
+    drop(recovery);
 }
 
 /// The skips are those of the table of known words, by either generator.
