@@ -15,7 +15,7 @@ pub record Acks : Type 0 where
   -- the most ack-eliciting packets without an ACK at once, and the reordering threshold
   pub threshold : ℕ
   pub reordering : ℕ
-  -- the delay base: when the first ack-eliciting packet since the last ACK came
+  -- the delay base: when the first ack-eliciting packet since the last ACK came while no ACK could be sent at once
   pub base : Option ℕ
   pub ranges : List (Range ℕ)
   -- the largest packet inserted, with its moment

@@ -93,7 +93,8 @@ impl PendingAcks {
         self.immediate_ack_required = self.ack_eliciting_since_last_ack_sent > 0;
     }
 
-    /// When a delay ends that starts with the first ack-eliciting packet since the last ACK; none before one came.
+    /// When a delay ends that starts with the first ack-eliciting packet since the last ACK that came while no ACK could be sent
+    /// at once; none before one came.
     pub fn max_ack_delay_timeout(&self, max_ack_delay: Duration) -> Option<Instant>
         ensures { result ≡ timeout_at max_ack_delay self.now.base }
     {

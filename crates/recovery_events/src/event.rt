@@ -30,9 +30,10 @@ pub enum Event<Q: RetransmitQueue> {
         ack_eliciting: bool,
     },
     /// A packet goes out on the current path, under the next number of its space (RFC 9002, A.5). Refused by
-    /// `SpaceDiscarded`, by `NumberTooLarge` where the largest acknowledged number is 2^62 or more, by `NumbersExhausted`,
-    /// by `Overflow` where the bytes in flight would pass `u64::MAX`, then by `NoMemory`. Cost: logarithmic in the packets
-    /// tracked.
+    /// `SpaceDiscarded`, by `NumberTooLarge` where the largest acknowledged number is 2^62 or more, by `NumbersExhausted`
+    /// where the next number is 2^62 or more, by `Overflow` where the bytes in flight, or the count of packets that elicit an
+    /// ACK, would pass `u64::MAX`, then by `NoMemory`. Cost: constant over all calls, but for a packet that is forgotten, which
+    /// costs what `Acked` does.
     Send {
         /// The packet number space.
         space: SpaceId,
@@ -78,7 +79,7 @@ pub enum Event<Q: RetransmitQueue> {
     /// The server chose another id for the handshake (RFC 9000, 7.2). Refused by `NotInitialId`.
     InitialId(ConnectionId),
     /// This end issues ids (RFC 9000, 5.1.1). Refused by `NumberTooLarge` where more than 2^62 would be issued, by `BadRange`
-    /// where the numbers do not go on from the count issued, then by `NoMemory`. No ids are never refused.
+    /// where the numbers do not go on from the count issued, then by `NoMemory`. An empty list is never refused.
     IssueIds {
         /// When they are issued: their lifetime begins.
         now: Instant,
@@ -195,8 +196,8 @@ pub enum Event<Q: RetransmitQueue> {
     },
     /// Is a probe of the current path's MTU due (RFC 8899, 5; RFC 9000, 14.3)? One that is due goes out as a packet of 1-RTT keys that
     /// elicits an ACK, under the next number, and is tracked like any other. Refused by `SpaceDiscarded`, by
-    /// `NumbersExhausted`, and where a probe is due by `Overflow`, where the bytes in flight would pass `u64::MAX`, then by
-    /// `NoMemory`.
+    /// `NumbersExhausted` where the next number is 2^62 or more, and where a probe is due by `Overflow`, where the bytes in
+    /// flight, or the count of packets that elicit an ACK, would pass `u64::MAX`, then by `NoMemory`.
     PollMtu {
         /// When it is asked.
         now: Instant,
@@ -235,8 +236,9 @@ pub enum Event<Q: RetransmitQueue> {
         high: u64,
     },
     /// A probe packet is to be sent (RFC 9002, 6.2.4): where nothing waits to be sent again, the first tracked packet with a
-    /// queue gives it up, and where none has one a PING is marked. Refused by `SpaceDiscarded`, then by `NoMemory` where a
-    /// queue is moved. Cost: linear in the packets tracked before that one.
+    /// queue gives it up, and where none has one a PING is marked, unless the peer is to be asked for an ACK at once. Refused by
+    /// `SpaceDiscarded`, then by `NoMemory` where a queue is moved. Cost: linear in the packets that are passed over; one whose
+    /// queue is void is passed over once, and by later probes not again.
     QueueProbe {
         /// The packet number space.
         space: SpaceId,

@@ -145,8 +145,8 @@ impl CidState {
         is_any_below(&self.active_seq, next)
     }
 
-    /// Counts these ids as issued, and stores a deadline for the last of them, one lifetime from `now`. No ids change
-    /// nothing, and take no memory.
+    /// Counts these ids as issued, and stores a deadline for the last of them, one lifetime from `now`. An empty list
+    /// changes nothing, and takes no memory.
     ///
     /// `NoMemory` changes nothing. The time is linear in the ids.
     pub fn new_cids(&mut self, ids: &[IssuedCid], now: Instant) -> Result<(), NoMemory>

@@ -51,7 +51,7 @@ pub enum LedgerError {
     /// A growth was refused by the allocator.
     #[error("out of memory")]
     NoMemory,
-    /// The bytes in flight would pass `u64::MAX`.
+    /// The bytes in flight, or the count of packets that elicit an ACK, would pass `u64::MAX`.
     #[error("the bytes in flight pass 2^64 - 1")]
     Overflow,
 }
@@ -90,7 +90,7 @@ impl PathLedger {
 
     /// Tracks a packet of this path in a space, and counts it. A packet that the space forgets for it is handed back
     /// with its number, and is no longer counted where it is one of this path's. `Overflow` is tested before anything
-    /// is forgotten. Cost: logarithmic in the packets tracked.
+    /// is forgotten. Cost: constant over all calls, but for a packet that is forgotten, which costs what `take` does.
     pub fn sent<Q>(
         &mut self,
         number: u64,

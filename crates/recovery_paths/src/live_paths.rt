@@ -144,7 +144,8 @@ impl<C: Controller + Drop> LivePaths<C> {
 
     /// Tracks a packet of the path in use in a space, and counts it there. A packet that the space forgets for it is handed
     /// back with its number, and is no longer counted on its path. `Overflow` is tested before anything is forgotten; a
-    /// refusal drops the packet and leaves all else. Cost: logarithmic in the packets tracked.
+    /// refusal drops the packet and leaves all else. Cost: constant over all calls, but for a packet that is forgotten, which costs
+    /// what `take` does.
     pub fn sent<Q>(
         &mut self,
         number: u64,

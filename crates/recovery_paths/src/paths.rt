@@ -259,7 +259,7 @@ impl<C: Controller + Drop> PathData<C> {
 
     /// Tracks a packet of this path in a space, and counts it. A packet that the space forgets for it is handed back with
     /// its number, and is no longer counted where it is one of this path's. `Overflow` is tested before anything is
-    /// forgotten. Cost: logarithmic in the packets tracked.
+    /// forgotten. Cost: constant over all calls, but for a packet that is forgotten, which costs what `take` does.
     pub fn sent<Q>(
         &mut self,
         number: u64,
