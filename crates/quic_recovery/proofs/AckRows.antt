@@ -13,7 +13,7 @@ use Rattle.recovery_events.specs.declared.event.Answer.TheVariants as answer
 use Rattle.quic_recovery.specs.Entries.{logs_of}
 use Rattle.quic_recovery.specs.History.{Beginning, History, Reply}
 use Rattle.quic_recovery.specs.Promises.Acknowledged.{HasCome, LiesBelow, WasDropped, largest_in}
-use Rattle.quic_recovery.specs.Promises.Duty.{AcknowledgesInTime, timer_starts, waits}
+use Rattle.quic_recovery.specs.Promises.Duty.{AcknowledgesInTime, timer_runs, waits}
 
 -- ---- ranges
 
@@ -140,7 +140,7 @@ module _ {F K Q S M P : Type 0} (beginning : Beginning F K Q S M P) where
 
   only_data : (history : History Q S M P) → waits Initial history ≡ false → waits Handshake history ≡ false
       → (waits Data history ≡ true
-      → IsRequired ((logs_of beginning history).spaces Data) ⊎ (timer_starts Data history ≡ true))
+      → IsRequired ((logs_of beginning history).spaces Data) ⊎ (timer_runs Data history ≡ true))
       → AcknowledgesInTime beginning history
   only_data history initial handshake in_time Initial = λ is. cc
   only_data history initial handshake in_time Handshake = λ is. cc
@@ -208,3 +208,10 @@ module _ {F K Q S M P : Type 0} (beginning : Beginning F K Q S M P) where
 
   timed_out : AcknowledgesInTime beginning late
   timed_out = only_data late refl refl (λ is. inl (omega arith))
+
+  -- with it the timer ends
+  expired : timer_runs Data ((event.AckDelayTimeout Data, Ok answer.Done) ∷ elicits 1 true ∷ acked) ≡ false
+  expired = refl
+
+  not_of_another_space : timer_runs Data ((event.AckDelayTimeout Initial, Ok answer.Done) ∷ elicits 1 true ∷ acked) ≡ true
+  not_of_another_space = refl

@@ -18,7 +18,7 @@ use Rattle.quic_recovery.specs.Entries.{Entries, answered, entries_of, logs_of}
 use Rattle.quic_recovery.specs.History.{Beginning, History, Reply, Throughout}
 use Rattle.quic_recovery.specs.Known.{Known, known_by}
 use Rattle.quic_recovery.specs.Logs.{onto}
-use Rattle.quic_recovery.specs.Promises.Duty.{KeepsDuty, timer_starts, waits}
+use Rattle.quic_recovery.specs.Promises.Duty.{KeepsDuty, timer_runs, waits}
 use Rattle.quic_recovery.specs.Told.{Told}
 use Rattle.quic_recovery.proofs.Runs.{throughout_kept}
 use Rattle.quic_recovery.proofs.EntryKinds.{SpaceKind, hearing, answering, delaying, space_kind, space_kept, refused_keeps}
@@ -27,69 +27,96 @@ use Rattle.quic_recovery.proofs.TrackedLaws.{one_space}
 
 -- ---- what a packet, an ACK and a timeout do
 
--- what waits was counted, the timer was started where the log says so, and the duty is kept
-pub record Attends (waiting starting : Bool) (eliciting : ℕ) (Required Started : Type 0) : Type 0 where
+-- what waits was counted, and so was what the timer was started for; where the timer was started, an ACK is required or
+-- it runs; and the duty is kept
+pub record Attends (waiting running : Bool) (eliciting : ℕ) (Required Started : Type 0) : Type 0 where
   pub counts : waiting ≡ true → 0 < eliciting
-  pub starts : (starting ≡ true) ↔ Started
-  pub duty : waiting ≡ true → Required ⊎ (starting ≡ true)
+  pub armed : Started → 0 < eliciting
+  pub started : Started → Required ⊎ (running ≡ true)
+  pub duty : waiting ≡ true → Required ⊎ (running ≡ true)
 
 abbrev pub AttendsTo : {P M S : Type 0} → QueueWords P S → Bool → Bool → List (SpaceEntry P M) → Type 0
-AttendsTo words waiting starting log =
-    Attends waiting starting (counts_by log).eliciting (IsRequired log) ((m : ℕ) × StartedAt words log m)
+AttendsTo words waiting running log =
+    Attends waiting running (counts_by log).eliciting (IsRequired log) ((m : ℕ) × StartedAt words log m)
 
-module _ {P M S : Type 0} (words : QueueWords P S) (waiting starting : Bool) (log : List (SpaceEntry P M))
-    (attends : AttendsTo words waiting starting log) where
+module _ {P M S : Type 0} (words : QueueWords P S) (waiting running : Bool) (log : List (SpaceEntry P M))
+    (attends : AttendsTo words waiting running log) where
   above_zero : (n : ℕ) → 0 < counted n
   above_zero n = omega arith
 
+  -- what was required stays so at a packet more
+  still : {A B : Type 0} → IsRequired log ⊎ A → (IsRequired log ⊎ B) ⊎ A
+  still (inl required) = inl (inl required)
+  still (inr other) = inr other
+
   module _ (now number : ℕ) where
     -- the timer starts at a new ack-eliciting packet
-    starts_now : Arms (heard_by words log) (counts_by log) number true
-        → AttendsTo words true true (heard now number true ∷ log)
-    starts_now arms = record {
+    starts_now : AttendsTo words true true (heard now number true ∷ log)
+    starts_now = record {
       counts = λ is. above_zero (counts_by log).eliciting;
-      starts = (λ is. (now, inr (refl, arms)), λ started. refl);
+      armed = λ started. above_zero (counts_by log).eliciting;
+      started = λ started. inr refl;
       duty = λ is. inr refl;
     }
 
     -- or it does not: it was started, or an ACK is required
     not_now : ¬ Arms (heard_by words log) (counts_by log) number true
-        → AttendsTo words true starting (heard now number true ∷ log)
+        → AttendsTo words true running (heard now number true ∷ log)
     not_now other = record {
       counts = λ is. above_zero (counts_by log).eliciting;
-      starts = (
-        λ is. let was = attends.starts.0 is in (was.0, inl was.1),
-        λ started. elim started.1 [ inl was ↦ attends.starts.1 (started.0, was) | inr now ↦ absurd (other now.1) ],
-      );
-      duty = λ is. go starting attends.starts (either (is_required log) (asks log (counts_by log) number));
+      armed = λ started. above_zero (counts_by log).eliciting;
+      started = λ started. elim started.1 [
+        | inl was ↦ still (attends.started (started.0, was))
+        | inr now ↦ absurd (other now.1)
+      ];
+      duty = λ is. go running attends.started (either (is_required log) (asks log (counts_by log) number));
     }
       where
-        go : (b : Bool) → (b ≡ true) ↔ ((m : ℕ) × StartedAt words log m)
+        go : (b : Bool) → ((m : ℕ) × StartedAt words log m → IsRequired log ⊎ (b ≡ true))
             → Decided (IsRequired log ⊎ AsksAtOnce (CameIn log) (counts_by log) number)
             → (IsRequired log ⊎ (IsTrue true × AsksAtOnce (CameIn log) (counts_by log) number)) ⊎ (b ≡ true)
-        go true starts why = inr refl
-        go false starts (inl (inl was)) = inl (inl was)
-        go false starts (inl (inr asks)) = inl (inr (refl, asks))
-        go false starts (inr none) = absurd (other (refl, (λ started. let is = starts.1 started in cc), none))
+        go true started why = inr refl
+        go false started (inl (inl was)) = inl (inl was)
+        go false started (inl (inr now)) = inl (inr (refl, now))
+        go false started (inr none) =
+            absurd (other (
+              refl,
+              λ was. elim (started was) [ inl required ↦ none (inl required) | inr runs ↦ false≢true runs ],
+              none,
+            ))
 
     -- a packet that elicits no ACK
-    silent : AttendsTo words waiting starting (heard now number false ∷ log)
+    silent : AttendsTo words waiting running (heard now number false ∷ log)
     silent = record {
       counts = attends.counts;
-      starts = (
-        λ is. let was = attends.starts.0 is in (was.0, inl was.1),
-        λ started. elim started.1 [ inl was ↦ attends.starts.1 (started.0, was) | inr now ↦ (let is = now.1.0 in cc) ],
-      );
-      duty = λ is. elim (attends.duty is) [ inl required ↦ inl (inl required) | inr started ↦ inr started ];
+      armed = λ started. elim started.1 [
+        | inl was ↦ attends.armed (started.0, was)
+        | inr now ↦ (let is = now.1.0 in cc)
+      ];
+      started = λ started. elim started.1 [
+        | inl was ↦ still (attends.started (started.0, was))
+        | inr now ↦ (let is = now.1.0 in cc)
+      ];
+      duty = λ is. still (attends.duty is);
     }
 
   -- an ACK is sent
   acked : AttendsTo words false false (ack_goes ∷ log)
-  acked = record { counts = λ is. cc; starts = (λ is. cc, λ started. absurd started.1); duty = λ is. cc }
+  acked = record {
+    counts = λ is. cc;
+    armed = λ started. absurd started.1;
+    started = λ started. absurd started.1;
+    duty = λ is. cc;
+  }
 
   -- the timer for a late one expired
-  late : AttendsTo words waiting starting (ack_is_late ∷ log)
-  late = record { counts = attends.counts; starts = attends.starts; duty = λ is. inl (attends.counts is) }
+  late : AttendsTo words waiting false (ack_is_late ∷ log)
+  late = record {
+    counts = attends.counts;
+    armed = attends.armed;
+    started = λ started. inl (attends.armed started);
+    duty = λ is. inl (attends.counts is);
+  }
 
 -- ---- what an event does
 
@@ -101,7 +128,7 @@ is_silent delaying = false
 is_silent kind = true
 
 module _ {F K Q S M P : Type 0} (beginning : Beginning F K Q S M P) (before : History Q S M P) (space : SpaceId)
-    (here : AttendsTo beginning.queue.words (waits space before) (timer_starts space before)
+    (here : AttendsTo beginning.queue.words (waits space before) (timer_runs space before)
     ((logs_of beginning before).spaces space)) where
   abbrev log : SpaceId → List (SpaceEntry P M)
   log = (logs_of beginning before).spaces
@@ -112,48 +139,48 @@ module _ {F K Q S M P : Type 0} (beginning : Beginning F K Q S M P) (before : Hi
   abbrev waiting : Bool
   waiting = waits space before
 
-  abbrev starting : Bool
-  starting = timer_starts space before
+  abbrev running : Bool
+  running = timer_runs space before
 
   abbrev After : Option (SpaceEntry P M) → Bool → Bool → Type 0
-  After entry waiting starting = AttendsTo beginning.queue.words waiting starting (onto entry (log space))
+  After entry waiting running = AttendsTo beginning.queue.words waiting running (onto entry (log space))
 
   abbrev ArmsIn : SpaceId → ℕ → Type 0
   ArmsIn there number = Arms (heard_by beginning.queue.words (log there)) (counts_by (log there)) number true
 
   -- an entry that leaves what waits, in this space or in another one
-  stays : (b : Bool) (entry : SpaceEntry P M) → After (Some entry) waiting starting
-      → After (cond b (Some entry) None) waiting starting
+  stays : (b : Bool) (entry : SpaceEntry P M) → After (Some entry) waiting running
+      → After (cond b (Some entry) None) waiting running
   stays true entry first = first
   stays false entry first = here
 
-  sends_ack : (b : Bool) → After (cond b (Some ack_goes) None) (not b && waiting) (not b && starting)
-  sends_ack true = acked beginning.queue.words waiting starting (log space) here
+  sends_ack : (b : Bool) → After (cond b (Some ack_goes) None) (not b && waiting) (not b && running)
+  sends_ack true = acked beginning.queue.words waiting running (log space) here
   sends_ack false = here
+
+  expires : (b : Bool) → After (cond b (Some ack_is_late) None) waiting (not b && running)
+  expires true = late beginning.queue.words waiting running (log space) here
+  expires false = here
 
   -- a new ack-eliciting packet with which the timer starts, or does not
   module _ (there : SpaceId) (now number : ℕ) where
     abbrev Comes : Bool → Bool → Type 0
-    Comes b starting = After (cond b (Some (heard now number true)) None) (b || waiting) starting
+    Comes b running = After (cond b (Some (heard now number true)) None) (b || waiting) running
 
-    arms_told : ArmsIn there number → Comes (same_space there space) (same_space there space || starting)
-    arms_told arms = go (same_space there space) refl
-      where
-        go : (b : Bool) → same_space there space ≡ b → Comes b (b || starting)
-        go true at = starts_now beginning.queue.words waiting starting (log space) here now number
-            (subst (λ s. ArmsIn s number) (one_space there space at) arms)
-        go false at = here
+    arms_told : (b : Bool) → Comes b (b || running)
+    arms_told true = starts_now beginning.queue.words waiting running (log space) here now number
+    arms_told false = here
 
-    other_told : ¬ ArmsIn there number → Comes (same_space there space) starting
+    other_told : ¬ ArmsIn there number → Comes (same_space there space) running
     other_told other = go (same_space there space) refl
       where
-        go : (b : Bool) → same_space there space ≡ b → Comes b starting
-        go true at = not_now beginning.queue.words waiting starting (log space) here now number
+        go : (b : Bool) → same_space there space ≡ b → Comes b running
+        go true at = not_now beginning.queue.words waiting running (log space) here now number
             (subst (λ s. ¬ ArmsIn s number) (one_space there space at) other)
         go false at = here
 
   -- all other entries
-  unmoved : (entry : SpaceEntry P M) → is_silent (space_kind entry) ≡ true → After (Some entry) waiting starting
+  unmoved : (entry : SpaceEntry P M) → is_silent (space_kind entry) ≡ true → After (Some entry) waiting running
   unmoved (heard now number eliciting) is = absurd (false≢true is)
   unmoved (heard_again number) is = absurd (false≢true is)
   unmoved ack_goes is = absurd (false≢true is)
@@ -162,37 +189,36 @@ module _ {F K Q S M P : Type 0} (beginning : Beginning F K Q S M P) (before : Hi
 
   answer_attends : (event : Event Q S M P) (answer : Answer Q) → Told beginning before event (Ok answer)
       → After ((answered beginning.queue known event answer).spaces space)
-      (waits space ((event, Ok answer) ∷ before)) (timer_starts space ((event, Ok answer) ∷ before))
-  answer_attends (Received there now number true) (New true) told = arms_told there now number (told.1.1.1.0 refl)
+      (waits space ((event, Ok answer) ∷ before)) (timer_runs space ((event, Ok answer) ∷ before))
+  answer_attends (Received there now number true) (New true) told = arms_told there now number (same_space there space)
   answer_attends (Received there now number true) (New false) told =
       other_told there now number (λ arms. let is = told.1.1.1.1 arms in cc)
   answer_attends (Received there now number false) (New true) told = let is = (told.1.1.1.0 refl).0 in cc
   answer_attends (Received there now number false) (New false) told =
       stays (same_space there space) (heard now number false)
-      (silent beginning.queue.words waiting starting (log space) here now number)
+      (silent beginning.queue.words waiting running (log space) here now number)
   answer_attends (Received there now number eliciting) answer told =
       stays (same_space there space) (heard_again number) here
   answer_attends (AcksSent there) answer told = sends_ack (same_space there space)
-  answer_attends (AckDelayTimeout there) answer told =
-      stays (same_space there space) ack_is_late (late beginning.queue.words waiting starting (log space) here)
+  answer_attends (AckDelayTimeout there) answer told = expires (same_space there space)
   answer_attends event answer told =
-      space_kept beginning.queue known space (λ entry. After entry waiting starting) is_silent here unmoved event
+      space_kept beginning.queue known space (λ entry. After entry waiting running) is_silent here unmoved event
       (Ok answer) refl
 
   refusal_attends : (event : Event Q S M P) (refusal : Refusal)
-      → After None (waits space ((event, Err refusal) ∷ before)) (timer_starts space ((event, Err refusal) ∷ before))
+      → After None (waits space ((event, Err refusal) ∷ before)) (timer_runs space ((event, Err refusal) ∷ before))
   refusal_attends (Received there now number true) refusal = here
   refusal_attends (Received there now number false) refusal = here
   refusal_attends event refusal = here
 
   reply_attends : (event : Event Q S M P) (reply : Reply Q) → Told beginning before event reply
       → After ((entries_of beginning.queue known event reply).spaces space)
-      (waits space ((event, reply) ∷ before)) (timer_starts space ((event, reply) ∷ before))
+      (waits space ((event, reply) ∷ before)) (timer_runs space ((event, reply) ∷ before))
   reply_attends event (Ok answer) told = answer_attends event answer told
   reply_attends event (Err refusal) told =
       refused_keeps event refusal
       (λ (e : Entries P M). After (e.spaces space) (waits space ((event, Err refusal) ∷ before))
-      (timer_starts space ((event, Err refusal) ∷ before)))
+      (timer_runs space ((event, Err refusal) ∷ before)))
       (refusal_attends event refusal)
 
 -- ---- throughout a run
@@ -200,7 +226,7 @@ module _ {F K Q S M P : Type 0} (beginning : Beginning F K Q S M P) (before : Hi
 module _ {F K Q S M P : Type 0} (beginning : Beginning F K Q S M P) where
   abbrev AllAttended : History Q S M P → Type 0
   AllAttended history = (space : SpaceId)
-      → AttendsTo beginning.queue.words (waits space history) (timer_starts space history)
+      → AttendsTo beginning.queue.words (waits space history) (timer_runs space history)
       ((logs_of beginning history).spaces space)
 
   after_one : (before : History Q S M P) (event : Event Q S M P) (reply : Reply Q) → Told beginning before event reply
@@ -212,4 +238,9 @@ module _ {F K Q S M P : Type 0} (beginning : Beginning F K Q S M P) where
   keeps_duty events replies told =
       throughout_kept beginning AllAttended (KeepsDuty beginning) after_one
       (λ before event reply here all space. (after_one before event reply here all space).duty) [] events replies told
-      (λ space. record { counts = λ is. cc; starts = (λ is. cc, λ started. absurd started.1); duty = λ is. cc })
+      (λ space. record {
+        counts = λ is. cc;
+        armed = λ started. absurd started.1;
+        started = λ started. absurd started.1;
+        duty = λ is. cc;
+      })

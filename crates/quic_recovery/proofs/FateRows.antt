@@ -1,12 +1,14 @@
--- Worked rows of the promise that each number has one fate, computed: of a right history each number has one, and of a
--- wrong one some has not. Nothing rests on them.
-use Rattle.std.proofs.Common.{◌≡◌, true, false, [], ◌∷◌, None, Some, Ok, Err, refl, arith}
+-- Worked rows of the promises that each number has one fate and that numbers rise, computed: of a right history each
+-- number has one, and of a wrong one some has not. Nothing rests on them.
+use Rattle.std.proofs.Common.{◌≡◌, ◌^◌, true, false, [], ◌∷◌, None, Some, Ok, Err, refl, arith}
+use Rattle.std.proofs.lemmas.Bool.Decides.{nat_tests}
 use Rattle.recovery_base.specs.declared.below.SpaceId.TheVariants.{Initial, Data}
 use Rattle.recovery_events.specs.declared.event.Event.TheVariants as event
 use Rattle.recovery_events.specs.declared.event.Answer.TheVariants as answer
 use Rattle.recovery_events.specs.declared.event.Refusal.TheVariants as refusal
 use Rattle.quic_recovery.specs.History.{History}
 use Rattle.quic_recovery.specs.Promises.Fates.{times, fates, is_given, HaveOneFate}
+use Rattle.quic_recovery.specs.Promises.Rising.{GivesRising}
 
 module _ (Q S M P : Type 0) (queue : Q) (frames : M) where
   -- of 1-RTT packets 0 was forgotten, 1 lost, 2 is a probe of the MTU; 0 of Initial ones was discarded with its space
@@ -61,3 +63,20 @@ module _ (Q S M P : Type 0) (queue : Q) (frames : M) where
 
   forgets_itself : ¬ HaveOneFate ((event.Send Data 10 100 false None queue frames, Ok (answer.Sent 4 (Some 4))) ∷ past)
   forgets_itself = λ e. let two = (e Data 4).1 in omega (arith, two)
+
+  -- ---- numbers rise: 0 to 3 were given out, of Initial ones 0 alone
+
+  first_of_a_space : GivesRising {Q = Q} {S = S} {M = M} {P = P} [] (event.PollMtu 10) (Ok (answer.Probe 0 1400))
+  first_of_a_space = (omega arith, λ n above. refl)
+
+  behind_its_own : GivesRising past (event.Send Initial 10 9 true None queue frames) (Ok (answer.Sent 1 None))
+  behind_its_own = (omega arith, λ n above. grind (arith, nat_tests, above))
+
+  the_last_again : ¬ GivesRising past (event.PollMtu 10) (Ok (answer.Probe 3 1400))
+  the_last_again = λ rises. let none = rises.1 3 (omega arith) in omega (arith, none)
+
+  falling : ¬ GivesRising past (event.Send Data 10 9 true None queue frames) (Ok (answer.Sent 2 None))
+  falling = λ rises. let none = rises.1 3 (omega arith) in omega (arith, none)
+
+  too_large : ¬ GivesRising past (event.PollMtu 10) (Ok (answer.Probe (2 ^ 62) 1400))
+  too_large = λ rises. let small = rises.0 in omega (arith, small)

@@ -23,6 +23,7 @@ use Rattle.quic_recovery.specs.Promises.Mtu.{UsesMtu}
 use Rattle.quic_recovery.specs.Promises.Near.{EndsNearBy}
 use Rattle.quic_recovery.specs.Promises.PeerIds.{AcceptsIds}
 use Rattle.quic_recovery.specs.Promises.Refused.{RefusesRightly}
+use Rattle.quic_recovery.specs.Promises.Rising.{GivesRising}
 use Rattle.quic_recovery.specs.Promises.Threefold.{KeepsThreefold}
 use Rattle.quic_recovery.specs.Promises.Turns.{SearchesInTurn}
 use Rattle.quic_recovery.specs.Told.{Told}
@@ -42,6 +43,7 @@ use Rattle.quic_recovery.proofs.OwnIdsLaws.{issues_ids}
 use Rattle.quic_recovery.proofs.PacingLaws.{delayed, rate, soon, named}
 use Rattle.quic_recovery.proofs.PeerIdsLaws.{accepts_ids}
 use Rattle.quic_recovery.proofs.RefusedLaws.{refuses_rightly}
+use Rattle.quic_recovery.proofs.RisingLaws.{keeps_rising}
 use Rattle.quic_recovery.proofs.Runs.{history_from-push, throughout_push}
 use Rattle.quic_recovery.proofs.ThreefoldLaws.{sends_threefold}
 use Rattle.quic_recovery.proofs.TimeoutsLaws.{timers_told}
@@ -103,6 +105,7 @@ module _ {F K Q S M P : Type 0} (beginning : Beginning F K Q S M P) where
           near = last (EndsNearBy beginning) (near_told beginning came.small events replies all);
           holes = last (ReportsAtFour beginning.config.transport.min_mtu) (holes_told beginning events replies all);
           fates = one;
+          rising = last GivesRising (keeps_rising beginning events replies all);
           once = leave_once ((event, reply) ∷ before) one;
           contents = subst (LosesNothing beginning) longer (loses_nothing beginning events replies all);
           duty = last (KeepsDuty beginning) (keeps_duty beginning events replies all);

@@ -130,6 +130,13 @@ module _ {F K Q S M P : Type 0} (beginning : Beginning F K Q S M P) where
   not_refused_before : ¬ SearchesInTurn beginning [] (event.PeerLimit 1300) (Err refusal.Searching)
   not_refused_before = λ told. cc
 
+  -- a limit of nothing is no limit, and no other one is refused so
+  none_at_all : SearchesInTurn beginning one_out (event.PeerLimit 0) (Err refusal.ZeroMtu)
+  none_at_all = refl
+
+  not_for_nothing : ¬ SearchesInTurn beginning [] (event.PeerLimit 1300) (Err refusal.ZeroMtu)
+  not_for_nothing = λ told. cc
+
 module _ (Q S M P : Type 0) (queue : Q) (frames : M) where
   -- ---- searches: 1326 got through, and 1389 is in flight
 

@@ -1,5 +1,5 @@
 -- By the history alone the search for the MTU goes on in turn, as its entries say: the clause `turns` of `run`.
-use Rattle.std.proofs.Common.{ℕ, ◌≡◌, ◌<◌, ◌^◌, ◌==◌, ◌&&◌, ◌||◌, Bool, true, false, if◌then◌else◌, List, [], ◌∷◌, Option, None, Some, Ok, Err, refl, sym, ap, ap₂, ◌∙◌, is_some}
+use Rattle.std.proofs.Common.{ℕ, ◌≡◌, ◌<◌, ◌^◌, ◌==◌, ◌&&◌, ◌||◌, Bool, true, false, if◌then◌else◌, List, [], ◌∷◌, Option, None, Some, Ok, Err, refl, sym, ap, ap₂, ◌∙◌, is_some, eqb-true}
 use Rattle.std.specs.Prelude.{IsSomeAnd}
 use Rattle.std.specs.Option.{ForSome}
 use Rattle.recovery_base.specs.declared.below.SpaceId.{SpaceId}
@@ -12,7 +12,7 @@ use Rattle.recovery_events.specs.declared.event.Event.TheVariants.{PollMtu, Acke
 use Rattle.recovery_events.specs.declared.event.Answer.{Answer}
 use Rattle.recovery_events.specs.declared.event.Answer.TheVariants as answer
 use Rattle.recovery_events.specs.declared.event.Refusal.{Refusal}
-use Rattle.recovery_events.specs.declared.event.Refusal.TheVariants.{Searching}
+use Rattle.recovery_events.specs.declared.event.Refusal.TheVariants.{Searching, ZeroMtu}
 use Rattle.quic_recovery.specs.History.{Beginning, History, Reply, Throughout}
 use Rattle.quic_recovery.specs.Search.{discovery_settings}
 use Rattle.quic_recovery.specs.Promises.Few.{is_in_flight as flies}
@@ -49,6 +49,33 @@ size_is last number (Some probe) is = go (number == probe.number) ∙ sym (ap (�
     go : (own : Bool) → is_some (if own then Some probe.size else None) ≡ own
     go true = refl
     go false = refl
+
+-- ---- a limit of the peer
+
+module _ {Q : Type 0} where
+  abbrev limit_reply : Bool → Bool → Reply Q
+  limit_reply zero runs = if zero then Err ZeroMtu else if runs then Err Searching else Ok answer.Done
+
+  above_none : (size : ℕ) (runs : Bool) → ¬ (size ≡ 0) → limit_reply (size == 0) runs ≡ limit_reply false runs
+  above_none size runs some = go (size == 0) refl
+    where
+      go : (zero : Bool) → (size == 0) ≡ zero → limit_reply zero runs ≡ limit_reply false runs
+      go true is = absurd (some (eqb-true size 0 is))
+      go false is = refl
+
+  limit_taken : (size : ℕ) (runs : Bool) (given : Answer Q) → ¬ (size ≡ 0) → runs ≡ false → given ≡ answer.Done
+      → Ok given ≡ limit_reply (size == 0) runs
+  limit_taken size runs given some quiet done =
+      ap (λ (a : Answer Q). let reply : Reply Q = Ok a in reply) done ∙ sym (above_none size runs some ∙ ap (limit_reply
+      false) quiet)
+
+  limit_late : (size : ℕ) (runs : Bool) → ¬ (size ≡ 0) → runs ≡ true → (let reply : Reply Q = Err Searching in reply)
+      ≡ limit_reply (size == 0) runs
+  limit_late size runs some busy = sym (above_none size runs some ∙ ap (limit_reply false) busy)
+
+  limit_of_none : (size : ℕ) (runs : Bool) → size ≡ 0 → (let reply : Reply Q = Err ZeroMtu in reply)
+      ≡ limit_reply (size == 0) runs
+  limit_of_none size runs none = sym (ap (λ n. limit_reply (n == 0) runs) none)
 
 module _ {F K Q S M P : Type 0} (beginning : Beginning F K Q S M P) where
   abbrev Numbered : History Q S M P → List MtuEntry → Type 0
@@ -155,8 +182,13 @@ module _ {F K Q S M P : Type 0} (beginning : Beginning F K Q S M P) where
         known.0.0.tells ∙ ap (λ probe. answer.Acked probe) (probe_same there number)
     turns_one (Lost there number) (Ok given) known =
         known.0.0.tells ∙ ap (λ probe. answer.Lost probe) (probe_same there number)
-    turns_one (PeerLimit size) (Ok given) known = runs_same history entries kept.few ∙ known.0.1.0
-    turns_one (PeerLimit size) (Err Searching) known = runs_same history entries kept.few ∙ known.0.1.0
+    turns_one (PeerLimit size) (Ok given) known =
+        limit_taken size (runs history) given known.0.0.told.0 (runs_same history entries kept.few ∙ known.0.1.0)
+        known.0.0.told.1.1
+    turns_one (PeerLimit size) (Err Searching) known =
+        limit_late size (runs history) known.0.0.told.0 (runs_same history entries kept.few ∙ known.0.1.0)
+    turns_one (PeerLimit size) (Err ZeroMtu) known = limit_of_none size (runs history) known.0.0.told
+    turns_one (PeerLimit size) (Err refusal) known = absurd known.0.0.told.1.1
     turns_one event reply known = tt
 
   abbrev AllKept : History Q S M P → Type 0

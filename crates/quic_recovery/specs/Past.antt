@@ -24,6 +24,7 @@ use Rattle.quic_recovery.specs.Promises.Once.{LeaveOnceEach}
 use Rattle.quic_recovery.specs.Promises.OwnIds.{IssuesIds}
 use Rattle.quic_recovery.specs.Promises.PeerIds.{AcceptsIds}
 use Rattle.quic_recovery.specs.Promises.Refused.{RefusesRightly}
+use Rattle.quic_recovery.specs.Promises.Rising.{GivesRising}
 use Rattle.quic_recovery.specs.Promises.Threefold.{KeepsThreefold}
 use Rattle.quic_recovery.specs.Promises.Timeouts.{TellsTimers}
 use Rattle.quic_recovery.specs.Promises.Turns.{SearchesInTurn}
@@ -77,6 +78,7 @@ module _ {F K Q S M P : Type 0} (beginning : Beginning F K Q S M P) where
     pub near : EndsNearBy beginning before event reply
     pub holes : ReportsAtFour beginning.config.transport.min_mtu before event reply
     pub fates : HaveOneFate ((event, reply) ∷ before)
+    pub rising : GivesRising before event reply
     pub once : LeaveOnceEach ((event, reply) ∷ before)
     pub contents : LosesNothing beginning ((event, reply) ∷ before)
     pub duty : KeepsDuty beginning before event reply

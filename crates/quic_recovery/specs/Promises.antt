@@ -1,5 +1,6 @@
--- Promises of events and answers: each is read without any other. Three name the table on one side: what is held of
--- contents (Contents), when an ACK is required (Duty), and what is to be acknowledged (Acknowledged).
+-- Promises of events and answers, a file each, some over the words of others. Four name the table on one side: what is
+-- held of contents (Contents), when an ACK is required (Duty), what is to be acknowledged (Acknowledged), and the MTU in
+-- use (Mtu).
 pub mod Acknowledged
 pub mod Blocked
 pub mod Bursts
@@ -21,6 +22,7 @@ pub mod Paths
 pub mod PeerIds
 pub mod Probes
 pub mod Refused
+pub mod Rising
 pub mod Threefold
 pub mod Timeouts
 pub mod Tracked

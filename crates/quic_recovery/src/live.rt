@@ -1,8 +1,9 @@
 //! The recovery of a connection that lives: its events come one at a time, and each finds the past behind it.
 ghost use Rattle.std.specs.Prelude.{◌≡◌, ◌≤◌, ◌^◌, IfOk};
 ghost use Rattle.recovery_skips.specs.Skips.{IsSkips};
-ghost use Rattle.quic_recovery.specs.Above.{marks_at, with_marks_at};
-ghost use Rattle.quic_recovery.specs.Past.{Came, Goes, HasPast, Went, no_past};
+ghost use Rattle.recovery_paths.specs.PathLog.{paths_marks};
+ghost use Rattle.quic_recovery.specs.Above.{AreFresh, marks_at, with_marks_at};
+ghost use Rattle.quic_recovery.specs.Past.{Came, Goes, HasPast, Stays, Went, no_past};
 ghost use Rattle.quic_recovery.specs.State.{parts_of, begun, known_to, Does, InFlightLeft};
 
 use crate::driver::{Recovery, RecoveryConfig};
@@ -46,6 +47,7 @@ where
         requires issued { config.issued ≤ 2 ^ 62 }
         requires skips { IsSkips config.skips }
         ensures came { IfOk result (λ live. Came (begun live.recovery config now rng) no_past (parts_of live.recovery)) }
+        ensures marks { IfOk result (λ live. AreFresh (paths_marks (parts_of live.recovery).paths)) }
     {
         let recovery = Recovery::new(alloc, config, rng, now)?;
         Ok(LiveRecovery { recovery })
@@ -83,6 +85,7 @@ where
         ensures before { result ≡ marks_at path (parts_of self.old.recovery) }
         ensures after { parts_of self.new.recovery
             ≡ with_marks_at path marks (parts_of self.old.recovery) }
+        ensures came { Stays self.old.recovery self.new.recovery }
     {
         self.recovery.set_marks(path, marks)
     }

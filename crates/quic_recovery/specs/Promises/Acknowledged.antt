@@ -1,5 +1,5 @@
--- What is to be acknowledged (RFC 9000, 13.2.3 and 13.2.4): new numbers, but those whose ACK or a later one was carried
--- by a packet that was acknowledged since they came, and those that came to lie below the 64 highest ranges.
+-- What is to be acknowledged (RFC 9000, 13.2.3 and 13.2.4): new numbers, but those up to the largest number in the ACK
+-- of a packet that was acknowledged since they came, and those that came to lie below the 64 highest ranges.
 use Rattle.std.specs.Prelude.{◌≡◌, ℕ, ◌≤◌, ◌⊎◌, ◌↔◌, ◌==◌, ◌&&◌, true, false, [], ◌∷◌, IsSomeAnd, Option, None, Ok, if◌then◌else◌}
 use Rattle.recovery_acks.specs.Runs.{AtMost, EndsRun}
 use Rattle.recovery_base.specs.declared.below.SpaceId.{SpaceId}
@@ -33,7 +33,8 @@ module _ {Q S M P : Type 0} (space : SpaceId) where
       if same_space Data space && number == n then None else largest_in n earlier
   largest_in n (happened ∷ earlier) = largest_in n earlier
 
-  -- since a number came, a packet that carried its ACK or a later one was acknowledged, or it came to lie so far below
+  -- since a number came, a packet was acknowledged whose ACK had it or a larger one as its largest number, or it came to
+  -- lie so far below
   abbrev pub WasDropped : ℕ → History Q S M P → Type 0
   WasDropped n [] = ⊥
   WasDropped n ((Acked there now m app_limited, Ok answer) ∷ earlier) =

@@ -1,7 +1,7 @@
 -- The search for the MTU in turn (RFC 8899, 5.1 and 5.3; RFC 9000, 14.4): a probe goes out in a search alone, while
--- none is in flight; a packet that leaves is told to be a probe exactly where it is the one in flight; a limit is taken
--- exactly while no search runs.
-use Rattle.std.specs.Prelude.{◌≡◌, ℕ, ◌==◌, Bool, true, false, ◌&&◌, ◌||◌, IsSomeAnd, [], ◌∷◌, Ok, Err}
+-- none is in flight; a packet that leaves is told to be a probe exactly where it is the one in flight; a limit above zero
+-- is taken exactly while no search runs.
+use Rattle.std.specs.Prelude.{◌≡◌, ℕ, ◌==◌, Bool, true, false, ◌&&◌, ◌||◌, IsSomeAnd, [], ◌∷◌, Ok, Err, if◌then◌else◌}
 use Rattle.recovery_base.specs.declared.below.SpaceId.{SpaceId}
 use Rattle.recovery_base.specs.declared.below.SpaceId.TheVariants.{Data}
 use Rattle.recovery_base.specs.Spaces.{same_space}
@@ -9,7 +9,7 @@ use Rattle.recovery_mtud.specs.SearchRuns.{is_due}
 use Rattle.recovery_events.specs.declared.event.Event.{Event}
 use Rattle.recovery_events.specs.declared.event.Event.TheVariants.{Acked, Lost, PollMtu, PeerLimit}
 use Rattle.recovery_events.specs.declared.event.Answer.TheVariants as answer
-use Rattle.recovery_events.specs.declared.event.Refusal.TheVariants.{Searching}
+use Rattle.recovery_events.specs.declared.event.Refusal.TheVariants.{Searching, ZeroMtu}
 use Rattle.quic_recovery.specs.History.{Beginning, History, Reply}
 use Rattle.quic_recovery.specs.Promises.Few.{is_in_flight}
 use Rattle.quic_recovery.specs.Promises.Near.{next}
@@ -36,6 +36,6 @@ module _ {F K Q S M P : Type 0} (beginning : Beginning F K Q S M P) where
   SearchesInTurn history (Acked space now number app_limited) (Ok given) =
       given ≡ answer.Acked (is_probe space number history)
   SearchesInTurn history (Lost space number) (Ok given) = given ≡ answer.Lost (is_probe space number history)
-  SearchesInTurn history (PeerLimit size) (Ok given) = runs history ≡ false
-  SearchesInTurn history (PeerLimit size) (Err Searching) = runs history ≡ true
+  SearchesInTurn history (PeerLimit size) reply =
+      reply ≡ (if size == 0 then Err ZeroMtu else if runs history then Err Searching else Ok answer.Done)
   SearchesInTurn history event reply = Unit {0}
