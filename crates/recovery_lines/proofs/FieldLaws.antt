@@ -1,7 +1,7 @@
 -- A field that is read is the field that is spelled, and what is spelled is read. `FormLaws` rest on it.
 use Rattle.std.proofs.Common.{◌≡◌, ℕ, ◌<◌, ◌≤◌, ◌^◌, Bool, true, false, cond, List, [], ◌∷◌, Option, Some, None, IfSome, decimal, bytes_eq, length, refl, sym, subst, ap, ◌∙◌, lit≤}
 use Rattle.std.specs.List.{AllByRecursion}
-use Rattle.std.proofs.lemmas.Slice.Eq.{bytes_eq-Decides, HasBytesAt, text_from_reads}
+use Rattle.std.proofs.lemmas.Slice.Eq.{bytes_eq-Decides}
 use Rattle.recovery_base.specs.declared.below.SpaceId.{SpaceId}
 use Rattle.recovery_base.specs.declared.below.SpaceId.TheVariants.{Initial, Handshake, Data}
 use Rattle.recovery_base.specs.declared.timer.Timer.{Timer}
@@ -24,11 +24,6 @@ some_of x = Some x
 
 pub some_is : {A : Type 0} (x y : A) → some_of x ≡ some_of y → x ≡ y
 some_is x y e = cc
-
--- a word of a name's length and bytes is read as the name
-pub name_read : {A : Type 0} (read : List ℕ → Option A) (word name : List ℕ) (x : A) → read name ≡ Some x
-    → length word ≡ length name → HasBytesAt word 0 name → Some x ≡ read word
-name_read read word name x is len bytes = sym (ap read (text_from_reads word name len bytes) ∙ is)
 
 -- a word for each value that fits, and its reading
 pub record IsField {A : Type 0} (word : A → List ℕ) (Fits : A → Type 0) (read : List ℕ → Option A) : Type 0 where

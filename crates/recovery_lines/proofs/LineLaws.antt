@@ -9,8 +9,8 @@ use Rattle.recovery_events.specs.declared.event.Event.TheVariants.{Send, IssueId
 use Rattle.recovery_lines.specs.declared.lines.Line.{Line}
 use Rattle.recovery_lines.specs.declared.lines.Line.TheVariants.{Said, Ids, Path}
 use Rattle.recovery_lines.specs.Words.{words_of}
-use Rattle.recovery_lines.specs.Lines.{ItemEvent, Means, spelling, IsWithinTypes, Spells, IsSame, SendsItems, HoldsList, forms_without_items}
-use Rattle.recovery_lines.specs.Reading.{◌>>=◌, first_word, line_behind, line_at, line_of, TakesMemory, TookMemory, TookAll}
+use Rattle.recovery_lines.specs.Lines.{ItemEvent, Means, spelling, IsWithinTypes, Spells, IsSame, SendsItems, HoldsList, forms_without_items, send}
+use Rattle.recovery_lines.specs.Reading.{◌>>=◌, first_word, line_behind, line_at, line_of, reading, TakesMemory, TookMemory, TookAll}
 use Rattle.recovery_lines.proofs.AddressLaws.{one_address}
 use Rattle.recovery_lines.proofs.FieldLaws.{bind_some, some_is}
 use Rattle.recovery_lines.proofs.PlainLaws.{IsPlain, plain_no_feed, words_joined}
@@ -36,14 +36,14 @@ all_words line said e =
     b.1 ∙ ap₂ (λ (l : Line) (r : List (List ℕ)). Some (l, r)) w.1 (empty_is b.0.1 w.0)
 
 -- what a line that is not too long says, it spells
-line_found : (line : List ℕ) (said : Line) (event : ItemEvent) → line_of line ≡ Some said → length line ≤ 4096
+pub line_found : (line : List ℕ) (said : Line) (event : ItemEvent) → line_of line ≡ Some said → length line ≤ 4096
     → Means said event → Spells line event
 line_found line said event e short means =
     let t = line_takes (words_of line) said [] (all_words line said e) event means in
     record { unkept = t.unkept; words = t.is ∙ append-nil (spelling t.unkept event); within = t.within; short = short }
 
 -- what a line spells, it says
-line_only : (line : List ℕ) (event : ItemEvent) → Spells line event → (said : Line) × (line_of line ≡ Some said)
+pub line_only : (line : List ℕ) (event : ItemEvent) → Spells line event → (said : Line) × (line_of line ≡ Some said)
     × Means said event
 unfolding line_of
 line_only line event spells =
@@ -59,37 +59,13 @@ one_meant (Ids now number count) first second m n =
 one_meant (Path now port fresh) first second m n =
     inl (m.1 ∙ ap (λ (remote : SocketAddr). NewPath now remote fresh) (one_address port m.0 n.0 m.2 n.2) ∙ sym n.1)
 
--- ---- what is read
+-- ---- memory
 
-pub read_found : {E : Type 0} (line : List ℕ) (said : Line) (read : Result (Option ItemEvent) E)
-    → line_of line ≡ Some said → length line ≤ 4096 → IfOk read (λ r. IfSome r (λ event. Means said event))
-    → IfOk read (λ r. IfSome r (λ event. Spells line event))
-read_found line said (Ok (Some event)) e short means = line_found line said event e short means
-read_found line said (Ok None) e short means = tt
-read_found line said (Err error) e short means = tt
-
-none_is_none : {A : Type 0} → IsSome {T = ItemEvent} None → A
-none_is_none e = absurd cc
-
-pub read_only : {E : Type 0} (line : List ℕ) (said : Line) (read : Result (Option ItemEvent) E)
-    → line_of line ≡ Some said → IfOk read (λ r. IfSome r (λ event. Means said event))
-    → ((event : ItemEvent) → Means said event → IfOk read IsSome) → (event : ItemEvent) → Spells line event
-    → IfOk read (λ r. IsSomeAnd r (IsSame event))
-read_only line said (Ok (Some first)) e found only event spells =
-    let s = line_only line event spells in
-    one_meant said event first (subst (λ (l : Line). Means l event) (some_is s.0 said (sym s.1 ∙ e)) s.2) found
-read_only line said (Ok None) e found only event spells =
-    let s = line_only line event spells in
-    none_is_none (only event (subst (λ (l : Line). Means l event) (some_is s.0 said (sym s.1 ∙ e)) s.2))
-read_only line said (Err error) e found only event spells = tt
-
-refused : {E : Type 0} (line : List ℕ) (said : Line) (read : Result (Option ItemEvent) E)
-    → line_at (words_of line) ≡ Some (said, []) → length line ≤ 4096 → OnErr read (TakesMemory said)
-    → OnErr read (HoldsList line)
-refused line said (Ok event) e short memory = tt
-refused line (Said event) (Err error) e short memory = absurd memory
-refused line (Path now port fresh) (Err error) e short memory = absurd memory
-refused line (Ids now first count) (Err error) e short memory =
+issues : (line : List ℕ) (said : Line) → line_at (words_of line) ≡ Some (said, []) → length line ≤ 4096
+    → TakesMemory said → HoldsList line
+issues line (Said event) e short memory = absurd memory
+issues line (Path now port fresh) e short memory = absurd memory
+issues line (Ids now first count) e short memory =
     let t = line_words (words_of line) [] now first count e in
     inl (record {
       now = now;
@@ -104,9 +80,9 @@ refused line (Ids now first count) (Err error) e short memory =
     })
 
 -- memory for ids is refused to lines that issue them alone
-pub read_refused : {E : Type 0} (line : List ℕ) (said : Line) (read : Result (Option ItemEvent) E)
-    → line_of line ≡ Some said → length line ≤ 4096 → OnErr read (TakesMemory said) → OnErr read (HoldsList line)
-read_refused line said read e short memory = refused line said read (all_words line said e) short memory
+pub refused_whole : (line : List ℕ) (said : Line) → line_of line ≡ Some said → length line ≤ 4096 → TakesMemory said
+    → HoldsList line
+refused_whole line said e short memory = issues line said (all_words line said e) short memory
 
 sends : (line : List ℕ) (said : Line) → line_at (words_of line) ≡ Some (said, []) → length line ≤ 4096 → TookMemory said
     → SendsItems line
@@ -134,6 +110,12 @@ pub other_line : (words rest : List (List ℕ)) (name : List ℕ) → first_word
     → bytes_eq name (codes "send") ≡ false → line_at words ≡ line_behind forms_without_items name rest
 unfolding line_at line_behind
 other_line words rest name first other = rw (first, other) refl
+
+-- and one of that name
+pub send_line : (words rest : List (List ℕ)) (name : List ℕ) → first_word words ≡ Some (name, rest)
+    → bytes_eq name (codes "send") ≡ true → line_at words ≡ reading send rest
+unfolding line_at line_behind
+send_line words rest name first same = rw (first, same) refl
 
 -- a line of which all words are read, and memory was taken for them
 pub took_line : (line : List ℕ) (words : List (List ℕ)) → words ≡ words_of line → IsSomeAnd (line_at words) TookAll

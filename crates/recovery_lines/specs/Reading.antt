@@ -1,6 +1,6 @@
 -- How the parser goes over the words of a line. What a line means is said by the grammar in Lines.antt alone.
 use Rattle.std.specs.Prelude.{◌≡◌, ℕ, ◌+◌, ◌*◌, ◌<◌, ◌≤◌, ◌^◌, ◌==◌, nat_lt, ◌&&◌, Bool, true}
-use Rattle.std.specs.Prelude.{false, List, [], ◌∷◌, length, Option, Some, None, option_and_then}
+use Rattle.std.specs.Prelude.{false, List, [], ◌∷◌, ◌++◌, length, Option, Some, None, option_and_then, Result, Ok, Err}
 use Rattle.std.specs.Prelude.{if◌then◌else◌, bytes_eq, decimal, slice_index}
 use Rattle.std.specs.Global.{Vec}
 use Rattle.std.specs.Int.{IsInRange}
@@ -21,7 +21,7 @@ use Rattle.recovery_lines.specs.Fields.{Field, Value, Values}
 use Rattle.recovery_lines.specs.Fields.{Tail, TailValue, no_tail, an_item_tail}
 use Rattle.recovery_lines.specs.Fields.{a_space, a_timer, a_path, a_flag, a_largest}
 use Rattle.recovery_lines.specs.Fields.{a_u64, a_span, a_u16, a_var_int, a_byte, a_count}
-use Rattle.recovery_lines.specs.Lines.{Form, forms}
+use Rattle.recovery_lines.specs.Lines.{Form, forms, ItemEvent, Means, Spells}
 use Rattle.recovery_lines.specs.Words.{words_of}
 
 -- ---- a field
@@ -184,11 +184,19 @@ line_at words = do
   name ← first_word words
   line_behind forms name.0 name.1
 
--- all of the words
-unfoldable pub line_of : List ℕ → Option Line
-line_of line = do
-  said ← line_at (words_of line)
+-- what all of the words say
+abbrev pub whole : Option (Line × List (List ℕ)) → Option Line
+whole read = do
+  said ← read
   if length said.1 == 0 then Some said.0 else None
+
+unfoldable pub line_of : List ℕ → Option Line
+line_of line = whole (line_at (words_of line))
+
+-- what was read, where no word is left
+abbrev pub all_of : Option Line → List (List ℕ) → Option Line
+all_of None left = None
+all_of (Some line) left = if length left == 0 then Some line else None
 
 -- ---- memory
 
@@ -206,3 +214,22 @@ TookMemory line = ⊥
 -- the same of all that is left to read
 abbrev pub TookAll : Line × List (List ℕ) → Type 0
 TookAll read = TookMemory read.0 × (read.1 ≡ [])
+
+-- ---- events one behind the other
+
+-- the event of what a line says was put behind the others, or it says none
+abbrev pub PushesMeant : Line → List ItemEvent → Bool → List ItemEvent → Type 0
+PushesMeant line before true after = (event : ItemEvent) × Means line event × (after ≡ before ++ event ∷ [])
+PushesMeant line before false after = ((event : ItemEvent) → ¬ Means line event) × (after ≡ before)
+
+-- so it was, or memory was refused for its ids
+abbrev pub Pushes : {E : Type 0} → Option Line → List ItemEvent → Result Bool E → List ItemEvent → Type 0
+Pushes (Some line) before (Ok meant) after = PushesMeant line before meant after
+Pushes (Some line) before (Err refused) after = TakesMemory line × (after ≡ before)
+Pushes None before (Ok meant) after = (meant ≡ false) × (after ≡ before)
+Pushes None before (Err refused) after = ⊥
+
+-- the event that a line spells was put behind the others, or it spells none
+abbrev pub PushesSpelled : List ℕ → List ItemEvent → Bool → List ItemEvent → Type 0
+PushesSpelled line before true after = (event : ItemEvent) × Spells line event × (after ≡ before ++ event ∷ [])
+PushesSpelled line before false after = ((event : ItemEvent) → ¬ Spells line event) × (after ≡ before)

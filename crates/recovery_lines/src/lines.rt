@@ -1,6 +1,6 @@
 //! The event that a line of a script spells.
-ghost use Rattle.std.specs.Prelude.{◌≡◌, ◌+◌, ◌<◌, ◌≤◌, ◌^◌, IfSome, IfOk, OnErr, IsSome, IsSomeAnd, bytes_eq};
-ghost use Rattle.recovery_lines.specs.Lines.{ItemEvent, id_of, token_of, zero_ids, IsAt, Means, Spells};
+ghost use Rattle.std.specs.Prelude.{◌≡◌, ◌+◌, ◌<◌, ◌≤◌, ◌^◌, Some, IfSome, IfOk, OnErr, IsSomeAnd, vec_len, vec_capacity};
+ghost use Rattle.recovery_lines.specs.Lines.{ItemEvent, id_of, token_of, zero_ids, IsAt, Spells};
 ghost use Rattle.recovery_lines.specs.Lines.{IsSame, HoldsList, forms_without_items};
 ghost use Rattle.recovery_lines.specs.Lines.{received, send, acked, lost};
 ghost use Rattle.recovery_lines.specs.Lines.{new_id, initial_id, issue_ids, peer_retired};
@@ -10,10 +10,10 @@ ghost use Rattle.recovery_lines.specs.Lines.{datagram_in, validated, transmit, p
 ghost use Rattle.recovery_lines.specs.Lines.{congestion, end_acks, poll_mtu, peer_limit, losses_done};
 ghost use Rattle.recovery_lines.specs.Lines.{ecn, check_ack, queue_probe, take_pending};
 ghost use Rattle.recovery_lines.specs.Lines.{new_path, reset_path};
-ghost use Rattle.recovery_lines.specs.Reading.{ReadsBy, reading, line_behind, line_at, line_of};
-ghost use Rattle.recovery_lines.specs.Reading.{words_left, TakesMemory, TookMemory, TookAll};
+ghost use Rattle.recovery_lines.specs.Reading.{ReadsBy, reading, line_behind, words_left, TookAll};
+ghost use Rattle.recovery_lines.specs.Reading.{Pushes, PushesSpelled, all_of, whole};
 
-use crate::words::Words;
+use crate::words::{Words, is_name};
 use recovery_base::below::{
     AckFrequency, ConnectionId, EcnCounts, IssuedCid, NewConnectionId, NoMemory, ResetToken,
 };
@@ -66,6 +66,7 @@ pub fn peer_at(port: u16) -> SocketAddr
     SocketAddr::new(IpAddr::V4(Ipv4Addr::new(192, 0, 2, 1)), port)
 }
 
+#[inline(always)]
 #[tactic(auto, unfolding(crate::specs::Reading::fields_read))]
 fn received(words: &mut Words<'_>) -> Option<Line>
     ensures { ReadsBy (reading received) words.old words.new result }
@@ -113,6 +114,7 @@ fn send(alloc: Global, words: &mut Words<'_>) -> Result<Option<Line>, NoMemory>
     })))
 }
 
+#[inline(always)]
 #[tactic(auto, unfolding(crate::specs::Reading::fields_read))]
 fn acked(words: &mut Words<'_>) -> Option<Line>
     ensures { ReadsBy (reading acked) words.old words.new result }
@@ -125,6 +127,7 @@ fn acked(words: &mut Words<'_>) -> Option<Line>
     }))
 }
 
+#[inline(always)]
 #[tactic(auto, unfolding(crate::specs::Reading::fields_read))]
 fn lost(words: &mut Words<'_>) -> Option<Line>
     ensures { ReadsBy (reading lost) words.old words.new result }
@@ -135,6 +138,7 @@ fn lost(words: &mut Words<'_>) -> Option<Line>
     }))
 }
 
+#[inline(always)]
 #[tactic(auto, unfolding(crate::specs::Reading::fields_read))]
 fn new_id(words: &mut Words<'_>) -> Option<Line>
     ensures { ReadsBy (reading new_id) words.old words.new result }
@@ -150,6 +154,7 @@ fn new_id(words: &mut Words<'_>) -> Option<Line>
     })))
 }
 
+#[inline(always)]
 #[tactic(auto, unfolding(crate::specs::Reading::fields_read))]
 fn initial_id(words: &mut Words<'_>) -> Option<Line>
     ensures { ReadsBy (reading initial_id) words.old words.new result }
@@ -157,6 +162,7 @@ fn initial_id(words: &mut Words<'_>) -> Option<Line>
     Some(Line::Said(Event::InitialId(id_of(words.byte()?))))
 }
 
+#[inline(always)]
 #[tactic(auto, unfolding(crate::specs::Reading::fields_read))]
 fn peer_retired(words: &mut Words<'_>) -> Option<Line>
     ensures { ReadsBy (reading peer_retired) words.old words.new result }
@@ -167,6 +173,7 @@ fn peer_retired(words: &mut Words<'_>) -> Option<Line>
     }))
 }
 
+#[inline(always)]
 #[tactic(auto, unfolding(crate::specs::Reading::fields_read))]
 fn ack_frequency(words: &mut Words<'_>) -> Option<Line>
     ensures { ReadsBy (reading ack_frequency) words.old words.new result }
@@ -179,6 +186,7 @@ fn ack_frequency(words: &mut Words<'_>) -> Option<Line>
     })))
 }
 
+#[inline(always)]
 #[tactic(auto, unfolding(crate::specs::Reading::fields_read))]
 fn acks_sent(words: &mut Words<'_>) -> Option<Line>
     ensures { ReadsBy (reading acks_sent) words.old words.new result }
@@ -188,6 +196,7 @@ fn acks_sent(words: &mut Words<'_>) -> Option<Line>
     }))
 }
 
+#[inline(always)]
 #[tactic(auto, unfolding(crate::specs::Reading::fields_read))]
 fn ack_delay_timeout(words: &mut Words<'_>) -> Option<Line>
     ensures { ReadsBy (reading ack_delay_timeout) words.old words.new result }
@@ -197,6 +206,7 @@ fn ack_delay_timeout(words: &mut Words<'_>) -> Option<Line>
     }))
 }
 
+#[inline(always)]
 #[tactic(auto, unfolding(crate::specs::Reading::fields_read))]
 fn set_timer(words: &mut Words<'_>) -> Option<Line>
     ensures { ReadsBy (reading set_timer) words.old words.new result }
@@ -207,6 +217,7 @@ fn set_timer(words: &mut Words<'_>) -> Option<Line>
     }))
 }
 
+#[inline(always)]
 #[tactic(auto, unfolding(crate::specs::Reading::fields_read))]
 fn stop_timer(words: &mut Words<'_>) -> Option<Line>
     ensures { ReadsBy (reading stop_timer) words.old words.new result }
@@ -216,6 +227,7 @@ fn stop_timer(words: &mut Words<'_>) -> Option<Line>
     }))
 }
 
+#[inline(always)]
 #[tactic(auto, unfolding(crate::specs::Reading::fields_read))]
 fn discard(words: &mut Words<'_>) -> Option<Line>
     ensures { ReadsBy (reading discard) words.old words.new result }
@@ -225,6 +237,7 @@ fn discard(words: &mut Words<'_>) -> Option<Line>
     }))
 }
 
+#[inline(always)]
 #[tactic(auto, unfolding(crate::specs::Reading::fields_read))]
 fn in_flight(words: &mut Words<'_>) -> Option<Line>
     ensures { ReadsBy (reading in_flight) words.old words.new result }
@@ -234,6 +247,7 @@ fn in_flight(words: &mut Words<'_>) -> Option<Line>
     }))
 }
 
+#[inline(always)]
 #[tactic(auto, unfolding(crate::specs::Reading::fields_read))]
 fn sample(words: &mut Words<'_>) -> Option<Line>
     ensures { ReadsBy (reading sample) words.old words.new result }
@@ -244,6 +258,7 @@ fn sample(words: &mut Words<'_>) -> Option<Line>
     }))
 }
 
+#[inline(always)]
 #[tactic(auto, unfolding(crate::specs::Reading::fields_read))]
 fn datagram_in(words: &mut Words<'_>) -> Option<Line>
     ensures { ReadsBy (reading datagram_in) words.old words.new result }
@@ -254,6 +269,7 @@ fn datagram_in(words: &mut Words<'_>) -> Option<Line>
     }))
 }
 
+#[inline(always)]
 #[tactic(auto, unfolding(crate::specs::Reading::fields_read))]
 fn validated(words: &mut Words<'_>) -> Option<Line>
     ensures { ReadsBy (reading validated) words.old words.new result }
@@ -263,6 +279,7 @@ fn validated(words: &mut Words<'_>) -> Option<Line>
     }))
 }
 
+#[inline(always)]
 #[tactic(auto, unfolding(crate::specs::Reading::fields_read))]
 fn transmit(words: &mut Words<'_>) -> Option<Line>
     ensures { ReadsBy (reading transmit) words.old words.new result }
@@ -274,6 +291,7 @@ fn transmit(words: &mut Words<'_>) -> Option<Line>
     }))
 }
 
+#[inline(always)]
 #[tactic(auto, unfolding(crate::specs::Reading::fields_read))]
 fn pacer_check(words: &mut Words<'_>) -> Option<Line>
     ensures { ReadsBy (reading pacer_check) words.old words.new result }
@@ -284,6 +302,7 @@ fn pacer_check(words: &mut Words<'_>) -> Option<Line>
     }))
 }
 
+#[inline(always)]
 #[tactic(auto, unfolding(crate::specs::Reading::fields_read))]
 fn congestion(words: &mut Words<'_>) -> Option<Line>
     ensures { ReadsBy (reading congestion) words.old words.new result }
@@ -296,6 +315,7 @@ fn congestion(words: &mut Words<'_>) -> Option<Line>
     }))
 }
 
+#[inline(always)]
 #[tactic(auto, unfolding(crate::specs::Reading::fields_read))]
 fn end_acks(words: &mut Words<'_>) -> Option<Line>
     ensures { ReadsBy (reading end_acks) words.old words.new result }
@@ -307,6 +327,7 @@ fn end_acks(words: &mut Words<'_>) -> Option<Line>
     }))
 }
 
+#[inline(always)]
 #[tactic(auto, unfolding(crate::specs::Reading::fields_read))]
 fn poll_mtu(words: &mut Words<'_>) -> Option<Line>
     ensures { ReadsBy (reading poll_mtu) words.old words.new result }
@@ -316,6 +337,7 @@ fn poll_mtu(words: &mut Words<'_>) -> Option<Line>
     }))
 }
 
+#[inline(always)]
 #[tactic(auto, unfolding(crate::specs::Reading::fields_read))]
 fn peer_limit(words: &mut Words<'_>) -> Option<Line>
     ensures { ReadsBy (reading peer_limit) words.old words.new result }
@@ -325,6 +347,7 @@ fn peer_limit(words: &mut Words<'_>) -> Option<Line>
     }))
 }
 
+#[inline(always)]
 #[tactic(auto, unfolding(crate::specs::Reading::fields_read))]
 fn losses_done(words: &mut Words<'_>) -> Option<Line>
     ensures { ReadsBy (reading losses_done) words.old words.new result }
@@ -334,6 +357,7 @@ fn losses_done(words: &mut Words<'_>) -> Option<Line>
     }))
 }
 
+#[inline(always)]
 #[tactic(auto, unfolding(crate::specs::Reading::fields_read))]
 fn ecn(words: &mut Words<'_>) -> Option<Line>
     ensures { ReadsBy (reading ecn) words.old words.new result }
@@ -349,6 +373,7 @@ fn ecn(words: &mut Words<'_>) -> Option<Line>
     }))
 }
 
+#[inline(always)]
 #[tactic(auto, unfolding(crate::specs::Reading::fields_read))]
 fn check_ack(words: &mut Words<'_>) -> Option<Line>
     ensures { ReadsBy (reading check_ack) words.old words.new result }
@@ -360,6 +385,7 @@ fn check_ack(words: &mut Words<'_>) -> Option<Line>
     }))
 }
 
+#[inline(always)]
 #[tactic(auto, unfolding(crate::specs::Reading::fields_read))]
 fn queue_probe(words: &mut Words<'_>) -> Option<Line>
     ensures { ReadsBy (reading queue_probe) words.old words.new result }
@@ -371,6 +397,7 @@ fn queue_probe(words: &mut Words<'_>) -> Option<Line>
     }))
 }
 
+#[inline(always)]
 #[tactic(auto, unfolding(crate::specs::Reading::fields_read))]
 fn take_pending(words: &mut Words<'_>) -> Option<Line>
     ensures { ReadsBy (reading take_pending) words.old words.new result }
@@ -380,6 +407,7 @@ fn take_pending(words: &mut Words<'_>) -> Option<Line>
     }))
 }
 
+#[inline(always)]
 #[tactic(auto, unfolding(crate::specs::Reading::fields_read))]
 fn new_path(words: &mut Words<'_>) -> Option<Line>
     ensures { ReadsBy (reading new_path) words.old words.new result }
@@ -391,6 +419,7 @@ fn new_path(words: &mut Words<'_>) -> Option<Line>
     })
 }
 
+#[inline(always)]
 #[tactic(auto, unfolding(crate::specs::Reading::fields_read))]
 fn reset_path(words: &mut Words<'_>) -> Option<Line>
     ensures { ReadsBy (reading reset_path) words.old words.new result }
@@ -400,6 +429,7 @@ fn reset_path(words: &mut Words<'_>) -> Option<Line>
     }))
 }
 
+#[inline(always)]
 #[tactic(auto, unfolding(crate::specs::Reading::fields_read))]
 fn issue_ids(words: &mut Words<'_>) -> Option<Line>
     ensures { ReadsBy (reading issue_ids) words.old words.new result }
@@ -409,86 +439,6 @@ fn issue_ids(words: &mut Words<'_>) -> Option<Line>
         first: words.number()?,
         count: words.count()?,
     })
-}
-
-/// Is a word this name?
-fn is_name(word: &[u8], name: &str) -> bool
-    ensures { result ≡ bytes_eq word.now name.now }
-{
-    word == name.as_bytes()
-}
-
-/// What a line without items says behind its name. Names of other lengths are not compared with it.
-#[tactic(auto, unfolding(crate::specs::Reading::line_behind))]
-fn line_behind(name: &[u8], words: &mut Words<'_>) -> Option<Line>
-    ensures { ReadsBy (line_behind forms_without_items name.now) words.old words.new result }
-{
-    match name.len() {
-        3 if is_name(name, "ecn") => ecn(words),
-        4 if is_name(name, "lost") => lost(words),
-        5 if is_name(name, "acked") => acked(words),
-        6 if is_name(name, "new-id") => new_id(words),
-        6 if is_name(name, "sample") => sample(words),
-        7 if is_name(name, "next-id") => Some(Line::Said(Event::NextId)),
-        7 if is_name(name, "discard") => discard(words),
-        8 if is_name(name, "received") => received(words),
-        8 if is_name(name, "transmit") => transmit(words),
-        8 if is_name(name, "end-acks") => end_acks(words),
-        8 if is_name(name, "poll-mtu") => poll_mtu(words),
-        8 if is_name(name, "new-path") => new_path(words),
-        9 if is_name(name, "issue-ids") => issue_ids(words),
-        9 if is_name(name, "acks-sent") => acks_sent(words),
-        9 if is_name(name, "set-timer") => set_timer(words),
-        9 if is_name(name, "in-flight") => in_flight(words),
-        9 if is_name(name, "validated") => validated(words),
-        9 if is_name(name, "check-ack") => check_ack(words),
-        10 if is_name(name, "initial-id") => initial_id(words),
-        10 if is_name(name, "id-timeout") => Some(Line::Said(Event::IdTimeout)),
-        10 if is_name(name, "stop-timer") => stop_timer(words),
-        10 if is_name(name, "congestion") => congestion(words),
-        10 if is_name(name, "peer-limit") => peer_limit(words),
-        10 if is_name(name, "reset-path") => reset_path(words),
-        11 if is_name(name, "datagram-in") => datagram_in(words),
-        11 if is_name(name, "pacer-check") => pacer_check(words),
-        11 if is_name(name, "losses-done") => losses_done(words),
-        11 if is_name(name, "queue-probe") => queue_probe(words),
-        12 if is_name(name, "peer-retired") => peer_retired(words),
-        12 if is_name(name, "next-timeout") => Some(Line::Said(Event::NextTimeout)),
-        12 if is_name(name, "take-pending") => take_pending(words),
-        13 if is_name(name, "ack-frequency") => ack_frequency(words),
-        13 if is_name(name, "drop-previous") => Some(Line::Said(Event::DropPrevious)),
-        17 if is_name(name, "ack-delay-timeout") => ack_delay_timeout(words),
-        _ => None,
-    }
-}
-
-/// What the words that are left say: a name, and what stands behind it.
-#[tactic(auto, unfolding(crate::specs::Reading::line_at, crate::specs::Reading::line_behind))]
-fn line_in(alloc: Global, words: &mut Words<'_>) -> Result<Option<Line>, NoMemory>
-    ensures found { IfOk result (ReadsBy line_at words.old words.new) }
-    ensures memory { OnErr result (IsSomeAnd (line_at (words_left words.old)) TookAll) }
-{
-    let Some(name) = words.next() else {
-        return Ok(None);
-    };
-    if is_name(name, "send") {
-        return send(alloc, words);
-    }
-    Ok(line_behind(name, words))
-}
-
-/// What the words of a line say, all of them.
-#[tactic(auto, unfolding(crate::specs::Reading::line_of))]
-fn said(alloc: Global, line: &[u8]) -> Result<Option<Line>, NoMemory>
-    ensures found { IfOk result (λ read. read ≡ line_of line.now) }
-    ensures memory { OnErr result (IsSomeAnd (line_of line.now) TookMemory) }
-{
-    let mut words = Words::new(line);
-    let said = line_in(alloc, &mut words)?;
-    if words.next().is_some() {
-        return Ok(None);
-    }
-    Ok(said)
 }
 
 /// The ids of a line that issues them, each of zero bytes.
@@ -508,27 +458,134 @@ fn zero_ids(alloc: Global, first: u64, count: u64) -> Result<Vec<IssuedCid>, NoM
     Ok(ids)
 }
 
-/// The event of what a line says; `None` where a number of an id would pass `u64::MAX`.
-fn meant(alloc: Global, line: Line) -> Result<Option<Event<ItemQueue>>, NoMemory>
-    ensures found { IfOk result (λ read. IfSome read (λ event. Means line event)) }
-    ensures only { (event : ItemEvent) → Means line event → IfOk result IsSome }
-    ensures memory { OnErr result (TakesMemory line) }
+/// Puts the event of what a line says behind the events; false, and nothing, where a number of an id would pass `u64::MAX`.
+#[inline(always)]
+fn push_meant(line: Line, events: &mut Vec<Event<ItemQueue>>) -> Result<bool, NoMemory>
+    requires { vec_len events.old < vec_capacity events.old }
+    ensures { Pushes (Some line) events.old.items result events.new.items }
 {
     match line {
-        Line::Said(event) => Ok(Some(event)),
+        Line::Said(event) => events.push_reserved(event),
         Line::Ids { now, first, count } => {
             if count.saturating_sub(1) > u64::MAX - first {
-                return Ok(None);
+                return Ok(false);
             }
-            let ids = zero_ids(alloc, first, count)?;
-            Ok(Some(Event::IssueIds { now, ids }))
+            let ids = zero_ids(*events.allocator(), first, count)?;
+            events.push_reserved(Event::IssueIds { now, ids });
         }
-        Line::Path { now, port, fresh } => Ok(Some(Event::NewPath {
+        Line::Path { now, port, fresh } => events.push_reserved(Event::NewPath {
             now,
             remote: peer_at(port),
             fresh,
-        })),
+        }),
     }
+    Ok(true)
+}
+
+/// The same, where what the line says was read and no word of it is left.
+#[inline(always)]
+fn push_read(
+    line: Option<Line>,
+    words: &Words<'_>,
+    events: &mut Vec<Event<ItemQueue>>,
+) -> Result<bool, NoMemory>
+    requires { vec_len events.old < vec_capacity events.old }
+    ensures { Pushes (all_of line (words_left words.now)) events.old.items result events.new.items }
+{
+    match line {
+        Some(line) if words.is_empty() => push_meant(line, events),
+        _ => Ok(false),
+    }
+}
+
+/// Puts the event of a line without items behind the events, by the line's name and the words behind it. Names of other lengths are
+/// not compared with it. Each form has a push of its own, so that no event is put together where forms meet.
+fn push_behind(
+    name: &[u8],
+    words: &mut Words<'_>,
+    events: &mut Vec<Event<ItemQueue>>,
+) -> Result<bool, NoMemory>
+    requires { vec_len events.old < vec_capacity events.old }
+    ensures { Pushes (whole (line_behind forms_without_items name.now (words_left words.old)))
+        events.old.items result events.new.items }
+{
+    match name.len() {
+        3 if is_name(name, "ecn") => push_read(ecn(words), words, events),
+        4 if is_name(name, "lost") => push_read(lost(words), words, events),
+        5 if is_name(name, "acked") => push_read(acked(words), words, events),
+        6 if is_name(name, "new-id") => push_read(new_id(words), words, events),
+        6 if is_name(name, "sample") => push_read(sample(words), words, events),
+        7 if is_name(name, "next-id") => push_read(Some(Line::Said(Event::NextId)), words, events),
+        7 if is_name(name, "discard") => push_read(discard(words), words, events),
+        8 if is_name(name, "received") => push_read(received(words), words, events),
+        8 if is_name(name, "transmit") => push_read(transmit(words), words, events),
+        8 if is_name(name, "end-acks") => push_read(end_acks(words), words, events),
+        8 if is_name(name, "poll-mtu") => push_read(poll_mtu(words), words, events),
+        8 if is_name(name, "new-path") => push_read(new_path(words), words, events),
+        9 if is_name(name, "issue-ids") => push_read(issue_ids(words), words, events),
+        9 if is_name(name, "acks-sent") => push_read(acks_sent(words), words, events),
+        9 if is_name(name, "set-timer") => push_read(set_timer(words), words, events),
+        9 if is_name(name, "in-flight") => push_read(in_flight(words), words, events),
+        9 if is_name(name, "validated") => push_read(validated(words), words, events),
+        9 if is_name(name, "check-ack") => push_read(check_ack(words), words, events),
+        10 if is_name(name, "initial-id") => push_read(initial_id(words), words, events),
+        10 if is_name(name, "id-timeout") => push_read(
+            Some(Line::Said(Event::IdTimeout)),
+            words,
+            events,
+        ),
+        10 if is_name(name, "stop-timer") => push_read(stop_timer(words), words, events),
+        10 if is_name(name, "congestion") => push_read(congestion(words), words, events),
+        10 if is_name(name, "peer-limit") => push_read(peer_limit(words), words, events),
+        10 if is_name(name, "reset-path") => push_read(reset_path(words), words, events),
+        11 if is_name(name, "datagram-in") => push_read(datagram_in(words), words, events),
+        11 if is_name(name, "pacer-check") => push_read(pacer_check(words), words, events),
+        11 if is_name(name, "losses-done") => push_read(losses_done(words), words, events),
+        11 if is_name(name, "queue-probe") => push_read(queue_probe(words), words, events),
+        12 if is_name(name, "peer-retired") => push_read(peer_retired(words), words, events),
+        12 if is_name(name, "next-timeout") => push_read(
+            Some(Line::Said(Event::NextTimeout)),
+            words,
+            events,
+        ),
+        12 if is_name(name, "take-pending") => push_read(take_pending(words), words, events),
+        13 if is_name(name, "ack-frequency") => push_read(ack_frequency(words), words, events),
+        13 if is_name(name, "drop-previous") => push_read(
+            Some(Line::Said(Event::DropPrevious)),
+            words,
+            events,
+        ),
+        17 if is_name(name, "ack-delay-timeout") => push_read(
+            ack_delay_timeout(words),
+            words,
+            events,
+        ),
+        _ => Ok(false),
+    }
+}
+
+/// Puts the event that a line spells, given without its line feed, behind the events, which have room for one more: whether it
+/// spells one. Where it spells none, or memory is refused, they stay as they were; the one refusal is `NoMemory`.
+pub fn push_event(line: &[u8], events: &mut Vec<Event<ItemQueue>>) -> Result<bool, NoMemory>
+    requires { vec_len events.old < vec_capacity events.old }
+    // What is read is spelled so, and what is spelled is read: a line spells at most one event.
+    ensures found { IfOk result (λ spells. PushesSpelled line.now events.old.items spells events.new.items) }
+    // Memory is refused to a line that issues ids or has items, and to no other.
+    ensures memory { OnErr result (HoldsList line.now) }
+    ensures kept { OnErr result (events.new.items ≡ events.old.items) }
+{
+    if line.len() > LINE_LIMIT {
+        return Ok(false);
+    }
+    let mut words = Words::new(line);
+    let Some(name) = words.next() else {
+        return Ok(false);
+    };
+    if is_name(name, "send") {
+        let line = send(*events.allocator(), &mut words)?;
+        return push_read(line, &words, events);
+    }
+    push_behind(name, &mut words, events)
 }
 
 /// The event that a line, given without its line feed, spells; `None` where it spells none. The one refusal is
@@ -539,14 +596,10 @@ pub fn read_event(alloc: Global, line: &[u8]) -> Result<Option<Event<ItemQueue>>
     // What is spelled so is read: a line spells at most one event.
     ensures only { (event : ItemEvent) → Spells line.now event
         → IfOk result (λ read. IsSomeAnd read (IsSame event)) }
-    // Memory is refused to a line that issues ids or has items, and to no other.
-    ensures memory { OnErr result (HoldsList line.now) }
 {
-    if line.len() > LINE_LIMIT {
+    let mut events = Vec::with_capacity(alloc, 1)?;
+    if !push_event(line, &mut events)? {
         return Ok(None);
     }
-    match said(alloc, line)? {
-        Some(line) => meant(alloc, line),
-        None => Ok(None),
-    }
+    Ok(events.pop())
 }

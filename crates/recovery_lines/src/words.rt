@@ -1,6 +1,6 @@
 //! The words of a line, read one after the other.
 ghost use Rattle.std.specs.Prelude.{◌≡◌, ◌*◌, ◌<◌, ◌≤◌, ◌^◌, ◌==◌, [], Some, length, take};
-ghost use Rattle.std.specs.Prelude.{Decides, IfOk, IfSome, OnErr, IsSome, IsSomeAnd};
+ghost use Rattle.std.specs.Prelude.{bytes_eq, Decides, IfOk, IfSome, OnErr, IsSome, IsSomeAnd};
 ghost use Rattle.std.specs.List.{position_or_len};
 ghost use Rattle.std.specs.Str.Parse.{digits_value};
 ghost use Rattle.recovery_lines.specs.Words.{words_of};
@@ -17,6 +17,13 @@ use std::alloc::Global;
 
 /// The most ids that a line issues.
 const MOST_IDS: u64 = 64;
+
+/// Is a word this name?
+pub fn is_name(word: &[u8], name: &str) -> bool
+    ensures { result ≡ bytes_eq word.now name.now }
+{
+    word == name.as_bytes()
+}
 
 /// The number that digits spell, 0 to `u128::MAX`: without a sign and without leading zeros.
 fn long_number_in(digits: &[u8]) -> Option<u128>
@@ -83,9 +90,9 @@ fn space_in(word: &[u8]) -> Option<SpaceId>
     ensures { result ≡ space_of word.now }
 {
     match word {
-        b"initial" => Some(SpaceId::Initial),
-        b"handshake" => Some(SpaceId::Handshake),
-        b"data" => Some(SpaceId::Data),
+        name if is_name(name, "initial") => Some(SpaceId::Initial),
+        name if is_name(name, "handshake") => Some(SpaceId::Handshake),
+        name if is_name(name, "data") => Some(SpaceId::Data),
         _ => None,
     }
 }
@@ -95,15 +102,15 @@ fn timer_in(word: &[u8]) -> Option<Timer>
     ensures { result ≡ timer_of word.now }
 {
     match word {
-        b"loss-detection" => Some(Timer::LossDetection),
-        b"idle" => Some(Timer::Idle),
-        b"close" => Some(Timer::Close),
-        b"key-discard" => Some(Timer::KeyDiscard),
-        b"path-validation" => Some(Timer::PathValidation),
-        b"keep-alive" => Some(Timer::KeepAlive),
-        b"pacing" => Some(Timer::Pacing),
-        b"push-new-cid" => Some(Timer::PushNewCid),
-        b"max-ack-delay" => Some(Timer::MaxAckDelay),
+        name if is_name(name, "loss-detection") => Some(Timer::LossDetection),
+        name if is_name(name, "idle") => Some(Timer::Idle),
+        name if is_name(name, "close") => Some(Timer::Close),
+        name if is_name(name, "key-discard") => Some(Timer::KeyDiscard),
+        name if is_name(name, "path-validation") => Some(Timer::PathValidation),
+        name if is_name(name, "keep-alive") => Some(Timer::KeepAlive),
+        name if is_name(name, "pacing") => Some(Timer::Pacing),
+        name if is_name(name, "push-new-cid") => Some(Timer::PushNewCid),
+        name if is_name(name, "max-ack-delay") => Some(Timer::MaxAckDelay),
         _ => None,
     }
 }
@@ -113,8 +120,8 @@ fn path_in(word: &[u8]) -> Option<PathName>
     ensures { result ≡ path_of word.now }
 {
     match word {
-        b"current" => Some(PathName::Current),
-        b"previous" => Some(PathName::Previous),
+        name if is_name(name, "current") => Some(PathName::Current),
+        name if is_name(name, "previous") => Some(PathName::Previous),
         _ => None,
     }
 }
@@ -318,7 +325,7 @@ impl<'a> Words<'a> {
         timer_in(self.next()?)
     }
     /// Whether no word is left.
-    fn is_empty(&self) -> bool
+    pub fn is_empty(&self) -> bool
         ensures { Decides result (words_left self.now ≡ []) }
     {
         self.rest.is_none()

@@ -1,28 +1,19 @@
-use Rattle.std.proofs.Common.{sym, ◌∙◌}
-use Rattle.recovery_lines.proofs.LineLaws.{read_found, read_only, read_refused, none_spelled, items_refused}
-use Rattle.recovery_lines.proofs.ItemLaws.{on_err}
+use Rattle.std.proofs.Common.{[], Bool, true, List, arith, subst}
+use Rattle.recovery_lines.specs.Lines.{ItemEvent}
+use Rattle.recovery_lines.specs.Reading.{PushesSpelled}
+use Rattle.recovery_lines.proofs.PushLaws.{alone_again}
 use Rattle.recovery_lines.proofs.lines.read_event.Goals as goal
 
-pub returns-in-Some-clause-found : goal.returns-in-Some-clause-found
-returns-in-Some-clause-found c =
-    read_found c.args.line.now c.in-Some.line c.meant.result (sym c.in_ok-line.ensures.found ∙ c.in-Some.is)
-    c.if-line-gt-LINE_LIMIT.false c.meant.ensures.found
+pub returns-then-not-branch-clause-only : goal.returns-then-not-branch-clause-only
+returns-then-not-branch-clause-only c =
+    (subst (λ (spells : Bool). PushesSpelled c.args.line.now c.in_ok-events.events.items spells
+    c.push_event.new.events.items) c.if-not-branch.true c.in_ok-push_event.ensures.found).0
 
-pub returns-in-Some-clause-only : goal.returns-in-Some-clause-only
-returns-in-Some-clause-only c =
-    read_only c.args.line.now c.in-Some.line c.meant.result (sym c.in_ok-line.ensures.found ∙ c.in-Some.is)
-    c.meant.ensures.found c.meant.ensures.only
-
-pub returns-in-None-clause-only : goal.returns-in-None-clause-only
-returns-in-None-clause-only c =
-    λ event spells. absurd (none_spelled c.args.line.now event (sym c.in_ok-line.ensures.found ∙ c.in-None.is) spells)
-
-pub returns-in-Some-clause-memory : goal.returns-in-Some-clause-memory
-returns-in-Some-clause-memory c =
-    read_refused c.args.line.now c.in-Some.line c.meant.result (sym c.in_ok-line.ensures.found ∙ c.in-Some.is)
-    c.if-line-gt-LINE_LIMIT.false c.meant.ensures.memory
-
-pub returns-in_err-line-clause-memory : goal.returns-in_err-line-clause-memory
-returns-in_err-line-clause-memory c =
-    on_err c.from_residual.result (items_refused c.args.line.now c.if-line-gt-LINE_LIMIT.false
-    c.in_err-line.ensures.memory)
+pub returns-clause-only : goal.returns-clause-only
+returns-clause-only c =
+    let one = subst (λ (spells : Bool). PushesSpelled c.args.line.now c.in_ok-events.events.items spells
+    c.push_event.new.events.items) c.if-not-branch.false c.in_ok-push_event.ensures.found in
+    alone_again c.args.line.now c.push_event.new.events.items c.pop.new.self.items c.pop.result
+    (subst (λ (none : List ItemEvent). PushesSpelled c.args.line.now none true c.push_event.new.events.items)
+    c.in_ok-events.ensures.items one)
+    c.pop.ensures.items (λ some. c.pop.ensures.variant.1 (omega (arith, c.push_event.new.events.ok.0, some)))

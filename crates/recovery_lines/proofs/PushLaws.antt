@@ -1,0 +1,149 @@
+-- What is put behind the events of a script: what a form says behind its name, and what a whole line spells. The pushes of
+-- `lines` rest on it.
+use Rattle.std.proofs.Common.{◌≡◌, ◌<◌, ◌≤◌, ◌==◌, ℕ, Bool, true, false, List, [], ◌∷◌, ◌++◌, length, Option, Some, None, Result, Ok, Err, IfOk, OnErr, IsSome, IsSomeAnd, bytes_eq, refl, sym, ap, subst, ◌∙◌, arith, length-append}
+use Rattle.std.specs.Prelude.{option_to_list}
+use lib.Chars.{codes}
+use Rattle.std.proofs.lemmas.Slice.Eq.{bytes_eq-Decides}
+use Rattle.recovery_lines.specs.declared.lines.Line.{Line}
+use Rattle.recovery_lines.specs.declared.lines.Line.TheVariants.{Said}
+use Rattle.recovery_lines.specs.Words.{words_of}
+use Rattle.recovery_lines.specs.Lines.{Form, ItemEvent, Means, Spells, IsSame, HoldsList, forms_without_items, send}
+use Rattle.recovery_lines.specs.Reading.{Reads, Pushes, PushesSpelled, TakesMemory, TookAll, all_of, first_word, form_named, line_at, line_behind, line_of, reading, whole}
+use Rattle.recovery_lines.proofs.LineLaws.{items_refused, line_found, line_only, none_spelled, one_event, other_line, refused_whole, send_line, took_line}
+use Rattle.recovery_lines.proofs.FieldLaws.{some_is}
+
+-- ---- what a form says
+
+pub whole_read : (line : Option Line) (left : List (List ℕ)) (read : Option (Line × List (List ℕ)))
+    → Reads (λ x. x) line left read → whole read ≡ all_of line left
+whole_read None left read is = ap whole is
+whole_read (Some line) left read is = ap whole is
+
+module _ {E : Type 0} (before : List ItemEvent) (result : Result Bool E) (after : List ItemEvent) where
+  -- what was read is all that the words say
+  pub read_pushes : (line : Option Line) (left : List (List ℕ)) (read : Option (Line × List (List ℕ)))
+      → Reads (λ x. x) line left read → Pushes (all_of line left) before result after
+      → Pushes (whole read) before result after
+  read_pushes line left read is pushes =
+      subst (λ (said : Option Line). Pushes said before result after) (sym (whole_read line left read is)) pushes
+
+  -- the form of a name says what stands behind it
+  pub form_pushes : (form : Form) → form_named forms_without_items form.name ≡ Some form
+      → (name : List ℕ) (words left : List (List ℕ)) (line : Option Line) → true ≡ bytes_eq name form.name
+      → Reads (λ x. x) line left (reading form words) → Pushes (all_of line left) before result after
+      → Pushes (whole (line_behind forms_without_items name words)) before result after
+  unfolding line_behind
+  form_pushes form named name words left line same is pushes =
+      let found : form_named forms_without_items name ≡ Some form =
+      ap (form_named forms_without_items) ((bytes_eq-Decides name form.name).0 (sym same)) ∙ named in
+      rw found (read_pushes line left (reading form words) is pushes)
+
+  -- one that has no fields says its event
+  pub says_nothing : (form : Form) → form_named forms_without_items form.name ≡ Some form
+      → (name : List ℕ) (words : List (List ℕ)) (event : ItemEvent) → true ≡ bytes_eq name form.name
+      → reading form words ≡ Some (Said event, words) → Pushes (all_of (Some (Said event)) words) before result after
+      → Pushes (whole (line_behind forms_without_items name words)) before result after
+  says_nothing form named name words event same is pushes =
+      form_pushes form named name words words (Some (Said event)) same is pushes
+
+-- no form has the name
+pub says_none : (E : Type 0) (name : List ℕ) (words : List (List ℕ)) (events : List ItemEvent)
+    → line_behind forms_without_items name words ≡ None
+    → Pushes {E = E} (whole (line_behind forms_without_items name words)) events (Ok false) events
+says_none E name words events is = rw is (refl, refl)
+
+-- ---- what a line spells
+
+-- what all words of a line say it spells, and where they say nothing, or nothing that an event means, it spells none
+pub pushes_spelled : {E : Type 0} (line : List ℕ) (said : Option Line) (before : List ItemEvent) (result : Result Bool E)
+    (after : List ItemEvent)
+    → line_of line ≡ said → length line ≤ 4096 → Pushes said before result after
+    → IfOk result (λ spells. PushesSpelled line before spells after)
+pushes_spelled line (Some said) before (Ok true) after is short pushes =
+    (pushes.0, line_found line said pushes.0 is short pushes.1, pushes.2)
+pushes_spelled line (Some said) before (Ok false) after is short pushes = (
+  λ event spells. (
+      let says = line_only line event spells in
+      pushes.0 event (subst (λ (l : Line). Means l event) (some_is says.0 said (sym says.1 ∙ is)) says.2)
+      ),
+  pushes.1,
+)
+pushes_spelled line (Some said) before (Err refused) after is short pushes = tt
+pushes_spelled line None before (Ok spells) after is short pushes =
+    subst (λ (b : Bool). PushesSpelled line before b after) (sym pushes.0)
+    (λ event spells. none_spelled line event is spells, pushes.1)
+pushes_spelled line None before (Err refused) after is short pushes = absurd pushes
+
+-- memory for ids is refused to lines that issue them alone
+pub pushes_refused : {E : Type 0} (line : List ℕ) (said : Option Line) (before : List ItemEvent) (result : Result Bool E)
+    (after : List ItemEvent)
+    → line_of line ≡ said → length line ≤ 4096 → Pushes said before result after → OnErr result (HoldsList line)
+pushes_refused line (Some said) before (Ok spells) after is short pushes = tt
+pushes_refused line (Some said) before (Err refused) after is short pushes = refused_whole line said is short pushes.0
+pushes_refused line None before (Ok spells) after is short pushes = tt
+pushes_refused line None before (Err refused) after is short pushes = absurd pushes
+
+-- then nothing was put
+pub pushes_kept : {E : Type 0} (said : Option Line) (before : List ItemEvent) (result : Result Bool E)
+    (after : List ItemEvent) → Pushes said before result after → OnErr result (after ≡ before)
+pushes_kept (Some said) before (Ok spells) after pushes = tt
+pushes_kept (Some said) before (Err refused) after pushes = pushes.1
+pushes_kept None before (Ok spells) after pushes = tt
+pushes_kept None before (Err refused) after pushes = absurd pushes
+
+-- ---- of a line that is not too long, and its first word
+
+module _ (line : List ℕ) (words rest : List (List ℕ)) (name : List ℕ) (is : words ≡ words_of line)
+    (first : first_word words ≡ Some (name, rest)) (short : length line ≤ 4096) where
+  line_is : (read : Option (Line × List (List ℕ))) → line_at words ≡ read → line_of line ≡ whole read
+  unfolding line_of
+  line_is read said = ap (λ w. whole (line_at w)) (sym is) ∙ ap whole said
+
+  module _ {E : Type 0} (before : List ItemEvent) (result : Result Bool E) (after : List ItemEvent) where
+    -- a line without items
+    module _ (other : bytes_eq name (codes "send") ≡ false)
+        (pushes : Pushes (whole (line_behind forms_without_items name rest)) before result after) where
+      pub other_spelled : IfOk result (λ spells. PushesSpelled line before spells after)
+      other_spelled =
+          pushes_spelled line _ before result after (line_is _ (other_line words rest name first other)) short pushes
+
+      pub other_refused : OnErr result (HoldsList line)
+      other_refused =
+          pushes_refused line _ before result after (line_is _ (other_line words rest name first other)) short pushes
+
+    -- one with items, which were read
+    module _ (same : bytes_eq name (codes "send") ≡ true) (said : Option Line) (left : List (List ℕ))
+        (reads : Reads (λ x. x) said left (reading send rest)) (pushes : Pushes (all_of said left) before result after)
+      where
+        pub send_spelled : IfOk result (λ spells. PushesSpelled line before spells after)
+        send_spelled = pushes_spelled line _ before result after (line_is _ (send_line words rest name first same)) short
+            (read_pushes before result after said left (reading send rest) reads pushes)
+
+        pub send_refused : OnErr result (HoldsList line)
+        send_refused = pushes_refused line _ before result after (line_is _ (send_line words rest name first same)) short
+            (read_pushes before result after said left (reading send rest) reads pushes)
+
+  -- memory for its items was refused
+  pub send_items : bytes_eq name (codes "send") ≡ true → IsSomeAnd (reading send rest) TookAll → HoldsList line
+  send_items same took =
+      items_refused line short (took_line line words is (subst (λ (read : Option (Line × List (List ℕ))).
+      IsSomeAnd read TookAll) (sym (send_line words rest name first same)) took))
+
+-- ---- an event that was put alone, and taken back
+
+last_one : (rest : List ItemEvent) (read one : ItemEvent) → rest ++ read ∷ [] ≡ one ∷ [] → read ≡ one
+last_one [] read one is = cc
+last_one (other ∷ rest) read one is =
+    absurd (omega (arith, ap length is, length-append rest (read ∷ [])))
+
+pub alone_again : (line : List ℕ) (events rest : List ItemEvent) (read : Option ItemEvent)
+    → PushesSpelled line [] true events → events ≡ rest ++ option_to_list read → (0 < length events → IsSome read)
+    → (event : ItemEvent) → Spells line event → IsSomeAnd read (IsSame event)
+alone_again line events rest (Some read) pushed popped some event spells =
+    let is = last_one rest read pushed.0 (sym popped ∙ pushed.2) in
+    one_event line event read spells (subst (Spells line) (sym is) pushed.1)
+alone_again line events rest None pushed popped some event spells =
+    none_is_none (some (omega (arith, ap length pushed.2)))
+  where
+    none_is_none : {A : Type 0} → IsSome {T = ItemEvent} None → A
+    none_is_none e = absurd cc
