@@ -28,3 +28,6 @@ pub one_more_id : (first count : ℕ) (ids : List IssuedCid) (id token : List �
     → ids ++ record { sequence = first + count; id = id; reset_token = token } ∷ [] ≡ zero_ids first (count + 1)
 one_more_id first count ids id token is id-is token-is =
     rw (is, id-is, token-is) (sym (map-range_with_len_more zero_id first count (first + count) refl))
+
+pub ids_count : (first count : ℕ) → length (zero_ids first count) ≡ count
+ids_count first count = length-map-range_with_len zero_id first count

@@ -448,12 +448,13 @@ fn zero_ids(alloc: Global, first: u64, count: u64) -> Result<Vec<IssuedCid>, NoM
     ensures memory { OnErr result (0 < count) }
 {
     let mut ids = Vec::with_capacity(alloc, count as usize)?;
+    let (id, reset_token) = (id_of(0), token_of(0));
     for index in 0..count {
-        ids.push(IssuedCid {
+        ids.push_reserved(IssuedCid {
             sequence: first + index,
-            id: id_of(0),
-            reset_token: token_of(0),
-        })?;
+            id,
+            reset_token,
+        });
     }
     Ok(ids)
 }
