@@ -7,7 +7,7 @@ import re
 import sys
 
 ROOT = pathlib.Path(__file__).resolve().parent.parent
-APART = re.compile(r"_tests$|^recovery_(rows|refused_memory|embedding|plot|curve|tunnel|pace|detection|ffi|trace|trace_program)$")
+APART = re.compile(r"_tests$|^recovery_(rows|refused_memory|embedding|plot|pictures|detection|ffi|trace|trace_program)$")
 ROWS = re.compile(r"Rows$|^RowStart$")
 IMPORT = re.compile(r"\bEvent\.TheVariants\.\{([^}]*)\}")
 RENAMED = re.compile(r"\bEvent\.TheVariants as (\w+)")
@@ -16,7 +16,7 @@ COMMENT = re.compile(r"^\s*(//|--).*$", re.M)
 # files of code and definitions, and of proofs, that may name each event, and the means
 BOUNDS = """
 Received 10 9, Send 14 13, Acked 17 20, Lost 14 19, NewId 8 3, NextId 8 3, InitialId 9 4, IssueIds 7 5, IdTimeout 6 1,
-PeerRetired 7 3, AckFrequencyIn 7 4, AcksSent 8 5, AckDelayTimeout 7 5, SetTimer 7 2, StopTimer 7 2, NextTimeout 6 4,
+PeerRetired 7 3, AckFrequencyIn 7 4, AcksSent 8 5, AckDelayTimeout 8 5, SetTimer 7 2, StopTimer 7 2, NextTimeout 6 4,
 DiscardSpace 11 9, InFlight 7 4, Sample 6 2, DatagramIn 8 5, Validated 8 5, Transmit 10 7, PacerCheck 7 3,
 Congestion 6 2, EndAcks 6 2, PollMtu 15 18, PeerLimit 8 12, LossesDone 11 11, Ecn 7 4, CheckAck 6 3, QueueProbe 7 6,
 TakePending 8 5, NewPath 12 17, ResetPath 8 9, DropPrevious 10 10

@@ -84,7 +84,7 @@ def scripts():
 
 def recording():
     """The beginning of a recording of a real connection, as the picture of it has it."""
-    script = (ROOT / "crates" / "recovery_curve" / "stdin").read_text()
+    script = (ROOT / "tests" / "pictures" / "connection.txt").read_text()
     if REPLAY.exists():
         expect("a recording", ran([], script), ran([], script, REPLAY))
 

@@ -213,5 +213,6 @@ module _ {F K Q S M P : Type 0} (beginning : Beginning F K Q S M P) where
   expired : timer_runs Data ((event.AckDelayTimeout Data, Ok answer.Done) ∷ elicits 1 true ∷ acked) ≡ false
   expired = refl
 
-  not_of_another_space : timer_runs Data ((event.AckDelayTimeout Initial, Ok answer.Done) ∷ elicits 1 true ∷ acked) ≡ true
+  not_of_another_space : timer_runs Data ((event.AckDelayTimeout Initial, Ok answer.Done) ∷ elicits 1 true ∷ acked)
+      ≡ true
   not_of_another_space = refl

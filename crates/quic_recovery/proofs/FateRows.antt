@@ -8,7 +8,7 @@ use Rattle.recovery_events.specs.declared.event.Answer.TheVariants as answer
 use Rattle.recovery_events.specs.declared.event.Refusal.TheVariants as refusal
 use Rattle.quic_recovery.specs.History.{History}
 use Rattle.quic_recovery.specs.Promises.Fates.{times, fates, is_given, HaveOneFate}
-use Rattle.quic_recovery.specs.Promises.Rising.{GivesRising}
+use Rattle.quic_recovery.specs.Promises.Rising.{GivesRising, IsAbove}
 
 module _ (Q S M P : Type 0) (queue : Q) (frames : M) where
   -- of 1-RTT packets 0 was forgotten, 1 lost, 2 is a probe of the MTU; 0 of Initial ones was discarded with its space
@@ -66,17 +66,21 @@ module _ (Q S M P : Type 0) (queue : Q) (frames : M) where
 
   -- ---- numbers rise: 0 to 3 were given out, of Initial ones 0 alone
 
-  first_of_a_space : GivesRising {Q = Q} {S = S} {M = M} {P = P} [] (event.PollMtu 10) (Ok (answer.Probe 0 1400))
-  first_of_a_space = (omega arith, λ n above. refl)
+  behind_its_own : IsAbove Initial 1 past
+  behind_its_own = λ n above. grind (arith, nat_tests, above)
 
-  behind_its_own : GivesRising past (event.Send Initial 10 9 true None queue frames) (Ok (answer.Sent 1 None))
-  behind_its_own = (omega arith, λ n above. grind (arith, nat_tests, above))
+  behind_the_last : IsAbove Data 4 past
+  behind_the_last = λ n above. grind (arith, nat_tests, above)
 
   the_last_again : ¬ GivesRising past (event.PollMtu 10) (Ok (answer.Probe 3 1400))
-  the_last_again = λ rises. let none = rises.1 3 (omega arith) in omega (arith, none)
+  the_last_again = λ rises. let none = (rises Data 3 refl).1 3 (omega arith) in omega (arith, none)
 
   falling : ¬ GivesRising past (event.Send Data 10 9 true None queue frames) (Ok (answer.Sent 2 None))
-  falling = λ rises. let none = rises.1 3 (omega arith) in omega (arith, none)
+  falling = λ rises. let none = (rises Data 2 refl).1 3 (omega arith) in omega (arith, none)
 
   too_large : ¬ GivesRising past (event.PollMtu 10) (Ok (answer.Probe (2 ^ 62) 1400))
-  too_large = λ rises. let small = rises.0 in omega (arith, small)
+  too_large = λ rises. let small = (rises Data (2 ^ 62) refl).0 in omega (arith, small)
+
+  -- a refused packet has no number
+  refused_one : GivesRising past (event.PollMtu 10) (Err refusal.NumbersExhausted)
+  refused_one = λ space number goes. cc

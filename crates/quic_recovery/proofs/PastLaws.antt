@@ -43,11 +43,11 @@ use Rattle.quic_recovery.proofs.OwnIdsLaws.{issues_ids}
 use Rattle.quic_recovery.proofs.PacingLaws.{delayed, rate, soon, named}
 use Rattle.quic_recovery.proofs.PeerIdsLaws.{accepts_ids}
 use Rattle.quic_recovery.proofs.RefusedLaws.{refuses_rightly}
-use Rattle.quic_recovery.proofs.RisingLaws.{keeps_rising}
 use Rattle.quic_recovery.proofs.Runs.{history_from-push, throughout_push}
 use Rattle.quic_recovery.proofs.ThreefoldLaws.{sends_threefold}
 use Rattle.quic_recovery.proofs.TimeoutsLaws.{timers_told}
 use Rattle.quic_recovery.proofs.ToldLaws.{told_by_logs}
+use Rattle.quic_recovery.proofs.TrackedLaws.{keeps_rising}
 use Rattle.quic_recovery.proofs.TurnsLaws.{turns_told}
 
 module _ {Q S M C : Type 0} (P H : History Q S M C → Event Q S M C → Reply Q → Type 0) (event : Event Q S M C)

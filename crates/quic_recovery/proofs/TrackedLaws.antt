@@ -1,7 +1,7 @@
 -- A packet is tracked by its space exactly where the history says so; and each number that was given out, once at most,
 -- has one fate. The promises on what is tracked rest on it.
-use Rattle.std.proofs.Common.{◌≡◌, ◌≤◌, ◌+◌, ℕ, ◌==◌, ◌&&◌, ◌||◌, not, Bool, true, false, cond, List, [], ◌∷◌, Option, None, Some, Ok, Err, refl, sym, ap, subst, arith}
-use Rattle.std.proofs.lemmas.Bool.{false≢true}
+use Rattle.std.proofs.Common.{◌≡◌, ◌<◌, ◌≤◌, ◌+◌, ◌^◌, ℕ, ◌==◌, ◌&&◌, ◌||◌, not, Bool, true, false, cond, List, [], ◌∷◌, Option, None, Some, Ok, Err, inl, inr, refl, sym, ap, subst, ◌∙◌, arith, eqb-true}
+use Rattle.std.proofs.lemmas.Bool.{cases_lt, false≢true}
 use Rattle.std.specs.Prelude.{is_some, sum_by}
 use Rattle.std.specs.BTreeMap.{is_at}
 use Rattle.std.specs.Cmp.{nat_cmp_total, tied_itself}
@@ -28,13 +28,15 @@ use Rattle.recovery_events.specs.declared.event.Answer.TheVariants as answers
 use Rattle.recovery_events.specs.declared.event.Answer.TheVariants.{Probe}
 use Rattle.recovery_events.specs.declared.event.Refusal.{Refusal}
 use Rattle.quic_recovery.specs.Entries.{Entries, nothing, answered, logs_of}
-use Rattle.quic_recovery.specs.History.{Beginning, History, QueueMeaning, Reply}
+use Rattle.quic_recovery.specs.History.{Beginning, History, QueueMeaning, Reply, Throughout}
 use Rattle.quic_recovery.specs.Known.{Known, known_by, number_in, packet_now}
 use Rattle.quic_recovery.specs.Logs.{onto}
 use Rattle.quic_recovery.specs.Promises.Fates.{more_if, times as times_in, is_given, is_acked, is_lost, is_forgotten as is_forgotten_in, is_discarded}
+use Rattle.quic_recovery.specs.Promises.Rising.{GivesRising, IsAbove}
 use Rattle.quic_recovery.specs.Promises.Tracked.{is_tracked}
 use Rattle.quic_recovery.specs.Told.{Told, MtuProbeReply}
 use Rattle.quic_recovery.proofs.EntryKinds.{keeps_packets, space_kind, space_kept, refused_keeps}
+use Rattle.quic_recovery.proofs.Runs.{throughout_kept}
 
 -- ---- a number among those that are tracked
 
@@ -523,3 +525,46 @@ module _ {F K Q S M P : Type 0} (beginning : Beginning F K Q S M P) where
       → is_some (packet_at (sent_in beginning history space).tracked n) ≡ is_tracked space n history
   tracked_found history all space n =
       looked_up n (sent_in beginning history space) (is_tracked space n history) _ _ (all space n)
+
+-- ---- numbers rise
+
+below : (number : ℕ) → ¬ (2 ^ 62 ≤ number) → number < 2 ^ 62
+below number few = elim (cases_lt number (2 ^ 62)) [ inl is ↦ is | inr above ↦ absurd (few above) ]
+
+both_true : (a b : Bool) → (a && b) ≡ true → (a ≡ true) × (b ≡ true)
+both_true true b is = (refl, is)
+both_true false b is = absurd cc
+
+module _ {F K Q S M P : Type 0} (beginning : Beginning F K Q S M P) where
+  module _ (before : History Q S M P) (all : AllTracked beginning before) where
+    abbrev known_before : Known K P M
+    known_before = known_by beginning (logs_of beginning before)
+
+    -- the next number of a space is above all that were given out there
+    next_rises : (there : SpaceId) (given : ℕ) → given ≡ number_in known_before there
+        → ¬ (2 ^ 62 ≤ number_in known_before there) → (space : SpaceId) (number : ℕ)
+        → (same_space there space && given == number) ≡ true → (number < 2 ^ 62) × IsAbove space number before
+    next_rises there given is few space number goes =
+        let at = both_true (same_space there space) (given == number) goes in
+        let Rises : SpaceId → ℕ → Type 0 = λ s n. (n < 2 ^ 62) × IsAbove s n before in
+        subst (Rises space) (sym is ∙ eqb-true given number at.1)
+        (subst (λ s. Rises s (number_in known_before there)) (one_space there space at.0) (
+          below (number_in known_before there) few,
+          λ n above. (
+              let next = is_new beginning before there in (all there n).late (omega (arith, next, above))
+              ),
+        ))
+
+    rises : (event : Event Q S M P) (reply : Reply Q) → Told beginning before event reply
+        → GivesRising before event reply
+    rises (Send there now size eliciting largest queue frames) (Ok (answers.Sent number forgotten)) told =
+        let is = told.1.1.1.1 in next_rises there number (cc) told.1.1.0
+    rises (PollMtu now) (Ok (Probe number size)) told =
+        next_rises Data number (probe_number beginning.queue known_before now _ number size told.1.1) told.1.0
+    rises event reply told = λ space number goes. absurd (false≢true goes)
+
+  pub keeps_rising : (events : List (Event Q S M P)) (replies : List (Reply Q))
+      → Throughout (Told beginning) events replies → Throughout GivesRising events replies
+  keeps_rising events replies told =
+      throughout_kept beginning (AllTracked beginning) GivesRising (keeps_tracked beginning)
+      (λ before event reply here all. rises before all event reply here) [] events replies told (none_tracked beginning)

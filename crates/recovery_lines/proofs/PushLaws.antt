@@ -1,14 +1,14 @@
--- What is put behind the events of a script: what a form says behind its name, and what a whole line spells. The pushes of
--- `lines` rest on it.
+-- What is put behind the events of a script: what a form says behind its name, and what a whole line spells. The pushes
+-- of `lines` rest on it.
 use Rattle.std.proofs.Common.{◌≡◌, ◌<◌, ◌≤◌, ◌==◌, ℕ, Bool, true, false, List, [], ◌∷◌, ◌++◌, length, Option, Some, None, Result, Ok, Err, IfOk, OnErr, IsSome, IsSomeAnd, bytes_eq, refl, sym, ap, subst, ◌∙◌, arith, length-append}
 use Rattle.std.specs.Prelude.{option_to_list}
 use lib.Chars.{codes}
 use Rattle.std.proofs.lemmas.Slice.Eq.{bytes_eq-Decides}
 use Rattle.recovery_lines.specs.declared.lines.Line.{Line}
-use Rattle.recovery_lines.specs.declared.lines.Line.TheVariants.{Said}
 use Rattle.recovery_lines.specs.Words.{words_of}
 use Rattle.recovery_lines.specs.Lines.{Form, ItemEvent, Means, Spells, IsSame, HoldsList, forms_without_items, send}
 use Rattle.recovery_lines.specs.Reading.{Reads, Pushes, PushesSpelled, TakesMemory, TookAll, all_of, first_word, form_named, line_at, line_behind, line_of, reading, whole}
+use Rattle.recovery_lines.proofs.NameLaws.{of_length, unnamed}
 use Rattle.recovery_lines.proofs.LineLaws.{items_refused, line_found, line_only, none_spelled, one_event, other_line, refused_whole, send_line, took_line}
 use Rattle.recovery_lines.proofs.FieldLaws.{some_is}
 
@@ -20,13 +20,6 @@ whole_read None left read is = ap whole is
 whole_read (Some line) left read is = ap whole is
 
 module _ {E : Type 0} (before : List ItemEvent) (result : Result Bool E) (after : List ItemEvent) where
-  -- what was read is all that the words say
-  pub read_pushes : (line : Option Line) (left : List (List ℕ)) (read : Option (Line × List (List ℕ)))
-      → Reads (λ x. x) line left read → Pushes (all_of line left) before result after
-      → Pushes (whole read) before result after
-  read_pushes line left read is pushes =
-      subst (λ (said : Option Line). Pushes said before result after) (sym (whole_read line left read is)) pushes
-
   -- the form of a name says what stands behind it
   pub form_pushes : (form : Form) → form_named forms_without_items form.name ≡ Some form
       → (name : List ℕ) (words left : List (List ℕ)) (line : Option Line) → true ≡ bytes_eq name form.name
@@ -36,27 +29,28 @@ module _ {E : Type 0} (before : List ItemEvent) (result : Result Bool E) (after 
   form_pushes form named name words left line same is pushes =
       let found : form_named forms_without_items name ≡ Some form =
       ap (form_named forms_without_items) ((bytes_eq-Decides name form.name).0 (sym same)) ∙ named in
-      rw found (read_pushes line left (reading form words) is pushes)
+      rw found (subst (λ (said : Option Line). Pushes said before result after)
+      (sym (whole_read line left (reading form words) is)) pushes)
 
-  -- one that has no fields says its event
-  pub says_nothing : (form : Form) → form_named forms_without_items form.name ≡ Some form
-      → (name : List ℕ) (words : List (List ℕ)) (event : ItemEvent) → true ≡ bytes_eq name form.name
-      → reading form words ≡ Some (Said event, words) → Pushes (all_of (Some (Said event)) words) before result after
+  -- one that has no fields says what it says
+  pub says_itself : (form : Form) → form_named forms_without_items form.name ≡ Some form
+      → (name : List ℕ) (words : List (List ℕ)) (line : Line) → true ≡ bytes_eq name form.name
+      → Pushes (all_of (Some line) words) before result after → reading form words ≡ Some (line, words)
       → Pushes (whole (line_behind forms_without_items name words)) before result after
-  says_nothing form named name words event same is pushes =
-      form_pushes form named name words words (Some (Said event)) same is pushes
+  says_itself form named name words line same pushes is =
+      form_pushes form named name words words (Some line) same is pushes
 
--- no form has the name
-pub says_none : (E : Type 0) (name : List ℕ) (words : List (List ℕ)) (events : List ItemEvent)
-    → line_behind forms_without_items name words ≡ None
+-- no form of the name's length has it
+pub says_none : (E : Type 0) (name : List ℕ) (words : List (List ℕ)) (events : List ItemEvent) (n : ℕ)
+    → length name ≡ n → form_named (of_length n forms_without_items) name ≡ None
     → Pushes {E = E} (whole (line_behind forms_without_items name words)) events (Ok false) events
-says_none E name words events is = rw is (refl, refl)
+says_none E name words events n is none = rw (unnamed name words n is none) (refl, refl)
 
 -- ---- what a line spells
 
 -- what all words of a line say it spells, and where they say nothing, or nothing that an event means, it spells none
-pub pushes_spelled : {E : Type 0} (line : List ℕ) (said : Option Line) (before : List ItemEvent) (result : Result Bool E)
-    (after : List ItemEvent)
+pub pushes_spelled : {E : Type 0} (line : List ℕ) (said : Option Line) (before : List ItemEvent)
+    (result : Result Bool E) (after : List ItemEvent)
     → line_of line ≡ said → length line ≤ 4096 → Pushes said before result after
     → IfOk result (λ spells. PushesSpelled line before spells after)
 pushes_spelled line (Some said) before (Ok true) after is short pushes =
@@ -75,8 +69,8 @@ pushes_spelled line None before (Ok spells) after is short pushes =
 pushes_spelled line None before (Err refused) after is short pushes = absurd pushes
 
 -- memory for ids is refused to lines that issue them alone
-pub pushes_refused : {E : Type 0} (line : List ℕ) (said : Option Line) (before : List ItemEvent) (result : Result Bool E)
-    (after : List ItemEvent)
+pub pushes_refused : {E : Type 0} (line : List ℕ) (said : Option Line) (before : List ItemEvent)
+    (result : Result Bool E) (after : List ItemEvent)
     → line_of line ≡ said → length line ≤ 4096 → Pushes said before result after → OnErr result (HoldsList line)
 pushes_refused line (Some said) before (Ok spells) after is short pushes = tt
 pushes_refused line (Some said) before (Err refused) after is short pushes = refused_whole line said is short pushes.0
@@ -115,13 +109,14 @@ module _ (line : List ℕ) (words rest : List (List ℕ)) (name : List ℕ) (is 
     module _ (same : bytes_eq name (codes "send") ≡ true) (said : Option Line) (left : List (List ℕ))
         (reads : Reads (λ x. x) said left (reading send rest)) (pushes : Pushes (all_of said left) before result after)
       where
+        says : line_of line ≡ all_of said left
+        says = line_is _ (send_line words rest name first same) ∙ whole_read said left (reading send rest) reads
+
         pub send_spelled : IfOk result (λ spells. PushesSpelled line before spells after)
-        send_spelled = pushes_spelled line _ before result after (line_is _ (send_line words rest name first same)) short
-            (read_pushes before result after said left (reading send rest) reads pushes)
+        send_spelled = pushes_spelled line _ before result after says short pushes
 
         pub send_refused : OnErr result (HoldsList line)
-        send_refused = pushes_refused line _ before result after (line_is _ (send_line words rest name first same)) short
-            (read_pushes before result after said left (reading send rest) reads pushes)
+        send_refused = pushes_refused line _ before result after says short pushes
 
   -- memory for its items was refused
   pub send_items : bytes_eq name (codes "send") ≡ true → IsSomeAnd (reading send rest) TookAll → HoldsList line

@@ -33,8 +33,7 @@ module _ {Q S M P : Type 0} (space : SpaceId) where
       if same_space Data space && number == n then None else largest_in n earlier
   largest_in n (happened ∷ earlier) = largest_in n earlier
 
-  -- since a number came, a packet was acknowledged whose ACK had it or a larger one as its largest number, or it came to
-  -- lie so far below
+  -- since a number came, a packet was acknowledged whose ACK goes up to it or higher, or it came to lie so far below
   abbrev pub WasDropped : ℕ → History Q S M P → Type 0
   WasDropped n [] = ⊥
   WasDropped n ((Acked there now m app_limited, Ok answer) ∷ earlier) =

@@ -1,13 +1,11 @@
 -- Numbers rise (RFC 9000, 12.3): a packet goes out under a number below 2^62, above all that were given out in its
 -- space before.
-use Rattle.std.specs.Prelude.{◌≡◌, ℕ, ◌<◌, ◌≤◌, ◌^◌, Ok}
+use Rattle.std.specs.Prelude.{◌≡◌, ℕ, ◌<◌, ◌≤◌, ◌^◌, true}
 use Rattle.recovery_base.specs.declared.below.SpaceId.{SpaceId}
-use Rattle.recovery_base.specs.declared.below.SpaceId.TheVariants.{Data}
 use Rattle.recovery_events.specs.declared.event.Event.{Event}
-use Rattle.recovery_events.specs.declared.event.Event.TheVariants.{Send, PollMtu}
-use Rattle.recovery_events.specs.declared.event.Answer.TheVariants.{Sent, Probe}
 use Rattle.quic_recovery.specs.History.{History, Reply}
 use Rattle.quic_recovery.specs.Promises.Fates.{times, is_given}
+use Rattle.quic_recovery.specs.Promises.Tracked.{goes_out}
 
 module _ {Q S M P : Type 0} where
   -- neither the number nor one above it was given out in the space
@@ -15,7 +13,5 @@ module _ {Q S M P : Type 0} where
   IsAbove space number history = (n : ℕ) → number ≤ n → times (is_given space n) history ≡ 0
 
   abbrev pub GivesRising : History Q S M P → Event Q S M P → Reply Q → Type 0
-  GivesRising history (Send space now size eliciting largest queue frames) (Ok (Sent number forgotten)) =
-      (number < 2 ^ 62) × IsAbove space number history
-  GivesRising history (PollMtu now) (Ok (Probe number size)) = (number < 2 ^ 62) × IsAbove Data number history
-  GivesRising history event reply = Unit {0}
+  GivesRising history event reply = (space : SpaceId) (number : ℕ) → goes_out (event, reply) space number ≡ true
+      → (number < 2 ^ 62) × IsAbove space number history

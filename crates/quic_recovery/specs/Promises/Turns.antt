@@ -1,6 +1,6 @@
 -- The search for the MTU in turn (RFC 8899, 5.1 and 5.3; RFC 9000, 14.4): a probe goes out in a search alone, while
--- none is in flight; a packet that leaves is told to be a probe exactly where it is the one in flight; a limit above zero
--- is taken exactly while no search runs.
+-- none is in flight; a packet that leaves is told to be a probe exactly where it is the one in flight; a limit above
+-- zero is taken exactly while no search runs.
 use Rattle.std.specs.Prelude.{◌≡◌, ℕ, ◌==◌, Bool, true, false, ◌&&◌, ◌||◌, IsSomeAnd, [], ◌∷◌, Ok, Err, if◌then◌else◌}
 use Rattle.recovery_base.specs.declared.below.SpaceId.{SpaceId}
 use Rattle.recovery_base.specs.declared.below.SpaceId.TheVariants.{Data}

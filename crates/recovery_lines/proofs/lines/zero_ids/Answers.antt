@@ -6,7 +6,11 @@ pub loop-index-preserved : goal.loop-index-preserved
 loop-index-preserved c = record {
   items = c.push_reserved.ensures.items ∙ one_more_id c.args.first c.loop-index.index c.loop-index.ids.items _ _
       c.loop-index.invariant.items c.id_of-id.ensures c.token_of-reset_token.ensures;
-  room = (let stays = c.push_reserved.ensures.capacity in let room = c.loop-index.invariant.room in omega (arith, stays, room));
+  room = (
+      let stays = c.push_reserved.ensures.capacity in
+      let room = c.loop-index.invariant.room in
+      omega (arith, stays, room)
+      );
 }
 
 pub push_reserved-requires : goal.push_reserved-requires

@@ -1,10 +1,11 @@
 //! What is gathered while events go in.
 
+use crate::panels::nanos;
 use quic_recovery::LiveRecovery;
 use quic_recovery::below::NoMemory;
 use quic_recovery::congestion::{Controller, ControllerFactory};
 use quic_recovery::event::Event;
-use quic_recovery::time::{Duration, Instant};
+use quic_recovery::time::Instant;
 use rand_pcg::Pcg32;
 use recovery_plot::axis::Point;
 use recovery_queue::items::ItemQueue;
@@ -152,9 +153,4 @@ fn news_of(event: &Event<ItemQueue>) -> Told {
         Event::Sample { rtt, .. } => Told::Sample(nanos(*rtt)),
         _ => Told::Other,
     }
-}
-
-/// A span in nanoseconds, at most 2^64 - 1.
-fn nanos(span: Duration) -> u64 {
-    u64::try_from(span.as_nanos()).unwrap_or(u64::MAX)
 }

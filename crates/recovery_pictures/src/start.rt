@@ -1,22 +1,30 @@
-//! What a run starts with.
+//! How a connection starts: which window its controllers have, and its settings.
 ghost use Rattle.std.specs.Prelude.{◌≡◌};
 ghost use Rattle.recovery_skips.specs.Skips.{IsSkips};
 
 use quic_recovery::RecoveryConfig;
 use quic_recovery::below::ConnectionId;
 use quic_recovery::config::TransportConfig;
-use quic_recovery::congestion::ControllerFactory;
 use quic_recovery::time::Duration;
 use recovery_skips::Skips;
 use std::net::{IpAddr, Ipv4Addr, SocketAddr};
 
-/// The settings that `recovery-replay` has without arguments, with controllers of this factory.
-pub fn config<F: ControllerFactory>(factory: F) -> RecoveryConfig<F>
+/// Which congestion window limits what is in flight.
+#[derive(Clone, Copy)]
+pub enum Window {
+    /// NewReno's (RFC 9002, 7).
+    NewReno,
+    /// So many bytes, above zero.
+    Fixed(u64),
+}
+
+/// The settings that `recovery-replay` has without arguments, but for those of paths.
+pub fn config<F>(transport: TransportConfig<F>) -> RecoveryConfig<F>
     ensures issued { result.issued ≡ 1 }
     ensures skips { IsSkips result.skips }
 {
     RecoveryConfig {
-        transport: TransportConfig::with_factory(factory),
+        transport,
         remote: SocketAddr::new(IpAddr::V4(Ipv4Addr::new(127, 0, 0, 1)), 4433),
         validated: false,
         allow_mtud: true,

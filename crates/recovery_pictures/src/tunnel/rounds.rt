@@ -1,6 +1,6 @@
 //! One end of a tunnel: rounds of probes and bursts, and what is drawn of them.
 
-use crate::link::Link;
+use super::link::Link;
 use recovery_base::below::{NoMemory, SpaceId};
 use recovery_base::time::{Duration, Instant};
 use recovery_mtud::config::MtuDiscoveryConfig;

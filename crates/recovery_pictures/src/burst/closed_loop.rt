@@ -1,9 +1,9 @@
 //! A sender and a link in a closed loop, and what is drawn of them.
 
-use crate::bound::{Asked, Bound};
+use super::bound::{Asked, Bound};
+use super::link::{Link, SIZE};
+use super::sender::{BEGIN, Sender};
 use crate::failure::Failure;
-use crate::link::{Link, SIZE};
-use crate::sender::{BEGIN, Sender};
 use quic_recovery::below::NoMemory;
 use quic_recovery::congestion::ControllerFactory;
 use recovery_plot::axis::Point;
@@ -77,7 +77,7 @@ impl Log {
 
 /// The loop.
 #[derive(Drop)]
-pub struct Burst<F: ControllerFactory> {
+pub struct ClosedLoop<F: ControllerFactory> {
     sender: Sender<F>,
     /// The link, and what happened at its queue.
     pub link: Link,
@@ -87,14 +87,14 @@ pub struct Burst<F: ControllerFactory> {
     wake: Option<u64>,
 }
 
-impl<F> Burst<F>
+impl<F> ClosedLoop<F>
 where
     F: ControllerFactory + Drop,
     F::Controller: Drop,
 {
     /// A loop in which nothing has happened yet.
     pub fn new(sender: Sender<F>, link: Link, log: Log) -> Self {
-        Burst {
+        ClosedLoop {
             sender,
             link,
             log,

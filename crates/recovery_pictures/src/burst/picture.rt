@@ -1,15 +1,13 @@
 //! Two panels: what was sent above, the queue below.
 
-use crate::burst::Log;
-use crate::link::Link;
-use crate::settings::{Settings, Window};
-use recovery_plot::axis::{Axis, Panel, Point};
+use super::closed_loop::Log;
+use super::link::Link;
+use super::settings::Settings;
+use crate::panels::{KILOBYTE, MILLISECOND, highest, lower, sheet, up_to, upper};
+use crate::start::Window;
+use recovery_plot::axis::{Axis, Point};
 use recovery_plot::picture::{Mark, Picture, Style};
 use std::alloc::{AllocError, Global};
-
-const MILLISECOND: u64 = 1_000_000;
-
-const KILOBYTE: u64 = 1_000;
 
 /// The picture of a run.
 pub fn draw(
@@ -19,12 +17,8 @@ pub fn draw(
     link: &Link,
 ) -> Result<String, AllocError> {
     let title = title(alloc, settings)?;
-    let mut picture = Picture::new(alloc, 1920, 1220, title.as_str())?;
-    let time = Axis {
-        least: 0,
-        most: settings.end,
-        unit: MILLISECOND,
-    };
+    let mut picture = sheet(alloc, title.as_str())?;
+    let time = up_to(settings.end, MILLISECOND);
     draw_sent(&mut picture, time, log)?;
     draw_queue(alloc, &mut picture, time, link)?;
     picture.finish()
@@ -42,25 +36,6 @@ fn title(alloc: Global, settings: &Settings) -> Result<String, AllocError> {
     }
 }
 
-fn panel(top: u16, height: u16, x: Axis, most: u64, unit: u64) -> Panel {
-    Panel {
-        left: 130,
-        top,
-        width: 1740,
-        height,
-        x,
-        y: Axis {
-            least: 0,
-            most,
-            unit,
-        },
-    }
-}
-
-fn highest(points: &[Point]) -> u64 {
-    points.iter().map(|point| point.y).max().unwrap_or(0)
-}
-
 fn total(points: &[Point]) -> u64 {
     points
         .iter()
@@ -69,7 +44,7 @@ fn total(points: &[Point]) -> u64 {
 
 fn draw_sent(picture: &mut Picture, time: Axis, log: &Log) -> Result<(), AllocError> {
     let most = highest(&log.sent).max(highest(&log.bound));
-    let panel = panel(110, 560, time, most.saturating_add(most / 20), KILOBYTE);
+    let panel = upper(time, up_to(most.saturating_add(most / 20), KILOBYTE));
     picture.axes(&panel, "time, ms", "kB sent")?;
     picture.ticks(&panel, &log.named, Style::Thin)?;
     picture.steps(&panel, &log.bound, Style::Dashed)?;
@@ -85,7 +60,7 @@ fn draw_queue(
     time: Axis,
     link: &Link,
 ) -> Result<(), AllocError> {
-    let panel = panel(820, 280, time, 24, 1);
+    let panel = lower(time, up_to(24, 1));
     picture.axes(
         &panel,
         "time, ms",

@@ -1,19 +1,13 @@
 //! What a line of settings says.
 
+use crate::panels::MILLISECOND;
+use crate::start::Window;
+
 /// The longest run, in milliseconds.
 const LONGEST: u64 = 5_000;
 
 /// The greatest fixed window, in bytes.
 const GREATEST: u64 = 1_000_000;
-
-/// Which congestion window limits what is in flight.
-#[derive(Clone, Copy)]
-pub enum Window {
-    /// NewReno's (RFC 9002, 7).
-    NewReno,
-    /// So many bytes, above zero.
-    Fixed(u64),
-}
 
 /// A run.
 #[derive(Clone, Copy)]
@@ -34,7 +28,7 @@ impl Settings {
         Some(Settings {
             window: window_in(window)?,
             is_checked: is_checked_in(pacing)?,
-            end: millis.saturating_mul(1_000_000),
+            end: millis.saturating_mul(MILLISECOND),
         })
     }
 }

@@ -2,9 +2,11 @@
 ghost use Rattle.std.specs.Prelude.{◌≡◌};
 ghost use Rattle.recovery_skips.specs.Skips.{IsSkips};
 
-use crate::bound::Asked;
-use crate::link::{SIZE, THERE_AND_BACK};
-use quic_recovery::below::{ConnectionId, NoMemory, SpaceId};
+use super::bound::Asked;
+use super::link::{SIZE, THERE_AND_BACK};
+use crate::panels::nanos;
+use crate::start;
+use quic_recovery::below::{NoMemory, SpaceId};
 use quic_recovery::config::TransportConfig;
 use quic_recovery::congestion::{Controller, ControllerFactory};
 use quic_recovery::time::{Duration, Instant};
@@ -13,9 +15,7 @@ use rand_core::SeedableRng;
 use rand_pcg::Pcg32;
 use recovery_detection::{LossDetector, Sent, loss_delay};
 use recovery_queue::items::ItemQueue;
-use recovery_skips::Skips;
 use std::alloc::Global;
-use std::net::{IpAddr, Ipv4Addr, SocketAddr};
 
 /// When it begins, in nanoseconds.
 pub const BEGIN: u64 = 10_000_000;
@@ -28,16 +28,9 @@ fn config<F: ControllerFactory>(factory: F) -> RecoveryConfig<F>
     let mut transport = TransportConfig::with_factory(factory);
     transport.initial_rtt(Duration::from_nanos(THERE_AND_BACK));
     RecoveryConfig {
-        transport,
-        remote: SocketAddr::new(IpAddr::V4(Ipv4Addr::new(192, 0, 2, 1)), 4433),
         validated: true,
         allow_mtud: false,
-        max_ack_delay: Duration::from_millis(25),
-        initial_cid: ConnectionId::new(&[0xff; 8]),
-        cid_len: 8,
-        cid_lifetime: None,
-        issued: 1,
-        skips: Skips::Disabled,
+        ..start::config(transport)
     }
 }
 
@@ -251,9 +244,4 @@ fn named_by(answer: &Answer<ItemQueue>) -> Option<u64> {
         Answer::Delayed(until) => Some(until.as_nanos()),
         _ => None,
     }
-}
-
-/// A span in nanoseconds, at most 2^64 - 1.
-fn nanos(span: Duration) -> u64 {
-    u64::try_from(span.as_nanos()).unwrap_or(u64::MAX)
 }

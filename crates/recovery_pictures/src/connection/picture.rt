@@ -1,60 +1,26 @@
 //! Two panels: window and flight above, round-trip times below.
 
-use crate::curves::Curves;
+use super::curves::Curves;
+use crate::panels::{KILOBYTE, MILLISECOND, highest, lower, sheet, up_to, upper};
 use recovery_plot::axis::{Axis, Panel, Point};
 use recovery_plot::picture::{Mark, Picture, Style};
 use std::alloc::{AllocError, Global};
 
-const MILLISECOND: u64 = 1_000_000;
-
-const KILOBYTE: u64 = 1_000;
-
 /// The picture of the curves of a run over controllers of this name.
 pub fn draw(alloc: Global, controller: &str, curves: &Curves) -> Result<String, AllocError> {
-    let mut picture = Picture::new(alloc, 1920, 1220, "Window, flight and round-trip time")?;
-    let time = Axis {
-        least: 0,
-        most: curves.now,
-        unit: MILLISECOND,
-    };
-    let above = panel(
-        110,
-        560,
-        time,
-        highest(&curves.window).max(highest(&curves.flight)),
-        KILOBYTE,
-    );
-    draw_flight(&mut picture, &above, controller, curves)?;
-    let below = panel(
-        820,
-        280,
-        time,
-        highest(&curves.samples).max(highest(&curves.smoothed)),
-        MILLISECOND,
-    );
-    draw_rtt(&mut picture, &below, curves)?;
+    let mut picture = sheet(alloc, "Window, flight and round-trip time")?;
+    let time = up_to(curves.now, MILLISECOND);
+    let bytes = over(&curves.window, &curves.flight, KILOBYTE);
+    draw_flight(&mut picture, &upper(time, bytes), controller, curves)?;
+    let spans = over(&curves.samples, &curves.smoothed, MILLISECOND);
+    draw_rtt(&mut picture, &lower(time, spans), curves)?;
     picture.finish()
 }
 
-/// A panel over the whole width, up to a tenth above the highest value.
-fn panel(top: u16, height: u16, x: Axis, highest: u64, unit: u64) -> Panel {
-    let y = Axis {
-        least: 0,
-        most: highest.saturating_add(highest / 10).max(unit),
-        unit,
-    };
-    Panel {
-        left: 130,
-        top,
-        width: 1740,
-        height,
-        x,
-        y,
-    }
-}
-
-fn highest(points: &[Point]) -> u64 {
-    points.iter().map(|point| point.y).max().unwrap_or(0)
+/// An axis up to a tenth above the highest of these points.
+fn over(points: &[Point], others: &[Point], unit: u64) -> Axis {
+    let highest = highest(points).max(highest(others));
+    up_to(highest.saturating_add(highest / 10).max(unit), unit)
 }
 
 fn draw_flight(

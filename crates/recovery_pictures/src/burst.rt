@@ -1,0 +1,60 @@
+//! A burst over a slow link, paced or not.
+
+mod bound;
+mod closed_loop;
+mod link;
+mod picture;
+mod sender;
+mod settings;
+
+use crate::failure::Failure;
+use crate::start::Window;
+use closed_loop::{ClosedLoop, Log};
+use link::Link;
+use picture::draw;
+use quic_recovery::congestion::{ControllerFactory, NewRenoConfig};
+use recovery_replay::fixed_window::FixedWindowConfig;
+use sender::Sender;
+use settings::Settings;
+use std::alloc::Global;
+
+/// The picture of a run, by a line of settings.
+pub fn picture_of(alloc: Global, text: &str) -> Result<String, Failure> {
+    let Some(settings) = Settings::read(text.trim_end()) else {
+        return Err(Failure::Settings);
+    };
+    match settings.window {
+        Window::Fixed(bytes) if bytes > 0 => {
+            drawn(alloc, FixedWindowConfig::new(bytes), &settings)
+        }
+        _ => drawn(alloc, NewRenoConfig::default(), &settings),
+    }
+}
+
+/// The picture of a run over controllers of this factory.
+fn drawn<F>(alloc: Global, factory: F, settings: &Settings) -> Result<String, Failure>
+where
+    F: ControllerFactory + Drop,
+    F::Controller: Drop,
+{
+    let (link, log) = (Link::new(alloc)?, Log::new(alloc)?);
+    let sender = Sender::new(alloc, factory, settings.is_checked)?;
+    let mut ends = ClosedLoop::new(sender, link, log);
+    let picture = run_and_draw(alloc, settings, &mut ends);
+    drop(ends);
+    picture
+}
+
+/// Runs a loop, and draws it.
+fn run_and_draw<F>(
+    alloc: Global,
+    settings: &Settings,
+    ends: &mut ClosedLoop<F>,
+) -> Result<String, Failure>
+where
+    F: ControllerFactory + Drop,
+    F::Controller: Drop,
+{
+    ends.run(settings.end)?;
+    Ok(draw(alloc, settings, &ends.log, &ends.link)?)
+}

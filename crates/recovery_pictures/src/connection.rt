@@ -1,0 +1,63 @@
+//! What a connection's window, flight and round-trip time did, by a script of events.
+
+mod curves;
+mod picture;
+
+use crate::failure::Failure;
+use crate::start::{Window, config};
+use curves::Curves;
+use picture::draw;
+use quic_recovery::LiveRecovery;
+use quic_recovery::below::NoMemory;
+use quic_recovery::config::TransportConfig;
+use quic_recovery::congestion::{ControllerFactory, NewRenoConfig};
+use quic_recovery::event::Event;
+use quic_recovery::time::Instant;
+use rand_core::SeedableRng;
+use rand_pcg::Pcg32;
+use recovery_queue::items::ItemQueue;
+use recovery_replay::fixed_window::FixedWindowConfig;
+use recovery_replay::script::{Ending, read_script};
+use std::alloc::Global;
+use std::io::Read;
+
+/// The picture of a script, over controllers of this window.
+pub fn picture_of(alloc: Global, window: Window, input: &mut impl Read) -> Result<String, Failure> {
+    let events = events(alloc, input)?;
+    let (name, curves) = match window {
+        Window::Fixed(bytes) if bytes > 0 => {
+            let factory = FixedWindowConfig::new(bytes);
+            ("a fixed window", gathered(alloc, factory, events)?)
+        }
+        _ => (
+            "NewReno",
+            gathered(alloc, NewRenoConfig::default(), events)?,
+        ),
+    };
+    Ok(draw(alloc, name, &curves)?)
+}
+
+/// The events of the input.
+fn events(alloc: Global, input: &mut impl Read) -> Result<Vec<Event<ItemQueue>>, Failure> {
+    match read_script(alloc, input)? {
+        (events, Ending::Whole) => Ok(events),
+        (_, Ending::BadLine(number)) => Err(Failure::BadLine(number)),
+        (_, Ending::ReadFailed) => Err(Failure::Input),
+    }
+}
+
+/// The curves of a run over these controllers.
+fn gathered<F>(alloc: Global, factory: F, events: Vec<Event<ItemQueue>>) -> Result<Curves, NoMemory>
+where
+    F: ControllerFactory + Drop,
+    F::Controller: Drop,
+{
+    let config = config(TransportConfig::with_factory(factory));
+    let rng = Pcg32::seed_from_u64(0);
+    let mut recovery = LiveRecovery::new(alloc, config, rng, Instant::from_nanos(0))?;
+    let mut curves = Curves::new(alloc);
+    let gathered = curves.gather(&mut recovery, events);
+    drop(recovery);
+    gathered?;
+    Ok(curves)
+}

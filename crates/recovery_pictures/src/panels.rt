@@ -1,0 +1,61 @@
+//! What the pictures have in common: a high panel above a low one, and what their axes count.
+
+use quic_recovery::time::Duration;
+use recovery_plot::axis::{Axis, Panel, Point};
+use recovery_plot::picture::Picture;
+use std::alloc::{AllocError, Global};
+
+/// In nanoseconds.
+pub const SECOND: u64 = 1_000_000_000;
+
+/// In nanoseconds.
+pub const MILLISECOND: u64 = 1_000_000;
+
+/// In bytes.
+pub const KILOBYTE: u64 = 1_000;
+
+/// A picture with room for two panels.
+pub fn sheet(alloc: Global, title: &str) -> Result<Picture, AllocError> {
+    Picture::new(alloc, 1920, 1220, title)
+}
+
+/// The panel above.
+pub fn upper(x: Axis, y: Axis) -> Panel {
+    panel(110, 560, x, y)
+}
+
+/// The panel below.
+pub fn lower(x: Axis, y: Axis) -> Panel {
+    panel(820, 280, x, y)
+}
+
+/// A panel over the whole width.
+fn panel(top: u16, height: u16, x: Axis, y: Axis) -> Panel {
+    Panel {
+        left: 130,
+        top,
+        width: 1740,
+        height,
+        x,
+        y,
+    }
+}
+
+/// An axis that begins at zero.
+pub fn up_to(most: u64, unit: u64) -> Axis {
+    Axis {
+        least: 0,
+        most,
+        unit,
+    }
+}
+
+/// The height of the highest point, or zero.
+pub fn highest(points: &[Point]) -> u64 {
+    points.iter().map(|point| point.y).max().unwrap_or(0)
+}
+
+/// A span in nanoseconds, at most 2^64 - 1.
+pub fn nanos(span: Duration) -> u64 {
+    u64::try_from(span.as_nanos()).unwrap_or(u64::MAX)
+}
