@@ -58,9 +58,10 @@ def structs():
 def exports():
     """The exported functions, each with its parameters and its result, and their documentation."""
     form = re.compile(r"((?:///[^\n]*\n)*)#\[unsafe\(no_mangle\)\]\npub extern \"C\" fn (\w+)\((.*?)\)(?: -> (\w+))?\n(.*?)\n\{", re.S)
-    for docs, name, given, result, _ in form.findall((CRATE / "src" / "lib.rt").read_text()):
-        parameters = [it.strip().split(": ", 1) for it in given.replace("\n", " ").split(",") if it.strip()]
-        yield documented(docs), name, [it for it in parameters if it[1] != "Global"], result
+    for path in sorted((CRATE / "src").glob("*.rt"), key=lambda it: (it.name != "lib.rt", it.name)):
+        for docs, name, given, result, _ in form.findall(path.read_text()):
+            parameters = [it.strip().split(": ", 1) for it in given.replace("\n", " ").split(",") if it.strip()]
+            yield documented(docs), name, [it for it in parameters if it[1] != "Global"], result
 
 
 def crossing(name, kind, in_c):

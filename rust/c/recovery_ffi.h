@@ -178,23 +178,14 @@ struct recovery_idsview {
     uint64_t max_ack_delay;
 };
 
-// A packet came in (RFC 9000, 12.3): the event `Received`.
-struct recovery_reply recovery_ffi_received(struct recovery_handle *handle, uint8_t space, uint64_t now, uint64_t number, bool ack_eliciting);
+// Makes a recovery, whose peer is at this address and has this id of at most 20 bytes; false where there is no memory.
+bool recovery_ffi_new(struct recovery_handle *handle, const struct recovery_settings *settings, const struct recovery_address *remote, const uint8_t *initial_cid, size_t initial_cid_len, uint64_t now);
 
-// A packet that was sent is acknowledged (RFC 9002, A.7): the event `Acked`.
-struct recovery_reply recovery_ffi_acked(struct recovery_handle *handle, uint8_t space, uint64_t now, uint64_t number, bool app_limited);
+// Frees a recovery.
+void recovery_ffi_drop(struct recovery_handle *handle);
 
-// A packet that was sent is declared lost (RFC 9002, A.10): the event `Lost`.
-struct recovery_reply recovery_ffi_lost(struct recovery_handle *handle, uint8_t space, uint64_t number);
-
-// The next id of the peer is to be used: the event `NextId`.
-struct recovery_reply recovery_ffi_next_id(struct recovery_handle *handle);
-
-// The timer for new ids expired: the event `IdTimeout`.
-struct recovery_reply recovery_ffi_id_timeout(struct recovery_handle *handle);
-
-// A RETIRE_CONNECTION_ID frame came in (RFC 9000, 19.16): the event `PeerRetired`.
-struct recovery_reply recovery_ffi_peer_retired(struct recovery_handle *handle, uint64_t sequence, uint64_t limit);
+// An ACK_FREQUENCY frame came in, its numbers below 2^62: the event `AckFrequencyIn`.
+struct recovery_reply recovery_ffi_ack_frequency(struct recovery_handle *handle, uint64_t sequence, uint64_t threshold, uint64_t micros, uint64_t reordering);
 
 // An ACK frame was sent (RFC 9000, 13.2.1): the event `AcksSent`.
 struct recovery_reply recovery_ffi_acks_sent(struct recovery_handle *handle, uint8_t space);
@@ -202,17 +193,56 @@ struct recovery_reply recovery_ffi_acks_sent(struct recovery_handle *handle, uin
 // The timer for a late ACK expired: the event `AckDelayTimeout`.
 struct recovery_reply recovery_ffi_ack_delay_timeout(struct recovery_handle *handle, uint8_t space);
 
-// A timer is set to a moment in nanoseconds: the event `SetTimer`.
-struct recovery_reply recovery_ffi_set_timer(struct recovery_handle *handle, uint8_t timer, uint64_t time);
+// Is a probe of the MTU due (RFC 9000, 14.3)? The event `PollMtu`.
+struct recovery_reply recovery_ffi_poll_mtu(struct recovery_handle *handle, uint64_t now);
 
-// A timer is stopped: the event `StopTimer`.
-struct recovery_reply recovery_ffi_stop_timer(struct recovery_handle *handle, uint8_t timer);
+// The peer takes datagrams of at most so many bytes (RFC 9000, 18.2): the event `PeerLimit`.
+struct recovery_reply recovery_ffi_peer_limit(struct recovery_handle *handle, uint16_t size);
 
-// When does the next timer expire? The event `NextTimeout`.
-struct recovery_reply recovery_ffi_next_timeout(struct recovery_handle *handle);
+// All packets that were found lost together were told: the event `LossesDone`.
+struct recovery_reply recovery_ffi_losses_done(struct recovery_handle *handle, uint64_t now);
+
+// A NEW_CONNECTION_ID frame came in (RFC 9000, 19.15): the event `NewId`; an id has at most 20 bytes.
+struct recovery_reply recovery_ffi_new_id(struct recovery_handle *handle, uint64_t sequence, uint64_t retire_prior_to, const uint8_t *id, size_t id_len, const uint8_t *token);
+
+// The next id of the peer is to be used: the event `NextId`.
+struct recovery_reply recovery_ffi_next_id(struct recovery_handle *handle);
+
+// The server chose another id (RFC 9000, 7.2): the event `InitialId`; an id has at most 20 bytes.
+struct recovery_reply recovery_ffi_initial_id(struct recovery_handle *handle, const uint8_t *id, size_t id_len);
+
+// This end issues these ids (RFC 9000, 5.1.1): the event `IssueIds`.
+struct recovery_reply recovery_ffi_issue_ids(struct recovery_handle *handle, uint64_t now, const struct recovery_id *given, size_t given_len);
+
+// The timer for new ids expired: the event `IdTimeout`.
+struct recovery_reply recovery_ffi_id_timeout(struct recovery_handle *handle);
+
+// A RETIRE_CONNECTION_ID frame came in (RFC 9000, 19.16): the event `PeerRetired`.
+struct recovery_reply recovery_ffi_peer_retired(struct recovery_handle *handle, uint64_t sequence, uint64_t limit);
+
+// Writes the bytes of the token that was answered last, all zeros before there was one.
+void recovery_ffi_token(struct recovery_handle *handle, uint8_t *out);
+
+// Whether this is the token that was answered last.
+bool recovery_ffi_is_token(struct recovery_handle *handle, const uint8_t *token);
+
+// A packet came in (RFC 9000, 12.3): the event `Received`.
+struct recovery_reply recovery_ffi_received(struct recovery_handle *handle, uint8_t space, uint64_t now, uint64_t number, bool ack_eliciting);
+
+// A packet with these items goes out (RFC 9002, A.5): the event `Send`.
+struct recovery_reply recovery_ffi_send(struct recovery_handle *handle, uint8_t space, uint64_t now, uint16_t size, bool ack_eliciting, bool has_largest, uint64_t largest, const uint64_t *items, size_t items_len);
+
+// A packet that was sent is acknowledged (RFC 9002, A.7): the event `Acked`.
+struct recovery_reply recovery_ffi_acked(struct recovery_handle *handle, uint8_t space, uint64_t now, uint64_t number, bool app_limited);
+
+// A packet that was sent is declared lost (RFC 9002, A.10): the event `Lost`.
+struct recovery_reply recovery_ffi_lost(struct recovery_handle *handle, uint8_t space, uint64_t number);
 
 // The keys of a space are dropped (RFC 9002, 6.4): the event `DiscardSpace`.
 struct recovery_reply recovery_ffi_discard(struct recovery_handle *handle, uint8_t space);
+
+// How many items the queue that was taken last has; they are written where there is room for all.
+size_t recovery_ffi_taken(struct recovery_handle *handle, uint64_t *out, size_t out_len);
 
 // What is in flight on a path? The event `InFlight`.
 struct recovery_reply recovery_ffi_in_flight(struct recovery_handle *handle, bool previous);
@@ -238,14 +268,14 @@ struct recovery_reply recovery_ffi_congestion(struct recovery_handle *handle, ui
 // All packets that one ACK newly acknowledges were told: the event `EndAcks`.
 struct recovery_reply recovery_ffi_end_acks(struct recovery_handle *handle, uint64_t now, bool app_limited, bool has_largest, uint64_t largest);
 
-// Is a probe of the MTU due (RFC 9000, 14.3)? The event `PollMtu`.
-struct recovery_reply recovery_ffi_poll_mtu(struct recovery_handle *handle, uint64_t now);
+// Another path is used from now on (RFC 9000, 9.3): the event `NewPath`.
+struct recovery_reply recovery_ffi_new_path(struct recovery_handle *handle, uint64_t now, const struct recovery_address *remote, bool fresh);
 
-// The peer takes datagrams of at most so many bytes (RFC 9000, 18.2): the event `PeerLimit`.
-struct recovery_reply recovery_ffi_peer_limit(struct recovery_handle *handle, uint16_t size);
+// The current path begins anew (RFC 9000, 9.4): the event `ResetPath`.
+struct recovery_reply recovery_ffi_reset_path(struct recovery_handle *handle, uint64_t now);
 
-// All packets that were found lost together were told: the event `LossesDone`.
-struct recovery_reply recovery_ffi_losses_done(struct recovery_handle *handle, uint64_t now);
+// The previous path is dropped (RFC 9000, 9.3.3): the event `DropPrevious`.
+struct recovery_reply recovery_ffi_drop_previous(struct recovery_handle *handle);
 
 // The counts of ECN of an ACK frame (RFC 9000, 13.4.2): the event `Ecn`.
 struct recovery_reply recovery_ffi_ecn(struct recovery_handle *handle, uint8_t space, uint64_t newly_acked, uint64_t ect0, uint64_t ect1, uint64_t ce);
@@ -258,45 +288,6 @@ struct recovery_reply recovery_ffi_queue_probe(struct recovery_handle *handle, u
 
 // What waits to be sent again is handed out, to be read by `recovery_ffi_taken`: the event `TakePending`.
 struct recovery_reply recovery_ffi_take_pending(struct recovery_handle *handle, uint8_t space);
-
-// The current path begins anew (RFC 9000, 9.4): the event `ResetPath`.
-struct recovery_reply recovery_ffi_reset_path(struct recovery_handle *handle, uint64_t now);
-
-// The previous path is dropped (RFC 9000, 9.3.3): the event `DropPrevious`.
-struct recovery_reply recovery_ffi_drop_previous(struct recovery_handle *handle);
-
-// Makes a recovery, whose peer is at this address and has this id of at most 20 bytes; false where there is no memory.
-bool recovery_ffi_new(struct recovery_handle *handle, const struct recovery_settings *settings, const struct recovery_address *remote, const uint8_t *initial_cid, size_t initial_cid_len, uint64_t now);
-
-// Frees a recovery.
-void recovery_ffi_drop(struct recovery_handle *handle);
-
-// A packet with these items goes out (RFC 9002, A.5): the event `Send`.
-struct recovery_reply recovery_ffi_send(struct recovery_handle *handle, uint8_t space, uint64_t now, uint16_t size, bool ack_eliciting, bool has_largest, uint64_t largest, const uint64_t *items, size_t items_len);
-
-// A NEW_CONNECTION_ID frame came in (RFC 9000, 19.15): the event `NewId`; an id has at most 20 bytes.
-struct recovery_reply recovery_ffi_new_id(struct recovery_handle *handle, uint64_t sequence, uint64_t retire_prior_to, const uint8_t *id, size_t id_len, const uint8_t *token);
-
-// The server chose another id (RFC 9000, 7.2): the event `InitialId`; an id has at most 20 bytes.
-struct recovery_reply recovery_ffi_initial_id(struct recovery_handle *handle, const uint8_t *id, size_t id_len);
-
-// This end issues these ids (RFC 9000, 5.1.1): the event `IssueIds`.
-struct recovery_reply recovery_ffi_issue_ids(struct recovery_handle *handle, uint64_t now, const struct recovery_id *given, size_t given_len);
-
-// An ACK_FREQUENCY frame came in, its numbers below 2^62: the event `AckFrequencyIn`.
-struct recovery_reply recovery_ffi_ack_frequency(struct recovery_handle *handle, uint64_t sequence, uint64_t threshold, uint64_t micros, uint64_t reordering);
-
-// Another path is used from now on (RFC 9000, 9.3): the event `NewPath`.
-struct recovery_reply recovery_ffi_new_path(struct recovery_handle *handle, uint64_t now, const struct recovery_address *remote, bool fresh);
-
-// How many items the queue that was taken last has; they are written where there is room for all.
-size_t recovery_ffi_taken(struct recovery_handle *handle, uint64_t *out, size_t out_len);
-
-// Writes the bytes of the token that was answered last, all zeros before there was one.
-void recovery_ffi_token(struct recovery_handle *handle, uint8_t *out);
-
-// Whether this is the token that was answered last.
-bool recovery_ffi_is_token(struct recovery_handle *handle, const uint8_t *token);
 
 // What is kept for a path.
 struct recovery_pathview recovery_ffi_path(struct recovery_handle *handle, bool previous);
@@ -312,5 +303,14 @@ struct recovery_momentview recovery_ffi_timer(struct recovery_handle *handle, ui
 
 // The ids of both ends, and how late this end's ACKs may be.
 struct recovery_idsview recovery_ffi_ids(struct recovery_handle *handle);
+
+// A timer is set to a moment in nanoseconds: the event `SetTimer`.
+struct recovery_reply recovery_ffi_set_timer(struct recovery_handle *handle, uint8_t timer, uint64_t time);
+
+// A timer is stopped: the event `StopTimer`.
+struct recovery_reply recovery_ffi_stop_timer(struct recovery_handle *handle, uint8_t timer);
+
+// When does the next timer expire? The event `NextTimeout`.
+struct recovery_reply recovery_ffi_next_timeout(struct recovery_handle *handle);
 
 #endif

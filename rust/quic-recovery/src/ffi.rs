@@ -192,6 +192,79 @@ pub struct IdsView {
 }
 
 unsafe extern "C" {
+    /// Makes a recovery, whose peer is at this address and has this id of at most 20 bytes; false where there is no memory.
+    pub fn recovery_ffi_new(
+        handle: *mut Handle,
+        settings: *const Settings,
+        remote: *const Address,
+        initial_cid: *const u8,
+        initial_cid_len: usize,
+        now: u64,
+    ) -> bool;
+
+    /// Frees a recovery.
+    pub fn recovery_ffi_drop(handle: *mut Handle);
+
+    /// An ACK_FREQUENCY frame came in, its numbers below 2^62: the event `AckFrequencyIn`.
+    pub fn recovery_ffi_ack_frequency(
+        handle: *mut Handle,
+        sequence: u64,
+        threshold: u64,
+        micros: u64,
+        reordering: u64,
+    ) -> Reply;
+
+    /// An ACK frame was sent (RFC 9000, 13.2.1): the event `AcksSent`.
+    pub fn recovery_ffi_acks_sent(handle: *mut Handle, space: u8) -> Reply;
+
+    /// The timer for a late ACK expired: the event `AckDelayTimeout`.
+    pub fn recovery_ffi_ack_delay_timeout(handle: *mut Handle, space: u8) -> Reply;
+
+    /// Is a probe of the MTU due (RFC 9000, 14.3)? The event `PollMtu`.
+    pub fn recovery_ffi_poll_mtu(handle: *mut Handle, now: u64) -> Reply;
+
+    /// The peer takes datagrams of at most so many bytes (RFC 9000, 18.2): the event `PeerLimit`.
+    pub fn recovery_ffi_peer_limit(handle: *mut Handle, size: u16) -> Reply;
+
+    /// All packets that were found lost together were told: the event `LossesDone`.
+    pub fn recovery_ffi_losses_done(handle: *mut Handle, now: u64) -> Reply;
+
+    /// A NEW_CONNECTION_ID frame came in (RFC 9000, 19.15): the event `NewId`; an id has at most 20 bytes.
+    pub fn recovery_ffi_new_id(
+        handle: *mut Handle,
+        sequence: u64,
+        retire_prior_to: u64,
+        id: *const u8,
+        id_len: usize,
+        token: *const [u8; 16],
+    ) -> Reply;
+
+    /// The next id of the peer is to be used: the event `NextId`.
+    pub fn recovery_ffi_next_id(handle: *mut Handle) -> Reply;
+
+    /// The server chose another id (RFC 9000, 7.2): the event `InitialId`; an id has at most 20 bytes.
+    pub fn recovery_ffi_initial_id(handle: *mut Handle, id: *const u8, id_len: usize) -> Reply;
+
+    /// This end issues these ids (RFC 9000, 5.1.1): the event `IssueIds`.
+    pub fn recovery_ffi_issue_ids(
+        handle: *mut Handle,
+        now: u64,
+        given: *const Id,
+        given_len: usize,
+    ) -> Reply;
+
+    /// The timer for new ids expired: the event `IdTimeout`.
+    pub fn recovery_ffi_id_timeout(handle: *mut Handle) -> Reply;
+
+    /// A RETIRE_CONNECTION_ID frame came in (RFC 9000, 19.16): the event `PeerRetired`.
+    pub fn recovery_ffi_peer_retired(handle: *mut Handle, sequence: u64, limit: u64) -> Reply;
+
+    /// Writes the bytes of the token that was answered last, all zeros before there was one.
+    pub fn recovery_ffi_token(handle: *mut Handle, out: *mut [u8; 16]);
+
+    /// Whether this is the token that was answered last.
+    pub fn recovery_ffi_is_token(handle: *mut Handle, token: *const [u8; 16]) -> bool;
+
     /// A packet came in (RFC 9000, 12.3): the event `Received`.
     pub fn recovery_ffi_received(
         handle: *mut Handle,
@@ -199,6 +272,19 @@ unsafe extern "C" {
         now: u64,
         number: u64,
         ack_eliciting: bool,
+    ) -> Reply;
+
+    /// A packet with these items goes out (RFC 9002, A.5): the event `Send`.
+    pub fn recovery_ffi_send(
+        handle: *mut Handle,
+        space: u8,
+        now: u64,
+        size: u16,
+        ack_eliciting: bool,
+        has_largest: bool,
+        largest: u64,
+        items: *const u64,
+        items_len: usize,
     ) -> Reply;
 
     /// A packet that was sent is acknowledged (RFC 9002, A.7): the event `Acked`.
@@ -213,32 +299,11 @@ unsafe extern "C" {
     /// A packet that was sent is declared lost (RFC 9002, A.10): the event `Lost`.
     pub fn recovery_ffi_lost(handle: *mut Handle, space: u8, number: u64) -> Reply;
 
-    /// The next id of the peer is to be used: the event `NextId`.
-    pub fn recovery_ffi_next_id(handle: *mut Handle) -> Reply;
-
-    /// The timer for new ids expired: the event `IdTimeout`.
-    pub fn recovery_ffi_id_timeout(handle: *mut Handle) -> Reply;
-
-    /// A RETIRE_CONNECTION_ID frame came in (RFC 9000, 19.16): the event `PeerRetired`.
-    pub fn recovery_ffi_peer_retired(handle: *mut Handle, sequence: u64, limit: u64) -> Reply;
-
-    /// An ACK frame was sent (RFC 9000, 13.2.1): the event `AcksSent`.
-    pub fn recovery_ffi_acks_sent(handle: *mut Handle, space: u8) -> Reply;
-
-    /// The timer for a late ACK expired: the event `AckDelayTimeout`.
-    pub fn recovery_ffi_ack_delay_timeout(handle: *mut Handle, space: u8) -> Reply;
-
-    /// A timer is set to a moment in nanoseconds: the event `SetTimer`.
-    pub fn recovery_ffi_set_timer(handle: *mut Handle, timer: u8, time: u64) -> Reply;
-
-    /// A timer is stopped: the event `StopTimer`.
-    pub fn recovery_ffi_stop_timer(handle: *mut Handle, timer: u8) -> Reply;
-
-    /// When does the next timer expire? The event `NextTimeout`.
-    pub fn recovery_ffi_next_timeout(handle: *mut Handle) -> Reply;
-
     /// The keys of a space are dropped (RFC 9002, 6.4): the event `DiscardSpace`.
     pub fn recovery_ffi_discard(handle: *mut Handle, space: u8) -> Reply;
+
+    /// How many items the queue that was taken last has; they are written where there is room for all.
+    pub fn recovery_ffi_taken(handle: *mut Handle, out: *mut u64, out_len: usize) -> usize;
 
     /// What is in flight on a path? The event `InFlight`.
     pub fn recovery_ffi_in_flight(handle: *mut Handle, previous: bool) -> Reply;
@@ -283,14 +348,19 @@ unsafe extern "C" {
         largest: u64,
     ) -> Reply;
 
-    /// Is a probe of the MTU due (RFC 9000, 14.3)? The event `PollMtu`.
-    pub fn recovery_ffi_poll_mtu(handle: *mut Handle, now: u64) -> Reply;
+    /// Another path is used from now on (RFC 9000, 9.3): the event `NewPath`.
+    pub fn recovery_ffi_new_path(
+        handle: *mut Handle,
+        now: u64,
+        remote: *const Address,
+        fresh: bool,
+    ) -> Reply;
 
-    /// The peer takes datagrams of at most so many bytes (RFC 9000, 18.2): the event `PeerLimit`.
-    pub fn recovery_ffi_peer_limit(handle: *mut Handle, size: u16) -> Reply;
+    /// The current path begins anew (RFC 9000, 9.4): the event `ResetPath`.
+    pub fn recovery_ffi_reset_path(handle: *mut Handle, now: u64) -> Reply;
 
-    /// All packets that were found lost together were told: the event `LossesDone`.
-    pub fn recovery_ffi_losses_done(handle: *mut Handle, now: u64) -> Reply;
+    /// The previous path is dropped (RFC 9000, 9.3.3): the event `DropPrevious`.
+    pub fn recovery_ffi_drop_previous(handle: *mut Handle) -> Reply;
 
     /// The counts of ECN of an ACK frame (RFC 9000, 13.4.2): the event `Ecn`.
     pub fn recovery_ffi_ecn(
@@ -311,85 +381,6 @@ unsafe extern "C" {
     /// What waits to be sent again is handed out, to be read by `recovery_ffi_taken`: the event `TakePending`.
     pub fn recovery_ffi_take_pending(handle: *mut Handle, space: u8) -> Reply;
 
-    /// The current path begins anew (RFC 9000, 9.4): the event `ResetPath`.
-    pub fn recovery_ffi_reset_path(handle: *mut Handle, now: u64) -> Reply;
-
-    /// The previous path is dropped (RFC 9000, 9.3.3): the event `DropPrevious`.
-    pub fn recovery_ffi_drop_previous(handle: *mut Handle) -> Reply;
-
-    /// Makes a recovery, whose peer is at this address and has this id of at most 20 bytes; false where there is no memory.
-    pub fn recovery_ffi_new(
-        handle: *mut Handle,
-        settings: *const Settings,
-        remote: *const Address,
-        initial_cid: *const u8,
-        initial_cid_len: usize,
-        now: u64,
-    ) -> bool;
-
-    /// Frees a recovery.
-    pub fn recovery_ffi_drop(handle: *mut Handle);
-
-    /// A packet with these items goes out (RFC 9002, A.5): the event `Send`.
-    pub fn recovery_ffi_send(
-        handle: *mut Handle,
-        space: u8,
-        now: u64,
-        size: u16,
-        ack_eliciting: bool,
-        has_largest: bool,
-        largest: u64,
-        items: *const u64,
-        items_len: usize,
-    ) -> Reply;
-
-    /// A NEW_CONNECTION_ID frame came in (RFC 9000, 19.15): the event `NewId`; an id has at most 20 bytes.
-    pub fn recovery_ffi_new_id(
-        handle: *mut Handle,
-        sequence: u64,
-        retire_prior_to: u64,
-        id: *const u8,
-        id_len: usize,
-        token: *const [u8; 16],
-    ) -> Reply;
-
-    /// The server chose another id (RFC 9000, 7.2): the event `InitialId`; an id has at most 20 bytes.
-    pub fn recovery_ffi_initial_id(handle: *mut Handle, id: *const u8, id_len: usize) -> Reply;
-
-    /// This end issues these ids (RFC 9000, 5.1.1): the event `IssueIds`.
-    pub fn recovery_ffi_issue_ids(
-        handle: *mut Handle,
-        now: u64,
-        given: *const Id,
-        given_len: usize,
-    ) -> Reply;
-
-    /// An ACK_FREQUENCY frame came in, its numbers below 2^62: the event `AckFrequencyIn`.
-    pub fn recovery_ffi_ack_frequency(
-        handle: *mut Handle,
-        sequence: u64,
-        threshold: u64,
-        micros: u64,
-        reordering: u64,
-    ) -> Reply;
-
-    /// Another path is used from now on (RFC 9000, 9.3): the event `NewPath`.
-    pub fn recovery_ffi_new_path(
-        handle: *mut Handle,
-        now: u64,
-        remote: *const Address,
-        fresh: bool,
-    ) -> Reply;
-
-    /// How many items the queue that was taken last has; they are written where there is room for all.
-    pub fn recovery_ffi_taken(handle: *mut Handle, out: *mut u64, out_len: usize) -> usize;
-
-    /// Writes the bytes of the token that was answered last, all zeros before there was one.
-    pub fn recovery_ffi_token(handle: *mut Handle, out: *mut [u8; 16]);
-
-    /// Whether this is the token that was answered last.
-    pub fn recovery_ffi_is_token(handle: *mut Handle, token: *const [u8; 16]) -> bool;
-
     /// What is kept for a path.
     pub fn recovery_ffi_path(handle: *mut Handle, previous: bool) -> PathView;
 
@@ -404,4 +395,13 @@ unsafe extern "C" {
 
     /// The ids of both ends, and how late this end's ACKs may be.
     pub fn recovery_ffi_ids(handle: *mut Handle) -> IdsView;
+
+    /// A timer is set to a moment in nanoseconds: the event `SetTimer`.
+    pub fn recovery_ffi_set_timer(handle: *mut Handle, timer: u8, time: u64) -> Reply;
+
+    /// A timer is stopped: the event `StopTimer`.
+    pub fn recovery_ffi_stop_timer(handle: *mut Handle, timer: u8) -> Reply;
+
+    /// When does the next timer expire? The event `NextTimeout`.
+    pub fn recovery_ffi_next_timeout(handle: *mut Handle) -> Reply;
 }

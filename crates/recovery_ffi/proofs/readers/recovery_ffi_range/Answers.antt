@@ -1,10 +1,10 @@
 use Rattle.std.proofs.Common.{Some, ap, sym, ◌∙◌}
-use Rattle.recovery_ffi.proofs.recovery_ffi_space.Goals as goal
+use Rattle.recovery_ffi.proofs.readers.recovery_ffi_range.Goals as goal
 
 pub returns : goal.returns
 returns c = record {
   stack = c.deref.result.now;
   held = c.take-stack.ensures.value ∙ ap Some (sym c.deref.ensures);
   same = c.put.ensures ∙ sym c.take-stack.ensures.value;
-  says = c.space-view.ensures;
+  says = c.range-view.ensures;
 }

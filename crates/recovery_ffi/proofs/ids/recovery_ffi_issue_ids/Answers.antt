@@ -1,7 +1,7 @@
 use Rattle.std.proofs.Common.{ℕ, subst, inl}
 use Rattle.recovery_events.specs.declared.event.Event.TheVariants.{IssueIds}
 use Rattle.recovery_ffi.specs.Answers.{Answers}
-use Rattle.recovery_ffi.proofs.recovery_ffi_issue_ids.Goals as goal
+use Rattle.recovery_ffi.proofs.ids.recovery_ffi_issue_ids.Goals as goal
 
 pub returns-in-Ok : goal.returns-in-Ok
 returns-in-Ok c =

@@ -1,0 +1,140 @@
+//! Packets that come in and go out (RFC 9000, 12; RFC 9002, A.5 and A.7): an export for each event.
+ghost use Rattle.recovery_ffi.specs.Answers.{Answers, AnswersOr, Reads};
+ghost use Rattle.recovery_ffi.specs.Codes.{space_coded, maybe};
+ghost use Rattle.recovery_ffi.specs.Held.{IsHeld};
+ghost use Rattle.recovery_ffi.specs.Views.{IsWritten};
+ghost use Rattle.recovery_events.specs.declared.event.Event.TheVariants.{Acked, DiscardSpace, Lost, Received, Send};
+
+use crate::codes::{copy_items, maybe, queue_of, space_coded};
+use crate::handle::Handle;
+use crate::stack::Reply;
+use quic_recovery::Event;
+use quic_recovery::time::Instant;
+use std::alloc::Global;
+
+/// A packet came in (RFC 9000, 12.3): the event `Received`.
+#[unsafe(no_mangle)]
+pub extern "C" fn recovery_ffi_received(
+    alloc: Global,
+    handle: &mut Handle,
+    space: u8,
+    now: u64,
+    number: u64,
+    ack_eliciting: bool,
+) -> Reply
+    requires { IsHeld handle.old.held }
+    ensures { Answers handle.old.held (Received (space_coded space) now number ack_eliciting) result handle.new.held }
+{
+    handle.apply(
+        alloc,
+        Event::Received {
+            space: space_coded(space),
+            now: Instant::from_nanos(now),
+            number,
+            ack_eliciting,
+        },
+    )
+}
+
+/// A packet with these items goes out (RFC 9002, A.5): the event `Send`.
+#[unsafe(no_mangle)]
+pub extern "C" fn recovery_ffi_send(
+    alloc: Global,
+    handle: &mut Handle,
+    space: u8,
+    now: u64,
+    size: u16,
+    ack_eliciting: bool,
+    has_largest: bool,
+    largest: u64,
+    items: &[u64],
+) -> Reply
+    requires { IsHeld handle.old.held }
+    ensures { AnswersOr handle.old.held (Send (space_coded space) now size ack_eliciting (maybe has_largest largest) items.now tt) result handle.new.held }
+{
+    match queue_of(alloc, items) {
+        Ok(queue) => handle.apply(
+            alloc,
+            Event::Send {
+                space: space_coded(space),
+                now: Instant::from_nanos(now),
+                size,
+                ack_eliciting,
+                largest_acked: maybe(has_largest, largest),
+                queue,
+                stream_frames: (),
+            },
+        ),
+        Err(_) => Reply::no_memory(),
+    }
+}
+
+/// A packet that was sent is acknowledged (RFC 9002, A.7): the event `Acked`.
+#[unsafe(no_mangle)]
+pub extern "C" fn recovery_ffi_acked(
+    alloc: Global,
+    handle: &mut Handle,
+    space: u8,
+    now: u64,
+    number: u64,
+    app_limited: bool,
+) -> Reply
+    requires { IsHeld handle.old.held }
+    ensures { Answers handle.old.held (Acked (space_coded space) now number app_limited) result handle.new.held }
+{
+    handle.apply(
+        alloc,
+        Event::Acked {
+            space: space_coded(space),
+            now: Instant::from_nanos(now),
+            number,
+            app_limited,
+        },
+    )
+}
+
+/// A packet that was sent is declared lost (RFC 9002, A.10): the event `Lost`.
+#[unsafe(no_mangle)]
+pub extern "C" fn recovery_ffi_lost(
+    alloc: Global,
+    handle: &mut Handle,
+    space: u8,
+    number: u64,
+) -> Reply
+    requires { IsHeld handle.old.held }
+    ensures { Answers handle.old.held (Lost (space_coded space) number) result handle.new.held }
+{
+    handle.apply(
+        alloc,
+        Event::Lost {
+            space: space_coded(space),
+            number,
+        },
+    )
+}
+
+/// The keys of a space are dropped (RFC 9002, 6.4): the event `DiscardSpace`.
+#[unsafe(no_mangle)]
+pub extern "C" fn recovery_ffi_discard(alloc: Global, handle: &mut Handle, space: u8) -> Reply
+    requires { IsHeld handle.old.held }
+    ensures { Answers handle.old.held (DiscardSpace (space_coded space)) result handle.new.held }
+{
+    handle.apply(
+        alloc,
+        Event::DiscardSpace {
+            space: space_coded(space),
+        },
+    )
+}
+
+/// How many items the queue that was taken last has; they are written where there is room for all.
+#[unsafe(no_mangle)]
+pub extern "C" fn recovery_ffi_taken(alloc: Global, handle: &mut Handle, out: &mut [u64]) -> usize
+    requires { IsHeld handle.old.held }
+    ensures { Reads handle.old.held handle.new.held (λ stack. IsWritten stack.taken out.old result out.new) }
+{
+    let stack = handle.take(alloc);
+    let count = copy_items(&stack.taken, out);
+    handle.put(stack);
+    count
+}

@@ -1,0 +1,223 @@
+//! Paths, congestion and pacing (RFC 9000, 8.1 and 9; RFC 9002, 5 and 7): an export for each event.
+ghost use Rattle.std.specs.Prelude.{◌<◌, ◌^◌, ◌*◌, ◌+◌};
+ghost use Rattle.recovery_ffi.specs.Answers.{Answers, MovesTo};
+ghost use Rattle.recovery_ffi.specs.Codes.{path_coded, maybe};
+ghost use Rattle.recovery_ffi.specs.Held.{IsHeld};
+ghost use Rattle.recovery_events.specs.declared.event.Event.TheVariants.{Congestion, DatagramIn, DropPrevious, EndAcks, InFlight, PacerCheck, ResetPath, Sample, Transmit, Validated};
+
+use crate::codes::{Address, maybe, path_coded, socket_of, span};
+use crate::handle::Handle;
+use crate::stack::Reply;
+use quic_recovery::Event;
+use quic_recovery::time::Instant;
+use std::alloc::Global;
+
+/// What is in flight on a path? The event `InFlight`.
+#[unsafe(no_mangle)]
+pub extern "C" fn recovery_ffi_in_flight(
+    alloc: Global,
+    handle: &mut Handle,
+    previous: bool,
+) -> Reply
+    requires { IsHeld handle.old.held }
+    ensures { Answers handle.old.held (InFlight (path_coded previous)) result handle.new.held }
+{
+    handle.apply(
+        alloc,
+        Event::InFlight {
+            path: path_coded(previous),
+        },
+    )
+}
+
+/// A sample of the round-trip time (RFC 9002, 5): the event `Sample`; nanoseconds are below 10^9.
+#[unsafe(no_mangle)]
+pub extern "C" fn recovery_ffi_sample(
+    alloc: Global,
+    handle: &mut Handle,
+    delay_secs: u64,
+    delay_nanos: u32,
+    rtt_secs: u64,
+    rtt_nanos: u32,
+) -> Reply
+    requires held { IsHeld handle.old.held }
+    requires delay { delay_nanos < 10 ^ 9 }
+    requires rtt { rtt_nanos < 10 ^ 9 }
+    ensures { Answers handle.old.held (Sample (delay_secs * 10 ^ 9 + delay_nanos) (rtt_secs * 10 ^ 9 + rtt_nanos)) result handle.new.held }
+{
+    let delay = span(delay_secs, delay_nanos);
+    let rtt = span(rtt_secs, rtt_nanos);
+    handle.apply(alloc, Event::Sample { delay, rtt })
+}
+
+/// A datagram came in on a path (RFC 9000, 8.1): the event `DatagramIn`.
+#[unsafe(no_mangle)]
+pub extern "C" fn recovery_ffi_datagram_in(
+    alloc: Global,
+    handle: &mut Handle,
+    previous: bool,
+    bytes: u64,
+) -> Reply
+    requires { IsHeld handle.old.held }
+    ensures { Answers handle.old.held (DatagramIn (path_coded previous) bytes) result handle.new.held }
+{
+    handle.apply(
+        alloc,
+        Event::DatagramIn {
+            path: path_coded(previous),
+            bytes,
+        },
+    )
+}
+
+/// The peer was seen to receive at the address of a path (RFC 9000, 8): the event `Validated`.
+#[unsafe(no_mangle)]
+pub extern "C" fn recovery_ffi_validated(
+    alloc: Global,
+    handle: &mut Handle,
+    previous: bool,
+) -> Reply
+    requires { IsHeld handle.old.held }
+    ensures { Answers handle.old.held (Validated (path_coded previous)) result handle.new.held }
+{
+    handle.apply(
+        alloc,
+        Event::Validated {
+            path: path_coded(previous),
+        },
+    )
+}
+
+/// A datagram is to be transmitted on the current path: the event `Transmit`.
+#[unsafe(no_mangle)]
+pub extern "C" fn recovery_ffi_transmit(
+    alloc: Global,
+    handle: &mut Handle,
+    now: u64,
+    bytes: u16,
+    checked: bool,
+) -> Reply
+    requires { IsHeld handle.old.held }
+    ensures { Answers handle.old.held (Transmit now bytes checked) result handle.new.held }
+{
+    handle.apply(
+        alloc,
+        Event::Transmit {
+            now: Instant::from_nanos(now),
+            bytes,
+            checked,
+        },
+    )
+}
+
+/// May so many bytes be transmitted (RFC 9002, 7.7)? The event `PacerCheck`.
+#[unsafe(no_mangle)]
+pub extern "C" fn recovery_ffi_pacer_check(
+    alloc: Global,
+    handle: &mut Handle,
+    now: u64,
+    bytes: u64,
+) -> Reply
+    requires { IsHeld handle.old.held }
+    ensures { Answers handle.old.held (PacerCheck now bytes) result handle.new.held }
+{
+    handle.apply(
+        alloc,
+        Event::PacerCheck {
+            now: Instant::from_nanos(now),
+            bytes,
+        },
+    )
+}
+
+/// Packets of the current path were lost, or marked (RFC 9002, 7.3): the event `Congestion`.
+#[unsafe(no_mangle)]
+pub extern "C" fn recovery_ffi_congestion(
+    alloc: Global,
+    handle: &mut Handle,
+    now: u64,
+    sent: u64,
+    persistent: bool,
+    bytes: u64,
+) -> Reply
+    requires { IsHeld handle.old.held }
+    ensures { Answers handle.old.held (Congestion now sent persistent bytes) result handle.new.held }
+{
+    handle.apply(
+        alloc,
+        Event::Congestion {
+            now: Instant::from_nanos(now),
+            sent: Instant::from_nanos(sent),
+            persistent,
+            bytes,
+        },
+    )
+}
+
+/// All packets that one ACK newly acknowledges were told: the event `EndAcks`.
+#[unsafe(no_mangle)]
+pub extern "C" fn recovery_ffi_end_acks(
+    alloc: Global,
+    handle: &mut Handle,
+    now: u64,
+    app_limited: bool,
+    has_largest: bool,
+    largest: u64,
+) -> Reply
+    requires { IsHeld handle.old.held }
+    ensures { Answers handle.old.held (EndAcks now app_limited (maybe has_largest largest)) result handle.new.held }
+{
+    handle.apply(
+        alloc,
+        Event::EndAcks {
+            now: Instant::from_nanos(now),
+            app_limited,
+            largest: maybe(has_largest, largest),
+        },
+    )
+}
+
+/// Another path is used from now on (RFC 9000, 9.3): the event `NewPath`.
+#[unsafe(no_mangle)]
+pub extern "C" fn recovery_ffi_new_path(
+    alloc: Global,
+    handle: &mut Handle,
+    now: u64,
+    remote: &Address,
+    fresh: bool,
+) -> Reply
+    requires { IsHeld handle.old.held }
+    ensures { MovesTo handle.old.held now remote.now fresh result handle.new.held }
+{
+    handle.apply(
+        alloc,
+        Event::NewPath {
+            now: Instant::from_nanos(now),
+            remote: socket_of(remote),
+            fresh,
+        },
+    )
+}
+
+/// The current path begins anew (RFC 9000, 9.4): the event `ResetPath`.
+#[unsafe(no_mangle)]
+pub extern "C" fn recovery_ffi_reset_path(alloc: Global, handle: &mut Handle, now: u64) -> Reply
+    requires { IsHeld handle.old.held }
+    ensures { Answers handle.old.held (ResetPath now) result handle.new.held }
+{
+    handle.apply(
+        alloc,
+        Event::ResetPath {
+            now: Instant::from_nanos(now),
+        },
+    )
+}
+
+/// The previous path is dropped (RFC 9000, 9.3.3): the event `DropPrevious`.
+#[unsafe(no_mangle)]
+pub extern "C" fn recovery_ffi_drop_previous(alloc: Global, handle: &mut Handle) -> Reply
+    requires { IsHeld handle.old.held }
+    ensures { Answers handle.old.held (DropPrevious) result handle.new.held }
+{
+    handle.apply(alloc, Event::DropPrevious)
+}

@@ -1,0 +1,93 @@
+//! Counts of ECN, ranges that are acknowledged, probes and what waits to be sent again (RFC 9000, 13.4; RFC 9002, 6.2.4).
+ghost use Rattle.recovery_ffi.specs.Answers.{Answers};
+ghost use Rattle.recovery_ffi.specs.Codes.{space_coded};
+ghost use Rattle.recovery_ffi.specs.Held.{IsHeld};
+ghost use Rattle.recovery_events.specs.declared.event.Event.TheVariants.{CheckAck, Ecn, QueueProbe, TakePending};
+
+use crate::codes::space_coded;
+use crate::handle::Handle;
+use crate::stack::Reply;
+use quic_recovery::Event;
+use recovery_base::below::EcnCounts;
+use std::alloc::Global;
+
+/// The counts of ECN of an ACK frame (RFC 9000, 13.4.2): the event `Ecn`.
+#[unsafe(no_mangle)]
+pub extern "C" fn recovery_ffi_ecn(
+    alloc: Global,
+    handle: &mut Handle,
+    space: u8,
+    newly_acked: u64,
+    ect0: u64,
+    ect1: u64,
+    ce: u64,
+) -> Reply
+    requires { IsHeld handle.old.held }
+    ensures { Answers handle.old.held (Ecn (space_coded space) newly_acked (record { ect0 = ect0; ect1 = ect1; ce = ce })) result handle.new.held }
+{
+    handle.apply(
+        alloc,
+        Event::Ecn {
+            space: space_coded(space),
+            newly_acked,
+            counts: EcnCounts { ect0, ect1, ce },
+        },
+    )
+}
+
+/// An ACK frame acknowledges a range of numbers (RFC 9000, 13.1): the event `CheckAck`.
+#[unsafe(no_mangle)]
+pub extern "C" fn recovery_ffi_check_ack(
+    alloc: Global,
+    handle: &mut Handle,
+    space: u8,
+    low: u64,
+    high: u64,
+) -> Reply
+    requires { IsHeld handle.old.held }
+    ensures { Answers handle.old.held (CheckAck (space_coded space) low high) result handle.new.held }
+{
+    handle.apply(
+        alloc,
+        Event::CheckAck {
+            space: space_coded(space),
+            low,
+            high,
+        },
+    )
+}
+
+/// A probe packet is to be sent (RFC 9002, 6.2.4): the event `QueueProbe`.
+#[unsafe(no_mangle)]
+pub extern "C" fn recovery_ffi_queue_probe(
+    alloc: Global,
+    handle: &mut Handle,
+    space: u8,
+    immediate_ack: bool,
+) -> Reply
+    requires { IsHeld handle.old.held }
+    ensures { Answers handle.old.held (QueueProbe (space_coded space) immediate_ack tt) result handle.new.held }
+{
+    handle.apply(
+        alloc,
+        Event::QueueProbe {
+            space: space_coded(space),
+            immediate_ack,
+            streams: (),
+        },
+    )
+}
+
+/// What waits to be sent again is handed out, to be read by `recovery_ffi_taken`: the event `TakePending`.
+#[unsafe(no_mangle)]
+pub extern "C" fn recovery_ffi_take_pending(alloc: Global, handle: &mut Handle, space: u8) -> Reply
+    requires { IsHeld handle.old.held }
+    ensures { Answers handle.old.held (TakePending (space_coded space)) result handle.new.held }
+{
+    handle.apply(
+        alloc,
+        Event::TakePending {
+            space: space_coded(space),
+        },
+    )
+}
