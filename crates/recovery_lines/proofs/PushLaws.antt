@@ -1,15 +1,14 @@
 -- What is put behind the events of a script: what a form says behind its name, and what a whole line spells. The pushes
 -- of `lines` rest on it.
-use Rattle.std.proofs.Common.{◌≡◌, ◌<◌, ◌≤◌, ◌==◌, ℕ, Bool, true, false, List, [], ◌∷◌, ◌++◌, length, Option, Some, None, Result, Ok, Err, IfOk, OnErr, IsSome, IsSomeAnd, bytes_eq, refl, sym, ap, subst, ◌∙◌, arith, length-append}
-use Rattle.std.specs.Prelude.{option_to_list}
+use Rattle.std.proofs.Common.{◌≡◌, ◌≤◌, ℕ, Bool, true, false, List, length, Option, Some, None, Result, Ok, Err, IfOk, OnErr, IsSomeAnd, bytes_eq, refl, sym, ap, subst, ◌∙◌}
 use lib.Chars.{codes}
 use Rattle.std.proofs.lemmas.Slice.Eq.{bytes_eq-Decides}
 use Rattle.recovery_lines.specs.declared.lines.Line.{Line}
 use Rattle.recovery_lines.specs.Words.{words_of}
-use Rattle.recovery_lines.specs.Lines.{Form, ItemEvent, Means, Spells, IsSame, HoldsList, forms_without_items, send}
-use Rattle.recovery_lines.specs.Reading.{Reads, Pushes, PushesSpelled, TakesMemory, TookAll, all_of, first_word, form_named, line_at, line_behind, line_of, reading, whole}
+use Rattle.recovery_lines.specs.Lines.{Form, ItemEvent, Means, HoldsList, forms_without_items, send}
+use Rattle.recovery_lines.specs.Reading.{Reads, Pushes, PushesSpelled, TookAll, all_of, first_word, form_named, line_at, line_behind, line_of, reading, whole}
 use Rattle.recovery_lines.proofs.NameLaws.{of_length, unnamed}
-use Rattle.recovery_lines.proofs.LineLaws.{items_refused, line_found, line_only, none_spelled, one_event, other_line, refused_whole, send_line, took_line}
+use Rattle.recovery_lines.proofs.LineLaws.{items_refused, line_found, line_only, none_spelled, other_line, refused_whole, send_line, took_line}
 use Rattle.recovery_lines.proofs.FieldLaws.{some_is}
 
 -- ---- what a form says
@@ -123,22 +122,3 @@ module _ (line : List ℕ) (words rest : List (List ℕ)) (name : List ℕ) (is 
   send_items same took =
       items_refused line short (took_line line words is (subst (λ (read : Option (Line × List (List ℕ))).
       IsSomeAnd read TookAll) (sym (send_line words rest name first same)) took))
-
--- ---- an event that was put alone, and taken back
-
-last_one : (rest : List ItemEvent) (read one : ItemEvent) → rest ++ read ∷ [] ≡ one ∷ [] → read ≡ one
-last_one [] read one is = cc
-last_one (other ∷ rest) read one is =
-    absurd (omega (arith, ap length is, length-append rest (read ∷ [])))
-
-pub alone_again : (line : List ℕ) (events rest : List ItemEvent) (read : Option ItemEvent)
-    → PushesSpelled line [] true events → events ≡ rest ++ option_to_list read → (0 < length events → IsSome read)
-    → (event : ItemEvent) → Spells line event → IsSomeAnd read (IsSame event)
-alone_again line events rest (Some read) pushed popped some event spells =
-    let is = last_one rest read pushed.0 (sym popped ∙ pushed.2) in
-    one_event line event read spells (subst (Spells line) (sym is) pushed.1)
-alone_again line events rest None pushed popped some event spells =
-    none_is_none (some (omega (arith, ap length pushed.2)))
-  where
-    none_is_none : {A : Type 0} → IsSome {T = ItemEvent} None → A
-    none_is_none e = absurd cc

@@ -1,7 +1,7 @@
 //! The event that a line of a script spells.
-ghost use Rattle.std.specs.Prelude.{◌≡◌, ◌+◌, ◌<◌, ◌≤◌, ◌^◌, Some, IfSome, IfOk, OnErr, IsSomeAnd, vec_len, vec_capacity};
-ghost use Rattle.recovery_lines.specs.Lines.{ItemEvent, id_of, token_of, zero_ids, IsAt, Spells};
-ghost use Rattle.recovery_lines.specs.Lines.{IsSame, HoldsList, forms_without_items};
+ghost use Rattle.std.specs.Prelude.{◌≡◌, ◌+◌, ◌<◌, ◌≤◌, ◌^◌, Some, IfOk, OnErr, IsSomeAnd, vec_len, vec_capacity};
+ghost use Rattle.recovery_lines.specs.Lines.{ItemEvent, id_of, token_of, zero_ids, IsAt};
+ghost use Rattle.recovery_lines.specs.Lines.{HoldsList, forms_without_items};
 ghost use Rattle.recovery_lines.specs.Lines.{received, send, acked, lost};
 ghost use Rattle.recovery_lines.specs.Lines.{new_id, initial_id, issue_ids, peer_retired};
 ghost use Rattle.recovery_lines.specs.Lines.{ack_frequency, acks_sent, ack_delay_timeout};
@@ -587,20 +587,4 @@ pub fn push_event(line: &[u8], events: &mut Vec<Event<ItemQueue>>) -> Result<boo
         return push_read(line, &words, events);
     }
     push_behind(name, &mut words, events)
-}
-
-/// The event that a line, given without its line feed, spells; `None` where it spells none. The one refusal is
-/// `NoMemory`.
-pub fn read_event(alloc: Global, line: &[u8]) -> Result<Option<Event<ItemQueue>>, NoMemory>
-    // What is read is spelled so.
-    ensures found { IfOk result (λ read. IfSome read (λ event. Spells line.now event)) }
-    // What is spelled so is read: a line spells at most one event.
-    ensures only { (event : ItemEvent) → Spells line.now event
-        → IfOk result (λ read. IsSomeAnd read (IsSame event)) }
-{
-    let mut events = Vec::with_capacity(alloc, 1)?;
-    if !push_event(line, &mut events)? {
-        return Ok(None);
-    }
-    Ok(events.pop())
 }

@@ -324,6 +324,7 @@ impl<'a> Words<'a> {
     {
         timer_in(self.next()?)
     }
+
     /// Whether no word is left.
     pub fn is_empty(&self) -> bool
         ensures { Decides result (words_left self.now ≡ []) }

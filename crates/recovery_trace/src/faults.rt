@@ -3,7 +3,7 @@ ghost use Rattle.std.specs.Prelude.{◌≤◌, IfOk, IsTrue, length};
 ghost use Rattle.recovery_trace.specs.Faults.{Begins, Names};
 
 use quic_recovery::below::NoMemory;
-use recovery_lines::lines::{LINE_LIMIT, read_event};
+use recovery_lines::lines::{LINE_LIMIT, push_event};
 use std::alloc::Global;
 
 /// A line for each event, with words that fit.
@@ -95,10 +95,8 @@ fn begins(alloc: Global, front: &[u8], behind: &[u8]) -> Result<bool, NoMemory>
     if line.extend_from_slice(front).is_err() || line.extend_from_slice(behind).is_err() {
         return Err(NoMemory);
     }
-    match read_event(alloc, &line) {
-        Ok(read) => Ok(read.is_some()),
-        Err(refused) => Err(refused),
-    }
+    let mut events = Vec::with_capacity(alloc, 1)?;
+    push_event(&line, &mut events)
 }
 
 /// What stands behind the first word of what may begin with a space.

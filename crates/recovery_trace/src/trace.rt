@@ -19,7 +19,7 @@ use quic_recovery::{Answer, LiveRecovery, Recovery, RecoveryConfig, Refusal};
 use rand_core::SeedableRng;
 use rand_pcg::Pcg32;
 use recovery_answers::answers::write_reply;
-use recovery_lines::lines::{peer_at, read_event};
+use recovery_lines::lines::{peer_at, push_event};
 use recovery_queue::items::ItemQueue;
 use std::alloc::{AllocError, Global};
 use std::io::{Read, Write};
@@ -124,16 +124,17 @@ where
     ensures { IfOk result (Answers shows line.now live.old.recovery live.new.recovery (string_bytes text.new)) }
 {
     text.clear();
-    match read_event(alloc, line) {
-        Ok(Some(event)) => {
-            let reply = live.apply(event);
-            match write_turn(text, &reply, live.recovery(), shows) {
-                Ok(()) => Ok(true),
-                Err(_) => Err(NoMemory),
-            }
-        }
-        Ok(None) => Ok(false),
-        Err(refused) => Err(refused),
+    let mut events = Vec::with_capacity(alloc, 1)?;
+    if !push_event(line, &mut events)? {
+        return Ok(false);
+    }
+    let Some(event) = events.pop() else {
+        return Ok(false);
+    };
+    let reply = live.apply(event);
+    match write_turn(text, &reply, live.recovery(), shows) {
+        Ok(()) => Ok(true),
+        Err(_) => Err(NoMemory),
     }
 }
 
