@@ -1,5 +1,5 @@
 //! What is written for each reply: one line.
-ghost use Rattle.std.specs.Prelude.{◌≡◌, ◌++◌, IfOk, OnOk, string_bytes, decimal};
+ghost use Rattle.std.specs.Prelude.{◌≡◌, ◌<◌, ◌++◌, IfOk, OnOk, OnErr, length, string_bytes, decimal};
 ghost use Rattle.recovery_answers.specs.Answers.{Writes, new_text, sent_text, done_with_text};
 ghost use Rattle.recovery_answers.specs.Answers.{retire_text, flag_text, timeout_text};
 ghost use Rattle.recovery_answers.specs.Answers.{in_flight_text, delayed_text, probe_text};
@@ -211,12 +211,13 @@ pub fn write_reply(
     }
 }
 
-/// The lines of all replies, in order. The one refusal is `NoMemory`.
+/// The lines of all replies, in order. The one refusal is `NoMemory`, and of no reply memory is taken.
 pub fn render(
     alloc: Global,
     replies: &[Result<Answer<ItemQueue>, Refusal>],
 ) -> Result<String, NoMemory>
-    ensures { IfOk result (λ text. string_bytes text ≡ answer_lines replies.now) }
+    ensures lines { IfOk result (λ text. string_bytes text ≡ answer_lines replies.now) }
+    ensures memory { OnErr result (0 < length replies.now) }
 {
     let mut text = String::new(alloc);
     for reply in replies {

@@ -1,5 +1,5 @@
 //! A list of calls, from a detector to which nothing has happened yet.
-ghost use Rattle.std.specs.Prelude.{◌≡◌, ◌≤◌, ℕ, Bool, IfOk, count_by};
+ghost use Rattle.std.specs.Prelude.{◌≡◌, ◌<◌, ◌≤◌, ℕ, Bool, IfOk, OnErr, length, count_by};
 ghost use Rattle.recovery_detection.specs.declared.packets.Sent.{Sent};
 ghost use Rattle.recovery_detection.specs.Runs.{Step, IsRun, handed_in, given, times};
 
@@ -90,6 +90,9 @@ pub fn run(alloc: Global, calls: &[Call]) -> Result<Vec<Reply>, NoMemory>
     // What is handed in was sent: of packets of any kind, no more than were.
     ensures only_sent { IfOk result (λ replies. (kind : Sent → Bool) →
         count_by kind (handed_in replies.items) ≤ count_by kind (given calls.now replies.items)) }
+
+    // Memory is refused to replies alone.
+    ensures memory { OnErr result (0 < length calls.now) }
 {
     let mut detector = LossDetector::new(alloc);
     let mut replies = Vec::new(alloc);

@@ -89,7 +89,7 @@ impl CidState {
     /// `now`. Without a lifetime, or where the deadline would pass the clock's end, none is stored.
     ///
     /// `NoMemory` where there is no room for them: 16 bytes a number, in a buffer that doubles as it grows; of a count past
-    /// all memory it is answered at once. The time is linear in the count.
+    /// all memory it is answered at once. Where none is issued, no memory is taken. The time is linear in the count.
     pub fn new(
         alloc: Global,
         cid_len: usize,
@@ -99,11 +99,12 @@ impl CidState {
     ) -> Result<Self, NoMemory>
         requires { issued ≤ 2 ^ 62 }
         ensures ids { IfOk result (λ ids. ids ≡ first_issued cid_len cid_lifetime now issued) }
+        ensures memory { OnErr result (0 < issued) }
         ensures sound { IfOk result AreSound }
     {
         ask_for_room(alloc, issued)?;
         let mut active_seq = SlotQueue::new(alloc);
-        let mut retire_timestamp = VecDeque::with_capacity(alloc, 1)?;
+        let mut retire_timestamp = VecDeque::with_capacity(alloc, issued.min(1) as usize)?;
         issue(&mut active_seq, 0, issued)?;
         let lifetime = cid_lifetime;
         track_lifetime(&mut retire_timestamp, lifetime, issued, now);
@@ -222,7 +223,9 @@ impl CidState {
 
 /// Asks for room for so many numbers at once and gives it back, since a set takes its memory number by number: a count
 /// past all memory would else be refused only once all memory is taken.
-fn ask_for_room(alloc: Global, count: u64) -> Result<(), NoMemory> {
+fn ask_for_room(alloc: Global, count: u64) -> Result<(), NoMemory>
+    ensures { OnErr result (0 < count) }
+{
     let _room: Vec<u64> = Vec::with_capacity(alloc, count as usize)?;
     Ok(())
 }
@@ -233,6 +236,7 @@ fn issue(numbers: &mut SlotQueue<()>, first: u64, end: u64) -> Result<(), NoMemo
     requires above { Rise 0 first (numbers_in numbers.old) }
     ensures ok { OnOk result (numbers_in numbers.new ≡ numbers_in numbers.old ++ range_with_len first (end - first)) }
     ensures err { OnErr result (numbers_in numbers.new ≡ numbers_in numbers.old) }
+    ensures memory { OnErr result (first < end) }
 {
     for number in first..end {
         match numbers.push(number, ()) {
@@ -264,7 +268,7 @@ fn track_lifetime(
     issued: u64,
     now: Instant,
 )
-    requires room { deque_len deadlines.old < deque_capacity deadlines.old }
+    requires room { 0 < issued → deque_len deadlines.old < deque_capacity deadlines.old }
     ensures { deadlines.new.items
         ≡ deadlines_with_last cid_lifetime now issued deadlines.old.items }
 {

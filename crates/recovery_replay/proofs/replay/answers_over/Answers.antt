@@ -17,4 +17,4 @@ returns g c =
     session g.F.ControllerFactory.built g.F.Controller.Controller.words c.args.factory c.args.seed
     c.args.events.items c.in_ok-replies.replies.items c.peer_at.result c.config-config.result c.from_nanos.result _
     c.peer_at.ensures is_config c.from_nanos.ensures is_random c.in_ok-replies.ensures.told
-    c.render.result (subst Written c.deref.ensures.value c.render.ensures)
+    c.render.result (subst Written c.deref.ensures.value c.render.ensures.lines)
