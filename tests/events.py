@@ -18,7 +18,7 @@ BOUNDS = """
 Received 10 9, Send 14 13, Acked 17 20, Lost 14 19, NewId 8 3, NextId 8 3, InitialId 9 4, IssueIds 7 5, IdTimeout 6 1,
 PeerRetired 7 3, AckFrequencyIn 7 4, AcksSent 8 5, AckDelayTimeout 8 5, SetTimer 7 2, StopTimer 7 2, NextTimeout 6 4,
 DiscardSpace 11 9, InFlight 7 4, Sample 6 2, DatagramIn 8 5, Validated 8 5, Transmit 10 7, PacerCheck 7 3,
-Congestion 6 2, EndAcks 6 2, PollMtu 15 18, PeerLimit 8 12, LossesDone 11 11, Ecn 7 4, CheckAck 6 3, QueueProbe 7 6,
+Congestion 6 2, EndAcks 6 2, PollMtu 16 19, PeerLimit 8 12, LossesDone 11 11, Ecn 7 4, CheckAck 6 3, QueueProbe 7 6,
 TakePending 8 5, NewPath 12 17, ResetPath 8 9, DropPrevious 10 10
 """
 MEANS = (8.7, 6.7)

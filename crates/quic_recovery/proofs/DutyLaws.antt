@@ -1,6 +1,6 @@
 -- While an ack-eliciting packet waits, an ACK is required at once or the timer was started, by what each event is told:
 -- the clause `duty` of `run`.
-use Rattle.std.proofs.Common.{◌≡◌, ◌<◌, ℕ, Bool, true, false, not, ◌&&◌, ◌||◌, cond, List, [], ◌∷◌, Option, None, Some, Ok, Err, ◌⊎◌, inl, inr, ◌↔◌, IsTrue, refl, subst, arith}
+use Rattle.std.proofs.Common.{◌≡◌, ◌<◌, ℕ, Bool, true, false, not, ◌&&◌, ◌||◌, cond, List, [], ◌∷◌, Option, None, Some, Ok, Err, ◌⊎◌, inl, inr, IsTrue, refl, subst, arith}
 use Rattle.std.proofs.lemmas.Bool.{false≢true}
 use Rattle.recovery_acks.specs.Acks.{counted}
 use Rattle.recovery_base.specs.declared.below.SpaceId.{SpaceId}

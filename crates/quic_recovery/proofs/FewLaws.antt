@@ -1,5 +1,5 @@
 -- By the history alone a search takes few probes, as its entries say: the clause `few` of `run`.
-use Rattle.std.proofs.Common.{ℕ, ◌≡◌, ◌≤◌, ◌==◌, ◌<◌, ◌^◌, ◌&&◌, Bool, true, false, not, if◌then◌else◌, List, [], ◌∷◌, length, Option, None, Some, Ok, Err, refl, sym, ap, subst, ◌∙◌, is_some}
+use Rattle.std.proofs.Common.{ℕ, ◌≡◌, ◌≤◌, ◌<◌, ◌^◌, ◌&&◌, Bool, true, false, not, if◌then◌else◌, List, [], ◌∷◌, length, Option, None, Some, Ok, Err, refl, sym, ap, subst, ◌∙◌, is_some, arith}
 use Rattle.std.specs.Prelude.{is_none, nat_eq}
 use Rattle.std.specs.Option.{ForSome}
 use Rattle.std.specs.Set.{distinct_count}
@@ -57,18 +57,8 @@ module _ {Q S M P : Type 0} where
         ≡ is_some (unless_number number flight)
     acked_flight now number app_limited true None is same = absurd (cc)
     acked_flight now number app_limited false None is same = same
-    acked_flight now number app_limited true (Some flying) is same = go (number == flying.number) is
-      where
-        go : (own : Bool) → true ≡ is_some (if own then Some flying.size else None)
-            → false ≡ is_some (if own then None else Some flying)
-        go true is = refl
-        go false is = cc
-    acked_flight now number app_limited false (Some flying) is same = go (number == flying.number) is
-      where
-        go : (own : Bool) → false ≡ is_some (if own then Some flying.size else None)
-            → is_in_flight history ≡ is_some (if own then None else Some flying)
-        go true is = cc
-        go false is = same
+    acked_flight now number app_limited true (Some flying) is same = grind arith
+    acked_flight now number app_limited false (Some flying) is same = grind arith
 
     acked_tied : (now number bytes : ℕ) (app_limited : Bool)
         → TiedTo ((
@@ -131,26 +121,19 @@ module _ {F K Q S M P : Type 0} (beginning : Beginning F K Q S M P) where
     answer_tied (Acked space.Data now number app_limited) given facts =
         acked_as beginning history (After (Acked space.Data now number app_limited)) now number app_limited given facts
         (λ packet found. acked_tied history before tied now number packet.size app_limited)
-    answer_tied (Acked space.Initial now number app_limited) given facts =
-        seen_as (After (Acked space.Initial now number app_limited)) given
-        (answer.Acked false) _ before facts.tells facts.entered tied
-    answer_tied (Acked space.Handshake now number app_limited) given facts =
-        seen_as (After (Acked space.Handshake now number app_limited)) given
+    answer_tied (Acked there now number app_limited) given facts =
+        seen_as (After (Acked there now number app_limited)) given
         (answer.Acked false) _ before facts.tells facts.entered tied
     answer_tied (Lost space.Data number) given facts =
         lost_as beginning history (After (Lost space.Data number)) number given facts
         (λ packet found. lost_tied history before tied number packet.size _)
-    answer_tied (Lost space.Initial number) given facts =
-        seen_as (After (Lost space.Initial number)) given (answer.Lost false) _ before facts.tells facts.entered tied
-    answer_tied (Lost space.Handshake number) given facts =
-        seen_as (After (Lost space.Handshake number)) given (answer.Lost false) _ before facts.tells facts.entered tied
+    answer_tied (Lost there number) given facts =
+        seen_as (After (Lost there number)) given (answer.Lost false) _ before facts.tells facts.entered tied
     answer_tied (LossesDone now) given facts =
         ended_as beginning history (After (LossesDone now)) now given facts (ended_tied history before tied now)
     answer_tied (ResetPath now) given facts = turned (After (ResetPath now) given) facts.entered (refl, refl)
     answer_tied (NewPath now remote true) given facts = turned (After (NewPath now remote true) given) facts.entered
         (refl, refl)
-    answer_tied (NewPath now remote false) given facts = turned
-        (After (NewPath now remote false) given) facts.entered tied
     answer_tied event given facts = turned (After event given) facts.entered tied
 
   -- a refused event is nothing to it
@@ -159,8 +142,6 @@ module _ {F K Q S M P : Type 0} (beginning : Beginning F K Q S M P) where
       → Tied ((event, Err refusal) ∷ history)
   refused_tied history tied (NewPath now remote true) refusal facts =
       subst (TiedTo ((NewPath now remote true, Err refusal) ∷ history)) (sym facts.entered) tied
-  refused_tied history tied (NewPath now remote false) refusal facts =
-      subst (TiedTo ((NewPath now remote false, Err refusal) ∷ history)) (sym facts.entered) tied
   refused_tied history tied event refusal facts = subst (TiedTo ((event, Err refusal) ∷ history))
       (sym facts.entered) tied
 

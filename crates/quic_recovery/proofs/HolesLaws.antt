@@ -143,48 +143,31 @@ module _ {F K Q S M P : Type 0} (beginning : Beginning F K Q S M P) where
         acked_as beginning history (After (Acked space.Data now number app_limited)) now number app_limited given facts
         (λ packet found. acked_tied least history before tied now number packet.size app_limited
         (size_known history sized number packet found))
-    answer_tied (Acked space.Initial now number app_limited) given facts =
-        seen_as (After (Acked space.Initial now number app_limited)) given (answer.Acked false) _ before facts.tells
-        facts.entered tied
-    answer_tied (Acked space.Handshake now number app_limited) given facts =
-        seen_as (After (Acked space.Handshake now number app_limited)) given (answer.Acked false) _ before facts.tells
+    answer_tied (Acked there now number app_limited) given facts =
+        seen_as (After (Acked there now number app_limited)) given (answer.Acked false) _ before facts.tells
         facts.entered tied
     answer_tied (Lost space.Data number) given facts =
         lost_as beginning history (After (Lost space.Data number)) number given facts
         (λ packet found. lost_tied least history before tied number packet.size _
         (size_known history sized number packet found))
-    answer_tied (Lost space.Initial number) given facts =
-        seen_as (After (Lost space.Initial number)) given (answer.Lost false) _ before facts.tells facts.entered tied
-    answer_tied (Lost space.Handshake number) given facts =
-        seen_as (After (Lost space.Handshake number)) given (answer.Lost false) _ before facts.tells facts.entered tied
+    answer_tied (Lost there number) given facts =
+        seen_as (After (Lost there number)) given (answer.Lost false) _ before facts.tells facts.entered tied
     answer_tied (LossesDone now) given facts =
         ended_as beginning history (After (LossesDone now)) now given facts (ended_tied least history before tied now)
     answer_tied (ResetPath now) given facts =
         turned (After (ResetPath now) given) facts.entered (refl, refl, refl, tied.3, (refl, tied.4))
     answer_tied (NewPath now remote true) given facts =
         turned (After (NewPath now remote true) given) facts.entered (refl, refl, refl, refl, tt)
-    answer_tied (NewPath now remote false) given facts =
-        turned (After (NewPath now remote false) given) facts.entered tied
     answer_tied event given facts = turned (After event given) facts.entered tied
 
     refused_tied : (event : Event Q S M P) (refusal : Refusal) → Facts beginning history event (Err refusal)
         → Tied ((event, Err refusal) ∷ history)
     refused_tied (NewPath now remote true) refusal facts =
         subst (TiedTo least ((NewPath now remote true, Err refusal) ∷ history)) (sym facts.entered) tied
-    refused_tied (NewPath now remote false) refusal facts =
-        subst (TiedTo least ((NewPath now remote false, Err refusal) ∷ history)) (sym facts.entered) tied
     refused_tied (Acked space.Data now number app_limited) refusal facts =
         turned (TiedTo least ((Acked space.Data now number app_limited, Err refusal) ∷ history)) facts.entered tied
-    refused_tied (Acked space.Initial now number app_limited) refusal facts =
-        turned (TiedTo least ((Acked space.Initial now number app_limited, Err refusal) ∷ history)) facts.entered tied
-    refused_tied (Acked space.Handshake now number app_limited) refusal facts =
-        turned (TiedTo least ((Acked space.Handshake now number app_limited, Err refusal) ∷ history)) facts.entered tied
     refused_tied (Lost space.Data number) refusal facts =
         turned (TiedTo least ((Lost space.Data number, Err refusal) ∷ history)) facts.entered tied
-    refused_tied (Lost space.Initial number) refusal facts =
-        turned (TiedTo least ((Lost space.Initial number, Err refusal) ∷ history)) facts.entered tied
-    refused_tied (Lost space.Handshake number) refusal facts =
-        turned (TiedTo least ((Lost space.Handshake number, Err refusal) ∷ history)) facts.entered tied
     refused_tied event refusal facts = subst (TiedTo least ((event, Err refusal) ∷ history)) (sym facts.entered) tied
 
   -- ---- what is kept

@@ -117,19 +117,14 @@ module _ {F K Q S M P : Type 0} (beginning : Beginning F K Q S M P) (is : discov
     answer_tied (Acked space.Data now number app_limited) given facts turn =
         acked_as beginning history (Given (Acked space.Data now number app_limited)) now number app_limited given facts
         (λ packet found. acked_tied first least made history so_far tied now number packet.size app_limited)
-    answer_tied (Acked space.Initial now number app_limited) given facts turn =
-        seen_as (Given (Acked space.Initial now number app_limited)) given (answer.Acked false) _ so_far facts.tells
-        facts.entered tied
-    answer_tied (Acked space.Handshake now number app_limited) given facts turn =
-        seen_as (Given (Acked space.Handshake now number app_limited)) given (answer.Acked false) _ so_far facts.tells
+    answer_tied (Acked there now number app_limited) given facts turn =
+        seen_as (Given (Acked there now number app_limited)) given (answer.Acked false) _ so_far facts.tells
         facts.entered tied
     answer_tied (Lost space.Data number) given facts turn =
         lost_as beginning history (Given (Lost space.Data number)) number given facts
         (λ packet found. lost_tied first least made history so_far tied number packet.size _)
-    answer_tied (Lost space.Initial number) given facts turn =
-        seen_as (Given (Lost space.Initial number)) given (answer.Lost false) _ so_far facts.tells facts.entered tied
-    answer_tied (Lost space.Handshake number) given facts turn =
-        seen_as (Given (Lost space.Handshake number)) given (answer.Lost false) _ so_far facts.tells facts.entered tied
+    answer_tied (Lost there number) given facts turn =
+        seen_as (Given (Lost there number)) given (answer.Lost false) _ so_far facts.tells facts.entered tied
     answer_tied (LossesDone now) given facts turn =
         ended_as beginning history (Given (LossesDone now)) now given facts
         (ended_tied first least made history so_far tied now least_is)
@@ -142,16 +137,12 @@ module _ {F K Q S M P : Type 0} (beginning : Beginning F K Q S M P) (is : discov
           fresh_limit limit beginning.config.transport (discovery_settings beginning) is,
           fresh_mtu limit beginning.config.transport (discovery_settings beginning) is,
         )
-    answer_tied (NewPath now remote false) given facts turn =
-        turned (Given (NewPath now remote false) given) facts.entered tied
     answer_tied event given facts turn = turned (Given event given) facts.entered tied
 
     refused_tied : (event : Event Q S M P) (refusal : Refusal) → Facts beginning history event (Err refusal)
         → Then event (Err refusal) (entered_so_far beginning ((event, Err refusal) ∷ history))
     refused_tied (NewPath now remote true) refusal facts =
         turned (Then (NewPath now remote true) (Err refusal)) facts.entered tied
-    refused_tied (NewPath now remote false) refusal facts =
-        turned (Then (NewPath now remote false) (Err refusal)) facts.entered tied
     refused_tied event refusal facts = turned (Then event (Err refusal)) facts.entered tied
 
     pub unsearched_after : (event : Event Q S M P) (reply : Reply Q) → Facts beginning history event reply

@@ -1,6 +1,6 @@
 -- By the history alone a search ends near the best size of an honest link, as its entries say: the clause `near` of
 -- `run`.
-use Rattle.std.proofs.Common.{ℕ, ◌≡◌, ◌+◌, ◌*◌, ◌<◌, ◌≤◌, ◌^◌, ◌==◌, ◌&&◌, ◌||◌, min, max, Bool, true, false, not, if◌then◌else◌, List, [], ◌∷◌, ◌++◌, Option, None, Some, Ok, Err, refl, sym, ap, ap₂, subst, ◌∙◌, is_some, arith}
+use Rattle.std.proofs.Common.{ℕ, ◌≡◌, ◌+◌, ◌*◌, ◌<◌, ◌≤◌, ◌^◌, ◌&&◌, ◌||◌, min, max, Bool, true, false, not, if◌then◌else◌, List, [], ◌∷◌, ◌++◌, Option, None, Some, Ok, Err, refl, sym, ap, ap₂, subst, ◌∙◌, is_some, arith}
 use Rattle.std.specs.Prelude.{All, is_none, option_map, option_to_list, unwrap_or}
 use Rattle.std.specs.Option.{ForSome}
 use Rattle.recovery_base.specs.declared.below.SpaceId.TheVariants as space
@@ -31,6 +31,7 @@ use Rattle.quic_recovery.specs.Told.{Told}
 use Rattle.quic_recovery.proofs.EntryKinds.{plain, plainly_keeps, refused_keeps}
 use Rattle.quic_recovery.proofs.SearchSaid.{EndsNear, LimitsOutside, entered_so_far}
 use Rattle.quic_recovery.proofs.FewLaws as few
+use Rattle.quic_recovery.proofs.FlightLaws.{before_idle}
 use Rattle.quic_recovery.proofs.HolesLaws as holes
 use Rattle.quic_recovery.proofs.MadeLaws.{is_made, made_after, made_in}
 use Rattle.quic_recovery.proofs.SearchLaws.{ends, limits}
@@ -69,10 +70,6 @@ limit_known beginning (happened ∷ earlier) =
 
 -- ---- the entries of the search that runs
 
-and_both : (a b : Bool) → (a && b) ≡ true → (a ≡ true) × (b ≡ true)
-and_both true b is = (refl, is)
-and_both false b is = cc
-
 is_none_not : {A : Type 0} (o : Option A) → not (is_some o) ≡ is_none o
 is_none_not None = refl
 is_none_not (Some a) = refl
@@ -85,29 +82,7 @@ idle (entry ∷ earlier) is = ap (λ b. if b then entry ∷ search_of earlier el
 -- one runs exactly where it probed some
 runs_by_sizes : (entries : List MtuEntry) → are_some (probed_sizes (search_of entries)) ≡ search_runs entries
 runs_by_sizes [] = refl
-runs_by_sizes (entry ∷ earlier) = go entry (runs_by_sizes earlier)
-  where
-    on : (entry : MtuEntry) (runs : Bool) → (runs ≡ true → search_runs earlier ≡ true)
-        → (are_some (probed_sizes (search_of earlier)) ≡ search_runs earlier)
-        → probed_sizes (entry ∷ search_of earlier) ≡ probed_sizes (search_of earlier)
-        → are_some (probed_sizes (if runs then entry ∷ search_of earlier else [])) ≡ runs
-    on entry true before same none = ap are_some none ∙ same ∙ before refl
-    on entry false before same none = refl
-
-    go : (entry : MtuEntry) → (are_some (probed_sizes (search_of earlier)) ≡ search_runs earlier)
-        → are_some (probed_sizes (search_of (entry ∷ earlier))) ≡ search_runs (entry ∷ earlier)
-    go (probed_entry now number size) so_far = refl
-    go (unprobed now) so_far =
-        on (unprobed now) (search_runs (unprobed now ∷ earlier))
-        (λ is. (and_both (not (is_none (probe_in_flight earlier))) (search_runs earlier) is).1)
-        so_far refl
-    go (limited limit) so_far = on (limited limit) (search_runs earlier) (λ is. is) so_far refl
-    go (acked number bytes) so_far = on (acked number bytes) (search_runs earlier) (λ is. is) so_far refl
-    go probe_lost so_far = on probe_lost (search_runs earlier) (λ is. is) so_far refl
-    go (lost number bytes) so_far = on (lost number bytes) (search_runs earlier) (λ is. is) so_far refl
-    go losses_over so_far = on losses_over (search_runs earlier) (λ is. is) so_far refl
-    go (reported now) so_far = refl
-    go (reset mtu min_mtu) so_far = refl
+runs_by_sizes (entry ∷ earlier) = grind (arith, runs_by_sizes earlier)
 
 -- one runs while a probe is in flight
 flying_before : (number : ℕ) (flight : Option MtuProbe) → is_some (unless_number number flight) ≡ true
@@ -117,78 +92,28 @@ flying_before number (Some probe) is = refl
 
 runs_in_flight : (entries : List MtuEntry) → is_some (probe_in_flight entries) ≡ true → search_runs entries ≡ true
 runs_in_flight [] is = absurd (cc)
-runs_in_flight (probed_entry now number size ∷ earlier) is = refl
-runs_in_flight (unprobed now ∷ earlier) is =
-    ap (λ (none : Bool). not none && search_runs earlier) (sym (is_none_not (probe_in_flight earlier)) ∙ ap not is)
-    ∙ runs_in_flight earlier is
-runs_in_flight (limited limit ∷ earlier) is = runs_in_flight earlier is
 runs_in_flight (acked number bytes ∷ earlier) is = runs_in_flight earlier
     (flying_before number (probe_in_flight earlier) is)
-runs_in_flight (probe_lost ∷ earlier) is = absurd (cc)
-runs_in_flight (lost number bytes ∷ earlier) is = runs_in_flight earlier is
-runs_in_flight (losses_over ∷ earlier) is = runs_in_flight earlier is
-runs_in_flight (reported now ∷ earlier) is = absurd (cc)
-runs_in_flight (reset mtu min_mtu ∷ earlier) is = absurd (cc)
+runs_in_flight (entry ∷ earlier) is = grind (arith, runs_in_flight earlier, is_none_not (probe_in_flight earlier))
 
 -- its entries have the probe in flight
 probe_in_search : (entries : List MtuEntry) → search_runs entries ≡ true
     → probe_in_flight (search_of entries) ≡ probe_in_flight entries
 probe_in_search [] runs = refl
-probe_in_search (entry ∷ earlier) runs =
-    ap (λ b. probe_in_flight (if b then entry ∷ search_of earlier else [])) runs
-    ∙ go entry runs (probe_in_search earlier)
-  where
-    go : (entry : MtuEntry) → search_runs (entry ∷ earlier) ≡ true
-        → (search_runs earlier ≡ true → probe_in_flight (search_of earlier) ≡ probe_in_flight earlier)
-        → probe_in_flight (entry ∷ search_of earlier) ≡ probe_in_flight (entry ∷ earlier)
-    go (probed_entry now number size) runs same = refl
-    go (unprobed now) runs same = same (and_both _ _ runs).1
-    go (limited limit) runs same = same runs
-    go (acked number bytes) runs same = ap (unless_number number) (same runs)
-    go probe_lost runs same = refl
-    go (lost number bytes) runs same = same runs
-    go losses_over runs same = same runs
-    go (reported now) runs same = refl
-    go (reset mtu min_mtu) runs same = refl
+probe_in_search (entry ∷ earlier) runs = grind (arith, probe_in_search earlier)
 
 -- what was before a search stays so while it runs
 before_kept : (entry : MtuEntry) (entries : List MtuEntry) → search_runs (entry ∷ entries) ≡ true
     → before_search (entry ∷ entries) ≡ before_search entries
 before_kept entry entries is = ap (λ b. if b then before_search entries else entry ∷ entries) is
 
-before_idle : (entries : List MtuEntry) → search_runs entries ≡ false → before_search entries ≡ entries
-before_idle [] is = refl
-before_idle (entry ∷ earlier) is = ap (λ b. if b then before_search earlier else entry ∷ earlier) is
-
 -- the limit was the same as it began
 limit_before : (made : Discovery) (entries : List MtuEntry) → AreLimitsOutside entries
     → limit_in_use made (before_search entries) ≡ limit_in_use made entries
 limit_before made [] outside = refl
-limit_before made (entry ∷ earlier) outside = go (search_runs (entry ∷ earlier)) refl (limit_before made earlier)
-  where
-    on : (entry : MtuEntry) → AreLimitsOutside (entry ∷ earlier) → search_runs (entry ∷ earlier) ≡ true
-        → (AreLimitsOutside earlier → limit_in_use made (before_search earlier) ≡ limit_in_use made earlier)
-        → limit_in_use made (before_search earlier) ≡ limit_in_use made (entry ∷ earlier)
-    on (probed_entry now number size) out is same = same out
-    on (unprobed now) out is same = same out
-    on (limited limit) out is same = let idle_then : search_runs earlier ≡ false = out.0 in absurd (cc)
-    on (acked number bytes) out is same = same out
-    on probe_lost out is same = same out
-    on (lost number bytes) out is same = same out
-    on losses_over out is same = same out
-    on (reported now) out is same = absurd (cc)
-    on (reset mtu min_mtu) out is same = absurd (cc)
-
-    go : (b : Bool) → search_runs (entry ∷ earlier) ≡ b
-        → (AreLimitsOutside earlier → limit_in_use made (before_search earlier) ≡ limit_in_use made earlier)
-        → limit_in_use made (before_search (entry ∷ earlier)) ≡ limit_in_use made (entry ∷ earlier)
-    go true is same = ap (limit_in_use made) (before_kept entry earlier is) ∙ on entry outside is same
-    go false is same = ap (limit_in_use made) (before_idle (entry ∷ earlier) is)
+limit_before made (entry ∷ earlier) outside = grind (arith, limit_before made earlier)
 
 -- ---- the probe in flight
-
-some_same : {A : Type 0} {a b : A} → Some a ≡ Some b → a ≡ b
-some_same e = cc
 
 -- its size is that of the last one
 abbrev LastOf : ℕ → Option MtuProbe → Type 0
@@ -198,26 +123,18 @@ LastOf size (Some probe) = size ≡ probe.size
 last_unless : (size number : ℕ) (flight : Option MtuProbe) → LastOf size flight
     → LastOf size (unless_number number flight)
 last_unless size number None last = last
-last_unless size number (Some probe) last = go (number == probe.number)
-  where
-    go : (own : Bool) → LastOf size (if own then None else Some probe)
-    go true = tt
-    go false = last
+last_unless size number (Some probe) last = grind arith
 
 -- where a number is that of the probe in flight
 flying_size : (number : ℕ) (flight : Option MtuProbe) (found : ℕ) → size_at number flight ≡ Some found
     → option_map (λ probe. probe.size) flight ≡ Some found
 flying_size number None found is = absurd (cc)
-flying_size number (Some probe) found is = go (number == probe.number) is
-  where
-    go : (own : Bool) → (if own then Some probe.size else None) ≡ Some found → Some probe.size ≡ Some found
-    go true is = is
-    go false is = absurd (cc)
+flying_size number (Some probe) found is = grind arith
 
 last_found : (size : ℕ) (flight : Option MtuProbe) (found : ℕ) → LastOf size flight
     → option_map (λ probe. probe.size) flight ≡ Some found → size ≡ found
 last_found size None found last is = absurd (cc)
-last_found size (Some probe) found last is = last ∙ some_same is
+last_found size (Some probe) found last is = grind arith
 
 flies : (flight : Option MtuProbe) (found : ℕ) → option_map (λ probe. probe.size) flight ≡ Some found
     → is_some flight ≡ true
@@ -228,11 +145,7 @@ module _ (entries : List MtuEntry) where
   -- a number that is not that of the probe in flight is none in the search
   none_in_search : (number : ℕ) → size_at number (probe_in_flight entries) ≡ None
       → size_at number (probe_in_flight (search_of entries)) ≡ None
-  none_in_search number is = go (search_runs entries) refl
-    where
-      go : (runs : Bool) → search_runs entries ≡ runs → size_at number (probe_in_flight (search_of entries)) ≡ None
-      go true runs = ap (size_at number) (probe_in_search entries runs) ∙ is
-      go false runs = ap (λ es. size_at number (probe_in_flight es)) (idle entries runs)
+  none_in_search number is = grind (arith, probe_in_search entries, idle entries)
 
   -- ---- sizes of the probes of the search that runs, by a history
 
@@ -242,15 +155,11 @@ module _ (entries : List MtuEntry) where
     list_kept : (entry : MtuEntry) → sizes (entry ∷ search_of entries) ≡ sizes (search_of entries) → (r s : Bool)
         → r ≡ s
         → (if r then old else []) ≡ sizes (if s then entry ∷ search_of entries else [])
-    list_kept entry same true true e = is ∙ sym same
-    list_kept entry same false false e = sym none
-    list_kept entry same true false e = absurd (cc)
-    list_kept entry same false true e = absurd (cc)
+    list_kept entry same r s e = grind arith
 
     -- by none
     list_still : (r : Bool) → r ≡ search_runs entries → (if r then old else []) ≡ sizes (search_of entries)
-    list_still true e = is
-    list_still false e = sym none ∙ ap sizes (sym (idle entries (sym e)))
+    list_still r e = grind (arith, idle entries)
 
 -- ---- what is read off the history is what the entries say
 
@@ -548,26 +457,18 @@ module _ {F K Q S M P : Type 0} (beginning : Beginning F K Q S M P) (settings : 
         (λ packet found.
         acked_tied first least settings made history so_far before tied now number packet.size app_limited
         (size_at number (probe_in_flight so_far)) refl)
-    answer_tied (Acked space.Initial now number app_limited) given known outside =
-        seen_as (Given (Acked space.Initial now number app_limited)) given
+    answer_tied (Acked there now number app_limited) given known outside =
+        seen_as (Given (Acked there now number app_limited)) given
         (answer.Acked false) _ so_far known.tells known.entered
-        (nothing (Acked space.Initial now number app_limited, Ok (answer.Acked false))
-        (refl, refl, refl, refl, refl, refl))
-    answer_tied (Acked space.Handshake now number app_limited) given known outside =
-        seen_as (Given (Acked space.Handshake now number app_limited)) given
-        (answer.Acked false) _ so_far known.tells known.entered
-        (nothing (Acked space.Handshake now number app_limited, Ok (answer.Acked false))
+        (nothing (Acked there now number app_limited, Ok (answer.Acked false))
         (refl, refl, refl, refl, refl, refl))
     answer_tied (Lost space.Data number) given known outside =
         lost_as beginning history (Given (Lost space.Data number)) number given known
         (λ packet found. lost_tied first least settings made history so_far before tied number packet.size
         (size_at number (probe_in_flight so_far)) refl)
-    answer_tied (Lost space.Initial number) given known outside =
-        seen_as (Given (Lost space.Initial number)) given (answer.Lost false) _ so_far known.tells known.entered
-        (nothing (Lost space.Initial number, Ok (answer.Lost false)) (refl, refl, refl, refl, refl, refl))
-    answer_tied (Lost space.Handshake number) given known outside =
-        seen_as (Given (Lost space.Handshake number)) given (answer.Lost false) _ so_far known.tells known.entered
-        (nothing (Lost space.Handshake number, Ok (answer.Lost false)) (refl, refl, refl, refl, refl, refl))
+    answer_tied (Lost there number) given known outside =
+        seen_as (Given (Lost there number)) given (answer.Lost false) _ so_far known.tells known.entered
+        (nothing (Lost there number, Ok (answer.Lost false)) (refl, refl, refl, refl, refl, refl))
     answer_tied (LossesDone now) given known outside =
         ended_as beginning history (Given (LossesDone now)) now given known
         (ended_tied first least settings made history so_far before tied now least_is)
@@ -591,9 +492,6 @@ module _ {F K Q S M P : Type 0} (beginning : Beginning F K Q S M P) (settings : 
           ),
           λ runs_then. absurd (cc),
         ))
-    answer_tied (NewPath now remote false) given known outside =
-        turned (Given (NewPath now remote false) given) known.entered
-        (nothing (NewPath now remote false, Ok given) (refl, refl, refl, refl, refl, refl))
     answer_tied event given known outside = turned (Given event given) known.entered
         (nothing (event, Ok given) (refl, refl, refl, refl, refl, refl))
 
@@ -602,9 +500,6 @@ module _ {F K Q S M P : Type 0} (beginning : Beginning F K Q S M P) (settings : 
     refused_tied (NewPath now remote true) refusal known =
         turned (Then (NewPath now remote true) (Err refusal)) known.entered
         (nothing (NewPath now remote true, Err refusal) (refl, refl, refl, refl, refl, refl))
-    refused_tied (NewPath now remote false) refusal known =
-        turned (Then (NewPath now remote false) (Err refusal)) known.entered
-        (nothing (NewPath now remote false, Err refusal) (refl, refl, refl, refl, refl, refl))
     refused_tied event refusal known = turned (Then event (Err refusal)) known.entered
         (nothing (event, Err refusal) (refl, refl, refl, refl, refl, refl))
 
@@ -683,7 +578,7 @@ module _ {F K Q S M P : Type 0} (beginning : Beginning F K Q S M P) (settings : 
   same_upper bound mtu most = omega arith
 
   -- the upper bound as the search began
-  upper_is : (history : History Q S M P) → Searched history
+  pub upper_is : (history : History Q S M P) → Searched history
       → start_upper (made_in beginning history) settings (entered_so_far beginning history)
       ≡ min (max settings.upper_bound (start first least history)) (limit_or_greatest (limit history))
   upper_is history searched =

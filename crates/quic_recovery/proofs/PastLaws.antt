@@ -24,6 +24,7 @@ use Rattle.quic_recovery.specs.Promises.Near.{EndsNearBy}
 use Rattle.quic_recovery.specs.Promises.PeerIds.{AcceptsIds}
 use Rattle.quic_recovery.specs.Promises.Refused.{RefusesRightly}
 use Rattle.quic_recovery.specs.Promises.Rising.{GivesRising}
+use Rattle.quic_recovery.specs.Promises.Sizes.{ProbesWithin}
 use Rattle.quic_recovery.specs.Promises.Threefold.{KeepsThreefold}
 use Rattle.quic_recovery.specs.Promises.Turns.{SearchesInTurn}
 use Rattle.quic_recovery.specs.Told.{Told}
@@ -44,6 +45,7 @@ use Rattle.quic_recovery.proofs.PacingLaws.{delayed, rate, soon, named}
 use Rattle.quic_recovery.proofs.PeerIdsLaws.{accepts_ids}
 use Rattle.quic_recovery.proofs.RefusedLaws.{refuses_rightly}
 use Rattle.quic_recovery.proofs.Runs.{history_from-push, throughout_push}
+use Rattle.quic_recovery.proofs.SizesLaws.{sizes_told}
 use Rattle.quic_recovery.proofs.ThreefoldLaws.{sends_threefold}
 use Rattle.quic_recovery.proofs.TimeoutsLaws.{timers_told}
 use Rattle.quic_recovery.proofs.ToldLaws.{told_by_logs}
@@ -101,6 +103,7 @@ module _ {F K Q S M P : Type 0} (beginning : Beginning F K Q S M P) where
           named = last (PassesWhenNamed beginning) (named beginning events replies all);
           mtu = last (UsesMtu beginning) (mtu_told beginning came.small events replies all);
           turns = last (SearchesInTurn beginning) (turns_told beginning came.small events replies all);
+          sizes = last (ProbesWithin beginning) (sizes_told beginning came.small events replies all);
           few = last (ProbesFew beginning) (few_told beginning came.small events replies all);
           near = last (EndsNearBy beginning) (near_told beginning came.small events replies all);
           holes = last (ReportsAtFour beginning.config.transport.min_mtu) (holes_told beginning events replies all);

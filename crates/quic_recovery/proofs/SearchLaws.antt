@@ -1,5 +1,5 @@
 -- Searches for the MTU take few probes and end near the best size, throughout a run. The promises on searches by events
--- alone (`FewLaws`, `NearLaws`, `TurnsLaws`, `MtuLaws`) rest on it.
+-- alone (`FewLaws`, `NearLaws`, `TurnsLaws`, `MtuLaws`, `SizesLaws`) rest on it.
 use Rattle.std.proofs.Common.{ℕ, ◌≡◌, ◌<◌, ◌^◌, Bool, true, false, ◌&&◌, if◌then◌else◌, List, [], ◌∷◌, Option, None, Some, Ok, Err, refl, sym, ap, subst, ◌∙◌}
 use Rattle.std.specs.Prelude.{IsSomeAnd}
 use Rattle.std.specs.Option.{ForSome}
@@ -94,17 +94,17 @@ module _ {F K Q S M P : Type 0} (beginning : Beginning F K Q S M P) where
   fresh_is limit = first_searched beginning.config.allow_mtud limit beginning.config.transport
 
   -- so is the first one
-  first_is : OnEachPath IsSearched (pasts_by (settings_of beginning) (first_path beginning) [])
+  pub first_is : OnEachPath IsSearched (pasts_by (settings_of beginning) (first_path beginning) [])
   first_is = searched_at_first (settings_of beginning) (discovery_settings beginning) fresh_is (first_path beginning)
       (fresh_is None)
 
 module _ {F K Q S M P : Type 0} (beginning : Beginning F K Q S M P) where
   -- each path that lives is
-  abbrev AreSearched : History Q S M P → Type 0
+  abbrev pub AreSearched : History Q S M P → Type 0
   AreSearched history = OnEachPath (IsSearched beginning) (pasts_of beginning history)
 
   -- an event keeps that
-  searched_one : (before : History Q S M P) (event : Event Q S M P) (reply : Reply Q)
+  pub searched_one : (before : History Q S M P) (event : Event Q S M P) (reply : Reply Q)
       → Told beginning before event reply → AreSearched before → AreSearched ((event, reply) ∷ before)
   searched_one before event reply told searched =
       let logs = logs_of beginning before in

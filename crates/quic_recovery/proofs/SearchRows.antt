@@ -2,8 +2,11 @@
 -- and with a wrong one it does not. Nothing rests on them.
 use Rattle.std.proofs.Common.{◌≡◌, ℕ, ◌<◌, ◌≤◌, zero, suc, true, false, [], ◌∷◌, None, Some, Ok, Err, refl, arith}
 use Rattle.std.specs.Prelude.{All}
+use Rattle.std.specs.declared.net.socket_addr.SocketAddr.{SocketAddr}
+use Rattle.rand_core.specs.Stream.{Stream}
 use Rattle.recovery_base.specs.declared.below.SpaceId.TheVariants.{Data, Handshake}
 use Rattle.recovery_mtud.specs.declared.config.MtuDiscoveryConfig.{MtuDiscoveryConfig}
+use Rattle.recovery_skips.specs.declared.filter.Skips.TheVariants.{Disabled}
 use Rattle.recovery_events.specs.declared.event.Event.{Event}
 use Rattle.recovery_events.specs.declared.event.Event.TheVariants as event
 use Rattle.recovery_events.specs.declared.event.Answer.TheVariants as answer
@@ -15,8 +18,10 @@ use Rattle.quic_recovery.specs.Promises.Holes.{ReportsAtFour}
 use Rattle.quic_recovery.specs.Promises.Mtu.{mtu}
 use Rattle.quic_recovery.specs.Promises.Near.{IsNear, next, start}
 use Rattle.quic_recovery.specs.Promises.Probes.{acked_probes, lost_probes}
+use Rattle.quic_recovery.specs.Promises.Sizes.{ProbesWithin}
 use Rattle.quic_recovery.specs.Promises.Turns.{SearchesInTurn}
 use Rattle.quic_recovery.specs.Search.{discovery_settings}
+use Rattle.quic_recovery.proofs.RowStart.{RowHistory, row_start}
 
 -- ---- too many probes, and too many sizes
 
@@ -96,6 +101,43 @@ module _ (Q S M P : Type 0) where
 
   cooled : next by ((event.LossesDone 7, Ok (answer.BlackHole true)) ∷ ended) ≡ Some 67
   cooled = refl
+
+-- ---- the size of a probe: from 1200, by steps of 20 up to 1452
+
+module _ (remote : SocketAddr) (random : Stream) where
+  abbrev Fits : RowHistory → ℕ → Type 0
+  Fits history size =
+      ProbesWithin (row_start remote random 8 Disabled) history (event.PollMtu 9) (Ok (answer.Probe 9 size))
+
+  up_to_the_bound : Fits [] 1452
+  up_to_the_bound = (omega arith, omega arith, λ settings is wide. grind arith)
+
+  above_the_bound : ¬ Fits [] 1453
+  above_the_bound = λ fits. let within = fits.1 in omega (arith, within)
+
+  -- the peer takes 1400
+  abbrev told : RowHistory
+  told = (event.PeerLimit 1400, Ok answer.Done) ∷ []
+
+  up_to_the_limit : Fits told 1400
+  up_to_the_limit = (omega arith, omega arith, λ settings is wide. grind arith)
+
+  above_the_limit : ¬ Fits told 1401
+  above_the_limit = λ fits. let within = fits.0 in omega (arith, within)
+
+  -- a limit that is refused is none
+  refused_limit_is_none : Fits ((event.PeerLimit 1400, Err refusal.Searching) ∷ []) 1401
+  refused_limit_is_none = (omega arith, omega arith, λ settings is wide. grind arith)
+
+  -- 1326 got through
+  abbrev through : RowHistory
+  through = (event.Acked Data 1 0 false, Ok (answer.Acked true)) ∷ (event.PollMtu 0, Ok (answer.Probe 0 1326)) ∷ []
+
+  above_what_is_in_use : Fits through 1327
+  above_what_is_in_use = (omega arith, omega arith, λ settings is wide. grind arith)
+
+  what_is_in_use : ¬ Fits through 1326
+  what_is_in_use = λ fits. let above = (fits.2 _ refl (omega arith)).0 in omega (arith, above)
 
 -- ---- in turn: a probe is in flight as packet 7
 

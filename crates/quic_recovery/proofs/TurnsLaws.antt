@@ -1,7 +1,8 @@
 -- By the history alone the search for the MTU goes on in turn, as its entries say: the clause `turns` of `run`.
-use Rattle.std.proofs.Common.{ℕ, ◌≡◌, ◌<◌, ◌^◌, ◌==◌, ◌&&◌, ◌||◌, Bool, true, false, if◌then◌else◌, List, [], ◌∷◌, Option, None, Some, Ok, Err, refl, sym, ap, ap₂, ◌∙◌, is_some, eqb-true}
+use Rattle.std.proofs.Common.{ℕ, ◌≡◌, ◌<◌, ◌^◌, ◌==◌, ◌&&◌, ◌||◌, Bool, true, false, if◌then◌else◌, List, [], ◌∷◌, Option, None, Some, Ok, Err, refl, sym, ap, ap₂, ◌∙◌, is_some, arith}
 use Rattle.std.specs.Prelude.{IsSomeAnd}
 use Rattle.std.specs.Option.{ForSome}
+use Rattle.std.proofs.lemmas.Bool.Decides.{nat_tests}
 use Rattle.recovery_base.specs.declared.below.SpaceId.{SpaceId}
 use Rattle.recovery_base.specs.declared.below.SpaceId.TheVariants as space
 use Rattle.recovery_mtud.specs.declared.config.MtuDiscoveryConfig.{MtuDiscoveryConfig}
@@ -34,21 +35,13 @@ IsLast number (Some probe) = number ≡ probe.number
 last_unless : (last number : ℕ) (flight : Option MtuProbe) → IsLast last flight
     → IsLast last (unless_number number flight)
 last_unless last number None is = tt
-last_unless last number (Some probe) is = go (number == probe.number)
-  where
-    go : (own : Bool) → IsLast last (if own then None else Some probe)
-    go true = tt
-    go false = is
+last_unless last number (Some probe) is = grind arith
 
 -- a number is that of the probe in flight where one is and it is the last one
 size_is : (last number : ℕ) (flight : Option MtuProbe) → IsLast last flight
     → is_some (size_at number flight) ≡ (is_some flight && number == last)
 size_is last number None is = refl
-size_is last number (Some probe) is = go (number == probe.number) ∙ sym (ap (λ n. number == n) is)
-  where
-    go : (own : Bool) → is_some (if own then Some probe.size else None) ≡ own
-    go true = refl
-    go false = refl
+size_is last number (Some probe) is = grind arith
 
 -- ---- a limit of the peer
 
@@ -56,26 +49,17 @@ module _ {Q : Type 0} where
   abbrev limit_reply : Bool → Bool → Reply Q
   limit_reply zero runs = if zero then Err ZeroMtu else if runs then Err Searching else Ok answer.Done
 
-  above_none : (size : ℕ) (runs : Bool) → ¬ (size ≡ 0) → limit_reply (size == 0) runs ≡ limit_reply false runs
-  above_none size runs some = go (size == 0) refl
-    where
-      go : (zero : Bool) → (size == 0) ≡ zero → limit_reply zero runs ≡ limit_reply false runs
-      go true is = absurd (some (eqb-true size 0 is))
-      go false is = refl
-
   limit_taken : (size : ℕ) (runs : Bool) (given : Answer Q) → ¬ (size ≡ 0) → runs ≡ false → given ≡ answer.Done
       → Ok given ≡ limit_reply (size == 0) runs
-  limit_taken size runs given some quiet done =
-      ap (λ (a : Answer Q). let reply : Reply Q = Ok a in reply) done ∙ sym (above_none size runs some ∙ ap (limit_reply
-      false) quiet)
+  limit_taken size runs given some quiet done = grind (arith, nat_tests)
 
   limit_late : (size : ℕ) (runs : Bool) → ¬ (size ≡ 0) → runs ≡ true → (let reply : Reply Q = Err Searching in reply)
       ≡ limit_reply (size == 0) runs
-  limit_late size runs some busy = sym (above_none size runs some ∙ ap (limit_reply false) busy)
+  limit_late size runs some busy = grind (arith, nat_tests)
 
   limit_of_none : (size : ℕ) (runs : Bool) → size ≡ 0 → (let reply : Reply Q = Err ZeroMtu in reply)
       ≡ limit_reply (size == 0) runs
-  limit_of_none size runs none = sym (ap (λ n. limit_reply (n == 0) runs) none)
+  limit_of_none size runs none = grind (arith, nat_tests)
 
 module _ {F K Q S M P : Type 0} (beginning : Beginning F K Q S M P) where
   abbrev Numbered : History Q S M P → List MtuEntry → Type 0
@@ -117,26 +101,17 @@ module _ {F K Q S M P : Type 0} (beginning : Beginning F K Q S M P) where
     answer_numbered (ResetPath now) given facts = turned (After (ResetPath now) given) facts.entered tt
     answer_numbered (NewPath now remote true) given facts =
         turned (After (NewPath now remote true) given) facts.entered tt
-    answer_numbered (NewPath now remote false) given facts =
-        turned (After (NewPath now remote false) given) facts.entered numbered
-    answer_numbered (Acked space.Initial now number app_limited) given facts =
-        seen_as (After (Acked space.Initial now number app_limited)) given (answer.Acked false) _ _ facts.tells
+    answer_numbered (Acked there now number app_limited) given facts =
+        seen_as (After (Acked there now number app_limited)) given (answer.Acked false) _ _ facts.tells
         facts.entered numbered
-    answer_numbered (Acked space.Handshake now number app_limited) given facts =
-        seen_as (After (Acked space.Handshake now number app_limited)) given (answer.Acked false) _ _ facts.tells
-        facts.entered numbered
-    answer_numbered (Lost space.Initial number) given facts =
-        seen_as (After (Lost space.Initial number)) given (answer.Lost false) _ _ facts.tells facts.entered numbered
-    answer_numbered (Lost space.Handshake number) given facts =
-        seen_as (After (Lost space.Handshake number)) given (answer.Lost false) _ _ facts.tells facts.entered numbered
+    answer_numbered (Lost there number) given facts =
+        seen_as (After (Lost there number)) given (answer.Lost false) _ _ facts.tells facts.entered numbered
     answer_numbered event given facts = turned (After event given) facts.entered numbered
 
     refused_numbered : (event : Event Q S M P) (refusal : Refusal) → Facts beginning history event (Err refusal)
         → IsNumbered ((event, Err refusal) ∷ history)
     refused_numbered (NewPath now remote true) refusal facts =
         turned (Numbered ((NewPath now remote true, Err refusal) ∷ history)) facts.entered numbered
-    refused_numbered (NewPath now remote false) refusal facts =
-        turned (Numbered ((NewPath now remote false, Err refusal) ∷ history)) facts.entered numbered
     refused_numbered event refusal facts = turned (Numbered ((event, Err refusal) ∷ history)) facts.entered numbered
 
     reply_numbered : (event : Event Q S M P) (reply : Reply Q) → Facts beginning history event reply

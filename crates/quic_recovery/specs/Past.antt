@@ -25,6 +25,7 @@ use Rattle.quic_recovery.specs.Promises.OwnIds.{IssuesIds}
 use Rattle.quic_recovery.specs.Promises.PeerIds.{AcceptsIds}
 use Rattle.quic_recovery.specs.Promises.Refused.{RefusesRightly}
 use Rattle.quic_recovery.specs.Promises.Rising.{GivesRising}
+use Rattle.quic_recovery.specs.Promises.Sizes.{ProbesWithin}
 use Rattle.quic_recovery.specs.Promises.Threefold.{KeepsThreefold}
 use Rattle.quic_recovery.specs.Promises.Timeouts.{TellsTimers}
 use Rattle.quic_recovery.specs.Promises.Turns.{SearchesInTurn}
@@ -74,6 +75,7 @@ module _ {F K Q S M P : Type 0} (beginning : Beginning F K Q S M P) where
     pub named : PassesWhenNamed beginning before event reply
     pub mtu : UsesMtu beginning before event reply
     pub turns : SearchesInTurn beginning before event reply
+    pub sizes : ProbesWithin beginning before event reply
     pub few : ProbesFew beginning before event reply
     pub near : EndsNearBy beginning before event reply
     pub holes : ReportsAtFour beginning.config.transport.min_mtu before event reply

@@ -23,6 +23,7 @@ pub mod PeerIds
 pub mod Probes
 pub mod Refused
 pub mod Rising
+pub mod Sizes
 pub mod Threefold
 pub mod Timeouts
 pub mod Tracked

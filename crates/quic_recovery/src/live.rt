@@ -1,5 +1,5 @@
 //! The recovery of a connection that lives: its events come one at a time, and each finds the past behind it.
-ghost use Rattle.std.specs.Prelude.{◌≡◌, ◌≤◌, ◌^◌, IfOk};
+ghost use Rattle.std.specs.Prelude.{◌≡◌, ◌<◌, ◌≤◌, ◌^◌, IfOk, OnErr};
 ghost use Rattle.recovery_skips.specs.Skips.{IsSkips};
 ghost use Rattle.recovery_paths.specs.PathLog.{paths_marks};
 ghost use Rattle.quic_recovery.specs.Above.{AreFresh, marks_at, with_marks_at};
@@ -48,6 +48,7 @@ where
         requires skips { IsSkips config.skips }
         ensures came { IfOk result (λ live. Came (begun live.recovery config now rng) no_past (parts_of live.recovery)) }
         ensures marks { IfOk result (λ live. AreFresh (paths_marks (parts_of live.recovery).paths)) }
+        ensures memory { OnErr result (0 < config.issued) }
     {
         let recovery = Recovery::new(alloc, config, rng, now)?;
         Ok(LiveRecovery { recovery })

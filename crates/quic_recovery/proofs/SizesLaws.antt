@@ -1,0 +1,102 @@
+-- By the history alone the size of a probe lies within the bounds of its search, as its entries say: the clause `sizes`
+-- of `run`.
+use Rattle.std.proofs.Common.{ℕ, ◌≡◌, ◌<◌, ◌≤◌, ◌^◌, min, max, List, [], ◌∷◌, Option, None, Some, Ok, arith, refl, sym, ap, subst, ◌∙◌, is_some}
+use Rattle.std.specs.Prelude.{IsSomeAnd}
+use Rattle.std.specs.Option.{ForSome}
+use Rattle.recovery_config.specs.Settings.{initial_mtu_of}
+use Rattle.recovery_mtud.specs.declared.config.MtuDiscoveryConfig.{MtuDiscoveryConfig}
+use Rattle.recovery_mtud.specs.Discovery.{Discovery, limit_or_greatest}
+use Rattle.recovery_mtud.specs.MtuEntries.{probed, mtu_in_use as by_entries}
+use Rattle.recovery_mtud.specs.SearchRuns.{ProbesInSearch, start_upper}
+use Rattle.recovery_events.specs.declared.event.Event.{Event}
+use Rattle.recovery_events.specs.declared.event.Event.TheVariants.{PollMtu}
+use Rattle.recovery_events.specs.declared.event.Answer.TheVariants as answer
+use Rattle.quic_recovery.specs.Entries.{pasts_of}
+use Rattle.quic_recovery.specs.History.{Beginning, History, Reply, Throughout}
+use Rattle.quic_recovery.specs.Promises.Mtu.{limit, mtu, mtu_in_use}
+use Rattle.quic_recovery.specs.Promises.Near.{start}
+use Rattle.quic_recovery.specs.Promises.Sizes.{ProbesWithin}
+use Rattle.quic_recovery.specs.Search.{discovery_settings}
+use Rattle.quic_recovery.specs.Told.{Told}
+use Rattle.quic_recovery.proofs.FlightLaws.{IsFlightWithin, flight_within}
+use Rattle.quic_recovery.proofs.MadeLaws.{is_made, made_in}
+use Rattle.quic_recovery.proofs.NearLaws.{IsKnownOf, Kept, kept_after, kept_first, known_of, upper_is}
+use Rattle.quic_recovery.proofs.SearchLaws.{AreSearched, first_is, probes, searched_one}
+use Rattle.quic_recovery.proofs.SearchSaid.{ProbesInTurn, entered_so_far}
+use Rattle.quic_recovery.proofs.SearchSteps.{Facts, throughout_both, throughout_by}
+
+below_both : (size upper bound most : ℕ) → size ≤ upper → upper ≡ min bound most → (size ≤ most) × (size ≤ bound)
+below_both size upper bound most below is = (omega arith, omega arith)
+
+module _ {F K Q S M P : Type 0} (beginning : Beginning F K Q S M P) where
+  abbrev first : ℕ
+  first = initial_mtu_of beginning.config.transport
+
+  abbrev least : ℕ
+  least = beginning.config.transport.min_mtu
+
+  module _ (history : History Q S M P) (now number size : ℕ) (kept : Kept beginning history)
+      (after : AreSearched beginning ((PollMtu now, Ok (answer.Probe number size)) ∷ history))
+      (known : Facts beginning history (PollMtu now) (Ok (answer.Probe number size))) where
+    -- the probe that goes out is the one in flight
+    between : (settings : MtuDiscoveryConfig) → discovery_settings beginning ≡ Some settings
+        → (size ≤ start_upper (made_in beginning history) settings (entered_so_far beginning history))
+        × (3 ≤ settings.minimum_change
+        → (by_entries (made_in beginning history) (entered_so_far beginning history) < size)
+        × (size ≤ settings.upper_bound))
+    between settings is =
+        let past = (pasts_of beginning ((PollMtu now, Ok (answer.Probe number size)) ∷ history)).current in
+        subst (λ (made : Discovery). IsFlightWithin made settings
+        (probed now number size ∷ entered_so_far beginning history))
+        (is_made beginning history (PollMtu now) (Ok (answer.Probe number size)))
+        (subst (IsFlightWithin past.making.discovery settings) known.entered
+        (flight_within past.making.discovery settings after.0.untold (after.0.settings_are ∙ is) past.searched))
+        (record { number = number; size = size }) refl
+
+    upper_within : (by : Option MtuDiscoveryConfig) → discovery_settings beginning ≡ by
+        → IsSomeAnd by (λ settings. ProbesInSearch settings
+        (probed now number size ∷ entered_so_far beginning history))
+        → (size ≤ limit_or_greatest (limit history))
+        × IsSomeAnd by (λ settings. size ≤ max settings.upper_bound (start first least history))
+    upper_within None is inside = absurd inside
+    upper_within (Some settings) is inside =
+        below_both size _ _ _ (between settings is).0
+        (upper_is beginning settings is history (kept.searched settings is))
+
+    above_in_use : (settings : MtuDiscoveryConfig) → discovery_settings beginning ≡ Some settings
+        → 3 ≤ settings.minimum_change → (mtu_in_use beginning history < size) × (size ≤ settings.upper_bound)
+    above_in_use settings is wide =
+        let both = (between settings is).1 wide in (
+          subst (λ some. mtu some first least history < size) (sym (ap is_some is))
+              (subst (λ n. n < size) (sym (kept.searched settings is).tied.2) both.0),
+          both.1,
+        )
+
+  abbrev AllKept : History Q S M P → Type 0
+  AllKept history = Kept beginning history × AreSearched beginning history
+
+  abbrev AllKnown : History Q S M P → Event Q S M P → Reply Q → Type 0
+  AllKnown history event reply = IsKnownOf beginning history event reply × ProbesInTurn beginning history event reply
+
+  sizes_one : (history : History Q S M P) (event : Event Q S M P) (reply : Reply Q) → AllKnown history event reply
+      → AllKept history → AllKept ((event, reply) ∷ history) → ProbesWithin beginning history event reply
+  sizes_one history (PollMtu now) (Ok (answer.Probe number size)) known kept after =
+      let upper = upper_within history now number size kept.0 after.1 known.0.0 (discovery_settings beginning) refl
+      known.1 in
+      (upper.0, upper.1, above_in_use history now number size kept.0 after.1 known.0.0)
+  sizes_one history event reply known kept after = tt
+
+  -- throughout a run
+  pub sizes_told : ForSome (discovery_settings beginning) (λ settings. settings.upper_bound < 2 ^ 16)
+      → (events : List (Event Q S M P)) (replies : List (Reply Q))
+      → Throughout (Told beginning) events replies → Throughout (ProbesWithin beginning) events replies
+  sizes_told small events replies told =
+      throughout_by AllKnown (ProbesWithin beginning) AllKept
+      (λ history event reply known kept. (
+        kept_after beginning history event reply known.0 kept.0,
+        searched_one beginning history event reply known.0.0.told kept.1,
+      ))
+      sizes_one [] events replies
+      (throughout_both (IsKnownOf beginning) (ProbesInTurn beginning) [] events replies
+      (known_of beginning small events replies told) (probes beginning events replies told))
+      (kept_first beginning, first_is beginning)
