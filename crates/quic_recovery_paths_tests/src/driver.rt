@@ -61,6 +61,11 @@ fn right<T>(rt: &impl Abort, found: Result<T, Wrong>) -> T {
     }
 }
 
+/// Asserts that what a row says holds.
+fn holds(rt: &impl Abort, is_right: bool, row: u64) {
+    assert!(rt; is_right, "row {row}");
+}
+
 /// A recovery to which nothing has happened yet.
 fn fresh(rt: &impl Abort, alloc: Global) -> Reno {
     right(rt, runs::fresh(alloc))
@@ -91,7 +96,7 @@ fn check_left<const N: usize, F: FnOnce(&Reno) -> bool>(
     let recovery = walk(rt, alloc, settings(8), words(), rows);
     let is_wanted = is_left(&recovery);
     drop(recovery);
-    assert!(rt; is_wanted, "what is left");
+    holds(rt, is_wanted, N as u64);
 }
 
 /// Asserts what the events of a run with these settings are replied: what it leaves.

@@ -43,6 +43,11 @@ fn right<T>(rt: &impl Abort, found: Result<T, Wrong>) -> T {
     }
 }
 
+/// Asserts that what a row says holds.
+pub(crate) fn holds(rt: &impl Abort, is_right: bool, row: u64) {
+    assert!(rt; is_right, "row {row}");
+}
+
 /// A recovery to which nothing has happened yet.
 fn fresh(rt: &impl Abort, alloc: Global) -> Reno {
     right(rt, runs::fresh(alloc))
@@ -79,7 +84,7 @@ fn check_left<const N: usize, F: FnOnce(&Reno) -> bool>(
     let recovery = walk(rt, alloc, settings(8), words(), rows);
     let is_wanted = is_left(&recovery);
     drop(recovery);
-    assert!(rt; is_wanted, "what is left");
+    holds(rt, is_wanted, N as u64);
 }
 
 /// Asserts what the events of a run with these settings are replied: what it leaves.
@@ -114,7 +119,7 @@ fn a_fresh_space(rt: HostRuntime) {
         let is_fresh = here.loss_time == None
             && here.crypto_offset == 0
             && here.ecn_counters == EcnCounts::ZERO;
-        assert!(rt; is_fresh, "a fresh space");
+        holds(&rt, is_fresh, 0);
     }
     drop(recovery);
 }
@@ -228,12 +233,10 @@ fn leaves_nothing_in_flight(left: &Reno) -> bool {
         && !space.has_in_flight()
 }
 
-#[test]
-fn the_least_of_1001_silent_packets_is_forgotten(rt: HostRuntime) {
-    let mut recovery = fresh(&rt, rt.alloc());
+fn forget_one(rt: &impl Abort, recovery: &mut Reno) {
     for number in 0..1001u64 {
         let silent = send(SpaceId::Data, 40, false);
-        told(&rt, &mut recovery, number, silent, sent(number, None));
+        told(rt, recovery, number, silent, sent(number, None));
     }
     let large = Event::Send {
         space: SpaceId::Data,
@@ -244,13 +247,16 @@ fn the_least_of_1001_silent_packets_is_forgotten(rt: HostRuntime) {
         queue: Tally { bytes: 0 },
         stream_frames: 0,
     };
-    for (row, event, want) in [
-        (1001, send(SpaceId::Data, 40, false), sent(1001, Some(0))),
-        (1002, CURRENT, in_flight(40040, 0)),
-        (1003, large, TOO_LARGE),
-    ] {
-        told(&rt, &mut recovery, row, event, want);
-    }
+    let silent = send(SpaceId::Data, 40, false);
+    told(rt, recovery, 1001, silent, sent(1001, Some(0)));
+    told(rt, recovery, 1002, CURRENT, in_flight(40040, 0));
+    told(rt, recovery, 1003, large, TOO_LARGE);
+}
+
+#[test]
+fn the_least_of_1001_silent_packets_is_forgotten(rt: HostRuntime) {
+    let mut recovery = fresh(&rt, rt.alloc());
+    forget_one(&rt, &mut recovery);
     drop(recovery);
 }
 

@@ -2,6 +2,7 @@
 //! every state that stands there, and not run.
 ghost use Rattle.std.specs.Prelude.{◌≡◌, IfSome, true};
 
+use crate::driver::holds;
 use quic_recovery::congestion::{NewReno, NewRenoConfig};
 use quic_recovery::driver::Recovery;
 use quic_recovery::event::{Answer, Event, Refusal};
@@ -37,10 +38,9 @@ fn packet(path_generation: u64, size: u16) -> SentPacket<Tally>
 #[test]
 fn a_space_begins_at_0(rt: HostRuntime) {
     let mut space = PacketSpace::<Tally>::new(rt.alloc(), at(0));
-    assert!(rt; space.get_tx_number() == Some(0));
-    assert!(rt; space.sent_with_keys == 1);
-    assert!(rt; space.take(0).is_none());
-    assert!(rt; space.take_first().is_none());
+    let is_first = space.get_tx_number() == Some(0) && space.sent_with_keys == 1;
+    let is_empty = space.take(0).is_none() && space.take_first().is_none();
+    holds(&rt, is_first && is_empty, 0);
 }
 
 /// What an application keeps of the one packet that was sent, as it comes back with it.
@@ -62,9 +62,18 @@ fn frames_back(alloc: Global, frames: u64, as_first: bool) -> Option<u64>
 
 #[test]
 fn frames_come_back_with_their_packet(rt: HostRuntime) {
-    assert!(rt; frames_back(rt.alloc(), 7, false) == Some(7));
-    assert!(rt; frames_back(rt.alloc(), 7, true) == Some(7));
+    holds(&rt, frames_back(rt.alloc(), 7, false) == Some(7), 0);
+    holds(&rt, frames_back(rt.alloc(), 7, true) == Some(7), 1);
 }
+
+/// How many packets are newly acknowledged, the counts, and the cause that is told.
+static FAULTS: [(u64, (u64, u64, u64), &str); 5] = [
+    (9, (0, 0, 0), "peer ECT(0) count regression"),
+    (9, (1, 0, 0), "peer ECT(1) count regression"),
+    (9, (1, 1, 0), "peer CE count regression"),
+    (9, (1, 9, 1), "ECN bleaching"),
+    (8, (1, 9, 1), "ECN corruption"),
+];
 
 /// The first cause in order is told, and what is refused keeps the old counts. No run has counts of ECT(1).
 #[test]
@@ -76,16 +85,11 @@ fn counts_of_ecn_fail_in_order(rt: HostRuntime) {
     };
     let mut space = PacketSpace::<Tally>::new(rt.alloc(), at(0));
     space.ecn_feedback = last;
-    for (newly_acked, (ect0, ect1, ce), text) in [
-        (9, (0, 0, 0), "peer ECT(0) count regression"),
-        (9, (1, 0, 0), "peer ECT(1) count regression"),
-        (9, (1, 1, 0), "peer CE count regression"),
-        (9, (1, 9, 1), "ECN bleaching"),
-        (8, (1, 9, 1), "ECN corruption"),
-    ] {
-        let found = space.detect_ecn(newly_acked, EcnCounts { ect0, ect1, ce });
-        let is_wanted = found == Err(text) && space.ecn_feedback == last;
-        assert!(rt; is_wanted, "{text}");
+    for (newly_acked, counts, text) in &FAULTS {
+        let (ect0, ect1, ce) = *counts;
+        let found = space.detect_ecn(*newly_acked, EcnCounts { ect0, ect1, ce });
+        let is_wanted = found == Err(*text) && space.ecn_feedback == last;
+        holds(&rt, is_wanted, *newly_acked);
     }
 }
 

@@ -2,21 +2,13 @@
 ghost use Rattle.std.specs.Prelude.{◌≡◌, ◌<◌, ◌≤◌, ◌^◌, None};
 ghost use Rattle.recovery_acks.specs.Acks.{number_or_zero};
 
+use crate::rows::{holds, same};
 use recovery_base::below::{AckFrequency, NoMemory, TransportParameters, VarInt};
 use recovery_base::config::AckFrequencyConfig;
 use recovery_base::dedup::Dedup;
 use recovery_base::time::{Duration, Instant};
 use recovery_parts::acks::{AckFrequencyState, PendingAcks};
 use std::process::Abort;
-
-/// Asserts that in each row the two are equal.
-fn same<T: PartialEq>(rt: &impl Abort, rows: &[(T, T)]) {
-    let mut row = 0u64;
-    for (found, wanted) in rows {
-        assert!(rt; found == wanted, "row {row}");
-        row = row.saturating_add(1);
-    }
-}
 
 /// An ACK_FREQUENCY frame with thresholds 3 and 2.
 fn frame(sequence: u32, micros: u32) -> AckFrequency {
@@ -97,16 +89,12 @@ fn play(rt: &impl Abort, acks: &mut PendingAcks, rows: &[Row])
     for (call, number, arms, can_send, ends) in rows {
         assert!(rt; last <= *number && *number < 1 << 62, "row {place}: number");
         last = *number;
-        let Some(started) = apply(acks, &mut dedup, *call, last) else {
-            panic!(rt; "row {place}: NoMemory")
-        };
-        assert!(rt; started == *arms, "row {place}: timer");
-        assert!(rt; acks.can_send() == *can_send, "row {place}: ACK");
+        let started = apply(acks, &mut dedup, *call, last);
         let timeout = acks.max_ack_delay_timeout(Duration::from_micros(1));
-        assert!(rt;
-            timeout == ends.map(Instant::from_nanos),
-            "row {place}: timeout"
-        );
+        let is_right = started == Some(*arms)
+            && acks.can_send() == *can_send
+            && timeout == ends.map(Instant::from_nanos);
+        holds(rt, is_right, place);
         place = place.saturating_add(1);
     }
 }
@@ -135,7 +123,7 @@ fn acknowledges_many_silent_packets(rt: HostRuntime) {
             (Call::AtOnce, 10, false, true, None),
         ],
     );
-    assert!(rt; acks.can_send_with_other_frames());
+    holds(&rt, acks.can_send_with_other_frames(), 15);
 }
 
 /// Three packets in order, an ACK, and then this one.
@@ -174,24 +162,22 @@ fn holds_64(rt: &impl Abort, acks: &PendingAcks) {
     let mut start = 2u64;
     for range in acks.ranges().iter() {
         let end = start.saturating_add(1);
-        assert!(rt; range.start == start && range.end == end, "at {start}");
+        holds(rt, range.start == start && range.end == end, start);
         start = end.saturating_add(1);
     }
-    assert!(rt; start == 130);
+    holds(rt, start == 130, start);
 }
 
 #[test]
 fn keeps_the_64_highest_ranges(rt: HostRuntime) {
     let mut acks = PendingAcks::new(rt.alloc());
-    assert!(rt; insert_even(&mut acks).is_ok(), "NoMemory");
+    holds(&rt, insert_even(&mut acks).is_ok(), 0);
     holds_64(&rt, &acks);
-    assert!(rt;
-        acks.insert_one(0, Instant::from_nanos(0)).is_ok(),
-        "NoMemory"
-    );
+    let is_put_in = acks.insert_one(0, Instant::from_nanos(0)).is_ok();
+    holds(&rt, is_put_in, 1);
     holds_64(&rt, &acks);
     acks.subtract_below(4);
-    assert!(rt; acks.ranges().len() == 62);
+    holds(&rt, acks.ranges().len() == 62, 2);
 }
 
 #[test]
@@ -201,10 +187,7 @@ fn measures_the_delay_of_the_largest(rt: HostRuntime) {
     let first = acks.ack_delay(Instant::from_nanos(9));
     for (number, millis) in [(0, 0), (3, 2), (2, 7)] {
         let now = start + Duration::from_millis(millis);
-        assert!(rt;
-            acks.insert_one(number, now).is_ok(),
-            "at {number}: NoMemory"
-        );
+        holds(&rt, acks.insert_one(number, now).is_ok(), number);
     }
     let last = acks.ack_delay(start + Duration::from_millis(7));
     same(
@@ -240,8 +223,8 @@ fn asks_for_a_delay(rt: HostRuntime) {
             (state.peer_max_ack_delay, Duration::from_millis(200)),
         ],
     );
-    assert!(rt; at_first && !again);
-    assert!(rt; number == Some(VarInt::from_u32(0)));
+    let is_first = number == Some(VarInt::from_u32(0));
+    holds(&rt, at_first && !again && is_first, 4);
 }
 
 #[test]
@@ -255,9 +238,9 @@ fn takes_a_frame_once(rt: HostRuntime) {
         (6, 1000, Some(true)),
     ] {
         let answer = state.ack_frequency_received(&frame(sequence, micros), &mut acks);
-        assert!(rt; answer.ok() == taken, "at {sequence}");
+        holds(&rt, answer.ok() == taken, u64::from(sequence));
     }
-    assert!(rt; state.max_ack_delay == Duration::from_millis(1));
+    holds(&rt, state.max_ack_delay == Duration::from_millis(1), 0);
 }
 
 #[test]
@@ -266,5 +249,6 @@ fn too_small_a_delay_closes_the_connection(rt: HostRuntime) {
     let mut state = AckFrequencyState::new(Duration::from_millis(25));
     let answer = state.ack_frequency_received(&frame(5, 999), &mut acks);
     let reason = "Requested Max Ack Delay in ACK_FREQUENCY frame is less than min_ack_delay";
-    assert!(rt; matches!(answer, Err(error) if error.code == 10 && error.reason == reason));
+    let is_closed = matches!(answer, Err(error) if error.code == 10 && error.reason == reason);
+    holds(&rt, is_closed, 0);
 }

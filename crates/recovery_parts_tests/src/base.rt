@@ -1,4 +1,5 @@
 //! Moments, timers, sets of numbers, items of the wire and settings. Rows are pairs: what is found, and what is wanted.
+use crate::rows::{holds, same};
 use recovery_base::below::{ArrayRangeSet, TransportError, VarInt, VarIntBoundsExceeded};
 use recovery_base::config::AckFrequencyConfig;
 use recovery_base::time::{Duration, Instant};
@@ -7,15 +8,6 @@ use std::ops::Range;
 use std::process::Abort;
 
 mod dedup;
-
-/// Asserts that in each row the two are equal.
-fn same<T: PartialEq>(rt: &impl Abort, rows: &[(T, T)]) {
-    let mut row = 0u64;
-    for (found, wanted) in rows {
-        assert!(rt; found == wanted, "row {row}");
-        row = row.saturating_add(1);
-    }
-}
 
 fn at(nanos: u64) -> Instant {
     Instant::from_nanos(nanos)
@@ -50,7 +42,7 @@ fn sums_stop_at_the_ends_and_differences_at_zero(rt: HostRuntime) {
             (end.checked_duration_since(end), Some(Duration::default())),
         ],
     );
-    assert!(rt; end.as_nanos() == u64::MAX);
+    holds(&rt, end.as_nanos() == u64::MAX, 0);
 }
 
 #[test]
@@ -159,45 +151,41 @@ fn sets_each_field(rt: HostRuntime) {
 fn insert(rt: &impl Abort, set: &mut ArrayRangeSet, numbers: &[u32]) {
     for number in numbers {
         let is_new = set.insert_one(u64::from(*number));
-        assert!(rt; is_new.is_ok(), "at {number}: NoMemory");
-        assert!(rt; is_new == Ok(true), "at {number}");
+        holds(rt, is_new == Ok(true), u64::from(*number));
     }
 }
 
 /// Asserts what the ranges are.
 fn ranges_are(rt: &impl Abort, set: &ArrayRangeSet, wanted: &[(u64, u64)]) {
-    assert!(rt; set.len() == wanted.len());
     let mut row = 0u64;
+    holds(rt, set.len() == wanted.len(), row);
     for (range, (start, end)) in set.iter().zip(wanted) {
-        assert!(rt; range.start == *start && range.end == *end, "row {row}");
+        holds(rt, range.start == *start && range.end == *end, row);
         row = row.saturating_add(1);
     }
 }
 
 /// Asserts whether a number of the range leaves.
 fn removes(rt: &impl Abort, set: &mut ArrayRangeSet, range: Range<u64>, some: bool) {
-    let left = set.remove(range);
-    assert!(rt; left.is_ok(), "NoMemory");
-    assert!(rt; left == Ok(some));
+    holds(rt, set.remove(range) == Ok(some), 0);
 }
 
 fn pops(rt: &impl Abort, set: &mut ArrayRangeSet, start: u64, end: u64) {
-    let lowest = set.pop_min();
-    assert!(rt; lowest == Some(start..end));
+    holds(rt, set.pop_min() == Some(start..end), start);
 }
 
 #[test]
 fn removes_from_the_middle(rt: HostRuntime) {
     let mut set = ArrayRangeSet::new(rt.alloc());
-    assert!(rt; set.is_empty());
+    holds(&rt, set.is_empty(), 0);
     insert(&rt, &mut set, &[0, 1, 2, 3, 4, 5, 6, 7, 8, 9]);
-    assert!(rt; set.insert_one(4) == Ok(false));
+    holds(&rt, set.insert_one(4) == Ok(false), 4);
     removes(&rt, &mut set, 3..5, true);
     removes(&rt, &mut set, 3..5, false);
     ranges_are(&rt, &set, &[(0, 3), (5, 10)]);
     pops(&rt, &mut set, 0, 3);
     pops(&rt, &mut set, 5, 10);
-    assert!(rt; set.pop_min().is_none());
+    holds(&rt, set.pop_min().is_none(), 10);
 }
 
 #[test]
@@ -206,7 +194,7 @@ fn joins_and_splits(rt: HostRuntime) {
     insert(&rt, &mut set, &[7, 3, 5, 4, 9, 2]);
     ranges_are(&rt, &set, &[(2, 6), (7, 8), (9, 10)]);
     removes(&rt, &mut set, 0..8, true);
-    assert!(rt; set.len() == 1);
+    holds(&rt, set.len() == 1, 0);
 }
 
 #[test]
@@ -216,8 +204,8 @@ fn clones_are_equal_until_one_changes(rt: HostRuntime) {
     let Ok(clone) = set.clone() else {
         panic!(rt; "NoMemory");
     };
-    assert!(rt; clone == set);
+    holds(&rt, clone == set, 0);
     removes(&rt, &mut set, 4..5, true);
-    assert!(rt; clone != set);
+    holds(&rt, clone != set, 1);
     ranges_are(&rt, &clone, &[(0, 2), (4, 5)]);
 }

@@ -1,6 +1,7 @@
 //! Frames for a number of the peer's ids that is held, with ids and tokens that lines cannot spell.
 ghost use Rattle.std.specs.Prelude.{◌≤◌};
 
+use crate::rows::holds;
 use recovery_base::below::{ConnectionId, NewConnectionId, ResetToken};
 use recovery_parts::cids::{CidQueue, InsertError};
 use std::process::Abort;
@@ -23,7 +24,7 @@ fn token_of(token: Token) -> ResetToken {
     let (byte, other) = token;
     let mut bytes = [byte; 16];
     if other < bytes.len() {
-        bytes[other] = !byte;
+        bytes[other] = 255 - byte;
     }
     ResetToken::from(bytes)
 }
@@ -80,7 +81,7 @@ fn play(rt: &impl Abort, calls: &[Call]) {
     let mut queue = CidQueue::new(id_of((8, 255)));
     let mut row = 0u64;
     for call in calls {
-        assert!(rt; is_right(&mut queue, *call), "row {row}");
+        holds(rt, is_right(&mut queue, *call), row);
         row = row.saturating_add(1);
     }
 }
@@ -142,5 +143,5 @@ fn the_initial_id_gets_its_token_from_a_frame(rt: HostRuntime) {
 #[test]
 fn a_token_gives_its_bytes_back(rt: HostRuntime) {
     let bytes = [0, 1, 2, 3, 4, 5, 6, 7, 8, 9, 10, 11, 12, 13, 254, 255];
-    assert!(rt; ResetToken::from(bytes).to_bytes() == bytes);
+    holds(&rt, ResetToken::from(bytes).to_bytes() == bytes, 0);
 }

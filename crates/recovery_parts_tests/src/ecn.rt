@@ -1,4 +1,5 @@
 //! Counts of ECN. A row is how many packets an ACK frame newly acknowledges, its counts, and what is answered.
+use crate::rows::holds;
 use recovery_base::below::EcnCounts;
 use std::process::Abort;
 
@@ -49,8 +50,7 @@ fn play(rt: &impl Abort, mut last: EcnCounts, rows: &[Row]) {
         let old = last;
         let found = last.detect(*newly_acked, counts(*new));
         let kept = if found.is_ok() { counts(*new) } else { old };
-        assert!(rt; is_wanted(found, *wanted), "answer of row {place}");
-        assert!(rt; last == kept, "counts of row {place}");
+        holds(rt, is_wanted(found, *wanted) && last == kept, place);
         place = place.saturating_add(1);
     }
 }

@@ -1,6 +1,7 @@
 //! Connection ids. Rows are calls, and what is seen after each.
 ghost use Rattle.std.specs.Prelude.{◌≡◌, ◌≤◌};
 
+use crate::rows::holds;
 use recovery_base::below::{
     ConnectionId, IssuedCid, NewConnectionId, NoMemory, ResetToken, TransportError,
 };
@@ -15,7 +16,7 @@ fn cid(byte: u8) -> ConnectionId {
 
 /// A token whose bytes are not those of the id.
 fn token(byte: u8) -> ResetToken {
-    ResetToken::from([byte ^ 0x55; 16])
+    ResetToken::from([255 - byte; 16])
 }
 
 // ---- the ids of the peer
@@ -100,9 +101,8 @@ fn play(rt: &impl Abort, queue: &mut CidQueue, rows: &[Row]) {
     let mut place = 0u64;
     for (call, wanted, number, byte) in rows {
         let found = apply(queue, *call, *byte);
-        assert!(rt; found == Some(*wanted), "row {place}: answer");
-        assert!(rt; queue.active_seq() == *number, "row {place}: number");
-        assert!(rt; queue.active() == cid(*byte), "row {place}: id");
+        let is_active = queue.active_seq() == *number && queue.active() == cid(*byte);
+        holds(rt, found == Some(*wanted) && is_active, place);
         place = place.saturating_add(1);
     }
 }
@@ -174,7 +174,7 @@ fn eight_ids_are_held(rt: HostRuntime) {
     let mut queue = CidQueue::new(cid(0));
     for number in 1..8 {
         let found = insert(&mut queue, number, 0, number as u8, 0);
-        assert!(rt; found == Some(Answer::Stays), "number {number}");
+        holds(&rt, found == Some(Answer::Stays), number);
     }
     let mut ids = queue.iter();
     for wanted in 0..8 {
@@ -182,9 +182,9 @@ fn eight_ids_are_held(rt: HostRuntime) {
             Some((step, (id, _))) => step == wanted && id == cid(wanted as u8),
             None => false,
         };
-        assert!(rt; is_wanted, "number {wanted}");
+        holds(&rt, is_wanted, wanted as u64);
     }
-    assert!(rt; ids.next().is_none());
+    holds(&rt, ids.next().is_none(), 8);
 }
 
 #[test]
@@ -204,7 +204,7 @@ fn the_ids_held_come_in_order(rt: HostRuntime) {
         Some((3, (cid(8), Some(token(8))))),
         None,
     ] {
-        assert!(rt; ids.next() == wanted);
+        holds(&rt, ids.next() == wanted, 0);
     }
 }
 
@@ -276,14 +276,9 @@ fn play_local(rt: &impl Abort, state: &mut CidState, rows: &[LocalRow]) {
     let mut place = 0u64;
     for (call, wanted, mark, timeout) in rows {
         let found = apply_local(state, *call);
-        assert!(rt; found != LocalAnswer::NoMemory, "row {place}: NoMemory");
-        assert!(rt; found == *wanted, "row {place}: answer");
-        assert!(rt; state.retire_prior_to() == *mark, "row {place}: mark");
-        let next = state.next_timeout();
-        assert!(rt;
-            next == timeout.map(Instant::from_nanos),
-            "row {place}: timeout"
-        );
+        let is_left = state.retire_prior_to() == *mark
+            && state.next_timeout() == timeout.map(Instant::from_nanos);
+        holds(rt, found == *wanted && is_left, place);
         place = place.saturating_add(1);
     }
 }
@@ -325,7 +320,7 @@ fn deadlines_move_the_marks(rt: HostRuntime) {
             (LocalCall::Retire(4, 5), LocalAnswer::UnissuedCid, 2, None),
         ],
     );
-    assert!(rt; issued == 4);
+    holds(&rt, issued == 4, 4);
 }
 
 #[test]
@@ -342,7 +337,7 @@ fn equal_deadlines_are_one(rt: HostRuntime) {
             (LocalCall::Timeout, LocalAnswer::Flag(false), 4, None),
         ],
     );
-    assert!(rt; issued == 4);
+    holds(&rt, issued == 4, 4);
 }
 
 #[test]
@@ -358,14 +353,14 @@ fn no_deadline_passes_the_end_of_the_clock(rt: HostRuntime) {
             (before_end, LocalAnswer::Done, 0, Some(u64::MAX)),
         ],
     );
-    assert!(rt; issued == 2);
+    holds(&rt, issued == 2, 2);
 }
 
 #[test]
 fn ids_of_no_bytes_are_not_retired(rt: HostRuntime) {
     let made = CidState::new(rt.alloc(), 0, None, Instant::from_nanos(0), 1);
-    assert!(rt; made.is_ok(), "NoMemory");
-    assert!(rt; matches!(&made, Ok(state) if state.cid_len() == 0));
+    let has_no_bytes = matches!(&made, Ok(state) if state.cid_len() == 0);
+    holds(&rt, has_no_bytes, 0);
     let issued = play_from(
         &rt,
         made,
@@ -374,23 +369,21 @@ fn ids_of_no_bytes_are_not_retired(rt: HostRuntime) {
             (LocalCall::Retire(7, 5), LocalAnswer::CidsNotInUse, 0, None),
         ],
     );
-    assert!(rt; issued == 1);
+    holds(&rt, issued == 1, 1);
 }
 
 #[test]
 fn too_many_ids_are_answered_at_once(rt: HostRuntime) {
     let made = CidState::new(rt.alloc(), 8, None, Instant::from_nanos(0), 1 << 62);
-    assert!(rt; made.is_err());
+    holds(&rt, made.is_err(), 0);
 }
 
 #[test]
 fn refused_retirements_close_the_connection(rt: HostRuntime) {
     for error in [RetireError::CidsNotInUse, RetireError::UnissuedCid] {
         let closed = TransportError::from(error);
-        assert!(rt; closed.code == 10);
-        let Ok(text) = format!(in rt.alloc(); "{error}") else {
-            panic!(rt; "NoMemory")
-        };
-        assert!(rt; text.as_str() == closed.reason);
+        let text = format!(in rt.alloc(); "{error}");
+        let is_told = matches!(&text, Ok(text) if text.as_str() == closed.reason);
+        holds(&rt, closed.code == 10 && is_told, 0);
     }
 }

@@ -13,4 +13,6 @@ mod ecn;
 #[cfg(test)]
 mod ids;
 #[cfg(test)]
+mod rows;
+#[cfg(test)]
 mod skips;

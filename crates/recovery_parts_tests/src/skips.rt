@@ -1,4 +1,5 @@
 //! Which numbers a filter leaves out, and which acknowledgements it refuses.
+use crate::rows::holds;
 use rand_core::{Rng, SeedableRng};
 use rand_pcg::{Pcg32, Pcg64};
 use recovery_base::below::{SpaceId, TransportError};
@@ -19,14 +20,14 @@ fn play<R: Rng>(rt: &impl Abort, filter: &mut PacketNumberFilter, rng: &mut R, r
         }
         let told = filter.peek(next);
         let number = filter.allocate(rng, next);
-        assert!(rt; number == Some(told), "{next}");
+        holds(rt, number == Some(told), next);
         if told != next && next >= from {
-            assert!(rt; skips.get(place) == Some(&next), "{next} at place {place}");
+            holds(rt, skips.get(place) == Some(&next), next);
             place = place.saturating_add(1);
         }
         next = told.saturating_add(1);
     }
-    assert!(rt; place == skips.len(), "{place} skips");
+    holds(rt, place == skips.len(), next);
 }
 
 /// Asserts that the skips drawn from a seed are those of its row.
@@ -38,33 +39,33 @@ fn play_seeds(rt: &impl Abort, rows: &[(u64, LeftOut)]) {
     }
 }
 
+/// Seeds, and what is left out.
+static SEEDS: [(u64, LeftOut); 17] = [
+    (0, (0, 9000, &[63, 80, 176, 426, 793, 1051, 2992, 5116])),
+    (1, (0, 9000, &[31, 68, 148, 282, 538, 1327, 2065, 7540])),
+    (7, (0, 9000, &[6, 116, 168, 482, 908, 1341, 3802, 4189])),
+    (
+        u64::MAX,
+        (0, 9000, &[20, 114, 159, 314, 763, 1992, 2497, 4158]),
+    ),
+    (56, (0, 64, &[0])),
+    (260, (0, 64, &[0])),
+    (450, (0, 64, &[0])),
+    (0, (0, 64, &[63])),
+    (125, (0, 64, &[63])),
+    (215, (0, 64, &[63])),
+    (265, (0, 64, &[63])),
+    (19, (64, 128, &[127])),
+    (299, (64, 128, &[127])),
+    (305, (64, 128, &[127])),
+    (7731, (0, 128, &[63, 65])),
+    (13_171, (0, 128, &[63, 65])),
+    (17_348, (0, 128, &[63, 65])),
+];
+
 #[test]
 fn skips_drawn_from_a_seed(rt: HostRuntime) {
-    play_seeds(
-        &rt,
-        &[
-            (0, (0, 9000, &[63, 80, 176, 426, 793, 1051, 2992, 5116])),
-            (1, (0, 9000, &[31, 68, 148, 282, 538, 1327, 2065, 7540])),
-            (7, (0, 9000, &[6, 116, 168, 482, 908, 1341, 3802, 4189])),
-            (
-                u64::MAX,
-                (0, 9000, &[20, 114, 159, 314, 763, 1992, 2497, 4158]),
-            ),
-            (56, (0, 64, &[0])),
-            (260, (0, 64, &[0])),
-            (450, (0, 64, &[0])),
-            (0, (0, 64, &[63])),
-            (125, (0, 64, &[63])),
-            (215, (0, 64, &[63])),
-            (265, (0, 64, &[63])),
-            (19, (64, 128, &[127])),
-            (299, (64, 128, &[127])),
-            (305, (64, 128, &[127])),
-            (7731, (0, 128, &[63, 65])),
-            (13_171, (0, 128, &[63, 65])),
-            (17_348, (0, 128, &[63, 65])),
-        ],
-    );
+    play_seeds(&rt, &SEEDS);
 }
 
 /// Asserts that with a generator skips begin as they are to, and are those of a row.
@@ -76,18 +77,20 @@ fn play_begun<R: Rng>(rt: &impl Abort, skips: Skips, rng: &mut R, row: &LeftOut)
     play(rt, &mut filter, rng, row);
 }
 
+/// Seeds of another generator, and what is left out.
+static OTHER_SEEDS: [(u64, LeftOut); 4] = [
+    (0, (0, 9000, &[8, 86, 218, 265, 950, 1190, 2455, 6168])),
+    (1, (0, 9000, &[53, 65, 142, 507, 966, 1511, 2432, 5686])),
+    (7, (0, 9000, &[0, 78, 243, 469, 763, 1630, 2231, 5422])),
+    (
+        u64::MAX,
+        (0, 9000, &[53, 111, 250, 271, 1016, 1445, 2207, 4108]),
+    ),
+];
+
 #[test]
 fn skips_drawn_by_other_generators(rt: HostRuntime) {
-    let rows: [(u64, LeftOut); 4] = [
-        (0, (0, 9000, &[8, 86, 218, 265, 950, 1190, 2455, 6168])),
-        (1, (0, 9000, &[53, 65, 142, 507, 966, 1511, 2432, 5686])),
-        (7, (0, 9000, &[0, 78, 243, 469, 763, 1630, 2231, 5422])),
-        (
-            u64::MAX,
-            (0, 9000, &[53, 111, 250, 271, 1016, 1445, 2207, 4108]),
-        ),
-    ];
-    for (seed, row) in &rows {
+    for (seed, row) in &OTHER_SEEDS {
         play_begun(&rt, Skips::Drawn, &mut Pcg64::seed_from_u64(*seed), row);
     }
     play_begun(
@@ -98,16 +101,18 @@ fn skips_drawn_by_other_generators(rt: HostRuntime) {
     );
 }
 
+/// How skips begin, and what is left out.
+static BEGINNINGS: [(Skips, LeftOut); 5] = [
+    (Skips::Drawn, (0, 128, &[63, 80])),
+    (Skips::Starting(0), (0, 64, &[0])),
+    (Skips::Starting(5), (0, 64, &[5])),
+    (Skips::Starting(63), (0, 64, &[63])),
+    (Skips::Disabled, (0, 9000, &[])),
+];
+
 #[test]
 fn skips_begin_as_they_are_to(rt: HostRuntime) {
-    let rows: [(Skips, LeftOut); 5] = [
-        (Skips::Drawn, (0, 128, &[63, 80])),
-        (Skips::Starting(0), (0, 64, &[0])),
-        (Skips::Starting(5), (0, 64, &[5])),
-        (Skips::Starting(63), (0, 64, &[63])),
-        (Skips::Disabled, (0, 9000, &[])),
-    ];
-    for (skips, row) in &rows {
+    for (skips, row) in &BEGINNINGS {
         play_begun(&rt, *skips, &mut Pcg32::seed_from_u64(0), row);
     }
 }
@@ -134,7 +139,7 @@ fn check(rt: &impl Abort, filter: &PacketNumberFilter, acks: &[Ack]) {
         } else {
             Ok(())
         };
-        assert!(rt; answer == wanted, "{low} to {high}");
+        holds(rt, answer == wanted, *low);
     }
 }
 
@@ -145,44 +150,46 @@ fn play_start<R: Rng>(rt: &impl Abort, rng: &mut R, row: &Start) {
     let (start, number, from, end, acks) = *row;
     assert!(rt; start < 64);
     let mut filter = PacketNumberFilter::starting(start);
-    assert!(rt; filter.allocate(rng, start) == Some(number), "{start}");
-    assert!(rt; next_skip(&filter, 0, from).is_none(), "{start}");
-    assert!(rt; next_skip(&filter, from, end).is_some(), "{start}");
+    holds(rt, filter.allocate(rng, start) == Some(number), start);
+    let is_within = next_skip(&filter, 0, from).is_none()
+        && next_skip(&filter, from, end).is_some();
+    holds(rt, is_within, start);
     check(rt, &filter, acks);
 }
 
+/// Starts at either end.
+static STARTS: [Start; 2] = [
+    (
+        63,
+        64,
+        65,
+        128,
+        &[
+            (SpaceId::Data, 60, 63, true),
+            (SpaceId::Data, 63, 63, true),
+            (SpaceId::Data, 63, 70, true),
+            (SpaceId::Data, 64, 70, false),
+            (SpaceId::Data, 60, 62, false),
+            (SpaceId::Data, 70, 60, false),
+        ],
+    ),
+    (
+        0,
+        1,
+        64,
+        128,
+        &[
+            (SpaceId::Data, 0, 0, true),
+            (SpaceId::Data, 1, 1, false),
+            (SpaceId::Initial, 0, 0, false),
+            (SpaceId::Handshake, 0, 0, false),
+        ],
+    ),
+];
+
 #[test]
 fn skips_start_at_either_end(rt: HostRuntime) {
-    use SpaceId::{Data, Handshake, Initial};
-    let rows: [Start; 2] = [
-        (
-            63,
-            64,
-            65,
-            128,
-            &[
-                (Data, 60, 63, true),
-                (Data, 63, 63, true),
-                (Data, 63, 70, true),
-                (Data, 64, 70, false),
-                (Data, 60, 62, false),
-                (Data, 70, 60, false),
-            ],
-        ),
-        (
-            0,
-            1,
-            64,
-            128,
-            &[
-                (Data, 0, 0, true),
-                (Data, 1, 1, false),
-                (Initial, 0, 0, false),
-                (Handshake, 0, 0, false),
-            ],
-        ),
-    ];
-    for row in &rows {
+    for row in &STARTS {
         for seed in 0..50u64 {
             play_start(&rt, &mut Pcg32::seed_from_u64(seed), row);
         }
@@ -200,7 +207,7 @@ fn play_remembered<R: Rng>(rt: &impl Abort, rng: &mut R, row: &Remembered) {
     check(rt, &filter, &[(SpaceId::Data, skip, skip, false)]);
     for _ in 0..end {
         let number = filter.allocate(rng, next);
-        assert!(rt; number.is_some(), "{next}");
+        holds(rt, number.is_some(), next);
         if let Some(number) = number {
             let is_refused = number >= first && number < last;
             check(rt, &filter, &[(SpaceId::Data, skip, skip, is_refused)]);
@@ -235,9 +242,9 @@ fn numbers_end_below_2_to_62(rt: HostRuntime) {
     let before = Pcg32::seed_from_u64(0);
     let mut filter = PacketNumberFilter::disabled();
     for (next, wanted) in &rows {
-        assert!(&rt; filter.peek(*next) == *next, "{next}");
-        assert!(&rt; filter.allocate(&mut rng, *next) == *wanted, "{next}");
-        assert!(&rt; rng == before, "{next}");
-        assert!(&rt; next_skip(&filter, 0, 100).is_none(), "{next}");
+        holds(&rt, filter.peek(*next) == *next, *next);
+        let number = filter.allocate(&mut rng, *next);
+        let is_left = rng == before && next_skip(&filter, 0, 100).is_none();
+        holds(&rt, number == *wanted && is_left, *next);
     }
 }

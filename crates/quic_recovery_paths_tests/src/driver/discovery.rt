@@ -148,7 +148,7 @@ fn no_search(rt: HostRuntime) {
         (send(SpaceId::Data, 1200, true), sent(0, None)),
     ];
     let recovery = walk(&rt, rt.alloc(), config, words(), rows);
-    assert!(rt; recovery.current().current_mtu() == 1000, "the MTU");
-    assert!(rt; recovery.peer_limit() == Some(1000), "the limit");
+    let is_wanted = recovery.current().current_mtu() == 1000 && recovery.peer_limit() == Some(1000);
     drop(recovery);
+    holds(&rt, is_wanted, 7);
 }

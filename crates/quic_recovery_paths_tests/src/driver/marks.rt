@@ -82,52 +82,72 @@ fn of_marks(marks: PathMarks) -> Marks {
 fn marked(rt: &impl Abort, recovery: &Reno, row: u64, current: Marks, previous: Option<Marks>) {
     let is_wanted = of_path(recovery.current()) == current
         && recovery.previous().map(of_path) == previous;
-    assert!(rt; is_wanted, "marks after row {row}");
+    holds(rt, is_wanted, row);
 }
 
 /// Sets marks, and asserts which ones were there.
 fn replaced(rt: &impl Abort, recovery: &mut Reno, path: PathName, want: Option<Marks>) {
     let is_wanted = recovery.set_marks(path, to_set()).map(of_marks) == want;
-    assert!(rt; is_wanted, "the marks that were there");
+    holds(rt, is_wanted, 0);
+}
+
+/// Asserts what one event is replied, and which marks it leaves.
+fn told_marked(
+    rt: &impl Abort,
+    recovery: &mut Reno,
+    row: u64,
+    (event, want): (Event, Reply),
+    current: Marks,
+    previous: Option<Marks>,
+) {
+    told(rt, recovery, row, event, want);
+    marked(rt, recovery, row, current, previous);
+}
+
+fn keep_marks(rt: &impl Abort, recovery: &mut Reno) {
+    marked(rt, recovery, 0, FRESH, None);
+    replaced(rt, recovery, PathName::Current, Some(FRESH));
+    marked(rt, recovery, 0, SET, None);
+    told_marked(rt, recovery, 1, (sample(400), DONE), SET, None);
+    told_marked(
+        rt,
+        recovery,
+        2,
+        (transmit(100, false), TRANSMITTED),
+        SET,
+        None,
+    );
+    told_marked(rt, recovery, 3, (congestion(), DONE), SET, None);
+    told_marked(rt, recovery, 4, (end_acks(), DONE), SET, None);
+    told_marked(rt, recovery, 5, (reset(), DONE), SET, None);
+    told_marked(rt, recovery, 6, move_to(4434, false), GOING_ON, Some(SET));
+    told_marked(rt, recovery, 7, move_to(4435, true), FRESH, Some(GOING_ON));
+    told_marked(rt, recovery, 8, (DROP, DONE), FRESH, None);
 }
 
 #[test]
 fn no_event_changes_marks(rt: HostRuntime) {
     let mut recovery = fresh(&rt, rt.alloc());
-    marked(&rt, &recovery, 0, FRESH, None);
-    replaced(&rt, &mut recovery, PathName::Current, Some(FRESH));
-    marked(&rt, &recovery, 0, SET, None);
-    let (goes_on, _) = move_to(4434, false);
-    let (begins_anew, _) = move_to(4435, true);
-    for (row, event, want, current, previous) in [
-        (1, sample(400), DONE, SET, None),
-        (2, transmit(100, false), TRANSMITTED, SET, None),
-        (3, congestion(), DONE, SET, None),
-        (4, end_acks(), DONE, SET, None),
-        (5, reset(), DONE, SET, None),
-        (6, goes_on, DONE, GOING_ON, Some(SET)),
-        (7, begins_anew, DONE, FRESH, Some(GOING_ON)),
-        (8, DROP, DONE, FRESH, None),
-    ] {
-        told(&rt, &mut recovery, row, event, want);
-        marked(&rt, &recovery, row, current, previous);
-    }
+    keep_marks(&rt, &mut recovery);
     drop(recovery);
+}
+
+fn mark_each(rt: &impl Abort, recovery: &mut Reno) {
+    replaced(rt, recovery, PathName::Previous, None);
+    marked(rt, recovery, 0, FRESH, None);
+    told_marked(rt, recovery, 1, move_to(4434, true), FRESH, Some(FRESH));
+    replaced(rt, recovery, PathName::Previous, Some(FRESH));
+    marked(rt, recovery, 1, FRESH, Some(SET));
+    replaced(rt, recovery, PathName::Previous, Some(SET));
+    told_marked(rt, recovery, 2, (DROP, DONE), FRESH, None);
+    replaced(rt, recovery, PathName::Previous, None);
+    marked(rt, recovery, 2, FRESH, None);
 }
 
 #[test]
 fn marks_of_each_path(rt: HostRuntime) {
     let mut recovery = fresh(&rt, rt.alloc());
-    replaced(&rt, &mut recovery, PathName::Previous, None);
-    marked(&rt, &recovery, 0, FRESH, None);
-    let (moves, moved) = move_to(4434, true);
-    told(&rt, &mut recovery, 1, moves, moved);
-    replaced(&rt, &mut recovery, PathName::Previous, Some(FRESH));
-    marked(&rt, &recovery, 1, FRESH, Some(SET));
-    replaced(&rt, &mut recovery, PathName::Previous, Some(SET));
-    told(&rt, &mut recovery, 2, DROP, DONE);
-    replaced(&rt, &mut recovery, PathName::Previous, None);
-    marked(&rt, &recovery, 2, FRESH, None);
+    mark_each(&rt, &mut recovery);
     drop(recovery);
 }
 
@@ -137,8 +157,7 @@ fn a_path_that_is_marked(rt: HostRuntime) {
     let rows = used((Event::NextTimeout, NO_TIMEOUT));
     let mut recovery = walk(&rt, rt.alloc(), settings(8), words(), rows);
     replaced(&rt, &mut recovery, PathName::Current, Some(FRESH));
-    let is_wanted = leaves_kept(&recovery, None, kept_used());
-    assert!(rt; is_wanted, "what is left");
+    holds(&rt, leaves_kept(&recovery, None, kept_used()), 7);
     marked(&rt, &recovery, 0, SET, None);
     drop(recovery);
 }

@@ -163,20 +163,21 @@ fn a_path_that_is_dropped(rt: HostRuntime) {
 #[test]
 fn a_packet_of_another_path_is_forgotten(rt: HostRuntime) {
     let mut recovery = fresh(&rt, rt.alloc());
+    forget_one(&rt, &mut recovery);
+    drop(recovery);
+}
+
+fn forget_one(rt: &impl Abort, recovery: &mut Reno) {
     for number in 0..1001u64 {
         let silent = send(SpaceId::Data, 40, false);
-        told(&rt, &mut recovery, number, silent, sent(number, None));
+        told(rt, recovery, number, silent, sent(number, None));
     }
     let (moves, moved) = move_to(4434, true);
-    for (row, event, want) in [
-        (1001, moves, moved),
-        (1002, send(SpaceId::Data, 40, false), sent(1001, Some(0))),
-        (1003, PREVIOUS, in_flight(40_000, 0)),
-        (1004, CURRENT, in_flight(40, 0)),
-    ] {
-        told(&rt, &mut recovery, row, event, want);
-    }
-    drop(recovery);
+    told(rt, recovery, 1001, moves, moved);
+    let silent = send(SpaceId::Data, 40, false);
+    told(rt, recovery, 1002, silent, sent(1001, Some(0)));
+    told(rt, recovery, 1003, PREVIOUS, in_flight(40_000, 0));
+    told(rt, recovery, 1004, CURRENT, in_flight(40, 0));
 }
 
 /// What a path was sampled, whether it is validated, and its totals, generation and MTU.

@@ -145,12 +145,7 @@ fn a_window_of_more_than_32_bits(rt: HostRuntime) {
         let mut reno = NewRenoConfig::default();
         reno.initial_window(window);
         let config = settings_with(TransportConfig::with_factory(reno), 8, Skips::Disabled);
-        walk(
-            &rt,
-            rt.alloc(),
-            config,
-            words(),
-            [(pacer_check(0, 307_201), want)],
-        );
+        let rows = [(pacer_check(0, 307_201), want)];
+        drop(walk(&rt, rt.alloc(), config, words(), rows));
     }
 }

@@ -129,20 +129,28 @@ fn an_acknowledged_ack_empties_its_own_space(rt: HostRuntime) {
     );
 }
 
-#[test]
-fn at_most_64_ranges_are_to_be_acknowledged(rt: HostRuntime) {
-    let mut recovery = fresh(&rt, rt.alloc());
+fn receive_65_ranges(rt: &impl Abort, recovery: &mut Reno) {
     for half in 0..65u64 {
         let event = received(SpaceId::Data, half.saturating_mul(2), false);
-        told(&rt, &mut recovery, half, event, new(false));
+        told(rt, recovery, half, event, new(false));
     }
-    let space = kept(&rt, &recovery, SpaceId::Data);
+}
+
+/// Asserts that 2, 4, .. 128 are to be acknowledged.
+fn holds_64_ranges(rt: &impl Abort, space: &PacketSpace<Tally>) {
     let mut least = 2u64;
     for range in space.pending_acks.ranges().iter() {
         let end = least.saturating_add(1);
-        assert!(rt; range.start == least && range.end == end, "from {least}");
+        holds(rt, range.start == least && range.end == end, least);
         least = end.saturating_add(1);
     }
-    assert!(rt; least == 130);
+    holds(rt, least == 130, least);
+}
+
+#[test]
+fn at_most_64_ranges_are_to_be_acknowledged(rt: HostRuntime) {
+    let mut recovery = fresh(&rt, rt.alloc());
+    receive_65_ranges(&rt, &mut recovery);
+    holds_64_ranges(&rt, kept(&rt, &recovery, SpaceId::Data));
     drop(recovery);
 }

@@ -184,14 +184,9 @@ fn numbers_go_on_from_the_count_issued(rt: HostRuntime) {
 
 #[test]
 fn ids_of_no_bytes_are_not_retired(rt: HostRuntime) {
-    walk(
-        &rt,
-        rt.alloc(),
-        settings(0),
-        words(),
-        [
-            (peer_retired(0, 5), CIDS_NOT_IN_USE),
-            (peer_retired(9, 5), CIDS_NOT_IN_USE),
-        ],
-    );
+    let rows = [
+        (peer_retired(0, 5), CIDS_NOT_IN_USE),
+        (peer_retired(9, 5), CIDS_NOT_IN_USE),
+    ];
+    drop(walk(&rt, rt.alloc(), settings(0), words(), rows));
 }

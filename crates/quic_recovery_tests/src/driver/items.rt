@@ -5,6 +5,12 @@ use recovery_queue::queue::RetransmitQueue;
 
 type ItemEvent = quic_recovery::event::Event<ItemQueue>;
 
+type ItemAnswer = quic_recovery::event::Answer<ItemQueue>;
+
+type ItemReply = Result<ItemAnswer, quic_recovery::event::Refusal>;
+
+type Items = Recovery<NewRenoConfig, ItemQueue, Pcg32>;
+
 /// What happens in Data, and which items wait then.
 #[derive(Clone, Copy)]
 enum Step {
@@ -49,28 +55,50 @@ fn event_of(rt: &impl Abort, alloc: Global, step: Step) -> ItemEvent {
     }
 }
 
+/// What waits in Data, where it is what is wanted.
+fn is_left(recovery: &Items, items: &[u64]) -> bool {
+    match recovery.space(SpaceId::Data) {
+        Some(space) => space.pending.items() == items,
+        None => false,
+    }
+}
+
+/// Nothing is refused, and what is taken is what waited before.
+fn is_wanted(reply: &ItemReply, before: &[u64]) -> bool {
+    match reply {
+        Ok(ItemAnswer::Queue(queue)) => queue.items() == before,
+        Ok(_) => true,
+        Err(_) => false,
+    }
+}
+
+/// One event more: whether it is replied what is wanted, and leaves these items waiting.
+fn is_told(recovery: &mut Items, event: ItemEvent, before: &[u64], items: &[u64]) -> bool {
+    let reply = recovery.apply(event);
+    is_wanted(&reply, before) && is_left(recovery, items)
+}
+
 /// Asserts which items each step leaves waiting, and that what is taken is what waited before.
-fn play(rt: &impl Abort, alloc: Global, rows: &[(Step, &[u64])]) {
-    let config = settings_with(TransportConfig::default(), 8, Skips::Drawn);
-    let Ok(mut recovery) = Recovery::new(alloc, config, words(), at(0)) else {
-        panic!(rt; "NoMemory");
-    };
+fn go_on(rt: &impl Abort, alloc: Global, recovery: &mut Items, rows: &[(Step, &[u64])]) {
     let mut row = 0u64;
     let mut before: &[u64] = &[];
     for (step, items) in rows {
-        match recovery.apply(event_of(rt, alloc, *step)) {
-            Ok(quic_recovery::event::Answer::Queue(queue)) => {
-                assert!(rt; queue.items() == before, "row {row}: what is taken");
-            }
-            Ok(_) => {}
-            Err(refusal) => panic!(rt; "row {row}: {}", refusal.name()),
-        }
-        match recovery.space(SpaceId::Data) {
-            Some(space) => assert!(rt; space.pending.items() == *items, "row {row}"),
-            None => panic!(rt; "row {row}"),
-        }
+        let event = event_of(rt, alloc, *step);
+        holds(rt, is_told(recovery, event, before, items), row);
         before = items;
         row = row.saturating_add(1);
+    }
+}
+
+/// The same from the beginning of a connection on.
+fn play(rt: &impl Abort, alloc: Global, rows: &[(Step, &[u64])]) {
+    let config = settings_with(TransportConfig::default(), 8, Skips::Drawn);
+    match Recovery::new(alloc, config, words(), at(0)) {
+        Ok(mut recovery) => {
+            go_on(rt, alloc, &mut recovery, rows);
+            drop(recovery);
+        }
+        Err(_) => panic!(rt; "NoMemory"),
     }
 }
 

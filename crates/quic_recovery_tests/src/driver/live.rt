@@ -4,35 +4,16 @@ use quic_recovery::LiveRecovery;
 use quic_recovery::event::PathName;
 use quic_recovery::paths::{PathMarks, PathResponses};
 
-fn live(rt: &impl Abort, alloc: Global) -> LiveRecovery<NewRenoConfig, Tally, Pcg32> {
-    match LiveRecovery::new(alloc, settings(8), words(), at(0)) {
-        Ok(live) => live,
-        Err(_) => panic!(rt; "NoMemory"),
-    }
-}
+type Live = LiveRecovery<NewRenoConfig, Tally, Pcg32>;
 
 /// Asserts what one event is replied.
-fn told(
-    rt: &impl Abort,
-    live: &mut LiveRecovery<NewRenoConfig, Tally, Pcg32>,
-    row: u64,
-    event: Event,
-    want: Reply,
-) {
+fn told(rt: &impl Abort, live: &mut Live, row: u64, event: Event, want: Reply) {
     let reply = live.apply(event);
     right(rt, runs::same(row, &reply, &want));
 }
 
-#[test]
-fn events_come_one_at_a_time(rt: HostRuntime) {
-    let mut live = live(&rt, rt.alloc());
-    for (row, event, want) in [
-        (0, received(SpaceId::Data, 0, true), new(true)),
-        (1, received(SpaceId::Data, 0, true), DUPLICATE),
-        (2, send(SpaceId::Data, 500, true), sent(0, None)),
-    ] {
-        told(&rt, &mut live, row, event, want);
-    }
+/// Asserts which marks were there, and that these take their place.
+fn marked(rt: &impl Abort, live: &mut Live) {
     let marks = PathMarks {
         sending_ecn: false,
         challenge: Some(7),
@@ -40,16 +21,37 @@ fn events_come_one_at_a_time(rt: HostRuntime) {
         path_responses: PathResponses::new(),
         first_packet_after_rtt_sample: Some((SpaceId::Data, 0)),
     };
-    let before = match live.set_marks(PathName::Current, marks) {
-        Some(before) => before,
-        None => panic!(rt; "the path in use lives"),
+    let is_fresh = match live.set_marks(PathName::Current, marks) {
+        Some(before) => before.sending_ecn && before.challenge == None,
+        None => false,
     };
-    assert!(rt; before.sending_ecn && before.challenge == None);
-    let path = live.recovery().current();
-    let is_wanted = path.in_flight().bytes == 500
+    holds(rt, is_fresh, 3);
+}
+
+fn leaves_marks(left: &Reno) -> bool {
+    let path = left.current();
+    path.in_flight().bytes == 500
         && !path.sending_ecn
         && path.challenge == Some(7)
         && path.challenge_pending
-        && path.first_packet_after_rtt_sample == Some((SpaceId::Data, 0));
-    assert!(rt; is_wanted, "what is left");
+        && path.first_packet_after_rtt_sample == Some((SpaceId::Data, 0))
+}
+
+fn play(rt: &impl Abort, live: &mut Live) {
+    told(rt, live, 0, received(SpaceId::Data, 0, true), new(true));
+    told(rt, live, 1, received(SpaceId::Data, 0, true), DUPLICATE);
+    told(rt, live, 2, send(SpaceId::Data, 500, true), sent(0, None));
+    marked(rt, live);
+    holds(rt, leaves_marks(live.recovery()), 4);
+}
+
+#[test]
+fn events_come_one_at_a_time(rt: HostRuntime) {
+    match LiveRecovery::new(rt.alloc(), settings(8), words(), at(0)) {
+        Ok(mut live) => {
+            play(&rt, &mut live);
+            drop(live);
+        }
+        Err(_) => panic!(&rt; "NoMemory"),
+    }
 }

@@ -1,11 +1,10 @@
 //! The numbers, names and texts of refusals.
+use super::holds;
 use quic_recovery::event::Refusal;
 use std::alloc::Global;
-use std::process::Abort;
-use std::test::Fail;
 
 /// Refusals with their numbers, names and texts.
-const TEXTS: [(Refusal, u8, &str, &str); 10] = [
+static TEXTS: [(Refusal, u8, &str, &str); 10] = [
     (Refusal::NoMemory, 1, "NoMemory", "out of memory"),
     (
         Refusal::NumberTooLarge,
@@ -58,18 +57,20 @@ const TEXTS: [(Refusal, u8, &str, &str); 10] = [
     ),
 ];
 
-/// Asserts the number, the name and the text of each refusal.
-fn told_as(rt: &impl Abort, alloc: Global, rows: &[(Refusal, u8, &str, &str)]) -> Result<(), Fail> {
-    for (refusal, number, name, text) in rows {
-        assert!(rt; refusal.number() == *number, "{name}");
-        assert!(rt; refusal.name() == *name, "{name}");
-        let printed = format!(in alloc; "{refusal}")?;
-        assert!(rt; printed.as_str() == *text, "{name}");
+/// Whether a refusal is printed so.
+fn is_printed(alloc: Global, refusal: &Refusal, text: &str) -> bool {
+    match format!(in alloc; "{refusal}") {
+        Ok(printed) => printed.as_str() == text,
+        Err(_) => false,
     }
-    Ok(())
 }
 
+/// Asserts the number, the name and the text of each refusal.
 #[test]
-fn refusals_have_numbers_names_and_texts(rt: HostRuntime) -> Result<(), Fail> {
-    told_as(&rt, rt.alloc(), &TEXTS)
+fn refusals_have_numbers_names_and_texts(rt: HostRuntime) {
+    for (refusal, number, name, text) in &TEXTS {
+        let is_named = refusal.number() == *number && refusal.name() == *name;
+        let is_right = is_named && is_printed(rt.alloc(), refusal, text);
+        holds(&rt, is_right, u64::from(*number));
+    }
 }

@@ -36,9 +36,9 @@ fn count(rt: &impl Abort, space: Option<&PacketSpace<Tally>>, given_out: u64, ne
     match space {
         Some(space) => {
             let (count, number) = (space.sent_with_keys, space.next_packet_number());
-            assert!(rt; count == given_out && number == next, "{count}, {number}");
+            holds(rt, count == given_out && number == next, next);
         }
-        None => panic!(rt; "the space is discarded"),
+        None => holds(rt, false, next),
     }
 }
 
@@ -87,26 +87,25 @@ fn ranges_have_bounds(rt: HostRuntime) {
 /// The last number below 64 is skipped, and refused from then on that the one behind it is given out.
 #[test]
 fn number_63_is_skipped(rt: HostRuntime) {
-    let data = SpaceId::Data;
     let config = skipping(Skips::Starting(63));
-    let Ok(mut recovery) = Recovery::new(rt.alloc(), config, words(), at(0)) else {
-        panic!(&rt; "NoMemory");
-    };
+    let mut recovery = walk(&rt, rt.alloc(), config, words(), []);
+    skip_63(&rt, &mut recovery);
+    count(&rt, recovery.space(SpaceId::Data), 65, 65);
+    drop(recovery);
+}
+
+fn skip_63(rt: &impl Abort, recovery: &mut Reno) {
+    let data = SpaceId::Data;
     for number in 0..63u64 {
         let event = send(data, 1, true);
-        told(&rt, &mut recovery, number, event, sent(number, None));
+        told(rt, recovery, number, event, sent(number, None));
     }
-    for (row, event, want) in [
-        (63, check_ack(data, 60, 63), DONE),
-        (64, send(data, 1, true), sent(64, None)),
-        (65, check_ack(data, 60, 63), SKIPPED),
-        (66, check_ack(data, 64, 70), DONE),
-        (67, check_ack(data, 60, 62), DONE),
-        (68, check_ack(data, 0, 70), SKIPPED),
-    ] {
-        told(&rt, &mut recovery, row, event, want);
-    }
-    count(&rt, recovery.space(data), 65, 65);
+    told(rt, recovery, 63, check_ack(data, 60, 63), DONE);
+    told(rt, recovery, 64, send(data, 1, true), sent(64, None));
+    told(rt, recovery, 65, check_ack(data, 60, 63), SKIPPED);
+    told(rt, recovery, 66, check_ack(data, 64, 70), DONE);
+    told(rt, recovery, 67, check_ack(data, 60, 62), DONE);
+    told(rt, recovery, 68, check_ack(data, 0, 70), SKIPPED);
 }
 
 /// A probe of the MTU passes a skip too.
@@ -129,24 +128,35 @@ fn a_probe_passes_a_skip(rt: HostRuntime) {
 
 /// Asserts that of the numbers below the third of three skips the first two are not given out, and that the first is
 /// refused from the number behind it up to the one behind the second.
-fn play_drawn<R: Rng + Drop>(rt: &impl Abort, alloc: Global, rng: R, skips: (u64, u64, u64)) {
+fn go_on<R: Rng + Drop>(
+    rt: &impl Abort,
+    recovery: &mut Recovery<NewRenoConfig, Tally, R>,
+    skips: (u64, u64, u64),
+) {
     let (first, second, end) = skips;
-    let Ok(mut recovery) = Recovery::new(alloc, skipping(Skips::Drawn), rng, at(0)) else {
-        panic!(rt; "NoMemory");
-    };
     for number in 0..end {
         if number != first && number != second {
             let event = send(SpaceId::Data, 1, true);
-            told(rt, &mut recovery, number, event, sent(number, None));
+            told(rt, recovery, number, event, sent(number, None));
             let is_last = first < number && number < second;
             let want = if is_last { SKIPPED } else { DONE };
             let event = check_ack(SpaceId::Data, first, first);
-            told(rt, &mut recovery, number, event, want);
+            told(rt, recovery, number, event, want);
         }
     }
     let want = sent(end.saturating_add(1), None);
-    told(rt, &mut recovery, end, send(SpaceId::Data, 1, true), want);
-    drop(recovery);
+    told(rt, recovery, end, send(SpaceId::Data, 1, true), want);
+}
+
+/// The same from the beginning of a connection on.
+fn play_drawn<R: Rng + Drop>(rt: &impl Abort, alloc: Global, rng: R, skips: (u64, u64, u64)) {
+    match Recovery::new(alloc, skipping(Skips::Drawn), rng, at(0)) {
+        Ok(mut recovery) => {
+            go_on(rt, &mut recovery, skips);
+            drop(recovery);
+        }
+        Err(_) => panic!(rt; "NoMemory"),
+    }
 }
 
 /// The skips are those of the table of known words, by either generator.

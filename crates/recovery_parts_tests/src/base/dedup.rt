@@ -1,6 +1,7 @@
 //! Which packet numbers are new: the worked rows, and the window beside the plain program over a set.
 ghost use Rattle.std.specs.Prelude.{ℕ, ◌<◌, ◌^◌, ◌≤◌};
 
+use crate::rows::holds;
 use recovery_base::below::NoMemory;
 use recovery_base::dedup::Dedup;
 use std::alloc::Global;
@@ -71,7 +72,7 @@ fn walk(rt: &impl Abort, rows: &[(u64, bool)]) -> Dedup {
     let mut dedup = Dedup::new();
     for (number, wanted) in rows {
         let is_duplicate = insert(rt, &mut dedup, *number);
-        assert!(rt; is_duplicate == *wanted, "at {number}");
+        holds(rt, is_duplicate == *wanted, *number);
     }
     dedup
 }
@@ -125,10 +126,7 @@ fn finds_the_least_missing(rt: HostRuntime) {
     );
     for (low, high, missing) in [(0, 500, Some(372)), (0, 373, Some(372)), (0, 372, None)] {
         assert!(rt; low <= high && high <= 500);
-        assert!(rt;
-            missing_after(dedup, 500, low, high) == missing,
-            "below {high}"
-        );
+        holds(&rt, missing_after(dedup, 500, low, high) == missing, high);
     }
 }
 
@@ -144,11 +142,11 @@ fn compare(
     let before = *dedup;
     let duplicate = dedup.insert(number);
     let is_same = duplicate == plain.insert(number)?;
-    assert!(rt; is_same, "at {number}");
+    holds(rt, is_same, number);
     if !duplicate && low < number {
         let missing = missing_after(before, number, low, number);
         let is_same = missing == plain.smallest_missing(low, number);
-        assert!(rt; is_same, "between {low} and {number}");
+        holds(rt, is_same, low);
     }
     Ok(())
 }
@@ -245,7 +243,7 @@ fn compare_members(rt: &impl Abort, dedup: Dedup, plain: &Plain, greatest: u64) 
         let mut dedup = dedup;
         let number = greatest.saturating_sub(below);
         let is_same = insert(rt, &mut dedup, number) == plain.is_duplicate(number);
-        assert!(rt; is_same, "at {number}");
+        holds(rt, is_same, number);
     }
 }
 
@@ -258,7 +256,7 @@ fn compare_intervals(rt: &impl Abort, before: Dedup, plain: &Plain, greatest: u6
             let high = greatest.saturating_sub(first.min(last));
             let missing = missing_after(before, greatest, low, high);
             let is_same = missing == plain.smallest_missing(low, high);
-            assert!(rt; is_same, "between {low} and {high}");
+            holds(rt, is_same, low);
         }
     }
 }
