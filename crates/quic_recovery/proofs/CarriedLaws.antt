@@ -20,6 +20,7 @@ use Rattle.quic_recovery.specs.Logs.{onto}
 use Rattle.quic_recovery.specs.Promises.Acknowledged.{largest_in}
 use Rattle.quic_recovery.specs.Told.{Told}
 use Rattle.quic_recovery.proofs.EntryKinds.{sends_none, space_kept, refused_keeps}
+use Rattle.quic_recovery.proofs.AnswerLaws.{past_four}
 use Rattle.quic_recovery.proofs.SearchSteps.{found_packet as is_there}
 use Rattle.quic_recovery.proofs.FieldLaws.{IsSaid, said_after, said_found, said_sent}
 use Rattle.quic_recovery.proofs.TrackedLaws.{is_new, one_space, probe_number, sent_in}
@@ -76,9 +77,9 @@ module _ {F K Q S M P : Type 0} (beginning : Beginning F K Q S M P) (before : Hi
       → Carries ((answered beginning.queue known event answer).spaces space)
       (λ n. largest_in space n ((event, Ok answer) ∷ before))
   answer_carries (Send there now size eliciting last queue frames) (answers.Sent number forgotten) told =
-      let is = told.1.1.1.1 in
+      let is = past_four told in
       goes_out there (packet_now known now size eliciting last (beginning.queue.contents queue) frames) number (cc)
-  answer_carries (Send there now size eliciting last queue frames) answer told = let is = told.1.1.1.1 in cc
+  answer_carries (Send there now size eliciting last queue frames) answer told = let is = past_four told in cc
   answer_carries (PollMtu now) (Probe number size) told =
       goes_out Data (packet_now known now size true None beginning.queue.words.empty beginning.queue.blank) number
       (probe_number beginning.queue known now _ number size told.1.1)

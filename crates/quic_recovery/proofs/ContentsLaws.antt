@@ -31,6 +31,7 @@ use Rattle.quic_recovery.specs.Promises.Contents.{LosesNothing, outgoing, held, 
 use Rattle.quic_recovery.specs.Promises.Measures.{AddsUp}
 use Rattle.quic_recovery.specs.Told.{Told}
 use Rattle.quic_recovery.proofs.EntryKinds.{SpaceKind, sending, acknowledging, taking, emptying, space_kind, space_kept, refused_keeps}
+use Rattle.quic_recovery.proofs.AnswerLaws.{past_four}
 use Rattle.quic_recovery.proofs.Runs.{kept_after}
 use Rattle.quic_recovery.proofs.TrackedLaws.{one_space, sent_in}
 
@@ -282,9 +283,9 @@ module _ {F K Q S M P : Type 0} (beginning : Beginning F K Q S M P) (before : Hi
       → Balanced ((event, Ok answer) ∷ before)
   answer_keeps (Send there now size eliciting largest queue frames) (answers.Sent number forgotten) told =
       let packet = packet_now known now size eliciting largest (beginning.queue.contents queue) frames in
-      let is = told.1.1.1.1 in
+      let is = past_four told in
       goes_told there packet forgotten (cc)
-  answer_keeps (Send there now size eliciting largest queue frames) answer told = let is = told.1.1.1.1 in cc
+  answer_keeps (Send there now size eliciting largest queue frames) answer told = let is = past_four told in cc
   answer_keeps (PollMtu now) (Probe number size) told =
       probe_goes (packet_now known now size true None words.empty beginning.queue.blank) refl refl
   answer_keeps (PollMtu now) answer told = same

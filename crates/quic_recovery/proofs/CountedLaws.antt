@@ -35,6 +35,7 @@ use Rattle.quic_recovery.specs.Replies.{AlwaysAnswers}
 use Rattle.quic_recovery.specs.Told.{Told, Is, OnPath, counters_answer}
 use Rattle.quic_recovery.specs.Promises.Counted.{sum_on, total, IsTally, CountsInFlight}
 use Rattle.quic_recovery.specs.Promises.Paths.{paths_made}
+use Rattle.quic_recovery.proofs.AnswerLaws.{past_four}
 use Rattle.quic_recovery.proofs.Runs.{throughout_kept}
 use Rattle.quic_recovery.proofs.EntryKinds.{keeps_packets, space_kind, space_kept, refused_keeps}
 use Rattle.quic_recovery.proofs.PathLaws.{generation_told}
@@ -319,13 +320,13 @@ module _ {F K Q S M P : Type 0} (beginning : Beginning F K Q S M P) (before : Hi
       → Answered event answer
   answer_counts (Send there now size eliciting largest queue frames) (answers.Sent number None) told =
       let packet = packet_now known now size eliciting largest (beginning.queue.contents queue) frames in
-      let is = told.1.1.1.1 in
+      let is = past_four told in
       goes_out there number packet None (cc) (cc) refl
   answer_counts (Send there now size eliciting largest queue frames) (answers.Sent number (Some forgotten)) told =
       let packet = packet_now known now size eliciting largest (beginning.queue.contents queue) frames in
-      let is = told.1.1.1.1 in
+      let is = past_four told in
       goes_out there number packet (Some forgotten) (cc) (cc) refl
-  answer_counts (Send there now size eliciting largest queue frames) answer told = let is = told.1.1.1.1 in cc
+  answer_counts (Send there now size eliciting largest queue frames) answer told = let is = past_four told in cc
   answer_counts (PollMtu now) (Probe number size) told =
       let packet = packet_now known now size true None beginning.queue.words.empty beginning.queue.blank in
       let is = probe_number beginning.queue known now _ number size told.1.1 in

@@ -192,8 +192,9 @@ module _ {F K Q S M P : Type 0} (beginning : Beginning F K Q S M P) (before : Hi
       (waits space ((event, Ok answer) ∷ before)) (timer_runs space ((event, Ok answer) ∷ before))
   answer_attends (Received there now number true) (New true) told = arms_told there now number (same_space there space)
   answer_attends (Received there now number true) (New false) told =
-      other_told there now number (λ arms. let is = told.1.1.1.1 arms in cc)
-  answer_attends (Received there now number false) (New true) told = let is = (told.1.1.1.0 refl).0 in cc
+      let receipt = told.1.1 in other_told there now number (λ arms. let is = receipt.1.1 arms in cc)
+  answer_attends (Received there now number false) (New true) told =
+      let receipt = told.1.1 in let is = (receipt.1.0 refl).0 in cc
   answer_attends (Received there now number false) (New false) told =
       stays (same_space there space) (heard now number false)
       (silent beginning.queue.words waiting running (log space) here now number)

@@ -104,7 +104,10 @@ module _ (First Second Third Fourth One Other : Type 0) (none : ¬ Second) (alik
   but_second false true third fourth is = absurd (none is.1)
   but_second false false true fourth is = (is.0, is.1.1)
   but_second false false false true is = (is.0, is.1.1)
-  but_second false false false false is = (is.0, (is.1.1.0, (is.1.1.1.0, alike is.1.1.1.1)))
+  but_second false false false false is =
+      let third = is.1.1 in
+      let fourth = third.1 in
+      (is.0, (third.0, (fourth.0, alike fourth.1)))
 
 -- want of memory refuses whatever is answered else
 refused_alike : {Q : Type 0} (Grows : Type 0) (One Other : Answer Q → Type 0) (refusal : Refusal)
@@ -166,6 +169,7 @@ module _ {K Q S M P : Type 0} (q : QueueMeaning Q S M P) (old then : Parts K P M
       let Sending : P × M → Type 0 =
       λ carried. Steps q.words (sending known Data now size true None carried.0 carried.1) old then in
       let steps = subst Sending carries_nothing sent.steps in
+      let fits = sent.told.1.1.1 in
       let told : OfPaths (PathKnown K) = paths_after (known_with old.settings) (known_following old.settings)
       (on_current (tells (sent_call known Data now size)) ∷ []) (paths_known old.paths) in
       let seen : Discovery → OfPaths (PathKnown K) → OfPaths (PathKnown K) = λ found all. record all
@@ -176,7 +180,7 @@ module _ {K Q S M P : Type 0} (q : QueueMeaning Q S M P) (old then : Parts K P M
           (
             sent.told.1.1.0,
             subst Out (sym due) (
-              subst Fitting carries_nothing sent.told.1.1.1.0,
+              subst Fitting carries_nothing fits.0,
               ap (λ n. Probe n size) is,
             ),
           ),

@@ -25,6 +25,7 @@ use Rattle.quic_recovery.specs.Replies.{AlwaysAnswers}
 use Rattle.quic_recovery.specs.Told.{Told}
 use Rattle.quic_recovery.specs.Promises.GivenIds.{id_under, retired_below, least_from, active_id}
 use Rattle.quic_recovery.specs.Promises.PeerIds.{AcceptsIds, frame_reply, move_reply, moved, repeats}
+use Rattle.quic_recovery.proofs.AnswerLaws.{past_four}
 use Rattle.quic_recovery.proofs.Runs.{throughout_kept}
 use Rattle.quic_recovery.proofs.EntryKinds.{plain, plainly_keeps, refused_keeps}
 use Rattle.quic_recovery.proofs.ReplyLaws.{refused_by}
@@ -240,19 +241,23 @@ module _ {Q S M P : Type 0} (initial : List ℕ) (history : History Q S M P) (id
 
   frame_step : (frame : NewConnectionId) (answer : Answer Q) → FrameReply ids frame (Ok answer)
       → SameIds initial ((NewId frame, Ok answer) ∷ history) (remote_ids_with (given frame) ids)
-  frame_step frame answer told = go answer told.1.1.1.1.1
+  frame_step frame answer told = go answer unlike.1
     where
+      unlike : (¬ ¬ Repeats frame ids.held) × IsFrameAnswer ids frame answer
+      unlike = past_four told
+
       fine : IsFine frame
       fine =
-          let ordered = told.1.0 in
-          let ahead = told.1.1.0 in
-          let near = told.1.1.1.0 in
+          let small = told.1 in
+          let ordered = small.0 in
+          let ahead = small.1.0 in
+          let near = small.1.1.0 in
           record { ordered = omega (arith, ordered); ahead = omega (arith, ahead); near = omega (arith, near) }
 
       again : Repeats frame ids.held
       again =
           settled (repeats frame (ids.held frame.sequence)) _ (repeats_decides frame (ids.held frame.sequence))
-          told.1.1.1.1.0
+          unlike.0
 
       go : (answer : Answer Q) → IsFrameAnswer ids frame answer
           → SameIds initial ((NewId frame, Ok answer) ∷ history) (remote_ids_with (given frame) ids)

@@ -53,7 +53,7 @@ pub bound_in : (o : Option MtuDiscoveryConfig) (values : List Val) → Is (row (
     → ForSome o (λ settings. settings.upper_bound < 2 ^ 16)
 bound_in None values is = λ settings none. absurd (cc)
 bound_in (Some own) values is =
-    λ settings some. subst (λ (s : MtuDiscoveryConfig). s.upper_bound < 2 ^ 16) (some_same some) is.1.1.1.1.0.1.1.1.0.1
+    λ settings some. subst (λ (s : MtuDiscoveryConfig). s.upper_bound < 2 ^ 16) (some_same some) (search (is))
 
 -- what holds of the settings holds where they are used
 pub where_allowed : {A : Type 0} (P : A → Type 0) (allowed : Bool) (o : Option A) → ForSome o P

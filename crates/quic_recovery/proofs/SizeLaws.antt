@@ -21,6 +21,7 @@ use Rattle.quic_recovery.specs.Promises.Bursts.{size_of}
 use Rattle.quic_recovery.specs.Told.{Told, MtuProbeReply}
 use Rattle.quic_recovery.proofs.EntryKinds.{sends_none, space_kept, refused_keeps}
 use Rattle.quic_recovery.proofs.FieldLaws.{AreSaid, IsSaid, said_after, said_sent}
+use Rattle.quic_recovery.proofs.AnswerLaws.{past_four}
 
 -- ---- packets
 
@@ -84,7 +85,7 @@ module _ {F K Q S M P : Type 0} (beginning : Beginning F K Q S M P) where
         → After event answer
     answer_sized (Send Data now size eliciting largest queue frames) answer told =
         let sent = sent_by beginning.queue.words log in
-        subst (After (Send Data now size eliciting largest queue frames)) (sym told.1.1.1.1)
+        subst (After (Send Data now size eliciting largest queue frames)) (sym (past_four told))
         (sized_sent (size_of history) sent.next known.numbers.next size new_number sent.last sent.tracked
         (packet_now known now size eliciting largest (beginning.queue.contents queue) frames) refl sized)
     answer_sized (Send Initial now size eliciting largest queue frames) answer told = sized

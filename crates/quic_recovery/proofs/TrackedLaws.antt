@@ -36,6 +36,7 @@ use Rattle.quic_recovery.specs.Promises.Rising.{GivesRising, IsAbove}
 use Rattle.quic_recovery.specs.Promises.Tracked.{is_tracked}
 use Rattle.quic_recovery.specs.Told.{Told, MtuProbeReply}
 use Rattle.quic_recovery.proofs.EntryKinds.{keeps_packets, space_kind, space_kept, refused_keeps}
+use Rattle.quic_recovery.proofs.AnswerLaws.{past_four}
 use Rattle.quic_recovery.proofs.Runs.{throughout_kept}
 
 -- ---- a number among those that are tracked
@@ -458,11 +459,11 @@ module _ {F K Q S M P : Type 0} (beginning : Beginning F K Q S M P) (before : Hi
       (takes b (number == n) entry (leaves_told there number told.1.0))
   answer_tracks (Send there now size eliciting largest queue frames) (answers.Sent number None) told =
       let packet = packet_now known now size eliciting largest (beginning.queue.contents queue) frames in
-      let is = told.1.1.1.1 in
+      let is = past_four told in
       goes (same_space there space) (number == n) _ (λ at. goes_told there packet number None at (cc) (cc))
   answer_tracks (Send there now size eliciting largest queue frames) (answers.Sent number (Some forgotten)) told =
       let packet = packet_now known now size eliciting largest (beginning.queue.contents queue) frames in
-      let is = told.1.1.1.1 in
+      let is = past_four told in
       let b = same_space there space in
       let entry : SpaceEntry P M = sends (number_in known there) packet in
       subst (λ d. After (cond b (Some entry) None) ((b && number == n) || (not (b && forgotten == n) && tracked_now))
@@ -470,7 +471,7 @@ module _ {F K Q S M P : Type 0} (beginning : Beginning F K Q S M P) (before : Hi
       (forgotten_more acked_now lost_now forgotten_now discarded_now (b && forgotten == n))
       (goes_for b (number == n) (forgotten == n) entry
       (λ at. goes_told there packet number (Some forgotten) at (cc) (cc)))
-  answer_tracks (Send there now size eliciting largest queue frames) answer told = let is = told.1.1.1.1 in cc
+  answer_tracks (Send there now size eliciting largest queue frames) answer told = let is = past_four told in cc
   answer_tracks (PollMtu now) (Probe number size) told =
       let packet = packet_now known now size true None beginning.queue.words.empty beginning.queue.blank in
       let is = probe_number beginning.queue known now _ number size told.1.1 in
@@ -558,7 +559,7 @@ module _ {F K Q S M P : Type 0} (beginning : Beginning F K Q S M P) where
     rises : (event : Event Q S M P) (reply : Reply Q) → Told beginning before event reply
         → GivesRising before event reply
     rises (Send there now size eliciting largest queue frames) (Ok (answers.Sent number forgotten)) told =
-        let is = told.1.1.1.1 in next_rises there number (cc) told.1.1.0
+        let is = past_four told in next_rises there number (cc) told.1.1.0
     rises (PollMtu now) (Ok (Probe number size)) told =
         next_rises Data number (probe_number beginning.queue known_before now _ number size told.1.1) told.1.0
     rises event reply told = λ space number goes. absurd (false≢true goes)

@@ -46,8 +46,10 @@ where
     ) -> Result<Self, NoMemory>
         requires issued { config.issued ≤ 2 ^ 62 }
         requires skips { IsSkips config.skips }
-        ensures came { IfOk result (λ live. Came (begun live.recovery config now rng) no_past (parts_of live.recovery)) }
-        ensures marks { IfOk result (λ live. AreFresh (paths_marks (parts_of live.recovery).paths)) }
+        ensures came { IfOk result (λ live. Came (begun live.recovery config now rng)
+            no_past (parts_of live.recovery)) }
+        ensures marks { IfOk result (λ live.
+            AreFresh (paths_marks (parts_of live.recovery).paths)) }
         ensures memory { OnErr result (0 < config.issued) }
     {
         let recovery = Recovery::new(alloc, config, rng, now)?;
@@ -70,7 +72,8 @@ where
         ensures changes { Does event self.old.recovery result self.new.recovery }
 
         // Then the bytes in flight on each path are sums over the packets tracked (RFC 9002, B.2).
-        ensures in_flight { let new = parts_of self.new.recovery in InFlightLeft (known_to new) new.paths }
+        ensures in_flight { let new = parts_of self.new.recovery in
+            InFlightLeft (known_to new) new.paths }
 
         // Whatever the beginning and the past by which the recovery came here, it goes on from them,
         ensures goes_on { Goes self.old.recovery event result self.new.recovery }

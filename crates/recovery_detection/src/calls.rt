@@ -91,7 +91,7 @@ pub fn run(alloc: Global, calls: &[Call]) -> Result<Vec<Reply>, NoMemory>
     ensures only_sent { IfOk result (λ replies. (kind : Sent → Bool) →
         count_by kind (handed_in replies.items) ≤ count_by kind (given calls.now replies.items)) }
 
-    // Memory is refused to replies alone.
+    // Memory is refused only where there is a call.
     ensures memory { OnErr result (0 < length calls.now) }
 {
     let mut detector = LossDetector::new(alloc);

@@ -1,12 +1,15 @@
 -- Enums and what else crosses by numbers.
-use Rattle.std.specs.Prelude.{◌≡◌, ℕ, ◌-◌, ◌^◌, Bool, IsTrue, IsFalse, List, Option, Some, None, min, take, if◌then◌else◌, ◌==◌}
+use Rattle.std.specs.Prelude.{◌≡◌, ℕ, ◌+◌, ◌-◌, ◌*◌, ◌^◌, Bool, IsTrue, IsFalse, List, Option, Some, None, min, take, if◌then◌else◌, ◌==◌}
 use Rattle.std.specs.Net.Addr.{ipv4_octets, ipv6_segments, segments_of}
 use Rattle.std.specs.Net.Socket.{v4_ip, v4_port, v6_ip, v6_port, v6_flowinfo, v6_scope_id}
 use Rattle.std.specs.declared.net.socket_addr.SocketAddr.{SocketAddr}
 use Rattle.std.specs.declared.net.socket_addr.SocketAddr.TheVariants.{V4, V6}
 use Rattle.recovery_base.specs.declared.below.SpaceId.{SpaceId}
 use Rattle.recovery_base.specs.declared.below.SpaceId.TheVariants.{Initial, Handshake, Data}
+use Rattle.recovery_base.specs.declared.below.frames.AckFrequency.{AckFrequency}
+use Rattle.recovery_base.specs.declared.below.frames.EcnCounts.{EcnCounts}
 use Rattle.recovery_base.specs.declared.below.ids.IssuedCid.{IssuedCid}
+use Rattle.recovery_base.specs.declared.below.ids.NewConnectionId.{NewConnectionId}
 use Rattle.recovery_base.specs.declared.timer.Timer.{Timer}
 use Rattle.recovery_base.specs.declared.timer.Timer.TheVariants.{LossDetection, Idle, Close, KeyDiscard, PathValidation, KeepAlive, Pacing, PushNewCid, MaxAckDelay}
 use Rattle.recovery_paths.specs.declared.live_paths.PathName.{PathName}
@@ -49,3 +52,27 @@ IsAt given (V6 address) =
 -- an id as it is issued
 abbrev pub issued_of : Id → IssuedCid
 issued_of given = record { sequence = given.sequence; id = take given.len given.bytes; reset_token = given.token }
+
+-- ---- spans and frames, from the numbers and bytes that cross
+
+abbrev pub nanos_of : ℕ → ℕ → ℕ
+nanos_of secs nanos = secs * 10 ^ 9 + nanos
+
+abbrev pub request : ℕ → ℕ → ℕ → ℕ → AckFrequency
+request sequence threshold micros reordering = record {
+  sequence = sequence;
+  ack_eliciting_threshold = threshold;
+  request_max_ack_delay = micros;
+  reordering_threshold = reordering;
+}
+
+abbrev pub counts : ℕ → ℕ → ℕ → EcnCounts
+counts ect0 ect1 ce = record { ect0 = ect0; ect1 = ect1; ce = ce }
+
+abbrev pub frame : ℕ → ℕ → List ℕ → List ℕ → NewConnectionId
+frame sequence retire_prior_to id token = record {
+  sequence = sequence;
+  retire_prior_to = retire_prior_to;
+  id = id;
+  reset_token = token;
+}

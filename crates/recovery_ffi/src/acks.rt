@@ -1,7 +1,7 @@
 //! How often and how late this end acknowledges (RFC 9000, 13.2): an export for each event.
 ghost use Rattle.std.specs.Prelude.{◌<◌, ◌^◌};
 ghost use Rattle.recovery_ffi.specs.Answers.{Answers};
-ghost use Rattle.recovery_ffi.specs.Codes.{space_coded};
+ghost use Rattle.recovery_ffi.specs.Codes.{request, space_coded};
 ghost use Rattle.recovery_ffi.specs.Held.{IsHeld};
 ghost use Rattle.recovery_events.specs.declared.event.Event.TheVariants.{AckDelayTimeout, AckFrequencyIn, AcksSent};
 
@@ -27,7 +27,8 @@ pub extern "C" fn recovery_ffi_ack_frequency(
     requires threshold { threshold < 2 ^ 62 }
     requires micros { micros < 2 ^ 62 }
     requires reordering { reordering < 2 ^ 62 }
-    ensures { Answers handle.old.held (AckFrequencyIn (record { sequence = sequence; ack_eliciting_threshold = threshold; request_max_ack_delay = micros; reordering_threshold = reordering })) result handle.new.held }
+    ensures { Answers handle.old.held
+        (AckFrequencyIn (request sequence threshold micros reordering)) result handle.new.held }
 {
     handle.apply(
         alloc,

@@ -2,6 +2,7 @@
 ghost use Rattle.std.specs.Prelude.{◌≡◌, ◌≤◌, length, Decides};
 ghost use Rattle.std.specs.List.{All};
 ghost use Rattle.recovery_ffi.specs.Answers.{Answers, IssuesOr, Reads};
+ghost use Rattle.recovery_ffi.specs.Codes.{frame};
 ghost use Rattle.recovery_ffi.specs.Held.{IsHeld};
 ghost use Rattle.recovery_events.specs.declared.event.Event.TheVariants.{IdTimeout, InitialId, NewId, NextId, PeerRetired};
 
@@ -25,7 +26,8 @@ pub extern "C" fn recovery_ffi_new_id(
 ) -> Reply
     requires held { IsHeld handle.old.held }
     requires cid { length id.now ≤ 20 }
-    ensures { Answers handle.old.held (NewId (record { sequence = sequence; retire_prior_to = retire_prior_to; id = id.now; reset_token = token.now })) result handle.new.held }
+    ensures { Answers handle.old.held
+        (NewId (frame sequence retire_prior_to id.now token.now)) result handle.new.held }
 {
     handle.apply(
         alloc,
@@ -124,7 +126,8 @@ pub extern "C" fn recovery_ffi_is_token(
     token: &[u8; 16],
 ) -> bool
     requires { IsHeld handle.old.held }
-    ensures { Reads handle.old.held handle.new.held (λ stack. Decides result (stack.token ≡ token.now)) }
+    ensures { Reads handle.old.held handle.new.held (λ stack.
+        Decides result (stack.token ≡ token.now)) }
 {
     let stack = handle.take(alloc);
     let is = stack.is_token(token);

@@ -23,7 +23,8 @@ pub extern "C" fn recovery_ffi_received(
     ack_eliciting: bool,
 ) -> Reply
     requires { IsHeld handle.old.held }
-    ensures { Answers handle.old.held (Received (space_coded space) now number ack_eliciting) result handle.new.held }
+    ensures { Answers handle.old.held
+        (Received (space_coded space) now number ack_eliciting) result handle.new.held }
 {
     handle.apply(
         alloc,
@@ -50,7 +51,9 @@ pub extern "C" fn recovery_ffi_send(
     items: &[u64],
 ) -> Reply
     requires { IsHeld handle.old.held }
-    ensures { AnswersOr handle.old.held (Send (space_coded space) now size ack_eliciting (maybe has_largest largest) items.now tt) result handle.new.held }
+    ensures { AnswersOr handle.old.held
+        (Send (space_coded space) now size ack_eliciting (maybe has_largest largest) items.now tt)
+        result handle.new.held }
 {
     match queue_of(alloc, items) {
         Ok(queue) => handle.apply(
@@ -80,7 +83,8 @@ pub extern "C" fn recovery_ffi_acked(
     app_limited: bool,
 ) -> Reply
     requires { IsHeld handle.old.held }
-    ensures { Answers handle.old.held (Acked (space_coded space) now number app_limited) result handle.new.held }
+    ensures { Answers handle.old.held
+        (Acked (space_coded space) now number app_limited) result handle.new.held }
 {
     handle.apply(
         alloc,
@@ -131,7 +135,8 @@ pub extern "C" fn recovery_ffi_discard(alloc: Global, handle: &mut Handle, space
 #[unsafe(no_mangle)]
 pub extern "C" fn recovery_ffi_taken(alloc: Global, handle: &mut Handle, out: &mut [u64]) -> usize
     requires { IsHeld handle.old.held }
-    ensures { Reads handle.old.held handle.new.held (λ stack. IsWritten stack.taken out.old result out.new) }
+    ensures { Reads handle.old.held handle.new.held (λ stack.
+        IsWritten stack.taken out.old result out.new) }
 {
     let stack = handle.take(alloc);
     let count = copy_items(&stack.taken, out);

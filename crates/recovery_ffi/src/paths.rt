@@ -1,7 +1,7 @@
 //! Paths, congestion and pacing (RFC 9000, 8.1 and 9; RFC 9002, 5 and 7): an export for each event.
 ghost use Rattle.std.specs.Prelude.{◌<◌, ◌^◌, ◌*◌, ◌+◌};
 ghost use Rattle.recovery_ffi.specs.Answers.{Answers, MovesTo};
-ghost use Rattle.recovery_ffi.specs.Codes.{path_coded, maybe};
+ghost use Rattle.recovery_ffi.specs.Codes.{nanos_of, path_coded, maybe};
 ghost use Rattle.recovery_ffi.specs.Held.{IsHeld};
 ghost use Rattle.recovery_events.specs.declared.event.Event.TheVariants.{Congestion, DatagramIn, DropPrevious, EndAcks, InFlight, PacerCheck, ResetPath, Sample, Transmit, Validated};
 
@@ -43,7 +43,9 @@ pub extern "C" fn recovery_ffi_sample(
     requires held { IsHeld handle.old.held }
     requires delay { delay_nanos < 10 ^ 9 }
     requires rtt { rtt_nanos < 10 ^ 9 }
-    ensures { Answers handle.old.held (Sample (delay_secs * 10 ^ 9 + delay_nanos) (rtt_secs * 10 ^ 9 + rtt_nanos)) result handle.new.held }
+    ensures { Answers handle.old.held
+        (Sample (nanos_of delay_secs delay_nanos) (nanos_of rtt_secs rtt_nanos))
+        result handle.new.held }
 {
     let delay = span(delay_secs, delay_nanos);
     let rtt = span(rtt_secs, rtt_nanos);
@@ -59,7 +61,8 @@ pub extern "C" fn recovery_ffi_datagram_in(
     bytes: u64,
 ) -> Reply
     requires { IsHeld handle.old.held }
-    ensures { Answers handle.old.held (DatagramIn (path_coded previous) bytes) result handle.new.held }
+    ensures { Answers handle.old.held
+        (DatagramIn (path_coded previous) bytes) result handle.new.held }
 {
     handle.apply(
         alloc,
@@ -141,7 +144,8 @@ pub extern "C" fn recovery_ffi_congestion(
     bytes: u64,
 ) -> Reply
     requires { IsHeld handle.old.held }
-    ensures { Answers handle.old.held (Congestion now sent persistent bytes) result handle.new.held }
+    ensures { Answers handle.old.held
+        (Congestion now sent persistent bytes) result handle.new.held }
 {
     handle.apply(
         alloc,
@@ -165,7 +169,8 @@ pub extern "C" fn recovery_ffi_end_acks(
     largest: u64,
 ) -> Reply
     requires { IsHeld handle.old.held }
-    ensures { Answers handle.old.held (EndAcks now app_limited (maybe has_largest largest)) result handle.new.held }
+    ensures { Answers handle.old.held
+        (EndAcks now app_limited (maybe has_largest largest)) result handle.new.held }
 {
     handle.apply(
         alloc,

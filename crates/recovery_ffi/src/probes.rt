@@ -1,6 +1,6 @@
 //! Counts of ECN, ranges that are acknowledged, probes and what waits to be sent again (RFC 9000, 13.4; RFC 9002, 6.2.4).
 ghost use Rattle.recovery_ffi.specs.Answers.{Answers};
-ghost use Rattle.recovery_ffi.specs.Codes.{space_coded};
+ghost use Rattle.recovery_ffi.specs.Codes.{counts, space_coded};
 ghost use Rattle.recovery_ffi.specs.Held.{IsHeld};
 ghost use Rattle.recovery_events.specs.declared.event.Event.TheVariants.{CheckAck, Ecn, QueueProbe, TakePending};
 
@@ -23,7 +23,8 @@ pub extern "C" fn recovery_ffi_ecn(
     ce: u64,
 ) -> Reply
     requires { IsHeld handle.old.held }
-    ensures { Answers handle.old.held (Ecn (space_coded space) newly_acked (record { ect0 = ect0; ect1 = ect1; ce = ce })) result handle.new.held }
+    ensures { Answers handle.old.held
+        (Ecn (space_coded space) newly_acked (counts ect0 ect1 ce)) result handle.new.held }
 {
     handle.apply(
         alloc,
@@ -45,7 +46,8 @@ pub extern "C" fn recovery_ffi_check_ack(
     high: u64,
 ) -> Reply
     requires { IsHeld handle.old.held }
-    ensures { Answers handle.old.held (CheckAck (space_coded space) low high) result handle.new.held }
+    ensures { Answers handle.old.held
+        (CheckAck (space_coded space) low high) result handle.new.held }
 {
     handle.apply(
         alloc,
@@ -66,7 +68,8 @@ pub extern "C" fn recovery_ffi_queue_probe(
     immediate_ack: bool,
 ) -> Reply
     requires { IsHeld handle.old.held }
-    ensures { Answers handle.old.held (QueueProbe (space_coded space) immediate_ack tt) result handle.new.held }
+    ensures { Answers handle.old.held
+        (QueueProbe (space_coded space) immediate_ack tt) result handle.new.held }
 {
     handle.apply(
         alloc,

@@ -17,7 +17,8 @@ use std::alloc::Global;
 pub extern "C" fn recovery_ffi_path(alloc: Global, handle: &mut Handle, previous: bool) -> PathView
     requires { IsHeld handle.old.held }
     ensures { Reads handle.old.held handle.new.held (λ stack.
-        result ≡ path_view (path_of (path_coded previous) (parts_of stack.recovery.recovery).paths)) }
+        let paths = (parts_of stack.recovery.recovery).paths in
+        result ≡ path_view (path_of (path_coded previous) paths)) }
 {
     let stack = handle.take(alloc);
     let view = stack.path(previous);
@@ -47,8 +48,9 @@ pub extern "C" fn recovery_ffi_range(
     index: usize,
 ) -> RangeView
     requires { IsHeld handle.old.held }
-    ensures { Reads handle.old.held handle.new.held (λ stack. result
-        ≡ range_shown (slice_get (ranges_in (space_kept (space_coded space) (parts_of stack.recovery.recovery))) index)) }
+    ensures { Reads handle.old.held handle.new.held (λ stack.
+        let kept = space_kept (space_coded space) (parts_of stack.recovery.recovery) in
+        result ≡ range_shown (slice_get (ranges_in kept) index)) }
 {
     let stack = handle.take(alloc);
     let view = stack.range(space, index);
@@ -61,7 +63,8 @@ pub extern "C" fn recovery_ffi_range(
 pub extern "C" fn recovery_ffi_timer(alloc: Global, handle: &mut Handle, timer: u8) -> MomentView
     requires { IsHeld handle.old.held }
     ensures { Reads handle.old.held handle.new.held (λ stack.
-        result ≡ moment_shown (moment (timer_coded timer) (parts_of stack.recovery.recovery).timers)) }
+        let timers = (parts_of stack.recovery.recovery).timers in
+        result ≡ moment_shown (moment (timer_coded timer) timers)) }
 {
     let stack = handle.take(alloc);
     let view = stack.timer(timer);

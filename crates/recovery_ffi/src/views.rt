@@ -183,7 +183,8 @@ fn show_range(range: Option<&Range<u64>>) -> RangeView
 impl Stack {
     /// What is kept for a path.
     pub fn path(&self, previous: bool) -> PathView
-        ensures { result ≡ path_view (path_of (path_coded previous) (parts_of self.now.recovery.recovery).paths) }
+        ensures { let paths = (parts_of self.now.recovery.recovery).paths in
+            result ≡ path_view (path_of (path_coded previous) paths) }
     {
         match path_coded(previous) {
             PathName::Current => show_path(self.recovery.recovery().current()),
@@ -196,7 +197,8 @@ impl Stack {
 
     /// What a space has to send.
     pub fn space(&self, space: u8) -> SpaceView
-        ensures { IsSpaceShown (space_kept (space_coded space) (parts_of self.now.recovery.recovery)) result }
+        ensures { let parts = parts_of self.now.recovery.recovery in
+            IsSpaceShown (space_kept (space_coded space) parts) result }
     {
         match self.recovery.recovery().space(space_coded(space)) {
             Some(space) => show_space(space),
@@ -212,8 +214,8 @@ impl Stack {
 
     /// One of the ranges of numbers that are to be acknowledged in a space, in ascending order.
     pub fn range(&self, space: u8, index: usize) -> RangeView
-        ensures { result
-            ≡ range_shown (slice_get (ranges_in (space_kept (space_coded space) (parts_of self.now.recovery.recovery))) index) }
+        ensures { let kept = space_kept (space_coded space) (parts_of self.now.recovery.recovery) in
+            result ≡ range_shown (slice_get (ranges_in kept) index) }
     {
         match self.recovery.recovery().space(space_coded(space)) {
             Some(space) => show_range(space.pending_acks.ranges().iter().as_slice().get(index)),
@@ -223,7 +225,8 @@ impl Stack {
 
     /// When a timer expires.
     pub fn timer(&self, timer: u8) -> MomentView
-        ensures { result ≡ moment_shown (moment (timer_coded timer) (parts_of self.now.recovery.recovery).timers) }
+        ensures { let timers = (parts_of self.now.recovery.recovery).timers in
+            result ≡ moment_shown (moment (timer_coded timer) timers) }
     {
         match self.recovery.recovery().timers().get(timer_coded(timer)) {
             Some(moment) => MomentView {
