@@ -9,10 +9,11 @@ A '*' marks instructions that differ by more than 5% between the numbers of line
     bench/run.py --quick                  a few inputs at 10^4 and 10^5 lines (a minute)
     bench/run.py in_order --lines 1000    these inputs, so many lines
     bench/run.py --jobs 4                 four runs side by side: the figures are the same
-    bench/run.py --careful                beside two programs of plain Rust over the same inputs, one written for speed and one
-                                          as it comes (bench/careful), at 10^5 lines: instructions, and processor time, which is
-                                          the least of some runs in turn on one processor (a quarter of an hour). All must print
-                                          the same
+    bench/run.py --careful                beside three programs of plain Rust over the same inputs (bench/careful), at 10^5 lines:
+                                          instructions, and processor time, which is the least of some runs in turn on one
+                                          processor (a quarter of an hour). All must print the same. `careful` is written for speed,
+                                          and answers each line as it is read; `listed` is written so too, but keeps a list of all
+                                          events and one of all replies, as ours does, of elements as large; `plain` is as it comes
 """
 import argparse
 import concurrent.futures
@@ -32,7 +33,7 @@ ROOT = pathlib.Path(__file__).resolve().parent.parent
 SCRIPT = ROOT / "recovery-replay"
 PROGRAM = ROOT / "crates" / "recovery_program" / "out" / "recovery_program"
 CAREFUL = ROOT / "bench" / "careful"
-FORMS = ["careful", "plain"]  # the programs there
+FORMS = ["careful", "listed", "plain"]  # the programs there
 SPACES = ["initial", "handshake", "data"]
 TIMERS = ["loss-detection", "idle", "close", "key-discard", "path-validation", "keep-alive", "pacing", "push-new-cid",
           "max-ack-delay"]
@@ -494,13 +495,13 @@ def beside(an_input, count, programs, runs, folder):
 def in_columns(figures):
     """Of our program, of the others, and the ratios of ours to theirs."""
     ours, *others = figures
-    return "".join([*(f"{figure:8,.0f}" for figure in figures), *(f"{ours / other:11.2f}" for other in others)])
+    return "".join([*(f"{figure:8,.0f}" for figure in figures), *(f"{ours / other:10.2f}" for other in others)])
 
 
 def print_beside(inputs, counts, runs):
     """A row for each input, and the mean of the ratios."""
     os.sched_setaffinity(0, {max(os.sched_getaffinity(0))})
-    titles = "".join(f"{title:>8}" for title in ["ours", *FORMS]) + "".join(f"{'/ ' + form:>11}" for form in FORMS)
+    titles = "".join(f"{title:>8}" for title in ["ours", *FORMS]) + "".join(f"{'/ ' + form:>10}" for form in FORMS)
     print(f"{'of each line':{WIDTH}}{'':9}{'instructions':>{len(titles)}}{'nanoseconds':>{len(titles)}}")
     print(f"{'':{WIDTH}}{'lines':>9}{titles}{titles}")
     ratios = []
@@ -512,7 +513,7 @@ def print_beside(inputs, counts, runs):
                 kinds = beside(each, count, programs, runs, folder)
                 print(f"{each.name:{WIDTH}}{count:9,}", *(in_columns(kind) for kind in kinds), sep="", flush=True)
                 ratios.append([kind[0] / other for kind in kinds for other in kind[1:]])
-    means = [f"{sum(column) / len(column):11.2f}" for column in zip(*ratios)]
+    means = [f"{sum(column) / len(column):10.2f}" for column in zip(*ratios)]
     half = len(means) // 2
     gap = " " * (8 * (1 + len(FORMS)))
     print(f"{'mean':{WIDTH}}{'':9}{gap}{''.join(means[:half])}{gap}{''.join(means[half:])}")
@@ -524,7 +525,7 @@ def main():
     options.add_argument("--lines", type=int, nargs="+", help="how many lines are counted")
     options.add_argument("--quick", action="store_true")
     options.add_argument("--jobs", type=int, default=1)
-    options.add_argument("--careful", action="store_true", help="beside programs of plain Rust")
+    options.add_argument("--careful", action="store_true", help="beside programs of plain Rust: careful, listed and plain")
     options.add_argument("--runs", type=int, default=15, help="of which the least time is taken")
     chosen = options.parse_args()
     for tool in ["valgrind", "rustc"] if chosen.careful else ["valgrind", "time"]:

@@ -1,5 +1,6 @@
 //! The lines of a script and of its answers, over any way to read words and to write text.
-use crate::layer::{EcnCounts, Id, PathName, Recovery, Refusal, Sending, Space, Span};
+use crate::layer::{EcnCounts, Id, Moment, PathName, Recovery, Refusal, Sending, Space, Span, Token};
+use std::ops::Range;
 
 /// The words of a line, each a field behind the name.
 pub trait Words {
@@ -75,17 +76,6 @@ pub trait Text {
         self.text(if flag { yes } else { no });
     }
 
-    fn done(&mut self, reply: Result<(), Refusal>) {
-        self.text(reply.err().unwrap_or("done\n"));
-    }
-
-    fn flag(&mut self, reply: Result<bool, Refusal>) {
-        match reply {
-            Ok(flag) => self.one_of(flag, "yes\n", "no\n"),
-            Err(refusal) => self.text(refusal),
-        }
-    }
-
     fn until(&mut self, text: &str, moment: u64) {
         self.with(text, moment);
         self.text("\n");
@@ -96,261 +86,277 @@ pub trait Text {
         self.with(" ", second);
         self.text("\n");
     }
-
-    fn retired(&mut self, range: Option<std::ops::Range<u64>>) {
-        match range {
-            Some(range) => self.pair("retire ", range.start, range.end),
-            None => self.text("retire none\n"),
-        }
-    }
 }
 
-/// What a line says, and what is answered; `None` where it is no event.
+/// What a line says.
+pub enum Event {
+    Received { space: Space, now: Moment, number: u64, eliciting: bool },
+    Send { space: Space, now: Moment, size: u16, eliciting: bool, largest: Option<u64>, items: Vec<u64> },
+    Acked { space: Space, number: u64, limited: bool },
+    Lost { space: Space, number: u64 },
+    Discard(Space),
+    InFlight(PathName),
+    AcksSent(Space),
+    AckDelayTimeout(Space),
+    AckFrequency { sequence: u64, threshold: u64, micros: u64, reordering: u64 },
+    NewId { number: u64, low: u64, id: Id, token: Token },
+    NextId,
+    InitialId(Id),
+    IssueIds { now: Moment, first: u64, count: u64 },
+    IdTimeout,
+    PeerRetired { number: u64, limit: u64 },
+    Sample { delay: Span, rtt: Span },
+    DatagramIn { path: PathName, bytes: u64 },
+    Validated(PathName),
+    Transmit { now: Moment, bytes: u16, checked: bool },
+    PacerCheck { now: Moment, bytes: u64 },
+    Congestion { now: Moment, sent: Moment, persistent: bool },
+    EndAcks,
+    PollMtu { now: Moment },
+    PeerLimit { size: u16 },
+    LossesDone { now: Moment },
+    Ecn { space: Space, newly: u64, counts: EcnCounts },
+    CheckAck { space: Space, low: u64, high: u64 },
+    QueueProbe { space: Space, immediate: bool },
+    TakePending(Space),
+    NewPath { now: Moment, fresh: bool },
+    ResetPath { now: Moment },
+    DropPrevious,
+    SetTimer { timer: usize, time: Moment },
+    StopTimer { timer: usize },
+    NextTimeout,
+}
+
+/// What an event that is not refused is answered.
+pub enum Answer {
+    New { arm: bool },
+    Duplicate,
+    Sent { number: u64, forgotten: Option<u64> },
+    Acked { probe: bool },
+    Lost { probe: bool },
+    Retire(Option<Range<u64>>),
+    Flag(bool),
+    Timeout(Option<Moment>),
+    InFlight { bytes: u64, count: u64 },
+    Transmitted,
+    Blocked,
+    Delayed(Moment),
+    Ready,
+    Probe { number: u64, size: u16 },
+    NoProbe,
+    BlackHole(bool),
+    Sendable { acks: bool, other: bool },
+    Queue(Vec<u64>),
+    Done,
+    /// Never answered: by it a reply takes 56 bytes in a list, as in the proved program, and not 32.
+    #[allow(dead_code)]
+    Room([u64; 6]),
+}
+
+pub type Reply = Result<Answer, Refusal>;
+
+/// The event that a line says; `None` where it is none.
 #[inline(always)]
-pub fn play(recovery: &mut Recovery, name: &[u8], words: &mut impl Words, out: &mut impl Text) -> Option<()> {
-    match name {
-        b"received" => {
-            let (space, now, number, eliciting) = (words.space()?, words.number()?, words.number()?, words.flag()?);
-            words.end()?;
-            match recovery.received(space, now, number, eliciting) {
-                Ok(Some(arm)) => out.one_of(arm, "new arm\n", "new\n"),
-                Ok(None) => out.text("duplicate\n"),
-                Err(refusal) => out.text(refusal),
-            }
-        }
-        b"send" => send(recovery, words, out)?,
+pub fn read(name: &[u8], words: &mut impl Words) -> Option<Event> {
+    let event = match name {
+        b"received" => Event::Received {
+            space: words.space()?,
+            now: words.number()?,
+            number: words.number()?,
+            eliciting: words.flag()?,
+        },
+        b"send" => read_send(words)?,
         b"acked" => {
-            let (space, _now, number, limited) = (words.space()?, words.number()?, words.number()?, words.flag()?);
-            words.end()?;
-            match recovery.acked(space, number, limited) {
-                Ok(probe) => out.one_of(probe, "acked probe\n", "acked\n"),
-                Err(refusal) => out.text(refusal),
-            }
+            let (space, _now) = (words.space()?, words.number()?);
+            Event::Acked { space, number: words.number()?, limited: words.flag()? }
         }
-        b"lost" => {
-            let (space, number) = (words.space()?, words.number()?);
-            words.end()?;
-            match recovery.lost(space, number) {
-                Ok(probe) => out.one_of(probe, "lost probe\n", "lost\n"),
-                Err(refusal) => out.text(refusal),
-            }
-        }
-        b"discard" => {
-            let space = words.space()?;
-            words.end()?;
-            out.done(recovery.discard(space));
-        }
-        b"in-flight" => {
-            let path = words.path()?;
-            words.end()?;
-            match recovery.in_flight(path) {
-                Ok((bytes, count)) => out.pair("in-flight ", bytes, count),
-                Err(refusal) => out.text(refusal),
-            }
-        }
-        b"acks-sent" => {
-            let space = words.space()?;
-            words.end()?;
-            out.done(recovery.acks_sent(space));
-        }
-        b"ack-delay-timeout" => {
-            let space = words.space()?;
-            words.end()?;
-            out.done(recovery.ack_delay_timeout(space));
-        }
-        b"ack-frequency" => {
-            let sequence = words.below(1 << 62)?;
-            let threshold = words.below(1 << 62)?;
-            let micros = words.below(1 << 62)?;
-            let reordering = words.below(1 << 62)?;
-            words.end()?;
-            out.flag(recovery.ack_frequency(sequence, threshold, micros, reordering));
-        }
+        b"lost" => Event::Lost { space: words.space()?, number: words.number()? },
+        b"discard" => Event::Discard(words.space()?),
+        b"in-flight" => Event::InFlight(words.path()?),
+        b"acks-sent" => Event::AcksSent(words.space()?),
+        b"ack-delay-timeout" => Event::AckDelayTimeout(words.space()?),
+        b"ack-frequency" => Event::AckFrequency {
+            sequence: words.below(1 << 62)?,
+            threshold: words.below(1 << 62)?,
+            micros: words.below(1 << 62)?,
+            reordering: words.below(1 << 62)?,
+        },
         b"new-id" => {
             let (number, low, byte) = (words.number()?, words.number()?, words.below(256)? as u8);
-            words.end()?;
-            match recovery.new_id(number, low, Id::new(byte), [byte; 16]) {
-                Ok(range) => out.retired(range),
-                Err(refusal) => out.text(refusal),
-            }
+            Event::NewId { number, low, id: Id::new(byte), token: [byte; 16] }
         }
-        b"next-id" => {
-            words.end()?;
-            out.retired(recovery.next_id());
-        }
-        b"initial-id" => {
-            let byte = words.below(256)? as u8;
-            words.end()?;
-            out.done(recovery.initial_id(Id::new(byte)));
-        }
+        b"next-id" => Event::NextId,
+        b"initial-id" => Event::InitialId(Id::new(words.below(256)? as u8)),
         b"issue-ids" => {
             let (now, first, count) = (words.number()?, words.number()?, words.below(65)?);
-            words.end()?;
             first.checked_add(count.saturating_sub(1))?;
-            out.done(recovery.issue_ids(now, first, count));
+            Event::IssueIds { now, first, count }
         }
-        b"id-timeout" => {
-            words.end()?;
-            out.flag(Ok(recovery.id_timeout()));
-        }
-        b"peer-retired" => {
-            let (number, limit) = (words.number()?, words.number()?);
-            words.end()?;
-            out.flag(recovery.peer_retired(number, limit));
-        }
-        b"sample" => {
-            let (delay, rtt) = (words.span()?, words.span()?);
-            words.end()?;
-            recovery.sample(delay, rtt);
-            out.text("done\n");
-        }
-        b"datagram-in" => {
-            let (path, bytes) = (words.path()?, words.number()?);
-            words.end()?;
-            out.done(recovery.datagram_in(path, bytes));
-        }
-        b"validated" => {
-            let path = words.path()?;
-            words.end()?;
-            out.done(recovery.validated(path));
-        }
-        b"transmit" => {
-            let (now, bytes, checked) = (words.number()?, words.below(65_536)? as u16, words.flag()?);
-            words.end()?;
-            match recovery.transmit(now, bytes, checked) {
-                Ok(Sending::Transmitted) => out.text("transmitted\n"),
-                Ok(Sending::Blocked) => out.text("blocked\n"),
-                Ok(Sending::Delayed(until)) => out.until("delayed ", until),
-                Err(refusal) => out.text(refusal),
-            }
-        }
-        b"pacer-check" => {
-            let (now, bytes) = (words.number()?, words.number()?);
-            words.end()?;
-            match recovery.pacer_check(now, bytes) {
-                Some(until) => out.until("delayed ", until),
-                None => out.text("ready\n"),
-            }
-        }
+        b"id-timeout" => Event::IdTimeout,
+        b"peer-retired" => Event::PeerRetired { number: words.number()?, limit: words.number()? },
+        b"sample" => Event::Sample { delay: words.span()?, rtt: words.span()? },
+        b"datagram-in" => Event::DatagramIn { path: words.path()?, bytes: words.number()? },
+        b"validated" => Event::Validated(words.path()?),
+        b"transmit" => Event::Transmit {
+            now: words.number()?,
+            bytes: words.below(65_536)? as u16,
+            checked: words.flag()?,
+        },
+        b"pacer-check" => Event::PacerCheck { now: words.number()?, bytes: words.number()? },
         b"congestion" => {
             let (now, sent, persistent, _bytes) = (words.number()?, words.number()?, words.flag()?, words.number()?);
-            words.end()?;
-            recovery.congestion(now, sent, persistent);
-            out.text("done\n");
+            Event::Congestion { now, sent, persistent }
         }
         b"end-acks" => {
             let (_now, _limited, _largest) = (words.number()?, words.flag()?, words.largest()?);
-            words.end()?;
-            out.text("done\n");
+            Event::EndAcks
         }
-        b"poll-mtu" => {
-            let now = words.number()?;
-            words.end()?;
-            match recovery.poll_mtu(now) {
-                Ok(Some((number, size))) => out.pair("probe ", number, u64::from(size)),
-                Ok(None) => out.text("no probe\n"),
-                Err(refusal) => out.text(refusal),
-            }
-        }
-        b"peer-limit" => {
-            let size = words.below(65_536)? as u16;
-            words.end()?;
-            out.done(recovery.peer_limit(size));
-        }
-        b"losses-done" => {
-            let now = words.number()?;
-            words.end()?;
-            out.one_of(recovery.losses_done(now), "black-hole yes\n", "black-hole no\n");
-        }
+        b"poll-mtu" => Event::PollMtu { now: words.number()? },
+        b"peer-limit" => Event::PeerLimit { size: words.below(65_536)? as u16 },
+        b"losses-done" => Event::LossesDone { now: words.number()? },
         b"ecn" => {
             let (space, newly) = (words.space()?, words.number()?);
             let (ect0, ect1, ce) = (words.number()?, words.number()?, words.number()?);
-            words.end()?;
-            out.flag(recovery.ecn(space, newly, EcnCounts { ect0, ect1, ce }));
+            Event::Ecn { space, newly, counts: EcnCounts { ect0, ect1, ce } }
         }
-        b"check-ack" => {
-            let (space, low, high) = (words.space()?, words.number()?, words.number()?);
-            words.end()?;
-            out.done(recovery.check_ack(space, low, high));
-        }
-        b"queue-probe" => {
-            let (space, immediate) = (words.space()?, words.flag()?);
-            words.end()?;
-            match recovery.queue_probe(space, immediate) {
-                Ok((acks, other)) => {
-                    out.one_of(acks, "sendable yes ", "sendable no ");
-                    out.one_of(other, "yes\n", "no\n");
-                }
-                Err(refusal) => out.text(refusal),
-            }
-        }
-        b"take-pending" => {
-            let space = words.space()?;
-            words.end()?;
-            match recovery.take_pending(space) {
-                Ok(items) => {
-                    out.text("queue");
-                    for item in items {
-                        out.with(" ", item);
-                    }
-                    out.text("\n");
-                }
-                Err(refusal) => out.text(refusal),
-            }
-        }
+        b"check-ack" => Event::CheckAck { space: words.space()?, low: words.number()?, high: words.number()? },
+        b"queue-probe" => Event::QueueProbe { space: words.space()?, immediate: words.flag()? },
+        b"take-pending" => Event::TakePending(words.space()?),
         b"new-path" => {
-            let (now, _port, fresh) = (words.number()?, words.below(65_536)?, words.flag()?);
-            words.end()?;
-            out.done(recovery.new_path(now, fresh));
+            let (now, _port) = (words.number()?, words.below(65_536)?);
+            Event::NewPath { now, fresh: words.flag()? }
         }
-        b"reset-path" => {
-            let now = words.number()?;
-            words.end()?;
-            recovery.reset_path(now);
-            out.text("done\n");
-        }
-        b"drop-previous" => {
-            words.end()?;
-            out.done(recovery.drop_previous());
-        }
-        b"set-timer" => {
-            let (timer, time) = (words.timer()?, words.number()?);
-            words.end()?;
-            recovery.set_timer(timer, Some(time));
-            out.text("done\n");
-        }
-        b"stop-timer" => {
-            let timer = words.timer()?;
-            words.end()?;
-            recovery.set_timer(timer, None);
-            out.text("done\n");
-        }
-        b"next-timeout" => {
-            words.end()?;
-            match recovery.next_timeout() {
-                Some(time) => out.until("timeout ", time),
-                None => out.text("timeout none\n"),
-            }
-        }
+        b"reset-path" => Event::ResetPath { now: words.number()? },
+        b"drop-previous" => Event::DropPrevious,
+        b"set-timer" => Event::SetTimer { timer: words.timer()?, time: words.number()? },
+        b"stop-timer" => Event::StopTimer { timer: words.timer()? },
+        b"next-timeout" => Event::NextTimeout,
         _ => return None,
-    }
-    Some(())
+    };
+    words.end()?;
+    Some(event)
 }
 
-fn send(recovery: &mut Recovery, words: &mut impl Words, out: &mut impl Text) -> Option<()> {
+fn read_send(words: &mut impl Words) -> Option<Event> {
     let (space, now, size) = (words.space()?, words.number()?, words.below(65_536)? as u16);
     let (eliciting, largest) = (words.flag()?, words.largest()?);
     let mut items = Vec::new();
     while !words.is_end() {
         items.push(words.number()?);
     }
-    match recovery.send(space, now, size, eliciting, largest, items) {
-        Ok((number, None)) => out.until("sent ", number),
-        Ok((number, Some(forgotten))) => {
+    Some(Event::Send { space, now, size, eliciting, largest, items })
+}
+
+/// What an event is answered.
+#[inline(always)]
+pub fn apply(recovery: &mut Recovery, event: Event) -> Reply {
+    Ok(match event {
+        Event::Received { space, now, number, eliciting } => match recovery.received(space, now, number, eliciting)? {
+            Some(arm) => Answer::New { arm },
+            None => Answer::Duplicate,
+        },
+        Event::Send { space, now, size, eliciting, largest, items } => {
+            let (number, forgotten) = recovery.send(space, now, size, eliciting, largest, items)?;
+            Answer::Sent { number, forgotten }
+        }
+        Event::Acked { space, number, limited } => Answer::Acked { probe: recovery.acked(space, number, limited)? },
+        Event::Lost { space, number } => Answer::Lost { probe: recovery.lost(space, number)? },
+        Event::Discard(space) => done(recovery.discard(space)?),
+        Event::InFlight(path) => {
+            let (bytes, count) = recovery.in_flight(path)?;
+            Answer::InFlight { bytes, count }
+        }
+        Event::AcksSent(space) => done(recovery.acks_sent(space)?),
+        Event::AckDelayTimeout(space) => done(recovery.ack_delay_timeout(space)?),
+        Event::AckFrequency { sequence, threshold, micros, reordering } => {
+            Answer::Flag(recovery.ack_frequency(sequence, threshold, micros, reordering)?)
+        }
+        Event::NewId { number, low, id, token } => Answer::Retire(recovery.new_id(number, low, id, token)?),
+        Event::NextId => Answer::Retire(recovery.next_id()),
+        Event::InitialId(id) => done(recovery.initial_id(id)?),
+        Event::IssueIds { now, first, count } => done(recovery.issue_ids(now, first, count)?),
+        Event::IdTimeout => Answer::Flag(recovery.id_timeout()),
+        Event::PeerRetired { number, limit } => Answer::Flag(recovery.peer_retired(number, limit)?),
+        Event::Sample { delay, rtt } => done(recovery.sample(delay, rtt)),
+        Event::DatagramIn { path, bytes } => done(recovery.datagram_in(path, bytes)?),
+        Event::Validated(path) => done(recovery.validated(path)?),
+        Event::Transmit { now, bytes, checked } => match recovery.transmit(now, bytes, checked)? {
+            Sending::Transmitted => Answer::Transmitted,
+            Sending::Blocked => Answer::Blocked,
+            Sending::Delayed(until) => Answer::Delayed(until),
+        },
+        Event::PacerCheck { now, bytes } => match recovery.pacer_check(now, bytes) {
+            Some(until) => Answer::Delayed(until),
+            None => Answer::Ready,
+        },
+        Event::Congestion { now, sent, persistent } => done(recovery.congestion(now, sent, persistent)),
+        Event::EndAcks => Answer::Done,
+        Event::PollMtu { now } => match recovery.poll_mtu(now)? {
+            Some((number, size)) => Answer::Probe { number, size },
+            None => Answer::NoProbe,
+        },
+        Event::PeerLimit { size } => done(recovery.peer_limit(size)?),
+        Event::LossesDone { now } => Answer::BlackHole(recovery.losses_done(now)),
+        Event::Ecn { space, newly, counts } => Answer::Flag(recovery.ecn(space, newly, counts)?),
+        Event::CheckAck { space, low, high } => done(recovery.check_ack(space, low, high)?),
+        Event::QueueProbe { space, immediate } => {
+            let (acks, other) = recovery.queue_probe(space, immediate)?;
+            Answer::Sendable { acks, other }
+        }
+        Event::TakePending(space) => Answer::Queue(recovery.take_pending(space)?),
+        Event::NewPath { now, fresh } => done(recovery.new_path(now, fresh)?),
+        Event::ResetPath { now } => done(recovery.reset_path(now)),
+        Event::DropPrevious => done(recovery.drop_previous()?),
+        Event::SetTimer { timer, time } => done(recovery.set_timer(timer, Some(time))),
+        Event::StopTimer { timer } => done(recovery.set_timer(timer, None)),
+        Event::NextTimeout => Answer::Timeout(recovery.next_timeout()),
+    })
+}
+
+/// Of an event that has no other answer.
+fn done((): ()) -> Answer {
+    Answer::Done
+}
+
+/// Writes the line of a reply.
+#[inline(always)]
+pub fn write(reply: Reply, out: &mut impl Text) {
+    match reply {
+        Ok(Answer::New { arm }) => out.one_of(arm, "new arm\n", "new\n"),
+        Ok(Answer::Duplicate) => out.text("duplicate\n"),
+        Ok(Answer::Sent { number, forgotten: None }) => out.until("sent ", number),
+        Ok(Answer::Sent { number, forgotten: Some(forgotten) }) => {
             out.with("sent ", number);
             out.until(" forgot ", forgotten);
         }
+        Ok(Answer::Acked { probe }) => out.one_of(probe, "acked probe\n", "acked\n"),
+        Ok(Answer::Lost { probe }) => out.one_of(probe, "lost probe\n", "lost\n"),
+        Ok(Answer::Retire(Some(range))) => out.pair("retire ", range.start, range.end),
+        Ok(Answer::Retire(None)) => out.text("retire none\n"),
+        Ok(Answer::Flag(flag)) => out.one_of(flag, "yes\n", "no\n"),
+        Ok(Answer::Timeout(Some(time))) => out.until("timeout ", time),
+        Ok(Answer::Timeout(None)) => out.text("timeout none\n"),
+        Ok(Answer::InFlight { bytes, count }) => out.pair("in-flight ", bytes, count),
+        Ok(Answer::Transmitted) => out.text("transmitted\n"),
+        Ok(Answer::Blocked) => out.text("blocked\n"),
+        Ok(Answer::Delayed(until)) => out.until("delayed ", until),
+        Ok(Answer::Ready) => out.text("ready\n"),
+        Ok(Answer::Probe { number, size }) => out.pair("probe ", number, u64::from(size)),
+        Ok(Answer::NoProbe) => out.text("no probe\n"),
+        Ok(Answer::BlackHole(found)) => out.one_of(found, "black-hole yes\n", "black-hole no\n"),
+        Ok(Answer::Sendable { acks, other }) => {
+            out.one_of(acks, "sendable yes ", "sendable no ");
+            out.one_of(other, "yes\n", "no\n");
+        }
+        Ok(Answer::Queue(items)) => {
+            out.text("queue");
+            for item in items {
+                out.with(" ", item);
+            }
+            out.text("\n");
+        }
+        Ok(Answer::Done) => out.text("done\n"),
+        Ok(Answer::Room(_)) => {}
         Err(refusal) => out.text(refusal),
     }
-    Some(())
 }

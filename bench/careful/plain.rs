@@ -3,7 +3,7 @@ mod layer;
 mod lines;
 
 use layer::{LONGEST_SPAN, Recovery};
-use lines::{Text, Words, play};
+use lines::{Text, Words, apply, read, write};
 use std::fmt::Write as _;
 use std::io::{BufRead, Write};
 use std::process::ExitCode;
@@ -62,7 +62,9 @@ fn play_line(recovery: &mut Recovery, line: &str, out: &mut Answers) -> Option<(
     let mut rest = line.split_whitespace();
     let name = rest.next()?;
     let next = rest.next();
-    play(recovery, name.as_bytes(), &mut Split { next, rest }, out)
+    let event = read(name.as_bytes(), &mut Split { next, rest })?;
+    write(apply(recovery, event), out);
+    Some(())
 }
 
 fn main() -> ExitCode {
