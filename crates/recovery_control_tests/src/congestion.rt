@@ -1,6 +1,7 @@
 //! Congestion controllers, whatever they are. Rows are calls, and the window after each.
 ghost use Rattle.std.specs.Prelude.{◌<◌};
 
+use crate::rows::holds;
 use recovery_base::time::{Duration, Instant};
 use recovery_congestion::congestion::{
     Controller, ControllerFactory, ControllerMetrics, NewRenoConfig,
@@ -49,29 +50,27 @@ fn tell<C: Controller>(controller: &mut C, call: Call) {
 }
 
 /// Asserts that the window of a controller that is made at 0 with an MTU of 1200 is the initial one, and after each row as
-/// it says; that of a clone is the same in the end.
+/// it says, where rows count from 1; that of a clone is the same in the end.
 fn play<F: ControllerFactory>(rt: &impl Abort, factory: F, initial: u64, rows: &[(Call, u64)])
 where
     F: Drop,
     F::Controller: Drop,
 {
     let mut controller = factory.build(at(0), 1200);
-    assert!(rt; controller.initial_window() == initial, "initial");
-    assert!(rt; controller.window() == initial, "first");
-    let mut row = 0u64;
+    let is_first = controller.initial_window() == initial && controller.window() == initial;
+    holds(rt, is_first, 0);
+    let mut row = 1u64;
     for (call, window) in rows {
         tell(&mut controller, *call);
-        assert!(rt; controller.window() == *window, "row {row}");
+        holds(rt, controller.window() == *window, row);
         row = row.saturating_add(1);
     }
     let Ok(clone) = controller.try_clone() else {
         panic!(rt; "NoMemory")
     };
-    assert!(rt; clone.window() == controller.window(), "clone");
-    assert!(rt;
-        clone.metrics().congestion_window == controller.window(),
-        "metrics"
-    );
+    let is_same = clone.window() == controller.window()
+        && clone.metrics().congestion_window == controller.window();
+    holds(rt, is_same, row);
 }
 
 /// The window after a loss, which no controller lets fall to zero.
@@ -108,122 +107,95 @@ fn reno(initial: u64, numerator: u64, denominator: u64) -> NewRenoConfig
 
 #[test]
 fn reno_halves_once_in_a_recovery(rt: HostRuntime) {
-    play(
-        &rt,
-        NewRenoConfig::default(),
-        12000,
-        &[
-            (Call::Sent, 12000),
-            (Call::Acked(1200, 0), 12000),
-            (Call::AckedLimited(1200, 1), 12000),
-            (Call::Acked(1200, 1), 13200),
-            (Call::EndAcks, 13200),
-            (Call::Lost(2, 1), 6600),
-            (Call::Lost(3, 2), 6600),
-            (Call::Acked(1200, 3), 6600),
-            (Call::Acked(1200, 3), 6600),
-            (Call::Acked(1200, 3), 6600),
-            (Call::Acked(1200, 3), 6600),
-            (Call::Acked(1200, 3), 6600),
-            (Call::Acked(1200, 3), 7800),
-        ],
-    );
+    static ROWS: [(Call, u64); 13] = [
+        (Call::Sent, 12000),
+        (Call::Acked(1200, 0), 12000),
+        (Call::AckedLimited(1200, 1), 12000),
+        (Call::Acked(1200, 1), 13200),
+        (Call::EndAcks, 13200),
+        (Call::Lost(2, 1), 6600),
+        (Call::Lost(3, 2), 6600),
+        (Call::Acked(1200, 3), 6600),
+        (Call::Acked(1200, 3), 6600),
+        (Call::Acked(1200, 3), 6600),
+        (Call::Acked(1200, 3), 6600),
+        (Call::Acked(1200, 3), 6600),
+        (Call::Acked(1200, 3), 7800),
+    ];
+    play(&rt, NewRenoConfig::default(), 12000, &ROWS);
 }
 
 #[test]
 fn reno_recovery_may_begin_earlier(rt: HostRuntime) {
-    play(
-        &rt,
-        NewRenoConfig::default(),
-        12000,
-        &[
-            (Call::Lost(5, 1), 6000),
-            (Call::Lost(0, 5), 6000),
-            (Call::Lost(0, 6), 3000),
-            (Call::Lost(9, 1), 2400),
-        ],
-    );
+    static ROWS: [(Call, u64); 4] = [
+        (Call::Lost(5, 1), 6000),
+        (Call::Lost(0, 5), 6000),
+        (Call::Lost(0, 6), 3000),
+        (Call::Lost(9, 1), 2400),
+    ];
+    play(&rt, NewRenoConfig::default(), 12000, &ROWS);
 }
 
 #[test]
 fn reno_takes_one_window_off_the_count(rt: HostRuntime) {
-    play(
-        &rt,
-        NewRenoConfig::default(),
-        12000,
-        &[
-            (Call::Lost(2, 1), 6000),
-            (Call::Acked(20000, 3), 7200),
-            (Call::Acked(0, 2), 7200),
-            (Call::Acked(0, 3), 8400),
-            (Call::Acked(0, 3), 8400),
-            // 6800 bytes are still counted.
-            (Call::Lost(4, 3), 4200),
-            (Call::Acked(0, 5), 5400),
-        ],
-    );
+    static ROWS: [(Call, u64); 7] = [
+        (Call::Lost(2, 1), 6000),
+        (Call::Acked(20000, 3), 7200),
+        (Call::Acked(0, 2), 7200),
+        (Call::Acked(0, 3), 8400),
+        (Call::Acked(0, 3), 8400),
+        // 6800 bytes are still counted.
+        (Call::Lost(4, 3), 4200),
+        (Call::Acked(0, 5), 5400),
+    ];
+    play(&rt, NewRenoConfig::default(), 12000, &ROWS);
 }
 
 #[test]
 fn reno_counts_what_passes_the_threshold(rt: HostRuntime) {
-    play(
-        &rt,
-        NewRenoConfig::default(),
-        12000,
-        &[
-            (Call::LostForLong(2, 1), 2400),
-            (Call::Acked(4000, 3), 6400),
-            (Call::Acked(5999, 3), 6400),
-            (Call::Acked(1, 3), 7600),
-        ],
-    );
+    static ROWS: [(Call, u64); 4] = [
+        (Call::LostForLong(2, 1), 2400),
+        (Call::Acked(4000, 3), 6400),
+        (Call::Acked(5999, 3), 6400),
+        (Call::Acked(1, 3), 7600),
+    ];
+    play(&rt, NewRenoConfig::default(), 12000, &ROWS);
 }
 
 #[test]
 fn reno_window_is_two_mtus_at_least(rt: HostRuntime) {
-    play(
-        &rt,
-        reno(1, 0, 1),
-        1,
-        &[
-            (Call::Mtu(1500), 3000),
-            (Call::Mtu(1200), 3000),
-            (Call::Lost(2, 1), 2400),
-            (Call::Mtu(65535), 131070),
-        ],
-    );
+    static ROWS: [(Call, u64); 4] = [
+        (Call::Mtu(1500), 3000),
+        (Call::Mtu(1200), 3000),
+        (Call::Lost(2, 1), 2400),
+        (Call::Mtu(65535), 131070),
+    ];
+    play(&rt, reno(1, 0, 1), 1, &ROWS);
 }
 
 #[test]
 fn reno_reduces_exactly(rt: HostRuntime) {
-    play(
-        &rt,
-        reno(16_777_219, 1, 2),
-        16_777_219,
-        &[(Call::Lost(2, 1), 8_388_609)],
-    );
+    static FIRST: [(Call, u64); 1] = [(Call::Lost(2, 1), 8_388_609)];
+    static SECOND: [(Call, u64); 1] = [(Call::Lost(2, 1), u64::MAX - 1)];
+    play(&rt, reno(16_777_219, 1, 2), 16_777_219, &FIRST);
     play(
         &rt,
         reno(u64::MAX, u64::MAX - 1, u64::MAX),
         u64::MAX,
-        &[(Call::Lost(2, 1), u64::MAX - 1)],
+        &SECOND,
     );
 }
 
 #[test]
 fn reno_stops_at_the_end(rt: HostRuntime) {
-    play(
-        &rt,
-        reno(u64::MAX - 1, u64::MAX, 1),
-        u64::MAX - 1,
-        &[
-            (Call::Acked(u64::MAX, 1), u64::MAX),
-            (Call::Acked(u64::MAX, 1), u64::MAX),
-            (Call::LostForLong(2, 1), 2400),
-            (Call::Lost(3, 3), u64::MAX),
-            (Call::Acked(u64::MAX, 4), u64::MAX),
-        ],
-    );
+    static ROWS: [(Call, u64); 5] = [
+        (Call::Acked(u64::MAX, 1), u64::MAX),
+        (Call::Acked(u64::MAX, 1), u64::MAX),
+        (Call::LostForLong(2, 1), 2400),
+        (Call::Lost(3, 3), u64::MAX),
+        (Call::Acked(u64::MAX, 4), u64::MAX),
+    ];
+    play(&rt, reno(u64::MAX - 1, u64::MAX, 1), u64::MAX - 1, &ROWS);
 }
 
 #[test]
@@ -232,34 +204,31 @@ fn reno_shows_its_threshold(rt: HostRuntime) {
     let first = controller.metrics().ssthresh;
     controller.on_congestion_event(at(2), at(1), true, 0);
     let metrics = controller.metrics();
-    assert!(rt; first == Some(u64::MAX));
-    assert!(rt; metrics.congestion_window == 2400);
-    assert!(rt; metrics.ssthresh == Some(6000));
-    assert!(rt; metrics.pacing_rate.is_none());
-    assert!(rt; ControllerMetrics::default().congestion_window == 0);
+    let is_lost = metrics.congestion_window == 2400
+        && metrics.ssthresh == Some(6000)
+        && metrics.pacing_rate.is_none();
+    holds(&rt, first == Some(u64::MAX), 0);
+    holds(&rt, is_lost, 1);
+    holds(&rt, ControllerMetrics::default().congestion_window == 0, 2);
 }
 
 #[test]
 fn halving_halves(rt: HostRuntime) {
-    play(
-        &rt,
-        HalvingConfig::new(12000),
-        12000,
-        &[
-            (Call::Sent, 12000),
-            (Call::Acked(1200, 1), 12000),
-            (Call::EndAcks, 12000),
-            (Call::Lost(2, 0), 6000),
-            (Call::LostForLong(0, 0), 3000),
-            (Call::Lost(0, 0), 2400),
-            (Call::Mtu(9000), 2400),
-            (Call::Lost(0, 0), 18000),
-        ],
-    );
+    static ROWS: [(Call, u64); 8] = [
+        (Call::Sent, 12000),
+        (Call::Acked(1200, 1), 12000),
+        (Call::EndAcks, 12000),
+        (Call::Lost(2, 0), 6000),
+        (Call::LostForLong(0, 0), 3000),
+        (Call::Lost(0, 0), 2400),
+        (Call::Mtu(9000), 2400),
+        (Call::Lost(0, 0), 18000),
+    ];
+    play(&rt, HalvingConfig::new(12000), 12000, &ROWS);
 }
 
 #[test]
 fn no_window_falls_to_zero(rt: HostRuntime) {
-    assert!(rt; lose_twice(&reno(1, 0, 1)) == 2, "NewReno");
-    assert!(rt; lose_twice(&HalvingConfig::new(1)) == 2, "Halving");
+    holds(&rt, lose_twice(&reno(1, 0, 1)) == 2, 0);
+    holds(&rt, lose_twice(&HalvingConfig::new(1)) == 2, 1);
 }

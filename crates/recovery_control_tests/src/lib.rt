@@ -10,4 +10,6 @@ mod mtud;
 #[cfg(test)]
 mod pacing;
 #[cfg(test)]
+mod rows;
+#[cfg(test)]
 mod rtt;

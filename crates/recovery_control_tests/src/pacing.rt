@@ -1,4 +1,5 @@
 //! The pacer. Rows are what a path has and what is asked or sent at a moment, and the moment that is told, if one is.
+use crate::rows::holds;
 use recovery_base::time::{Duration, Instant};
 use recovery_pacing::pacing::Pacer;
 use std::process::Abort;
@@ -69,7 +70,7 @@ fn play(rt: &impl Abort, path: &Path, start: u64, rows: &[Row]) {
     let mut place = 0u64;
     for (path, now, call, wanted) in rows {
         let found = apply(rt, &mut pacer, path, *now, *call);
-        assert!(rt; found == wanted.map(Instant::from_nanos), "row {place}");
+        holds(rt, found == wanted.map(Instant::from_nanos), place);
         place = place.saturating_add(1);
     }
 }
@@ -78,88 +79,70 @@ fn play(rt: &impl Abort, path: &Path, start: u64, rows: &[Row]) {
 #[test]
 fn the_bucket_is_told(rt: HostRuntime) {
     let mut pacer = made(&rt, &FRESH, 0);
-    assert!(rt; pacer.capacity() == 12_000 && pacer.tokens() == 12_000);
+    let is_full = pacer.capacity() == 12_000 && pacer.tokens() == 12_000;
+    holds(&rt, is_full, 0);
     pacer.on_transmit(1_500);
-    assert!(rt; pacer.capacity() == 12_000 && pacer.tokens() == 10_500);
+    let is_less = pacer.capacity() == 12_000 && pacer.tokens() == 10_500;
+    holds(&rt, is_less, 1);
     pacer.on_transmit(u16::MAX);
-    assert!(rt; pacer.tokens() == 0);
+    holds(&rt, pacer.tokens() == 0, 2);
 }
 
 #[test]
 fn a_burst_passes_and_time_brings_more(rt: HostRuntime) {
+    static ROWS: [Row; 6] = [
+        (PATH, 7, Call::Packets(80, 1000), None),
+        (PATH, 7, Call::Asks(0), None),
+        (PATH, 7, Call::Asks(1000), Some(1_600_007)),
+        (PATH, 800_007, Call::Asks(1000), None),
+        (PATH, 800_007, Call::Packets(40, 1000), None),
+        (PATH, 7, Call::Asks(1000), Some(2_400_007)),
+    ];
     const PATH: Path = (50_000_000, 2_000_000, 1000);
-    play(
-        &rt,
-        &PATH,
-        7,
-        &[
-            (PATH, 7, Call::Packets(80, 1000), None),
-            (PATH, 7, Call::Asks(0), None),
-            (PATH, 7, Call::Asks(1000), Some(1_600_007)),
-            (PATH, 800_007, Call::Asks(1000), None),
-            (PATH, 800_007, Call::Packets(40, 1000), None),
-            (PATH, 7, Call::Asks(1000), Some(2_400_007)),
-        ],
-    );
+    play(&rt, &PATH, 7, &ROWS);
 }
 
 #[test]
 fn a_clock_that_steps_back_brings_nothing(rt: HostRuntime) {
-    play(
-        &rt,
-        &FRESH,
-        0,
-        &[
-            (FRESH, 0, Call::Asks(12_001), Some(22_200)),
-            (FRESH, 333_000_000, Call::Asks(12_001), Some(333_022_200)),
-            (FRESH, 0, Call::Asks(12_001), Some(333_022_200)),
-            (FRESH, u64::MAX, Call::Asks(12_001), Some(u64::MAX)),
-            (FRESH, 0, Call::Asks(12_001), Some(u64::MAX)),
-        ],
-    );
+    static ROWS: [Row; 5] = [
+        (FRESH, 0, Call::Asks(12_001), Some(22_200)),
+        (FRESH, 333_000_000, Call::Asks(12_001), Some(333_022_200)),
+        (FRESH, 0, Call::Asks(12_001), Some(333_022_200)),
+        (FRESH, u64::MAX, Call::Asks(12_001), Some(u64::MAX)),
+        (FRESH, 0, Call::Asks(12_001), Some(u64::MAX)),
+    ];
+    play(&rt, &FRESH, 0, &ROWS);
 }
 
 #[test]
 fn the_bound_is_met_with_equality(rt: HostRuntime) {
-    play(
-        &rt,
-        &FRESH,
-        0,
-        &[
-            (FRESH, 0, Call::Packets(10, 1200), None),
-            (FRESH, 0, Call::Asks(1200), Some(266_400_000)),
-            (FRESH, 266_400_000, Call::Packets(10, 1200), None),
-            (FRESH, 266_400_000, Call::Asks(1200), Some(532_800_000)),
-        ],
-    );
+    static ROWS: [Row; 4] = [
+        (FRESH, 0, Call::Packets(10, 1200), None),
+        (FRESH, 0, Call::Asks(1200), Some(266_400_000)),
+        (FRESH, 266_400_000, Call::Packets(10, 1200), None),
+        (FRESH, 266_400_000, Call::Asks(1200), Some(532_800_000)),
+    ];
+    play(&rt, &FRESH, 0, &ROWS);
 }
 
 #[test]
 fn a_change_of_the_path_fills_nothing(rt: HostRuntime) {
+    static ROWS: [Row; 3] = [
+        (SMALL, 0, Call::Asks(6000), None),
+        (SMALL, 0, Call::Asks(6001), Some(22_200)),
+        (FRESH, 0, Call::Asks(12_000), Some(133_200_000)),
+    ];
     const SMALL: Path = (333_000_000, 12_000, 600);
-    play(
-        &rt,
-        &FRESH,
-        0,
-        &[
-            (SMALL, 0, Call::Asks(6000), None),
-            (SMALL, 0, Call::Asks(6001), Some(22_200)),
-            (FRESH, 0, Call::Asks(12_000), Some(133_200_000)),
-        ],
-    );
+    play(&rt, &FRESH, 0, &ROWS);
 }
 
 #[test]
 fn an_rtt_alone_changes_no_capacity(rt: HostRuntime) {
-    play(
-        &rt,
-        &FRESH,
-        0,
-        &[
-            ((1_000_000, 12_000, 1200), 0, Call::Asks(12_001), Some(64)),
-            ((1_000_000, 6000, 1200), 0, Call::Asks(12_001), Some(132)),
-        ],
-    );
+    static ROWS: [Row; 2] = [
+        ((1_000_000, 12_000, 1200), 0, Call::Asks(12_001), Some(64)),
+        ((1_000_000, 6000, 1200), 0, Call::Asks(12_001), Some(132)),
+    ];
+    play(&rt, &FRESH, 0, &ROWS);
 }
 
 /// The path that a pacer is made for, what the path has when so many bytes are asked for at 0, and the moment that is told.
@@ -170,58 +153,54 @@ fn play_each(rt: &impl Abort, rows: &[Single]) {
     for (first, path, bytes, wanted) in rows {
         let mut pacer = made(rt, first, 0);
         let found = ask(rt, &mut pacer, path, 0, *bytes);
-        assert!(rt; found == wanted.map(Instant::from_nanos), "row {place}");
+        holds(rt, found == wanted.map(Instant::from_nanos), place);
         place = place.saturating_add(1);
     }
 }
 
 #[test]
 fn windows_past_32_bits_are_not_paced(rt: HostRuntime) {
+    static ROWS: [Single; 7] = [
+        ((SECOND, WIDE, 1000), (SECOND, WIDE, 1000), 300_000, None),
+        (
+            (SECOND, PACED, 1000),
+            (SECOND, PACED, 1000),
+            300_000,
+            Some(8192),
+        ),
+        (FRESH, (333_000_000, WIDE, 1200), 307_201, None),
+        (
+            (333_000_000, PACED, 1200),
+            (333_000_000, PACED, 1200),
+            307_200,
+            None,
+        ),
+        (
+            (333_000_000, PACED, 1200),
+            (333_000_000, PACED, 1200),
+            307_201,
+            Some(0),
+        ),
+        ((1, 1 << 63, 1000), (1, PACED, 1000), 256_000, None),
+        ((1, 1 << 63, 1000), (1, PACED, 1000), 256_001, Some(0)),
+    ];
     const SECOND: u128 = 1_000_000_000;
     const PACED: u64 = 4_294_967_295;
     const WIDE: u64 = 4_294_967_296;
-    play_each(
-        &rt,
-        &[
-            ((SECOND, WIDE, 1000), (SECOND, WIDE, 1000), 300_000, None),
-            (
-                (SECOND, PACED, 1000),
-                (SECOND, PACED, 1000),
-                300_000,
-                Some(8192),
-            ),
-            (FRESH, (333_000_000, WIDE, 1200), 307_201, None),
-            (
-                (333_000_000, PACED, 1200),
-                (333_000_000, PACED, 1200),
-                307_200,
-                None,
-            ),
-            (
-                (333_000_000, PACED, 1200),
-                (333_000_000, PACED, 1200),
-                307_201,
-                Some(0),
-            ),
-            ((1, 1 << 63, 1000), (1, PACED, 1000), 256_000, None),
-            ((1, 1 << 63, 1000), (1, PACED, 1000), 256_001, Some(0)),
-        ],
-    );
+    play_each(&rt, &ROWS);
 }
 
 #[test]
 fn takes_every_argument(rt: HostRuntime) {
+    static ROWS: [Single; 6] = [
+        (SECOND, SECOND, 4_294_977_296, Some(286_331_153_066_664)),
+        (SECOND, SECOND, u64::MAX, Some(u64::MAX)),
+        (FRESH, (0, 12_000, 1200), 12_001, None),
+        (FRESH, (LONGEST_RTT, 12_000, 1200), 12_001, Some(u64::MAX)),
+        (FRESH, (333_000_000, 14_526, 1326), 13_261, Some(23_126_144)),
+        (GREATEST, GREATEST, u64::MAX, None),
+    ];
     const SECOND: Path = (1_000_000_000, 12_000, 1000);
     const GREATEST: Path = (LONGEST_RTT, u64::MAX, u16::MAX);
-    play_each(
-        &rt,
-        &[
-            (SECOND, SECOND, 4_294_977_296, Some(286_331_153_066_664)),
-            (SECOND, SECOND, u64::MAX, Some(u64::MAX)),
-            (FRESH, (0, 12_000, 1200), 12_001, None),
-            (FRESH, (LONGEST_RTT, 12_000, 1200), 12_001, Some(u64::MAX)),
-            (FRESH, (333_000_000, 14_526, 1326), 13_261, Some(23_126_144)),
-            (GREATEST, GREATEST, u64::MAX, None),
-        ],
-    );
+    play_each(&rt, &ROWS);
 }
