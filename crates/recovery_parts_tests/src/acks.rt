@@ -101,28 +101,25 @@ fn play(rt: &impl Abort, acks: &mut PendingAcks, rows: &[Row])
 
 #[test]
 fn acknowledges_many_silent_packets(rt: HostRuntime) {
+    static ROWS: [Row; 15] = [
+        (Call::Sent, 0, false, false, None),
+        (Call::Silent, 0, false, false, None),
+        (Call::Silent, 1, false, false, None),
+        (Call::Silent, 2, false, false, None),
+        (Call::Silent, 3, false, false, None),
+        (Call::Silent, 4, false, false, None),
+        (Call::Silent, 5, false, false, None),
+        (Call::Silent, 6, false, false, None),
+        (Call::Silent, 7, false, false, None),
+        (Call::Silent, 8, false, false, None),
+        (Call::Silent, 9, false, false, None),
+        (Call::Silent, 10, false, false, None),
+        (Call::Lazy, 10, false, true, None),
+        (Call::Late, 10, false, false, None),
+        (Call::AtOnce, 10, false, true, None),
+    ];
     let mut acks = PendingAcks::new(rt.alloc());
-    play(
-        &rt,
-        &mut acks,
-        &[
-            (Call::Sent, 0, false, false, None),
-            (Call::Silent, 0, false, false, None),
-            (Call::Silent, 1, false, false, None),
-            (Call::Silent, 2, false, false, None),
-            (Call::Silent, 3, false, false, None),
-            (Call::Silent, 4, false, false, None),
-            (Call::Silent, 5, false, false, None),
-            (Call::Silent, 6, false, false, None),
-            (Call::Silent, 7, false, false, None),
-            (Call::Silent, 8, false, false, None),
-            (Call::Silent, 9, false, false, None),
-            (Call::Silent, 10, false, false, None),
-            (Call::Lazy, 10, false, true, None),
-            (Call::Late, 10, false, false, None),
-            (Call::AtOnce, 10, false, true, None),
-        ],
-    );
+    play(&rt, &mut acks, &ROWS);
     holds(&rt, acks.can_send_with_other_frames(), 15);
 }
 

@@ -88,55 +88,49 @@ fn play(rt: &impl Abort, calls: &[Call]) {
 
 #[test]
 fn ids_that_differ_in_length_conflict(rt: HostRuntime) {
-    play(
-        &rt,
-        &[
-            Call::Conflicts(0, (7, 255), (1, NOWHERE)),
-            Call::Conflicts(0, (9, 255), (1, NOWHERE)),
-            Call::Conflicts(0, (0, 255), (1, NOWHERE)),
-            Call::Taken(0, (8, 255), (1, NOWHERE)),
-            // Bytes 0 are not what stands behind an id.
-            Call::Taken(1, (4, 0), (1, NOWHERE)),
-            Call::Conflicts(1, (5, 0), (1, NOWHERE)),
-            Call::Conflicts(1, (20, 0), (1, NOWHERE)),
-            Call::Conflicts(1, (3, 0), (1, NOWHERE)),
-            Call::Conflicts(1, (0, 0), (1, NOWHERE)),
-            Call::Taken(1, (4, 0), (1, NOWHERE)),
-        ],
-    );
+    static ROWS: [Call; 10] = [
+        Call::Conflicts(0, (7, 255), (1, NOWHERE)),
+        Call::Conflicts(0, (9, 255), (1, NOWHERE)),
+        Call::Conflicts(0, (0, 255), (1, NOWHERE)),
+        Call::Taken(0, (8, 255), (1, NOWHERE)),
+        // Bytes 0 are not what stands behind an id.
+        Call::Taken(1, (4, 0), (1, NOWHERE)),
+        Call::Conflicts(1, (5, 0), (1, NOWHERE)),
+        Call::Conflicts(1, (20, 0), (1, NOWHERE)),
+        Call::Conflicts(1, (3, 0), (1, NOWHERE)),
+        Call::Conflicts(1, (0, 0), (1, NOWHERE)),
+        Call::Taken(1, (4, 0), (1, NOWHERE)),
+    ];
+    play(&rt, &ROWS);
 }
 
 #[test]
 fn tokens_that_differ_in_one_byte_conflict(rt: HostRuntime) {
-    play(
-        &rt,
-        &[
-            Call::Taken(1, (8, 7), (1, NOWHERE)),
-            Call::Conflicts(1, (8, 7), (1, 0)),
-            Call::Conflicts(1, (8, 7), (1, 7)),
-            Call::Conflicts(1, (8, 7), (1, 15)),
-            Call::Conflicts(1, (8, 8), (1, NOWHERE)),
-            Call::Taken(1, (8, 7), (1, NOWHERE)),
-        ],
-    );
+    static ROWS: [Call; 6] = [
+        Call::Taken(1, (8, 7), (1, NOWHERE)),
+        Call::Conflicts(1, (8, 7), (1, 0)),
+        Call::Conflicts(1, (8, 7), (1, 7)),
+        Call::Conflicts(1, (8, 7), (1, 15)),
+        Call::Conflicts(1, (8, 8), (1, NOWHERE)),
+        Call::Taken(1, (8, 7), (1, NOWHERE)),
+    ];
+    play(&rt, &ROWS);
 }
 
 #[test]
 fn the_initial_id_gets_its_token_from_a_frame(rt: HostRuntime) {
-    play(
-        &rt,
-        &[
-            Call::Taken(0, (8, 255), (1, 15)),
-            Call::Conflicts(0, (8, 255), (1, NOWHERE)),
-            Call::Taken(0, (8, 255), (1, 15)),
-            Call::Replaced((8, 7)),
-            Call::Conflicts(0, (8, 255), (1, 15)),
-            Call::Taken(0, (8, 7), (2, NOWHERE)),
-            Call::Conflicts(0, (8, 7), (1, 15)),
-            Call::Replaced((8, 7)),
-            Call::Taken(0, (8, 7), (1, 15)),
-        ],
-    );
+    static ROWS: [Call; 9] = [
+        Call::Taken(0, (8, 255), (1, 15)),
+        Call::Conflicts(0, (8, 255), (1, NOWHERE)),
+        Call::Taken(0, (8, 255), (1, 15)),
+        Call::Replaced((8, 7)),
+        Call::Conflicts(0, (8, 255), (1, 15)),
+        Call::Taken(0, (8, 7), (2, NOWHERE)),
+        Call::Conflicts(0, (8, 7), (1, 15)),
+        Call::Replaced((8, 7)),
+        Call::Taken(0, (8, 7), (1, 15)),
+    ];
+    play(&rt, &ROWS);
 }
 
 /// A token gives back the bytes that it was made of.

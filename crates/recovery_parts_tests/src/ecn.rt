@@ -57,28 +57,22 @@ fn play(rt: &impl Abort, mut last: EcnCounts, rows: &[Row]) {
 
 #[test]
 fn counts_are_checked_against_the_last(rt: HostRuntime) {
-    play(
-        &rt,
-        EcnCounts::ZERO,
-        &[
-            (2, (2, 0, 0), Clear),
-            (1, (2, 0, 1), Marked),
-            (0, (1, 0, 1), ECT0_FALLS),
-            (0, (2, 0, 0), CE_FALLS),
-            (5, (3, 0, 1), BLEACHED),
-            (1, (2, 1, 1), CORRUPTED),
-            (0, (2, 1, 1), CORRUPTED),
-        ],
-    );
+    static ROWS: [Row; 7] = [
+        (2, (2, 0, 0), Clear),
+        (1, (2, 0, 1), Marked),
+        (0, (1, 0, 1), ECT0_FALLS),
+        (0, (2, 0, 0), CE_FALLS),
+        (5, (3, 0, 1), BLEACHED),
+        (1, (2, 1, 1), CORRUPTED),
+        (0, (2, 1, 1), CORRUPTED),
+    ];
+    play(&rt, EcnCounts::ZERO, &ROWS);
 }
 
 #[test]
 fn counts_rise_to_the_last_number(rt: HostRuntime) {
-    play(
-        &rt,
-        EcnCounts::ZERO,
-        &[(0, (MAX, 0, MAX), Marked), (0, (MAX, 0, 0), CE_FALLS)],
-    );
+    static ROWS: [Row; 2] = [(0, (MAX, 0, MAX), Marked), (0, (MAX, 0, 0), CE_FALLS)];
+    play(&rt, EcnCounts::ZERO, &ROWS);
 }
 
 #[test]

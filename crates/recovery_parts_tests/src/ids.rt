@@ -109,64 +109,52 @@ fn play(rt: &impl Abort, queue: &mut CidQueue, rows: &[Row]) {
 
 #[test]
 fn a_frame_retires_the_initial_id(rt: HostRuntime) {
-    play(
-        &rt,
-        &mut CidQueue::new(cid(255)),
-        &[
-            (Call::Insert(2, 0, 7), Answer::Stays, 0, 255),
-            (Call::Insert(3, 1, 8), Answer::Retires(0, 2, 7), 2, 7),
-        ],
-    );
+    static ROWS: [Row; 2] = [
+        (Call::Insert(2, 0, 7), Answer::Stays, 0, 255),
+        (Call::Insert(3, 1, 8), Answer::Retires(0, 2, 7), 2, 7),
+    ];
+    play(&rt, &mut CidQueue::new(cid(255)), &ROWS);
 }
 
 #[test]
 fn a_range_is_cut_at_the_window(rt: HostRuntime) {
-    play(
-        &rt,
-        &mut CidQueue::new(cid(255)),
-        &[
-            (Call::Insert(2, 0, 7), Answer::Stays, 0, 255),
-            (
-                Call::Insert(1_000_000, 1_000_000, 8),
-                Answer::Retires(0, 8, 8),
-                1_000_000,
-                8,
-            ),
-        ],
-    );
+    static ROWS: [Row; 2] = [
+        (Call::Insert(2, 0, 7), Answer::Stays, 0, 255),
+        (
+            Call::Insert(1_000_000, 1_000_000, 8),
+            Answer::Retires(0, 8, 8),
+            1_000_000,
+            8,
+        ),
+    ];
+    play(&rt, &mut CidQueue::new(cid(255)), &ROWS);
 }
 
 #[test]
 fn the_window_ends_and_the_next_id_comes(rt: HostRuntime) {
-    play(
-        &rt,
-        &mut CidQueue::new(cid(255)),
-        &[
-            (Call::Next, Answer::Stays, 0, 255),
-            (Call::Insert(7, 0, 7), Answer::Stays, 0, 255),
-            (Call::Insert(8, 0, 8), Answer::ExceedsLimit, 0, 255),
-            (Call::Next, Answer::Retires(0, 7, 7), 7, 7),
-            (Call::Insert(0, 0, 9), Answer::Retired, 7, 7),
-        ],
-    );
+    static ROWS: [Row; 5] = [
+        (Call::Next, Answer::Stays, 0, 255),
+        (Call::Insert(7, 0, 7), Answer::Stays, 0, 255),
+        (Call::Insert(8, 0, 8), Answer::ExceedsLimit, 0, 255),
+        (Call::Next, Answer::Retires(0, 7, 7), 7, 7),
+        (Call::Insert(0, 0, 9), Answer::Retired, 7, 7),
+    ];
+    play(&rt, &mut CidQueue::new(cid(255)), &ROWS);
 }
 
 #[test]
 fn a_frame_for_a_number_that_is_held_repeats_it(rt: HostRuntime) {
-    play(
-        &rt,
-        &mut CidQueue::new(cid(255)),
-        &[
-            (Call::Insert(0, 0, 255), Answer::Stays, 0, 255),
-            (Call::Insert(0, 0, 255), Answer::Stays, 0, 255),
-            (Call::Insert(0, 0, 7), Answer::Conflict, 0, 255),
-            (Call::Next, Answer::Stays, 0, 255),
-            (Call::Insert(1, 0, 7), Answer::Stays, 0, 255),
-            (Call::Insert(1, 1, 8), Answer::Conflict, 0, 255),
-            (Call::Insert(1, 1, 7), Answer::Retires(0, 1, 7), 1, 7),
-            (Call::Insert(0, 0, 255), Answer::Retired, 1, 7),
-        ],
-    );
+    static ROWS: [Row; 8] = [
+        (Call::Insert(0, 0, 255), Answer::Stays, 0, 255),
+        (Call::Insert(0, 0, 255), Answer::Stays, 0, 255),
+        (Call::Insert(0, 0, 7), Answer::Conflict, 0, 255),
+        (Call::Next, Answer::Stays, 0, 255),
+        (Call::Insert(1, 0, 7), Answer::Stays, 0, 255),
+        (Call::Insert(1, 1, 8), Answer::Conflict, 0, 255),
+        (Call::Insert(1, 1, 7), Answer::Retires(0, 1, 7), 1, 7),
+        (Call::Insert(0, 0, 255), Answer::Retired, 1, 7),
+    ];
+    play(&rt, &mut CidQueue::new(cid(255)), &ROWS);
 }
 
 #[test]
@@ -189,15 +177,12 @@ fn eight_ids_are_held(rt: HostRuntime) {
 
 #[test]
 fn the_ids_held_come_in_order(rt: HostRuntime) {
+    static ROWS: [Row; 2] = [
+        (Call::Replace(254), Answer::Stays, 0, 254),
+        (Call::Insert(3, 0, 8), Answer::Stays, 0, 254),
+    ];
     let mut queue = CidQueue::new(cid(255));
-    play(
-        &rt,
-        &mut queue,
-        &[
-            (Call::Replace(254), Answer::Stays, 0, 254),
-            (Call::Insert(3, 0, 8), Answer::Stays, 0, 254),
-        ],
-    );
+    play(&rt, &mut queue, &ROWS);
     let mut ids = queue.iter();
     for wanted in [
         Some((0, (cid(254), None))),
@@ -294,81 +279,73 @@ fn play_from(rt: &impl Abort, made: Result<CidState, NoMemory>, rows: &[LocalRow
 
 #[test]
 fn deadlines_move_the_marks(rt: HostRuntime) {
+    const LATER: u64 = 1_000_000_000;
+    const NEXT: Option<u64> = Some(LIFETIME + LATER);
+    static ROWS: [LocalRow; 6] = [
+        (
+            LocalCall::Retire(2, 5),
+            LocalAnswer::UnissuedCid,
+            0,
+            Some(LIFETIME),
+        ),
+        (
+            LocalCall::IssueTwo(LATER),
+            LocalAnswer::Done,
+            0,
+            Some(LIFETIME),
+        ),
+        (LocalCall::Timeout, LocalAnswer::Flag(true), 2, NEXT),
+        (LocalCall::Retire(0, 5), LocalAnswer::Flag(true), 2, NEXT),
+        (LocalCall::Timeout, LocalAnswer::Flag(false), 2, None),
+        (LocalCall::Retire(4, 5), LocalAnswer::UnissuedCid, 2, None),
+    ];
     let lifetime = Some(Duration::from_nanos(LIFETIME));
     let made = CidState::new(rt.alloc(), 8, lifetime, Instant::from_nanos(0), 2);
-    let later = 1_000_000_000;
-    let next = Some(LIFETIME + later);
-    let issued = play_from(
-        &rt,
-        made,
-        &[
-            (
-                LocalCall::Retire(2, 5),
-                LocalAnswer::UnissuedCid,
-                0,
-                Some(LIFETIME),
-            ),
-            (
-                LocalCall::IssueTwo(later),
-                LocalAnswer::Done,
-                0,
-                Some(LIFETIME),
-            ),
-            (LocalCall::Timeout, LocalAnswer::Flag(true), 2, next),
-            (LocalCall::Retire(0, 5), LocalAnswer::Flag(true), 2, next),
-            (LocalCall::Timeout, LocalAnswer::Flag(false), 2, None),
-            (LocalCall::Retire(4, 5), LocalAnswer::UnissuedCid, 2, None),
-        ],
-    );
+    let issued = play_from(&rt, made, &ROWS);
     holds(&rt, issued == 4, 4);
 }
 
 #[test]
 fn equal_deadlines_are_one(rt: HostRuntime) {
+    static ROWS: [LocalRow; 4] = [
+        (LocalCall::IssueTwo(0), LocalAnswer::Done, 0, Some(LIFETIME)),
+        (LocalCall::IssueOne(0), LocalAnswer::Done, 0, Some(LIFETIME)),
+        (LocalCall::Timeout, LocalAnswer::Flag(true), 4, None),
+        (LocalCall::Timeout, LocalAnswer::Flag(false), 4, None),
+    ];
     let lifetime = Some(Duration::from_nanos(LIFETIME));
     let made = CidState::new(rt.alloc(), 8, lifetime, Instant::from_nanos(0), 1);
-    let issued = play_from(
-        &rt,
-        made,
-        &[
-            (LocalCall::IssueTwo(0), LocalAnswer::Done, 0, Some(LIFETIME)),
-            (LocalCall::IssueOne(0), LocalAnswer::Done, 0, Some(LIFETIME)),
-            (LocalCall::Timeout, LocalAnswer::Flag(true), 4, None),
-            (LocalCall::Timeout, LocalAnswer::Flag(false), 4, None),
-        ],
-    );
+    let issued = play_from(&rt, made, &ROWS);
     holds(&rt, issued == 4, 4);
 }
 
 #[test]
 fn no_deadline_passes_the_end_of_the_clock(rt: HostRuntime) {
+    static ROWS: [LocalRow; 2] = [
+        (LocalCall::Retire(9, 5), LocalAnswer::UnissuedCid, 0, None),
+        (
+            LocalCall::IssueOne(u64::MAX - 1),
+            LocalAnswer::Done,
+            0,
+            Some(u64::MAX),
+        ),
+    ];
     let lifetime = Some(Duration::from_nanos(1));
     let made = CidState::new(rt.alloc(), 8, lifetime, Instant::from_nanos(u64::MAX), 1);
-    let before_end = LocalCall::IssueOne(u64::MAX - 1);
-    let issued = play_from(
-        &rt,
-        made,
-        &[
-            (LocalCall::Retire(9, 5), LocalAnswer::UnissuedCid, 0, None),
-            (before_end, LocalAnswer::Done, 0, Some(u64::MAX)),
-        ],
-    );
+    let issued = play_from(&rt, made, &ROWS);
     holds(&rt, issued == 2, 2);
 }
 
 #[test]
 fn ids_of_no_bytes_are_not_retired(rt: HostRuntime) {
+    static ROWS: [LocalRow; 2] = [
+        (LocalCall::Retire(0, 5), LocalAnswer::CidsNotInUse, 0, None),
+        (LocalCall::Retire(7, 5), LocalAnswer::CidsNotInUse, 0, None),
+    ];
     let made = CidState::new(rt.alloc(), 0, None, Instant::from_nanos(0), 1);
     let has_no_bytes = matches!(&made, Ok(state) if state.cid_len() == 0);
     holds(&rt, has_no_bytes, 0);
-    let issued = play_from(
-        &rt,
-        made,
-        &[
-            (LocalCall::Retire(0, 5), LocalAnswer::CidsNotInUse, 0, None),
-            (LocalCall::Retire(7, 5), LocalAnswer::CidsNotInUse, 0, None),
-        ],
-    );
+    let issued = play_from(&rt, made, &ROWS);
     holds(&rt, issued == 1, 1);
 }
 

@@ -218,12 +218,12 @@ fn play_remembered<R: Rng>(rt: &impl Abort, rng: &mut R, row: &Remembered) {
 
 #[test]
 fn the_last_skip_is_remembered(rt: HostRuntime) {
-    let rows: [Remembered; 3] = [
+    static ROWS: [Remembered; 3] = [
         (120, 63, 64, 81),
         (200, 80, 81, 177),
         (100, 60, u64::MAX, u64::MAX),
     ];
-    for row in &rows {
+    for row in &ROWS {
         play_remembered(&rt, &mut Pcg32::seed_from_u64(0), row);
     }
 }
@@ -231,7 +231,7 @@ fn the_last_skip_is_remembered(rt: HostRuntime) {
 #[test]
 fn numbers_end_below_2_to_62(rt: HostRuntime) {
     const END: u64 = 1 << 62;
-    let rows: [(u64, Option<u64>); 5] = [
+    static ROWS: [(u64, Option<u64>); 5] = [
         (END - 2, Some(END - 2)),
         (END - 1, Some(END - 1)),
         (END, None),
@@ -241,7 +241,7 @@ fn numbers_end_below_2_to_62(rt: HostRuntime) {
     let mut rng = Pcg32::seed_from_u64(0);
     let before = Pcg32::seed_from_u64(0);
     let mut filter = PacketNumberFilter::disabled();
-    for (next, wanted) in &rows {
+    for (next, wanted) in &ROWS {
         holds(&rt, filter.peek(*next) == *next, *next);
         let number = filter.allocate(&mut rng, *next);
         let is_left = rng == before && next_skip(&filter, 0, 100).is_none();

@@ -91,39 +91,35 @@ fn missing_after(mut dedup: Dedup, greatest: u64, low: u64, high: u64) -> Option
 
 #[test]
 fn answers_the_worked_rows(rt: HostRuntime) {
-    walk(
-        &rt,
-        &[
-            (0, false),
-            (0, true),
-            (1, false),
-            (2, false),
-            (4, false),
-            (7, false),
-            (4, true),
-            (3, false),
-            (258, false),
-            (129, true),
-            (130, false),
-        ],
-    );
+    static ROWS: [(u64, bool); 11] = [
+        (0, false),
+        (0, true),
+        (1, false),
+        (2, false),
+        (4, false),
+        (7, false),
+        (4, true),
+        (3, false),
+        (258, false),
+        (129, true),
+        (130, false),
+    ];
+    walk(&rt, &ROWS);
 }
 
 #[test]
 fn finds_the_least_missing(rt: HostRuntime) {
-    let dedup = walk(
-        &rt,
-        &[
-            (0, false),
-            (1, false),
-            (5, false),
-            (7, false),
-            (2, false),
-            (170, false),
-            (172, false),
-            (300, false),
-        ],
-    );
+    static ROWS: [(u64, bool); 8] = [
+        (0, false),
+        (1, false),
+        (5, false),
+        (7, false),
+        (2, false),
+        (170, false),
+        (172, false),
+        (300, false),
+    ];
+    let dedup = walk(&rt, &ROWS);
     for (low, high, missing) in [(0, 500, Some(372)), (0, 373, Some(372)), (0, 372, None)] {
         assert!(rt; low <= high && high <= 500);
         holds(&rt, missing_after(dedup, 500, low, high) == missing, high);
