@@ -1,4 +1,5 @@
 //! Queues of item numbers. A row is two queues, and what the first one holds when the second was joined to it.
+use crate::rows::holds;
 use recovery_queue::items::ItemQueue;
 use recovery_queue::queue::RetransmitQueue;
 use std::alloc::{AllocError, Global};
@@ -22,14 +23,18 @@ fn joined<Q: RetransmitQueue + Drop>(rt: &impl Abort, mut queue: Q, other: Q) ->
     queue
 }
 
-type Row<'a> = (Option<&'a [u64]>, Option<&'a [u64]>, &'a [u64]);
+type Row = (
+    Option<&'static [u64]>,
+    Option<&'static [u64]>,
+    &'static [u64],
+);
 
-fn assert_rows(rt: &impl Abort, alloc: Global, rows: &[Row<'_>]) -> Result<(), AllocError> {
+fn assert_rows(rt: &impl Abort, alloc: Global, rows: &[Row]) -> Result<(), AllocError> {
     let mut place = 0u64;
     for (items, others, wanted) in rows {
         let found = joined(rt, queue(alloc, *items)?, queue(alloc, *others)?);
-        assert!(rt; found.items() == *wanted, "row {place}");
-        assert!(rt; found.is_empty(&()) == wanted.is_empty(), "row {place}");
+        let is_right = found.items() == *wanted && found.is_empty(&()) == wanted.is_empty();
+        holds(rt, is_right, place);
         place = place.saturating_add(1);
     }
     Ok(())
@@ -37,18 +42,15 @@ fn assert_rows(rt: &impl Abort, alloc: Global, rows: &[Row<'_>]) -> Result<(), A
 
 #[test]
 fn lost_items_go_behind(rt: HostRuntime) -> Result<(), AllocError> {
-    assert_rows(
-        &rt,
-        rt.alloc(),
-        &[
-            (None, None, &[]),
-            (None, Some(&[]), &[]),
-            (Some(&[]), None, &[]),
-            (None, Some(&[7, 8]), &[7, 8]),
-            (Some(&[7, 8]), None, &[7, 8]),
-            (Some(&[7, 8]), Some(&[]), &[7, 8]),
-            (Some(&[7, 8]), Some(&[3, 7]), &[7, 8, 3, 7]),
-            (Some(&[]), Some(&[1]), &[1]),
-        ],
-    )
+    static ROWS: [Row; 8] = [
+        (None, None, &[]),
+        (None, Some(&[]), &[]),
+        (Some(&[]), None, &[]),
+        (None, Some(&[7, 8]), &[7, 8]),
+        (Some(&[7, 8]), None, &[7, 8]),
+        (Some(&[7, 8]), Some(&[]), &[7, 8]),
+        (Some(&[7, 8]), Some(&[3, 7]), &[7, 8, 3, 7]),
+        (Some(&[]), Some(&[1]), &[1]),
+    ];
+    assert_rows(&rt, rt.alloc(), &ROWS)
 }

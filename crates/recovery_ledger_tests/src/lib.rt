@@ -6,4 +6,6 @@ mod items;
 #[cfg(test)]
 mod responses;
 #[cfg(test)]
+mod rows;
+#[cfg(test)]
 mod slots;
