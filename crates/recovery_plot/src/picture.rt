@@ -82,333 +82,304 @@ impl Anchor {
     }
 }
 
-/// An SVG picture. Each call draws above what was drawn before; where memory is refused, what is drawn is a part.
+/// An SVG picture. Each call draws above what was drawn before. Where memory is refused, what is drawn is a part: `finish` tells it, and
+/// nobody who draws has to ask.
 #[derive(Drop)]
 pub struct Picture {
     text: String,
+    /// Whether memory was refused.
+    is_cut: bool,
 }
 
 impl Picture {
     /// An empty picture of so many units, shown half as large in pixels, with a title.
-    pub fn new(alloc: Global, width: u16, height: u16, title: &str) -> Result<Self, AllocError> {
+    pub fn new(alloc: Global, width: u16, height: u16, title: &str) -> Self {
         let mut picture = Picture {
             text: String::new(alloc),
+            is_cut: false,
         };
-        writeln!(
-            picture.text,
+        picture.sheet(width, height);
+        picture.write(u64::from(width / 2), 44, Anchor::Middle, title);
+        picture
+    }
+
+    /// A white sheet.
+    fn sheet(&mut self, width: u16, height: u16) {
+        let drawn = writeln!(
+            self.text,
             "<svg xmlns=\"http://www.w3.org/2000/svg\" viewBox=\"0 0 {width} {height}\" width=\"{}\" height=\"{}\" font-family=\"sans-serif\" font-size=\"24\">",
             width / 2,
             height / 2
-        )?;
-        writeln!(
-            picture.text,
+        );
+        self.keep(drawn);
+        let drawn = writeln!(
+            self.text,
             "<rect width=\"{width}\" height=\"{height}\" fill=\"white\"/>"
-        )?;
-        picture.write(u64::from(width / 2), 44, Anchor::Middle, title)?;
-        Ok(picture)
+        );
+        self.keep(drawn);
     }
 
-    /// The text of the picture.
-    pub fn finish(self) -> Result<String, AllocError> {
-        let mut text = self.text;
-        text.push_str("</svg>\n")?;
-        Ok(text)
+    /// Keeps whether memory was refused for what is drawn.
+    fn keep(&mut self, drawn: Result<(), AllocError>) {
+        if drawn.is_err() {
+            self.is_cut = true;
+        }
+    }
+
+    /// The text of the picture, if memory was never refused.
+    pub fn finish(mut self) -> Result<String, AllocError> {
+        let drawn = self.text.push_str("</svg>\n");
+        self.keep(drawn);
+        if self.is_cut {
+            Err(AllocError)
+        } else {
+            Ok(self.text)
+        }
     }
 
     /// The frame of a panel, marks with their numbers, and what its axes show. Numbers are in the axes' units.
-    pub fn axes(&mut self, panel: &Panel, x_name: &str, y_name: &str) -> Result<(), AllocError> {
-        self.marks_across(panel)?;
-        self.marks_down(panel)?;
-        writeln!(
+    pub fn axes(&mut self, panel: &Panel, x_name: &str, y_name: &str) {
+        self.marks_across(panel);
+        self.marks_down(panel);
+        let drawn = writeln!(
             self.text,
             "<rect x=\"{}\" y=\"{}\" width=\"{}\" height=\"{}\" fill=\"none\" stroke=\"black\" stroke-width=\"2\"/>",
             panel.left, panel.top, panel.width, panel.height
-        )?;
-        self.write(panel.right(), panel.bottom() + 62, Anchor::End, x_name)?;
+        );
+        self.keep(drawn);
+        self.write(panel.right(), panel.bottom() + 62, Anchor::End, x_name);
         self.write(
             u64::from(panel.left),
             u64::from(panel.top).saturating_sub(14),
             Anchor::Start,
             y_name,
-        )
+        );
     }
 
     /// A line through points.
-    pub fn line(
-        &mut self,
-        panel: &Panel,
-        points: &[Point],
-        style: Style,
-    ) -> Result<(), AllocError> {
-        self.path(panel, points, Joined::Straight, style)
+    pub fn line(&mut self, panel: &Panel, points: &[Point], style: Style) {
+        self.path(panel, points, Joined::Straight, style);
     }
 
     /// A line through points that stays level until the next one.
-    pub fn steps(
-        &mut self,
-        panel: &Panel,
-        points: &[Point],
-        style: Style,
-    ) -> Result<(), AllocError> {
-        self.path(panel, points, Joined::Stepped, style)
+    pub fn steps(&mut self, panel: &Panel, points: &[Point], style: Style) {
+        self.path(panel, points, Joined::Stepped, style);
     }
 
     /// A dot at each point.
-    pub fn dots(
-        &mut self,
-        panel: &Panel,
-        points: &[Point],
-        style: Style,
-    ) -> Result<(), AllocError> {
+    pub fn dots(&mut self, panel: &Panel, points: &[Point], style: Style) {
         for point in points {
-            self.dot(panel.across(point.x), panel.down(point.y), style)?;
+            self.dot(panel.across(point.x), panel.down(point.y), style);
         }
-        Ok(())
     }
 
     /// A ring at each point.
-    pub fn rings(
-        &mut self,
-        panel: &Panel,
-        points: &[Point],
-        style: Style,
-    ) -> Result<(), AllocError> {
+    pub fn rings(&mut self, panel: &Panel, points: &[Point], style: Style) {
         for point in points {
-            self.ring(panel.across(point.x), panel.down(point.y), style)?;
+            self.ring(panel.across(point.x), panel.down(point.y), style);
         }
-        Ok(())
     }
 
     /// A bar from the lower edge to each point.
-    pub fn bars(
-        &mut self,
-        panel: &Panel,
-        points: &[Point],
-        style: Style,
-    ) -> Result<(), AllocError> {
+    pub fn bars(&mut self, panel: &Panel, points: &[Point], style: Style) {
         for point in points {
             let top = panel.down(point.y);
             let height = panel.bottom().saturating_sub(top);
-            self.bar(panel.across(point.x), top, height, style)?;
+            self.bar(panel.across(point.x), top, height, style);
         }
-        Ok(())
     }
 
     /// A short stroke at the lower edge for each value of the axis across.
-    pub fn ticks(&mut self, panel: &Panel, values: &[u64], style: Style) -> Result<(), AllocError> {
+    pub fn ticks(&mut self, panel: &Panel, values: &[u64], style: Style) {
         for value in values {
-            self.tick(panel.across(*value), panel.bottom(), style)?;
+            self.tick(panel.across(*value), panel.bottom(), style);
         }
-        Ok(())
     }
 
     /// What a mark in a style stands for: the mark and its name above a panel, in the column of that number, counted from the right.
-    pub fn legend(
-        &mut self,
-        panel: &Panel,
-        column: u16,
-        name: &str,
-        mark: Mark,
-        style: Style,
-    ) -> Result<(), AllocError> {
+    pub fn legend(&mut self, panel: &Panel, column: u16, name: &str, mark: Mark, style: Style) {
         let left = panel
             .right()
             .saturating_sub(u64::from(column) * 330)
             .saturating_sub(310);
         let height = u64::from(panel.top).saturating_sub(22);
         match mark {
-            Mark::Line => self.stroke(left, left + 60, height, style)?,
-            Mark::Dot => self.dot(left + 50, height, style)?,
-            Mark::Ring => self.ring(left + 50, height, style)?,
-            Mark::Tick => self.tick(left + 50, height + TICK / 2, style)?,
-            Mark::Bar => self.bar(left + 47, height.saturating_sub(TICK / 2), TICK, style)?,
+            Mark::Line => self.stroke(left, left + 60, height, style),
+            Mark::Dot => self.dot(left + 50, height, style),
+            Mark::Ring => self.ring(left + 50, height, style),
+            Mark::Tick => self.tick(left + 50, height + TICK / 2, style),
+            Mark::Bar => self.bar(left + 47, height.saturating_sub(TICK / 2), TICK, style),
         }
-        self.write(left + 70, height + 8, Anchor::Start, name)
+        self.write(left + 70, height + 8, Anchor::Start, name);
     }
 
     /// A level stroke from one place across to another.
-    fn stroke(
-        &mut self,
-        across: u64,
-        to_across: u64,
-        down: u64,
-        style: Style,
-    ) -> Result<(), AllocError> {
-        writeln!(
+    fn stroke(&mut self, across: u64, to_across: u64, down: u64, style: Style) {
+        let drawn = writeln!(
             self.text,
             "<path fill=\"none\" {} d=\"M{across} {down}H{to_across}\"/>",
             style.stroke()
-        )
+        );
+        self.keep(drawn);
     }
 
     /// A dot at a place.
-    fn dot(&mut self, across: u64, down: u64, style: Style) -> Result<(), AllocError> {
-        writeln!(
+    fn dot(&mut self, across: u64, down: u64, style: Style) {
+        let drawn = writeln!(
             self.text,
             "<circle cx=\"{across}\" cy=\"{down}\" r=\"6\" fill=\"{}\"/>",
             style.color()
-        )
+        );
+        self.keep(drawn);
     }
 
     /// A ring at a place.
-    fn ring(&mut self, across: u64, down: u64, style: Style) -> Result<(), AllocError> {
-        writeln!(
+    fn ring(&mut self, across: u64, down: u64, style: Style) {
+        let drawn = writeln!(
             self.text,
             "<circle cx=\"{across}\" cy=\"{down}\" r=\"7\" fill=\"white\" stroke=\"{}\" stroke-width=\"3\"/>",
             style.color()
-        )
+        );
+        self.keep(drawn);
     }
 
     /// A tick whose lower end is at a place.
-    fn tick(&mut self, across: u64, bottom: u64, style: Style) -> Result<(), AllocError> {
-        writeln!(
+    fn tick(&mut self, across: u64, bottom: u64, style: Style) {
+        let drawn = writeln!(
             self.text,
             "<path {} d=\"M{across} {bottom}V{}\"/>",
             style.stroke(),
             bottom.saturating_sub(TICK)
-        )
+        );
+        self.keep(drawn);
     }
 
     /// A bar whose upper end is at a place.
-    fn bar(&mut self, across: u64, top: u64, height: u64, style: Style) -> Result<(), AllocError> {
-        writeln!(
+    fn bar(&mut self, across: u64, top: u64, height: u64, style: Style) {
+        let drawn = writeln!(
             self.text,
             "<rect x=\"{across}\" y=\"{top}\" width=\"6\" height=\"{height}\" fill=\"{}\"/>",
             style.color()
-        )
+        );
+        self.keep(drawn);
     }
 
     /// A line through points, each of which has another place than the one before.
-    fn path(
-        &mut self,
-        panel: &Panel,
-        points: &[Point],
-        joined: Joined,
-        style: Style,
-    ) -> Result<(), AllocError> {
+    fn path(&mut self, panel: &Panel, points: &[Point], joined: Joined, style: Style) {
         let Some(first) = points.first() else {
-            return Ok(());
+            return;
         };
         let mut last = (panel.across(first.x), panel.down(first.y));
-        write!(
-            self.text,
-            "<path fill=\"none\" {} d=\"M{} {}",
-            style.stroke(),
-            last.0,
-            last.1
-        )?;
+        self.begin(last, style);
         for point in points {
             let place = (panel.across(point.x), panel.down(point.y));
             if place != last {
-                self.join(joined, place)?;
+                self.join(joined, place);
                 last = place;
             }
         }
-        writeln!(self.text, "\"/>")
+        let drawn = writeln!(self.text, "\"/>");
+        self.keep(drawn);
+    }
+
+    /// Begins a line at a place.
+    fn begin(&mut self, place: (u64, u64), style: Style) {
+        let (across, down) = place;
+        let drawn = write!(
+            self.text,
+            "<path fill=\"none\" {} d=\"M{across} {down}",
+            style.stroke()
+        );
+        self.keep(drawn);
     }
 
     /// Goes on to a place.
-    fn join(&mut self, joined: Joined, place: (u64, u64)) -> Result<(), AllocError> {
+    fn join(&mut self, joined: Joined, place: (u64, u64)) {
         let (across, down) = place;
-        match joined {
+        let drawn = match joined {
             Joined::Straight => write!(self.text, "L{across} {down}"),
             Joined::Stepped => write!(self.text, "H{across}V{down}"),
-        }
+        };
+        self.keep(drawn);
     }
 
     /// Marks with their numbers below a panel.
-    fn marks_across(&mut self, panel: &Panel) -> Result<(), AllocError> {
+    fn marks_across(&mut self, panel: &Panel) {
         let step = panel.x.step(MARKS);
         let mut value = panel.x.first_mark(step);
         for _ in 0..2 * MARKS {
             if value > panel.x.most {
-                return Ok(());
+                return;
             }
             let (across, bottom) = (panel.across(value), panel.bottom());
-            self.grid(across, bottom, across, u64::from(panel.top))?;
-            self.number(across, bottom + 30, Anchor::Middle, panel.x.number(value))?;
+            self.grid(across, bottom, across, u64::from(panel.top));
+            self.number(across, bottom + 30, Anchor::Middle, panel.x.number(value));
             value = value.saturating_add(step);
         }
-        Ok(())
     }
 
     /// Marks with their numbers left of a panel.
-    fn marks_down(&mut self, panel: &Panel) -> Result<(), AllocError> {
+    fn marks_down(&mut self, panel: &Panel) {
         let step = panel.y.step(MARKS);
         let mut value = panel.y.first_mark(step);
         for _ in 0..2 * MARKS {
             if value > panel.y.most {
-                return Ok(());
+                return;
             }
             let (left, down) = (u64::from(panel.left), panel.down(value));
-            self.grid(left, down, panel.right(), down)?;
+            self.grid(left, down, panel.right(), down);
             self.number(
                 left.saturating_sub(12),
                 down + 8,
                 Anchor::End,
                 panel.y.number(value),
-            )?;
+            );
             value = value.saturating_add(step);
         }
-        Ok(())
     }
 
     /// A faint line from one place to another.
-    fn grid(
-        &mut self,
-        across: u64,
-        down: u64,
-        to_across: u64,
-        to_down: u64,
-    ) -> Result<(), AllocError> {
-        writeln!(
+    fn grid(&mut self, across: u64, down: u64, to_across: u64, to_down: u64) {
+        let drawn = writeln!(
             self.text,
             "<path stroke=\"#d8d8d8\" d=\"M{across} {down}L{to_across} {to_down}\"/>"
-        )
+        );
+        self.keep(drawn);
     }
 
     /// A number at a place.
-    fn number(
-        &mut self,
-        across: u64,
-        down: u64,
-        anchor: Anchor,
-        number: u64,
-    ) -> Result<(), AllocError> {
-        writeln!(
+    fn number(&mut self, across: u64, down: u64, anchor: Anchor, number: u64) {
+        let drawn = writeln!(
             self.text,
             "<text x=\"{across}\" y=\"{down}\" text-anchor=\"{}\">{number}</text>",
             anchor.word()
-        )
+        );
+        self.keep(drawn);
     }
 
     /// A text at a place.
-    fn write(
-        &mut self,
-        across: u64,
-        down: u64,
-        anchor: Anchor,
-        text: &str,
-    ) -> Result<(), AllocError> {
-        write!(
+    fn write(&mut self, across: u64, down: u64, anchor: Anchor, text: &str) {
+        let drawn = write!(
             self.text,
             "<text x=\"{across}\" y=\"{down}\" text-anchor=\"{}\">",
             anchor.word()
-        )?;
-        self.escaped(text)?;
-        writeln!(self.text, "</text>")
+        );
+        self.keep(drawn);
+        self.escaped(text);
+        let drawn = writeln!(self.text, "</text>");
+        self.keep(drawn);
     }
 
     /// A text in which nothing is taken for a tag.
-    fn escaped(&mut self, text: &str) -> Result<(), AllocError> {
+    fn escaped(&mut self, text: &str) {
         for letter in text.chars() {
-            match letter {
-                '<' => self.text.push_str("&lt;")?,
-                '>' => self.text.push_str("&gt;")?,
-                '&' => self.text.push_str("&amp;")?,
-                _ => self.text.push(letter)?,
-            }
+            let drawn = match letter {
+                '<' => self.text.push_str("&lt;"),
+                '>' => self.text.push_str("&gt;"),
+                '&' => self.text.push_str("&amp;"),
+                _ => self.text.push(letter),
+            };
+            self.keep(drawn);
         }
-        Ok(())
     }
 }
