@@ -37,9 +37,8 @@ where
     F: ControllerFactory + Drop,
     F::Controller: Drop,
 {
-    let (link, log) = (Link::new(alloc)?, Log::new(alloc)?);
     let sender = Sender::new(alloc, factory, settings.is_checked)?;
-    let mut ends = ClosedLoop::new(sender, link, log);
+    let mut ends = ClosedLoop::new(sender, Link::new(alloc), Log::new(alloc));
     let picture = run_and_draw(alloc, settings, &mut ends);
     drop(ends);
     picture

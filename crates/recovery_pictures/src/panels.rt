@@ -3,7 +3,7 @@
 use quic_recovery::time::Duration;
 use recovery_plot::axis::{Axis, Panel, Point};
 use recovery_plot::picture::Picture;
-use std::alloc::{AllocError, Global};
+use std::alloc::Global;
 
 /// In nanoseconds.
 pub const SECOND: u64 = 1_000_000_000;
@@ -15,7 +15,7 @@ pub const MILLISECOND: u64 = 1_000_000;
 pub const KILOBYTE: u64 = 1_000;
 
 /// A picture with room for two panels.
-pub fn sheet(alloc: Global, title: &str) -> Result<Picture, AllocError> {
+pub fn sheet(alloc: Global, title: &str) -> Picture {
     Picture::new(alloc, 1920, 1220, title)
 }
 

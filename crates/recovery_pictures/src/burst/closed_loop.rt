@@ -29,16 +29,20 @@ pub struct Log {
 }
 
 impl Log {
-    pub fn new(alloc: Global) -> Result<Self, NoMemory> {
-        let mut log = Log {
+    pub fn new(alloc: Global) -> Self {
+        Log {
             total: 0,
             spans: Bound::new(alloc),
             sent: Vec::new(alloc),
             bound: Vec::new(alloc),
             named: Vec::new(alloc),
-        };
-        log.sent.push(Point { x: 0, y: 0 })?;
-        Ok(log)
+        }
+    }
+
+    /// Notes that nothing was sent at the beginning.
+    fn begin(&mut self) -> Result<(), NoMemory> {
+        self.sent.push(Point { x: 0, y: 0 })?;
+        Ok(())
     }
 
     /// Notes what the pacer was asked and told.
@@ -104,6 +108,8 @@ where
 
     /// All that happens up to a moment.
     pub fn run(&mut self, end: u64) -> Result<(), Failure> {
+        self.link.begin()?;
+        self.log.begin()?;
         self.send(BEGIN)?;
         for _ in 0..STEPS {
             let now = self.next_moment();

@@ -42,17 +42,20 @@ pub struct Link {
 
 impl Link {
     /// With an empty queue.
-    pub fn new(alloc: Global) -> Result<Self, NoMemory> {
-        let mut link = Link {
+    pub fn new(alloc: Global) -> Self {
+        Link {
             carried: Vec::new(alloc),
             gone: 0,
             acked: 0,
             length: 0,
             queue: Vec::new(alloc),
             drops: Vec::new(alloc),
-        };
-        link.note(0, 0)?;
-        Ok(link)
+        }
+    }
+
+    /// Notes the empty queue of the beginning.
+    pub fn begin(&mut self) -> Result<(), NoMemory> {
+        self.note(0, 0)
     }
 
     /// A packet comes to the queue, and is dropped where that is full.

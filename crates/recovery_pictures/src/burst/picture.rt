@@ -17,9 +17,9 @@ pub fn draw(
     link: &Link,
 ) -> Result<String, AllocError> {
     let title = title(alloc, settings)?;
-    let mut picture = sheet(alloc, title.as_str())?;
+    let mut picture = sheet(alloc, title.as_str());
     let time = up_to(settings.end, MILLISECOND);
-    draw_sent(&mut picture, time, log)?;
+    draw_sent(&mut picture, time, log);
     draw_queue(alloc, &mut picture, time, link)?;
     picture.finish()
 }
@@ -42,16 +42,16 @@ fn total(points: &[Point]) -> u64 {
         .fold(0, |sum: u64, point| sum.saturating_add(point.y))
 }
 
-fn draw_sent(picture: &mut Picture, time: Axis, log: &Log) -> Result<(), AllocError> {
+fn draw_sent(picture: &mut Picture, time: Axis, log: &Log) {
     let most = highest(&log.sent).max(highest(&log.bound));
     let panel = upper(time, up_to(most.saturating_add(most / 20), KILOBYTE));
-    picture.axes(&panel, "time, ms", "kB sent")?;
-    picture.ticks(&panel, &log.named, Style::Thin)?;
-    picture.steps(&panel, &log.bound, Style::Dashed)?;
-    picture.steps(&panel, &log.sent, Style::Solid)?;
-    picture.legend(&panel, 2, "bytes sent", Mark::Line, Style::Solid)?;
-    picture.legend(&panel, 1, "bound of rate", Mark::Line, Style::Dashed)?;
-    picture.legend(&panel, 0, "moment named", Mark::Tick, Style::Thin)
+    picture.axes(&panel, "time, ms", "kB sent");
+    picture.ticks(&panel, &log.named, Style::Thin);
+    picture.steps(&panel, &log.bound, Style::Dashed);
+    picture.steps(&panel, &log.sent, Style::Solid);
+    picture.legend(&panel, 2, "bytes sent", Mark::Line, Style::Solid);
+    picture.legend(&panel, 1, "bound of rate", Mark::Line, Style::Dashed);
+    picture.legend(&panel, 0, "moment named", Mark::Tick, Style::Thin);
 }
 
 fn draw_queue(
@@ -65,11 +65,12 @@ fn draw_queue(
         &panel,
         "time, ms",
         "packets in the queue, and dropped at a moment",
-    )?;
-    picture.bars(&panel, &link.drops, Style::Dashed)?;
-    picture.steps(&panel, &link.queue, Style::Solid)?;
+    );
+    picture.bars(&panel, &link.drops, Style::Dashed);
+    picture.steps(&panel, &link.queue, Style::Solid);
     let longest = format!(in alloc; "queue: {} at most", highest(&link.queue))?;
+    picture.legend(&panel, 1, longest.as_str(), Mark::Line, Style::Solid);
     let dropped = format!(in alloc; "dropped: {}", total(&link.drops))?;
-    picture.legend(&panel, 1, longest.as_str(), Mark::Line, Style::Solid)?;
-    picture.legend(&panel, 0, dropped.as_str(), Mark::Bar, Style::Dashed)
+    picture.legend(&panel, 0, dropped.as_str(), Mark::Bar, Style::Dashed);
+    Ok(())
 }

@@ -8,33 +8,33 @@ use std::alloc::{AllocError, Global};
 
 /// The picture of what happened in a tunnel.
 pub fn draw(alloc: Global, tunnel: &Tunnel) -> Result<String, AllocError> {
-    let mut picture = sheet(alloc, "The MTU of a path, and a burst that is paced")?;
-    draw_search(&mut picture, tunnel)?;
-    draw_burst(&mut picture, tunnel)?;
+    let mut picture = sheet(alloc, "The MTU of a path, and a burst that is paced");
+    draw_search(&mut picture, tunnel);
+    draw_burst(&mut picture, tunnel);
     picture.finish()
 }
 
-fn draw_search(picture: &mut Picture, tunnel: &Tunnel) -> Result<(), AllocError> {
+fn draw_search(picture: &mut Picture, tunnel: &Tunnel) {
     let sizes = Axis {
         least: 1180,
         most: u64::from(LARGEST) + 20,
         unit: 1,
     };
     let panel = upper(up_to(tunnel.now(), SECOND), sizes);
-    picture.axes(&panel, "time, s", "bytes")?;
-    picture.steps(&panel, &tunnel.bound, Style::Thin)?;
-    picture.steps(&panel, &tunnel.mtu, Style::Solid)?;
-    picture.dots(&panel, &tunnel.arrived, Style::Dotted)?;
-    picture.rings(&panel, &tunnel.lost, Style::Dashed)?;
-    picture.ticks(&panel, &tunnel.holes, Style::Dashed)?;
-    picture.legend(&panel, 4, "MTU in use", Mark::Line, Style::Solid)?;
-    picture.legend(&panel, 3, "not ruled out", Mark::Line, Style::Thin)?;
-    picture.legend(&panel, 2, "arrives", Mark::Dot, Style::Dotted)?;
-    picture.legend(&panel, 1, "is lost", Mark::Ring, Style::Dashed)?;
-    picture.legend(&panel, 0, "a black hole", Mark::Tick, Style::Dashed)
+    picture.axes(&panel, "time, s", "bytes");
+    picture.steps(&panel, &tunnel.bound, Style::Thin);
+    picture.steps(&panel, &tunnel.mtu, Style::Solid);
+    picture.dots(&panel, &tunnel.arrived, Style::Dotted);
+    picture.rings(&panel, &tunnel.lost, Style::Dashed);
+    picture.ticks(&panel, &tunnel.holes, Style::Dashed);
+    picture.legend(&panel, 4, "MTU in use", Mark::Line, Style::Solid);
+    picture.legend(&panel, 3, "not ruled out", Mark::Line, Style::Thin);
+    picture.legend(&panel, 2, "arrives", Mark::Dot, Style::Dotted);
+    picture.legend(&panel, 1, "is lost", Mark::Ring, Style::Dashed);
+    picture.legend(&panel, 0, "a black hole", Mark::Tick, Style::Dashed);
 }
 
-fn draw_burst(picture: &mut Picture, tunnel: &Tunnel) -> Result<(), AllocError> {
+fn draw_burst(picture: &mut Picture, tunnel: &Tunnel) {
     let last = tunnel.burst.last().map_or(0, |last| last.x);
     let time = up_to(last.saturating_add(MILLISECOND), MILLISECOND);
     let panel = lower(time, up_to(highest(&tunnel.burst), 1));
@@ -42,6 +42,6 @@ fn draw_burst(picture: &mut Picture, tunnel: &Tunnel) -> Result<(), AllocError> 
         &panel,
         "time, ms",
         "bytes of the first burst, moment by moment",
-    )?;
-    picture.bars(&panel, &tunnel.burst, Style::Solid)
+    );
+    picture.bars(&panel, &tunnel.burst, Style::Solid);
 }
