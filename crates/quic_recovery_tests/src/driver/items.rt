@@ -22,6 +22,9 @@ enum Step {
 
 use Step::{IsLost, IsTaken, Probes, Sends};
 
+/// A step, and the items that wait behind it.
+type Row = (Step, &'static [u64]);
+
 fn queue_of(rt: &impl Abort, alloc: Global, items: &[u64]) -> ItemQueue {
     if items.is_empty() {
         return ItemQueue::empty(alloc);
@@ -79,7 +82,7 @@ fn is_told(recovery: &mut Items, event: ItemEvent, before: &[u64], items: &[u64]
 }
 
 /// Asserts which items each step leaves waiting, and that what is taken is what waited before.
-fn go_on(rt: &impl Abort, alloc: Global, recovery: &mut Items, rows: &[(Step, &[u64])]) {
+fn go_on(rt: &impl Abort, alloc: Global, recovery: &mut Items, rows: &[Row]) {
     let mut row = 0u64;
     let mut before: &[u64] = &[];
     for (step, items) in rows {
@@ -91,7 +94,7 @@ fn go_on(rt: &impl Abort, alloc: Global, recovery: &mut Items, rows: &[(Step, &[
 }
 
 /// The same from the beginning of a connection on.
-fn play(rt: &impl Abort, alloc: Global, rows: &[(Step, &[u64])]) {
+fn play(rt: &impl Abort, alloc: Global, rows: &[Row]) {
     let config = settings_with(TransportConfig::default(), 8, Skips::Drawn);
     match Recovery::new(alloc, config, words(), at(0)) {
         Ok(mut recovery) => {
@@ -104,32 +107,26 @@ fn play(rt: &impl Abort, alloc: Global, rows: &[(Step, &[u64])]) {
 
 #[test]
 fn lost_items_go_behind(rt: HostRuntime) {
-    play(
-        &rt,
-        rt.alloc(),
-        &[
-            (Sends(&[1]), &[]),
-            (Sends(&[2, 3]), &[]),
-            (Sends(&[4]), &[]),
-            (IsLost(1), &[2, 3]),
-            (IsLost(0), &[2, 3, 1]),
-            (Probes, &[2, 3, 1]),
-            (IsTaken, &[]),
-            (IsTaken, &[]),
-            (Probes, &[4]),
-            (IsLost(2), &[4]),
-        ],
-    );
-    play(
-        &rt,
-        rt.alloc(),
-        &[
-            (Sends(&[]), &[]),
-            (Sends(&[7, 8]), &[]),
-            (Probes, &[7, 8]),
-            (IsTaken, &[]),
-            (IsLost(1), &[]),
-            (IsTaken, &[]),
-        ],
-    );
+    static FIRST: [Row; 10] = [
+        (Sends(&[1]), &[]),
+        (Sends(&[2, 3]), &[]),
+        (Sends(&[4]), &[]),
+        (IsLost(1), &[2, 3]),
+        (IsLost(0), &[2, 3, 1]),
+        (Probes, &[2, 3, 1]),
+        (IsTaken, &[]),
+        (IsTaken, &[]),
+        (Probes, &[4]),
+        (IsLost(2), &[4]),
+    ];
+    static SECOND: [Row; 6] = [
+        (Sends(&[]), &[]),
+        (Sends(&[7, 8]), &[]),
+        (Probes, &[7, 8]),
+        (IsTaken, &[]),
+        (IsLost(1), &[]),
+        (IsTaken, &[]),
+    ];
+    play(&rt, rt.alloc(), &FIRST);
+    play(&rt, rt.alloc(), &SECOND);
 }

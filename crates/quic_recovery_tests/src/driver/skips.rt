@@ -159,18 +159,28 @@ fn play_drawn<R: Rng + Drop>(rt: &impl Abort, alloc: Global, rng: R, skips: (u64
     }
 }
 
+/// Seeds, and the three skips that are drawn first.
+static DRAWN: [(u64, (u64, u64, u64)); 4] = [
+    (0, (63, 80, 176)),
+    (1, (31, 68, 148)),
+    (7, (6, 116, 168)),
+    (u64::MAX, (20, 114, 159)),
+];
+
+/// The same for the other generator.
+static DRAWN_BY_ANOTHER: [(u64, (u64, u64, u64)); 3] = [
+    (0, (8, 86, 218)),
+    (1, (53, 65, 142)),
+    (7, (0, 78, 243)),
+];
+
 /// The skips are those of the table of known words, by either generator.
 #[test]
 fn skips_are_drawn(rt: HostRuntime) {
-    for (seed, skips) in [
-        (0, (63, 80, 176)),
-        (1, (31, 68, 148)),
-        (7, (6, 116, 168)),
-        (u64::MAX, (20, 114, 159)),
-    ] {
-        play_drawn(&rt, rt.alloc(), Pcg32::seed_from_u64(seed), skips);
+    for (seed, skips) in &DRAWN {
+        play_drawn(&rt, rt.alloc(), Pcg32::seed_from_u64(*seed), *skips);
     }
-    for (seed, skips) in [(0, (8, 86, 218)), (1, (53, 65, 142)), (7, (0, 78, 243))] {
-        play_drawn(&rt, rt.alloc(), Pcg64::seed_from_u64(seed), skips);
+    for (seed, skips) in &DRAWN_BY_ANOTHER {
+        play_drawn(&rt, rt.alloc(), Pcg64::seed_from_u64(*seed), *skips);
     }
 }
