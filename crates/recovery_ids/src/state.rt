@@ -70,7 +70,8 @@ impl From<RetireError> for TransportError {
     ghost use Rattle.recovery_ids.specs.LocalIds.{retire_text};
 
     // It is a violation of the protocol, with the refusal's text.
-    ghost from_gives = { λ error transport. (transport.code ≡ 10) × (transport.reason.now ≡ retire_text error) };
+    ghost from_gives = { λ error transport. (transport.code ≡ 10)
+        × (transport.reason.now ≡ retire_text error) };
 
     fn from(error: RetireError) -> Self {
         match error {
@@ -234,7 +235,8 @@ fn ask_for_room(alloc: Global, count: u64) -> Result<(), NoMemory>
 fn issue(numbers: &mut SlotQueue<()>, first: u64, end: u64) -> Result<(), NoMemory>
     requires ahead { first ≤ end }
     requires above { Rise 0 first (numbers_in numbers.old) }
-    ensures ok { OnOk result (numbers_in numbers.new ≡ numbers_in numbers.old ++ range_with_len first (end - first)) }
+    ensures ok { OnOk result
+        (numbers_in numbers.new ≡ numbers_in numbers.old ++ range_with_len first (end - first)) }
     ensures err { OnErr result (numbers_in numbers.new ≡ numbers_in numbers.old) }
     ensures memory { OnErr result (first < end) }
 {
@@ -254,7 +256,8 @@ fn issue(numbers: &mut SlotQueue<()>, first: u64, end: u64) -> Result<(), NoMemo
 fn take_back(numbers: &mut SlotQueue<()>, first: u64, end: u64)
     requires { first ≤ end }
     ensures { (before : List ℕ) → Rise 0 first before
-        → numbers_in numbers.old ≡ before ++ range_with_len first (end - first) → numbers_in numbers.new ≡ before }
+        → numbers_in numbers.old ≡ before ++ range_with_len first (end - first)
+        → numbers_in numbers.new ≡ before }
 {
     for number in first..end {
         let _taken = numbers.take(number);

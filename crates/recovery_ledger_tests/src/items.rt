@@ -1,5 +1,4 @@
 //! Queues of item numbers. A row is two queues, and what the first one holds when the second was joined to it.
-use crate::rows::holds;
 use recovery_queue::items::ItemQueue;
 use recovery_queue::queue::RetransmitQueue;
 use std::alloc::{AllocError, Global};
@@ -23,18 +22,14 @@ fn joined<Q: RetransmitQueue + Drop>(rt: &impl Abort, mut queue: Q, other: Q) ->
     queue
 }
 
-type Row = (
-    Option<&'static [u64]>,
-    Option<&'static [u64]>,
-    &'static [u64],
-);
+type Row<'a> = (Option<&'a [u64]>, Option<&'a [u64]>, &'a [u64]);
 
-fn assert_rows(rt: &impl Abort, alloc: Global, rows: &[Row]) -> Result<(), AllocError> {
+fn assert_rows(rt: &impl Abort, alloc: Global, rows: &[Row<'_>]) -> Result<(), AllocError> {
     let mut place = 0u64;
     for (items, others, wanted) in rows {
         let found = joined(rt, queue(alloc, *items)?, queue(alloc, *others)?);
-        let is_right = found.items() == *wanted && found.is_empty(&()) == wanted.is_empty();
-        holds(rt, is_right, place);
+        assert!(rt; found.items() == *wanted, "row {place}");
+        assert!(rt; found.is_empty(&()) == wanted.is_empty(), "row {place}");
         place = place.saturating_add(1);
     }
     Ok(())
@@ -42,15 +37,18 @@ fn assert_rows(rt: &impl Abort, alloc: Global, rows: &[Row]) -> Result<(), Alloc
 
 #[test]
 fn lost_items_go_behind(rt: HostRuntime) -> Result<(), AllocError> {
-    static ROWS: [Row; 8] = [
-        (None, None, &[]),
-        (None, Some(&[]), &[]),
-        (Some(&[]), None, &[]),
-        (None, Some(&[7, 8]), &[7, 8]),
-        (Some(&[7, 8]), None, &[7, 8]),
-        (Some(&[7, 8]), Some(&[]), &[7, 8]),
-        (Some(&[7, 8]), Some(&[3, 7]), &[7, 8, 3, 7]),
-        (Some(&[]), Some(&[1]), &[1]),
-    ];
-    assert_rows(&rt, rt.alloc(), &ROWS)
+    assert_rows(
+        &rt,
+        rt.alloc(),
+        &[
+            (None, None, &[]),
+            (None, Some(&[]), &[]),
+            (Some(&[]), None, &[]),
+            (None, Some(&[7, 8]), &[7, 8]),
+            (Some(&[7, 8]), None, &[7, 8]),
+            (Some(&[7, 8]), Some(&[]), &[7, 8]),
+            (Some(&[7, 8]), Some(&[3, 7]), &[7, 8, 3, 7]),
+            (Some(&[]), Some(&[1]), &[1]),
+        ],
+    )
 }

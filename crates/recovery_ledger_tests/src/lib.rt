@@ -6,6 +6,4 @@ mod items;
 #[cfg(test)]
 mod responses;
 #[cfg(test)]
-mod rows;
-#[cfg(test)]
 mod slots;

@@ -1,5 +1,4 @@
 //! Responses to path challenges. A row is what happens, and what comes out.
-use crate::rows::holds;
 use recovery_paths::responses::PathResponses;
 use std::net::{IpAddr, Ipv4Addr, SocketAddr};
 use std::process::Abort;
@@ -49,7 +48,7 @@ fn play(rt: &impl Abort, responses: &mut PathResponses, rows: &[(Call, Sent)]) {
     let mut place = 0u64;
     for (call, wanted) in rows {
         let sent = apply(responses, *call);
-        holds(rt, sent == *wanted, place);
+        assert!(rt; sent == *wanted, "row {place}");
         place = place.saturating_add(1);
     }
 }
@@ -60,36 +59,45 @@ const B: u8 = 2;
 
 #[test]
 fn one_an_address_and_the_last_goes_first(rt: HostRuntime) {
-    static FIRST: [(Call, Sent); 7] = [
-        (Pushes(5, 1, A), None),
-        (Pushes(7, 2, B), None),
-        (Pushes(4, 3, A), None),
-        (Pushes(7, 9, B), None),
-        (OnPath(A), None),
-        (OffPath(A), Some((9, B))),
-        (OffPath(A), None),
-    ];
-    static SECOND: [(Call, Sent); 2] = [(OnPath(A), Some((1, A))), (OnPath(A), None)];
     let mut responses = PathResponses::default();
-    holds(&rt, responses.is_empty(), 0);
-    play(&rt, &mut responses, &FIRST);
-    holds(&rt, !responses.is_empty(), 7);
-    play(&rt, &mut responses, &SECOND);
-    holds(&rt, responses.is_empty(), 9);
+    assert!(rt; responses.is_empty());
+    play(
+        &rt,
+        &mut responses,
+        &[
+            (Pushes(5, 1, A), None),
+            (Pushes(7, 2, B), None),
+            (Pushes(4, 3, A), None),
+            (Pushes(7, 9, B), None),
+            (OnPath(A), None),
+            (OffPath(A), Some((9, B))),
+            (OffPath(A), None),
+        ],
+    );
+    assert!(rt; !responses.is_empty());
+    play(
+        &rt,
+        &mut responses,
+        &[(OnPath(A), Some((1, A))), (OnPath(A), None)],
+    );
+    assert!(rt; responses.is_empty());
 }
 
 #[test]
 fn the_seventeenth_address_is_ignored(rt: HostRuntime) {
-    static ROWS: [(Call, Sent); 5] = [
-        (OnPath(17), None),
-        (OnPath(16), Some((16, 16))),
-        (Pushes(0, 17, 17), None),
-        (OffPath(A), Some((17, 17))),
-        (OffPath(A), Some((15, 15))),
-    ];
     let mut responses = PathResponses::new();
     for octet in 1..=17u8 {
         responses.push(0, u64::from(octet), address(octet));
     }
-    play(&rt, &mut responses, &ROWS);
+    play(
+        &rt,
+        &mut responses,
+        &[
+            (OnPath(17), None),
+            (OnPath(16), Some((16, 16))),
+            (Pushes(0, 17, 17), None),
+            (OffPath(A), Some((17, 17))),
+            (OffPath(A), Some((15, 15))),
+        ],
+    );
 }

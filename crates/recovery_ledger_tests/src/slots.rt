@@ -1,6 +1,5 @@
 //! Packets are acknowledged in some order, all but the first: that one is found, and few slots are left. The limit of the
 //! slots, and that few are looked at, is proved.
-use crate::rows::holds;
 use recovery_base::below::NoMemory;
 use recovery_base::time::Instant;
 use recovery_ledger::spaces::{PacketSpace, SentPacket};
@@ -59,13 +58,12 @@ fn assert_closed_up(rt: &impl Abort, alloc: Global, order: Order, count: u64) {
     let mut space = sent(rt, alloc, count);
     for step in 0..count.saturating_sub(1) {
         let number = order.number(step, count);
-        holds(rt, space.take(number).is_some(), number);
+        assert!(rt; space.take(number).is_some(), "{number}");
     }
-    let (first, _) = space.find(0);
-    let is_found = space.slots() <= 66 && first.is_some();
-    let is_taken = space.take(0).is_some();
-    let is_left = space.find(0) == (None, 0);
-    holds(rt, is_found && is_taken && is_left, count);
+    assert!(rt; space.slots() <= 66);
+    assert!(rt; space.find(0).0.is_some());
+    assert!(rt; space.take(0).is_some());
+    assert!(rt; space.find(0) == (None, 0));
 }
 
 #[test]

@@ -21,7 +21,8 @@ fn write_flight(text: &mut String, flight: InFlight) -> Result<(), AllocError>
 
 /// The window and the slow start threshold, in bytes; no threshold where there is none yet (RFC 9002, B.3: infinite).
 fn write_window(text: &mut String, metrics: &ControllerMetrics) -> Result<(), AllocError>
-    ensures { OnOk result (string_bytes text.new ≡ string_bytes text.old ++ window_text metrics.now) }
+    ensures { OnOk result
+        (string_bytes text.new ≡ string_bytes text.old ++ window_text metrics.now) }
 {
     let window = metrics.congestion_window;
     match metrics.ssthresh {
@@ -42,7 +43,8 @@ fn write_spans(
     least: u128,
     latest: u128,
 ) -> Result<(), AllocError>
-    ensures { OnOk result (string_bytes text.new ≡ string_bytes text.old ++ spans_text smoothed variance least latest) }
+    ensures { OnOk result
+        (string_bytes text.new ≡ string_bytes text.old ++ spans_text smoothed variance least latest) }
 {
     write!(
         text,
@@ -66,7 +68,8 @@ fn write_rtt(text: &mut String, rtt: &RttEstimator) -> Result<(), AllocError>
 /// The MTU in use, and the bytes in the pacer's bucket: the end of the line.
 #[tactic(auto, unfolding(crate::specs::States::room_text))]
 fn write_room(text: &mut String, mtu: u16, tokens: u64) -> Result<(), AllocError>
-    ensures { OnOk result (string_bytes text.new ≡ string_bytes text.old ++ room_text mtu tokens) }
+    ensures { OnOk result
+        (string_bytes text.new ≡ string_bytes text.old ++ room_text mtu tokens) }
 {
     writeln!(text, ",\"mtu\":{mtu},\"pacer_tokens\":{tokens}}}")
 }
@@ -76,7 +79,8 @@ pub fn write_state<C: Controller + Drop>(
     text: &mut String,
     path: &PathData<C>,
 ) -> Result<(), AllocError>
-    ensures { OnOk result (string_bytes text.new ≡ string_bytes text.old ++ state_text C.words path.now) }
+    ensures { OnOk result
+        (string_bytes text.new ≡ string_bytes text.old ++ state_text C.words path.now) }
 {
     text.push_str("{")?;
     write_flight(text, path.in_flight())?;

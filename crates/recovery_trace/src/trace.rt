@@ -100,8 +100,8 @@ fn write_turn<F>(
 where
     F: ControllerFactory + Drop,
     F::Controller: Drop,
-    ensures { OnOk result (string_bytes text.new
-        ≡ string_bytes text.old ++ turn_text F.Controller.words shows reply.now (parts_of recovery.now)) }
+    ensures { OnOk result (string_bytes text.new ≡ string_bytes text.old
+        ++ turn_text F.Controller.words shows reply.now (parts_of recovery.now)) }
 {
     match write_reply(text, reply) {
         Ok(()) if shows => write_state(text, recovery.current()),
@@ -121,7 +121,8 @@ fn answer<F>(
 where
     F: ControllerFactory + Drop,
     F::Controller: Drop,
-    ensures { IfOk result (Answers shows line.now live.old.recovery live.new.recovery (string_bytes text.new)) }
+    ensures { IfOk result
+        (Answers shows line.now live.old.recovery live.new.recovery (string_bytes text.new)) }
 {
     text.clear();
     let mut events = Vec::with_capacity(alloc, 1)?;
