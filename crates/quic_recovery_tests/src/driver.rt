@@ -148,29 +148,6 @@ fn run_answers_with_memory(rt: HostRuntime) {
     );
 }
 
-#[test]
-fn run_answers_at_the_ends(rt: HostRuntime) {
-    let data = SpaceId::Data;
-    check(
-        &rt,
-        rt.alloc(),
-        [
-            (received(data, 300, false), new(false)),
-            (received(data, 171, false), DUPLICATE),
-            (received(data, 172, false), new(false)),
-            (received(data, 172, false), DUPLICATE),
-        ],
-    );
-    check(
-        &rt,
-        rt.alloc(),
-        [
-            (received(data, (1 << 62) - 1, false), new(false)),
-            (received(data, 1 << 62, true), TOO_LARGE),
-        ],
-    );
-}
-
 fn leaves_idle_set(left: &Reno) -> bool {
     let timers = left.timers();
     timers.get(Timer::Idle) == Some(at(50)) && timers.get(Timer::Pacing) == None
@@ -231,43 +208,4 @@ fn leaves_nothing_in_flight(left: &Reno) -> bool {
         && space.largest_ack_eliciting_sent() == Some(1)
         && space.largest_acked_packet == Some(0)
         && !space.has_in_flight()
-}
-
-fn forget_one(rt: &impl Abort, recovery: &mut Reno) {
-    for number in 0..1001u64 {
-        let silent = send(SpaceId::Data, 40, false);
-        told(rt, recovery, number, silent, sent(number, None));
-    }
-    let large = Event::Send {
-        space: SpaceId::Data,
-        now: at(0),
-        size: 1,
-        ack_eliciting: true,
-        largest_acked: Some(1 << 62),
-        queue: Tally { bytes: 0 },
-        stream_frames: 0,
-    };
-    let silent = send(SpaceId::Data, 40, false);
-    told(rt, recovery, 1001, silent, sent(1001, Some(0)));
-    told(rt, recovery, 1002, CURRENT, in_flight(40040, 0));
-    told(rt, recovery, 1003, large, TOO_LARGE);
-}
-
-#[test]
-fn the_least_of_1001_silent_packets_is_forgotten(rt: HostRuntime) {
-    let mut recovery = fresh(&rt, rt.alloc());
-    forget_one(&rt, &mut recovery);
-    drop(recovery);
-}
-
-#[test]
-fn a_refused_event_leaves_no_trace(rt: HostRuntime) {
-    check(
-        &rt,
-        rt.alloc(),
-        [
-            (received(SpaceId::Data, u64::MAX, true), TOO_LARGE),
-            (received(SpaceId::Data, 0, true), new(true)),
-        ],
-    );
 }

@@ -92,17 +92,6 @@ fn the_end_of_a_probe(rt: HostRuntime) {
         ],
         |recovery| recovery.current().current_mtu() == 1326,
     );
-    check(
-        &rt,
-        rt.alloc(),
-        [
-            (poll(0), probe(0, 1326)),
-            (DISCARD_DATA, DONE),
-            (poll(0), DISCARDED),
-            (CURRENT, in_flight(0, 0)),
-            (limit(1300), SEARCHING),
-        ],
-    );
 }
 
 #[test]

@@ -118,68 +118,6 @@ fn two_paths(rt: HostRuntime) {
     );
 }
 
-/// The packets of a path that was dropped are tracked, and count nowhere.
-#[test]
-fn a_path_that_is_dropped(rt: HostRuntime) {
-    check(
-        &rt,
-        rt.alloc(),
-        [
-            goes_out(0, 500),
-            goes_out(1, 600),
-            move_to(4434, true),
-            goes_out(2, 700),
-            move_to(4435, false),
-            (PREVIOUS, in_flight(700, 1)),
-            (CURRENT, in_flight(0, 0)),
-            has_come(0),
-            lost(1),
-            (PREVIOUS, in_flight(700, 1)),
-            (CURRENT, in_flight(0, 0)),
-            (acked(SpaceId::Data, 0), NOT_TRACKED),
-            (DROP, DONE),
-            has_come(2),
-            (PREVIOUS, NO_SUCH_PATH),
-            (CURRENT, in_flight(0, 0)),
-        ],
-    );
-    check(
-        &rt,
-        rt.alloc(),
-        [
-            goes_out(0, 500),
-            move_to(4434, true),
-            move_to(4435, false),
-            (PREVIOUS, in_flight(0, 0)),
-            has_come(0),
-            (PREVIOUS, in_flight(0, 0)),
-            (DROP, DONE),
-            (DROP, NO_SUCH_PATH),
-        ],
-    );
-}
-
-/// A packet of the previous path that is forgotten for one of the current path is no longer in flight there.
-#[test]
-fn a_packet_of_another_path_is_forgotten(rt: HostRuntime) {
-    let mut recovery = fresh(&rt, rt.alloc());
-    forget_one(&rt, &mut recovery);
-    drop(recovery);
-}
-
-fn forget_one(rt: &impl Abort, recovery: &mut Reno) {
-    for number in 0..1001u64 {
-        let silent = send(SpaceId::Data, 40, false);
-        told(rt, recovery, number, silent, sent(number, None));
-    }
-    let (moves, moved) = move_to(4434, true);
-    told(rt, recovery, 1001, moves, moved);
-    let silent = send(SpaceId::Data, 40, false);
-    told(rt, recovery, 1002, silent, sent(1001, Some(0)));
-    told(rt, recovery, 1003, PREVIOUS, in_flight(40_000, 0));
-    told(rt, recovery, 1004, CURRENT, in_flight(40, 0));
-}
-
 /// What a path was sampled, whether it is validated, and its totals, generation and MTU.
 #[derive(PartialEq, Drop)]
 pub(super) struct Kept {
@@ -279,63 +217,6 @@ fn a_path_begins_anew(rt: HostRuntime) {
         };
         leaves_kept(left, None, anew)
     });
-    check(
-        &rt,
-        rt.alloc(),
-        [
-            goes_out(0, 500),
-            (congestion(), DONE),
-            (pacer_check(12001), delayed(44_400)),
-            (reset(), DONE),
-            (pacer_check(12001), delayed(22_200)),
-            (pacer_check(12000), READY),
-            (CURRENT, in_flight(500, 1)),
-        ],
-    );
-    check(
-        &rt,
-        rt.alloc(),
-        [
-            (poll(), probe(0, 1326)),
-            (DISCARD_DATA, DONE),
-            (limit(1300), SEARCHING),
-            (poll(), DISCARDED),
-            (Event::LossesDone { now: at(0) }, NO_BLACK_HOLE),
-            (reset(), DONE),
-            (limit(1300), DONE),
-            (poll(), DISCARDED),
-        ],
-    );
-}
-
-/// The search goes on over a path that is not fresh; on a fresh one the old probe is a packet like any other.
-#[test]
-fn a_probe_over_paths(rt: HostRuntime) {
-    check(
-        &rt,
-        rt.alloc(),
-        [
-            (poll(), probe(0, 1326)),
-            move_to(1, false),
-            (acked(SpaceId::Data, 0), PROBE_ACKED),
-            (poll(), probe(1, 1389)),
-            move_to(2, true),
-            has_come(1),
-            (poll(), probe(2, 1326)),
-            (poll(), NO_PROBE),
-        ],
-    );
-    check_left(
-        &rt,
-        rt.alloc(),
-        [
-            (limit(600), DONE),
-            move_to(1, true),
-            (pacer_check(6000), READY),
-            (pacer_check(6001), delayed(22_200)),
-        ],
-        |left| left.current().current_mtu() == 600 && left.peer_limit() == Some(600),
-    );
 }
 
 /// Each path has its own limit on what goes out before it is validated.

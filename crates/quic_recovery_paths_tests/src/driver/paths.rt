@@ -50,20 +50,6 @@ pub(super) fn end_acks() -> Event {
 
 #[test]
 fn three_times_what_came_in(rt: HostRuntime) {
-    check(
-        &rt,
-        rt.alloc(),
-        [
-            (transmit(0, 0, true), TRANSMITTED),
-            (transmit(0, 1, true), BLOCKED),
-            (datagram_in(PathName::Current, 400), DONE),
-            (transmit(0, 1200, true), TRANSMITTED),
-            (transmit(0, 1, true), BLOCKED),
-            (transmit(0, 0, true), TRANSMITTED),
-            (VALIDATED, DONE),
-            (transmit(0, 1, true), TRANSMITTED),
-        ],
-    );
     check_left(
         &rt,
         rt.alloc(),
@@ -77,44 +63,6 @@ fn three_times_what_came_in(rt: HostRuntime) {
             let path = recovery.current();
             path.total_recvd == u64::MAX && path.total_sent == 1200 && !path.validated
         },
-    );
-}
-
-#[test]
-fn the_pacer_of_a_path(rt: HostRuntime) {
-    check(
-        &rt,
-        rt.alloc(),
-        [
-            (pacer_check(0, 12000), READY),
-            (pacer_check(0, 12001), delayed(22_200)),
-            (pacer_check(333_000_000, 12001), delayed(333_022_200)),
-            (pacer_check(0, 12001), delayed(333_022_200)),
-        ],
-    );
-    check(
-        &rt,
-        rt.alloc(),
-        [
-            (sample(0, 400_000_000), DONE),
-            (sample(50_000_000, 440_000_000), DONE),
-            (pacer_check(0, 12001), delayed(27_000)),
-        ],
-    );
-}
-
-#[test]
-fn a_controller_is_told(rt: HostRuntime) {
-    check_left(
-        &rt,
-        rt.alloc(),
-        [
-            (pacer_check(0, 12001), delayed(22_200)),
-            (congestion(2, 1), DONE),
-            (pacer_check(0, 12001), delayed(44_400)),
-            (end_acks(), DONE),
-        ],
-        |recovery| recovery.current().current_mtu() == 1200,
     );
 }
 

@@ -32,25 +32,6 @@ fn eliciting(nanos: u64, number: u64) -> Event {
 }
 
 #[test]
-fn an_order_is_told_by_the_threshold_asked_for(rt: HostRuntime) {
-    for (last, arm) in [(5, false), (4, true)] {
-        check_left(
-            &rt,
-            rt.alloc(),
-            [
-                (asked(0, 3, 1000, 2), YES),
-                (eliciting(0, 0), new(true)),
-                (eliciting(1, 1), new(false)),
-                (eliciting(2, 2), new(false)),
-                (SENT_DATA, DONE),
-                (eliciting(3, last), new(arm)),
-            ],
-            |left| left.ack_frequency().max_ack_delay == Duration::from_micros(1000),
-        );
-    }
-}
-
-#[test]
 fn a_request_that_is_refused_keeps_its_number(rt: HostRuntime) {
     check_left(
         &rt,

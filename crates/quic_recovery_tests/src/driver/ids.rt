@@ -12,11 +12,7 @@ const CIDS_NOT_IN_USE: Reply = Err(Refusal::CidsNotInUse);
 
 const CONFLICT: Reply = Err(Refusal::Conflict);
 
-const EXCEEDS_LIMIT: Reply = Err(Refusal::ExceedsLimit);
-
 const NOT_INITIAL_ID: Reply = Err(Refusal::NotInitialId);
-
-const RETIRED: Reply = Err(Refusal::Retired);
 
 const UNISSUED_CID: Reply = Err(Refusal::UnissuedCid);
 
@@ -92,25 +88,6 @@ fn ids_of_the_peer_come_and_go(rt: HostRuntime) {
 }
 
 #[test]
-fn ids_of_the_peer_have_bounds(rt: HostRuntime) {
-    check_left(
-        &rt,
-        rt.alloc(),
-        [
-            (initial_id(1), DONE),
-            (new_id(1 << 62, 0, 1), TOO_LARGE),
-            (new_id((1 << 62) - 1, 0, 1), EXCEEDS_LIMIT),
-            (new_id(7, 0, 4), NOTHING),
-            (new_id(8, 0, 5), EXCEEDS_LIMIT),
-            (Event::NextId, retire(0, 7, 4)),
-            (new_id(3, 0, 3), RETIRED),
-            (new_id(8, 3, 8), NOTHING),
-        ],
-        |left| left.remote_ids().active() == cid(4),
-    );
-}
-
-#[test]
 fn tokens_are_not_ids(rt: HostRuntime) {
     check_left(
         &rt,
@@ -140,29 +117,6 @@ fn ids_of_this_end_come_and_go(rt: HostRuntime) {
             (issue_ids(&rt, rt.alloc(), 5, &[4]), BAD_RANGE),
         ],
         |left| left.local_ids().issued() == 3 && left.local_ids().retire_prior_to() == 3,
-    );
-}
-
-#[test]
-fn a_number_is_retired_once(rt: HostRuntime) {
-    check(
-        &rt,
-        rt.alloc(),
-        [(peer_retired(0, 1), YES), (peer_retired(0, 0), NO)],
-    );
-}
-
-#[test]
-fn ids_of_one_moment_have_one_deadline(rt: HostRuntime) {
-    check(
-        &rt,
-        rt.alloc(),
-        [
-            (issue_ids(&rt, rt.alloc(), 0, &[1, 2]), DONE),
-            (issue_ids(&rt, rt.alloc(), 0, &[3]), DONE),
-            (Event::IdTimeout, YES),
-            (Event::IdTimeout, NO),
-        ],
     );
 }
 

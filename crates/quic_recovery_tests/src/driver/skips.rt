@@ -64,26 +64,6 @@ fn number_0_is_skipped(rt: HostRuntime) {
     drop(recovery);
 }
 
-#[test]
-fn ranges_have_bounds(rt: HostRuntime) {
-    let data = SpaceId::Data;
-    check(
-        &rt,
-        rt.alloc(),
-        [
-            (check_ack(data, 0, 9), DONE),
-            (check_ack(data, 9, 8), BAD_RANGE),
-            (check_ack(data, 9, 9), DONE),
-            (check_ack(data, 0, (1 << 62) - 1), DONE),
-            (check_ack(data, 0, 1 << 62), TOO_LARGE),
-            (check_ack(data, u64::MAX, 1 << 62), TOO_LARGE),
-            (check_ack(data, 1 << 62, 0), BAD_RANGE),
-            (DISCARD_DATA, DONE),
-            (check_ack(data, 9, 1 << 62), DISCARDED),
-        ],
-    );
-}
-
 /// The last number below 64 is skipped, and refused from then on that the one behind it is given out.
 #[test]
 fn number_63_is_skipped(rt: HostRuntime) {
