@@ -36,14 +36,6 @@ fn has_come(number: u64) -> (Event, Reply) {
     (acked(SpaceId::Data, number), ACKED)
 }
 
-fn lost(number: u64) -> (Event, Reply) {
-    let event = Event::Lost {
-        space: SpaceId::Data,
-        number,
-    };
-    (event, LOST)
-}
-
 fn poll() -> Event {
     Event::PollMtu { now: at(0) }
 }
@@ -61,10 +53,6 @@ pub(super) fn sample(rtt: u64) -> Event {
         delay: Duration::from_nanos(0),
         rtt: Duration::from_millis(rtt),
     }
-}
-
-fn pacer_check(bytes: u64) -> Event {
-    Event::PacerCheck { now: at(0), bytes }
 }
 
 pub(super) fn congestion() -> Event {

@@ -24,13 +24,6 @@ fn pacer_check(nanos: u64, bytes: u64) -> Event {
     }
 }
 
-fn sample(delay: u64, rtt: u64) -> Event {
-    Event::Sample {
-        delay: Duration::from_nanos(delay),
-        rtt: Duration::from_nanos(rtt),
-    }
-}
-
 fn congestion(now: u64, sent: u64) -> Event {
     Event::Congestion {
         now: at(now),

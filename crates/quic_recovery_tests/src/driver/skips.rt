@@ -8,8 +8,6 @@ use rand_pcg::Pcg64;
 
 const SKIPPED: Reply = Err(Refusal::SkippedAcked);
 
-const BAD_RANGE: Reply = Err(Refusal::BadRange);
-
 fn check_ack(space: SpaceId, low: u64, high: u64) -> Event {
     Event::CheckAck { space, low, high }
 }
