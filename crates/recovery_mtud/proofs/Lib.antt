@@ -9,5 +9,4 @@ mod RunRows
 pub mod SearchLaws
 pub mod SearchRunLaws
 mod SearchTies
-mod SearchWidths
 pub mod UnsearchedLaws
