@@ -103,8 +103,9 @@ module _ (made : Discovery) (link : ℕ) (settings : MtuDiscoveryConfig) (entrie
       record { carried = omega (arith, fair.0, same); near = omega (arith, near, same) }
 
   -- a poll that goes on with one
-  polled : (further now next : ℕ) (p : Probing) → p.in_flight ≡ None → Kept made link settings further entries mtu (Searching p)
-      → mtu ≡ mtu_in_use made entries → probe_in_flight entries ≡ None → is_searched settings now entries ≡ true
+  polled : (further now next : ℕ) (p : Probing) → p.in_flight ≡ None
+      → Kept made link settings further entries mtu (Searching p) → mtu ≡ mtu_in_use made entries
+      → probe_in_flight entries ≡ None → is_searched settings now entries ≡ true
       → (answer : Option ℕ) → size_to_probe settings.minimum_change p ≡ answer
       → Told made link settings (left further p) (poll_entry now next answer) entries mtu
       (Some (search_in (phase_with (later now settings.interval) next p answer)))
@@ -114,12 +115,9 @@ module _ (made : Discovery) (link : ℕ) (settings : MtuDiscoveryConfig) (entrie
     (
       refl,
       λ wide. (
-          let tie = kept wide in (
-            narrows_next _ next size _ p further wide.0 empty is tie.0,
-            λ outside start good bad.
-                fair_next _ _ _ _ next size (probed_sizes (search_of entries)) p empty is (tie.1 outside start good bad),
-          )
-          ),
+        narrows_next _ _ next size _ p wide.0 empty is (kept wide).0,
+        λ outside start good bad. fair_next _ _ _ _ next size p empty is ((kept wide).1 outside start good bad),
+      ),
     ),
     (quiet, searched),
     λ wide outside. tt,
@@ -128,11 +126,13 @@ module _ (made : Discovery) (link : ℕ) (settings : MtuDiscoveryConfig) (entrie
   -- a poll that begins a search
   fresh_kept : (phase : Phase) → Holds made entries (old phase) → search_runs entries ≡ false
       → Kept made link settings 16 entries mtu (Searching (begun mtu (search_in phase)))
-  fresh_kept phase holds idle = grind (arith, idle_before entries idle, idle_search entries idle, narrows_begun, holds.mtu, holds.limit)
+  fresh_kept phase holds idle =
+      grind (arith, idle_before entries idle, idle_search entries idle, narrows_begun, holds.mtu, holds.limit)
 
   searching : (further : ℕ) (call : MtuCall) (p : Probing) (flight : Option ℕ)
       → (let phase = Searching (record p { in_flight = flight }) in
-      Holds made entries (old phase) → Kept made link settings further entries mtu phase → Leaves made link settings entries call (old phase))
+      Holds made entries (old phase) → Kept made link settings further entries mtu phase
+      → Leaves made link settings entries call (old phase))
   searching further (polls now next) p None holds kept = (
     left further p,
     polled further now next
@@ -147,9 +147,10 @@ module _ (made : Discovery) (link : ℕ) (settings : MtuDiscoveryConfig) (entrie
       → Kept made link settings further entries mtu phase → Leaves made link settings entries call (old phase)
   told further call (Searching p) = searching further call p p.in_flight
   told further (polls now next) phase = λ holds kept. (
-    left 16 (begun mtu (search_in phase)),
-    grind (arith, nat_tests, polled 16 now next (begun mtu (search_in phase)) refl (fresh_kept phase holds (sym holds.runs))),
-  )
+      let fresh = begun mtu (search_in phase) in
+      let goes_on = polled 16 now next fresh refl (fresh_kept phase holds (sym holds.runs)) in
+      (left 16 fresh, grind (arith, nat_tests, goes_on))
+      )
   told further call phase = λ holds kept. (further, grind (arith, nat_tests))
 
 -- ---- all calls
@@ -201,7 +202,8 @@ few_in made settings wide further entries mtu (Some own) runs kept = go own.phas
     go phase runs kept wide = grind (arith, idle_search entries)
 
 near_all : (made : Discovery) (settings : MtuDiscoveryConfig) (entry : MtuEntry) (entries : List MtuEntry)
-    → AreLimitsOutside (entry ∷ entries) → ((link : ℕ) → AreLimitsOutside entries → EndsNear made link settings entry entries)
+    → AreLimitsOutside (entry ∷ entries)
+    → ((link : ℕ) → AreLimitsOutside entries → EndsNear made link settings entry entries)
     → EndsNearBest made settings (entry ∷ entries)
 near_all made settings (unprobed now) entries outside near = λ quiet searched link. near link outside quiet searched
 near_all made settings entry entries outside near = tt
@@ -221,16 +223,12 @@ abbrev pub IsInTurn : MtuCall → Discovery → Type 0
 IsInTurn (is_limited limit) old = is_searching_of old ≡ false
 IsInTurn call old = ⊤
 
-outside_after : (call : MtuCall) (old : Discovery) (entries : List MtuEntry) → is_searching_of old ≡ search_runs entries
-    → IsInTurn call old → AreLimitsOutside entries → AreLimitsOutside (entry_of call old ∷ entries)
-outside_after call old entries runs turn outside = grind (arith, sym runs)
-
 -- where each limit is told in turn, none is told while a search runs
 pub limits_outside_after : (made : Discovery) → IsUntold made → (call : MtuCall) (earlier : List MtuCall)
     → IsInTurn call (discovery_by made earlier)
     → AreLimitsOutside (entries_by made earlier) → AreLimitsOutside (entries_by made (call ∷ earlier))
 limits_outside_after made new call earlier turn outside =
-    outside_after call (discovery_by made earlier) (entries_by made earlier) (holds_by made new earlier).runs turn outside
+    let runs = (holds_by made new earlier).runs in grind (arith, sym runs)
 
 -- ---- what whole runs promise
 
@@ -242,7 +240,8 @@ pub search_ends_near : (made : Discovery) (settings : MtuDiscoveryConfig) → Is
 search_ends_near made settings new is change bound [] outside = tt
 search_ends_near made settings new is change bound (call ∷ earlier) outside =
     near_all made settings (entry_of call (discovery_by made earlier)) (entries_by made earlier) outside
-    (λ link. (told_by made link settings new is call earlier (kept_by made link settings new is earlier)).1.2 (change, bound))
+    (λ link. (told_by made link settings new is call earlier (kept_by made link settings new is earlier)).1.2
+    (change, bound))
 
 -- a probe comes in a search alone, while none is in flight
 pub probes_in_search : (made : Discovery) (settings : MtuDiscoveryConfig) → IsUntold made

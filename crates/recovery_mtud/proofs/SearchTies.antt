@@ -38,31 +38,30 @@ one_more (suc k) = inl (omega arith)
 abbrev pub left : ℕ → Probing → ℕ
 left further p = if repeats p then further else further - 1
 
-module _ (change number size : ℕ) (probed : List ℕ) (p : Probing) where
-  abbrev pub next : Probing
-  next = record (narrowed p) { in_flight = Some number; last = size }
+abbrev pub next : ℕ → ℕ → Probing → Probing
+next number size p = record (narrowed p) { in_flight = Some number; last = size }
 
-  by_test : (further : ℕ) (again : Bool) → repeats p ≡ again → 3 ≤ change → p.in_flight ≡ None
-      → size_to_probe change p ≡ Some size → Narrows further change probed p
-      → Narrows (if again then further else further - 1) change (size ∷ probed) next
-  by_test further true same wide empty is narrows = grind (arith, nat_tests)
-  by_test zero false same wide empty is narrows = absurd (grind (arith, nat_tests))
-  by_test (suc k) false same wide empty is narrows = grind (arith, nat_tests, pow-suc 2 k, one_more k)
+by_test : (further change number size : ℕ) (probed : List ℕ) (p : Probing) (again : Bool) → repeats p ≡ again
+    → 3 ≤ change → p.in_flight ≡ None → size_to_probe change p ≡ Some size → Narrows further change probed p
+    → Narrows (if again then further else further - 1) change (size ∷ probed) (next number size p)
+by_test further change number size probed p true same wide empty is narrows = grind (arith, nat_tests)
+by_test zero change number size probed p false same wide empty is narrows = absurd (grind (arith, nat_tests))
+by_test (suc k) change number size probed p false same wide empty is narrows =
+    grind (arith, nat_tests, pow-suc 2 k, one_more k)
 
-  pub narrows_next : (further : ℕ) → 3 ≤ change → p.in_flight ≡ None
-      → size_to_probe change p ≡ Some size → Narrows further change probed p
-      → Narrows (left further p) change (size ∷ probed) next
-  narrows_next further = by_test further (repeats p) refl
+pub narrows_next : (further change number size : ℕ) (probed : List ℕ) (p : Probing)
+    → 3 ≤ change → p.in_flight ≡ None → size_to_probe change p ≡ Some size → Narrows further change probed p
+    → Narrows (left further p) change (size ∷ probed) (next number size p)
+narrows_next further change number size probed p = by_test further change number size probed p (repeats p) refl
 
 -- to a link that carries just the sizes up to this one: the MTU in use gets through, and the best size is within reach
 abbrev pub Fair : ℕ → ℕ → ℕ → Probing → Type 0
 Fair link upper mtu p = (mtu ≤ link) × (min link upper ≤ p.upper) × (p.lower ≤ mtu) × (0 < p.losses → link < p.last)
     × (p.losses + flying p.in_flight ≡ 0 → p.last ≤ mtu)
 
-pub fair_next : (link upper mtu change number size : ℕ) (probed : List ℕ) (p : Probing) → p.in_flight ≡ None
-    → size_to_probe change p ≡ Some size → Fair link upper mtu p
-    → Fair link upper mtu (next change number size probed p)
-fair_next link upper mtu change number size probed p empty is fair = grind (arith, nat_tests)
+pub fair_next : (link upper mtu change number size : ℕ) (p : Probing) → p.in_flight ≡ None
+    → size_to_probe change p ≡ Some size → Fair link upper mtu p → Fair link upper mtu (next number size p)
+fair_next link upper mtu change number size p empty is fair = grind (arith, nat_tests)
 
 pub fair_end : (link upper mtu change further : ℕ) (probed : List ℕ) (p : Probing) → 3 ≤ change → p.in_flight ≡ None
     → size_to_probe change p ≡ None → Narrows further change probed p → Fair link upper mtu p
