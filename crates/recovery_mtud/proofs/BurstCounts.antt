@@ -45,7 +45,7 @@ tally-in_place : (low this that : ℕ) (sizes : List ℕ)
 tally-in_place low this that [] = omega arith
 tally-in_place low this that (size ∷ sizes) = grind (arith, tally-in_place low this that sizes)
 
-length-in_place : (this that : ℕ) (sizes : List ℕ) → length (in_place this that sizes) ≡ length sizes
+pub length-in_place : (this that : ℕ) (sizes : List ℕ) → length (in_place this that sizes) ≡ length sizes
 length-in_place this that [] = refl
 length-in_place this that (size ∷ sizes) = grind (arith, length-in_place this that sizes)
 

@@ -1,12 +1,12 @@
 -- A discovery holds what its entries say: the sizes in use, the probe in flight, and whether a search runs. The laws of
 -- whole runs rest on it.
-use Rattle.std.proofs.Common.{◌≡◌, ℕ, Option, Some, None, is_some, List, [], ◌∷◌, arith, refl, ap, ◌∙◌}
+use Rattle.std.proofs.Common.{◌≡◌, ℕ, Option, Some, None, is_some, List, [], ◌∷◌, arith, refl, sym}
 use Rattle.std.specs.Option.{option_map}
 use Rattle.recovery_mtud.specs.declared.config.MtuDiscoveryConfig.{MtuDiscoveryConfig}
 use Rattle.recovery_mtud.specs.declared.search.Phase.{Phase}
 use Rattle.recovery_mtud.specs.declared.search.Phase.TheVariants.{Initial, Searching, Complete}
-use Rattle.recovery_mtud.specs.Search.{MtuSearch, is_number}
-use Rattle.recovery_mtud.specs.Discovery.{Discovery, discovery_made, discovery_disabled, flight_of, is_probe, is_searching_of, size_in}
+use Rattle.recovery_mtud.specs.Search.{MtuSearch}
+use Rattle.recovery_mtud.specs.Discovery.{Discovery, discovery_made, discovery_disabled, is_probe, is_searching_of, size_in}
 use Rattle.recovery_mtud.specs.DiscoveryLog.{MtuCall, polls, discovery_after, discovery_by, kept_limit}
 use Rattle.recovery_mtud.specs.MtuEntries.{IsUntold, MtuEntry, entry_of, entries_by, MtuProbe, probe_in_flight, size_at, limit_in_use, min_mtu_in_use, mtu_in_use}
 use Rattle.recovery_mtud.specs.SearchRuns.{search_runs}
@@ -33,11 +33,6 @@ pub record Holds (made : Discovery) (entries : List MtuEntry) (discovery : Disco
 pub size_in_held : (number : ℕ) (search : Option MtuSearch) → size_in number search ≡ size_at number (held search)
 size_in_held number own = grind arith
 
--- a number is that of the state's probe exactly where it is that of the probe held
-is_number_held : (number : ℕ) (search : Option MtuSearch)
-    → is_number number (flight_of search) ≡ is_some (size_at number (held search))
-is_number_held number own = grind arith
-
 -- what a call leaves is what its entry says: the last line is a proof for each call
 pub holds_after : (made : Discovery) (entries : List MtuEntry) (call : MtuCall) (old : Discovery)
     → Holds made entries old → Holds made (entry_of call old ∷ entries) (discovery_after call old)
@@ -60,9 +55,7 @@ holds_by made new (call ∷ earlier) =
 -- a number is that of the probe in flight exactly where the entries say so
 pub is_probe_by : (made : Discovery) → IsUntold made → (calls : List MtuCall) (number : ℕ)
     → is_probe number (discovery_by made calls) ≡ is_some (size_at number (probe_in_flight (entries_by made calls)))
-is_probe_by made new calls number =
-    is_number_held number (discovery_by made calls).search
-    ∙ ap (λ probe. is_some (size_at number probe)) (holds_by made new calls).probe
+is_probe_by made new calls number = grind (arith, sym (holds_by made new calls).probe)
 
 -- a discovery that was made, enabled or not, was told nothing
 pub discovery_made_untold : (mtu min_mtu : ℕ) (limit : Option ℕ) (settings : MtuDiscoveryConfig)

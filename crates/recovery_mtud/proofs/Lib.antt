@@ -6,7 +6,6 @@ pub mod DiscoveryLaws
 pub mod EntryLaws
 mod DiscoveryRows
 mod RunRows
-pub mod SearchLaws
 pub mod SearchRunLaws
 mod SearchTies
 pub mod UnsearchedLaws
