@@ -1,11 +1,14 @@
 -- Whole runs of the detection of black holes: a report needs four bursts, and comes at four. The driver's `BurstLaws`
 -- rest on it.
-use Rattle.std.proofs.Common.{◌≡◌, ℕ, true, false, List, [], ◌∷◌, refl, sym, ap, arith, ◌∙◌, subst}
-use Rattle.recovery_mtud.specs.Discovery.{Discovery, reports}
-use Rattle.recovery_mtud.specs.DiscoveryLog.{MtuCall, acks, loses, losses_end, discovery_after, discovery_by}
-use Rattle.recovery_mtud.specs.MtuEntries.{IsUntold, MtuEntry, entry_of, entries_by, min_mtu_in_use}
+use Rattle.std.proofs.Common.{◌≡◌, ℕ, Option, Some, None, true, false, List, [], ◌∷◌, refl, sym, ap, arith, ◌∙◌, subst}
+use Rattle.std.specs.Prelude.{nat_lt, ◌||◌, is_some, filter, if◌then◌else◌}
+use Rattle.recovery_mtud.specs.Bursts.{LossBursts}
+use Rattle.recovery_mtud.specs.BurstRuns.{is_above}
+use Rattle.recovery_mtud.specs.Discovery.{Discovery, reports, size_of_probe, taking}
+use Rattle.recovery_mtud.specs.DiscoveryLog.{MtuCall, polls, acks, loses, losses_end, discovery_after, discovery_by}
+use Rattle.recovery_mtud.specs.MtuEntries.{IsUntold, MtuEntry, probe_in_flight, size_at, entry_of, entries_by, min_mtu_in_use}
 use Rattle.recovery_mtud.specs.BurstRuns.{open_run, standing, unanswered, larger_acked, acked_numbers, lost_numbers, AreFatesApart, AreFourStanding, AreFourUnanswered}
-use Rattle.recovery_mtud.proofs.EntryLaws.{Holds, holds_by, size_in_held}
+use Rattle.recovery_mtud.proofs.EntryLaws.{polled, Holds, holds_by, size_in_held}
 use Rattle.recovery_mtud.proofs.BurstCounts.{has}
 use Rattle.recovery_mtud.proofs.BurstTies.{Needy, Coming, needy_acked, needy_probed, needy_lost, needy_ended, needy_report, needy_made, coming_acked, coming_probed, coming_lost, coming_ended, coming_report, coming_made}
 
@@ -32,26 +35,49 @@ ComingAt made entries new =
     Coming least (open_run entries) (unanswered least entries) (larger_acked least entries) new.bursts
 
 module _ (made : Discovery) (entries : List MtuEntry) (old : Discovery) (holds : Holds made entries old) where
+  size_is : (number : ℕ) → size_of_probe number old ≡ size_at number (probe_in_flight entries)
+  size_is number = size_in_held number old.search ∙ ap (size_at number) holds.probe
+
   needy_after : (call : MtuCall) → AreFatesApart entries → NeedyAt made entries old
       → NeedyAt made (entry_of call old ∷ entries) (discovery_after call old)
   needy_after (acks number bytes) apart tie =
-      let packet = needy_acked _ _ _ _ _ old.bursts tie number bytes in
-      let probe = needy_probed _ _ _ _ _ old.bursts tie number bytes in
-      grind (arith, size_in_held number old.search, sym holds.probe, packet, probe)
+      subst (λ size. Left size (discovery_after (acks number bytes) old).bursts) (size_is number)
+      (taken (size_of_probe number old))
+    where
+      Left : Option ℕ → LossBursts → Type 0
+      Left size = Needy (min_mtu_in_use made entries) (open_run entries)
+          (if is_some size then [] else filter (is_above bytes) (standing entries)) (number ∷ acked_numbers entries)
+          (lost_numbers entries)
+
+      taken : (size : Option ℕ) → Left size (taking size number bytes old).bursts
+      taken None = needy_acked _ _ _ _ _ old.bursts tie number bytes
+      taken (Some size) = needy_probed _ _ _ _ _ old.bursts tie number bytes
   needy_after (loses number bytes) apart tie =
       needy_lost _ _ _ _ _ old.bursts tie (never_both entries apart) number bytes
   needy_after (losses_end now) apart tie =
       grind (arith, needy_ended _ _ _ _ _ old.bursts tie (never_both entries apart))
+  needy_after (polls now next) apart tie = polled
+      (λ entry. NeedyAt made (entry ∷ entries) old) now next _ tie (λ size. tie)
   needy_after call apart tie = grind (arith, needy_made)
 
   coming_after : (call : MtuCall) → ComingAt made entries old
       → ComingAt made (entry_of call old ∷ entries) (discovery_after call old)
   coming_after (acks number bytes) tie =
-      let packet = coming_acked _ _ _ _ old.bursts tie number bytes in
-      let probe = coming_probed _ _ _ _ old.bursts tie number bytes in
-      grind (arith, size_in_held number old.search, sym holds.probe, packet, probe)
+      subst (λ size. Left size (discovery_after (acks number bytes) old).bursts) (size_is number)
+      (taken (size_of_probe number old))
+    where
+      Left : Option ℕ → LossBursts → Type 0
+      Left size = let least = min_mtu_in_use made entries in let larger = is_some size || nat_lt least bytes in
+          Coming least (open_run entries) (if larger then [] else unanswered least entries)
+          (if larger then number ∷ larger_acked least entries else larger_acked least entries)
+
+      taken : (size : Option ℕ) → Left size (taking size number bytes old).bursts
+      taken None = coming_acked _ _ _ _ old.bursts tie number bytes
+      taken (Some size) = coming_probed _ _ _ _ old.bursts tie number bytes
   coming_after (loses number bytes) tie = coming_lost _ _ _ _ old.bursts tie number bytes
   coming_after (losses_end now) tie = grind (arith, coming_ended _ _ _ _ old.bursts tie)
+  coming_after (polls now next) tie = polled
+      (λ entry. ComingAt made (entry ∷ entries) old) now next _ tie (λ size. tie)
   coming_after call tie = grind (arith, coming_made)
 
 -- ---- all calls

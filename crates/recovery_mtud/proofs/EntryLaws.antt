@@ -8,7 +8,7 @@ use Rattle.recovery_mtud.specs.declared.search.Phase.TheVariants.{Initial, Searc
 use Rattle.recovery_mtud.specs.Search.{MtuSearch}
 use Rattle.recovery_mtud.specs.Discovery.{Discovery, discovery_made, discovery_disabled, is_probe, is_searching_of, size_in}
 use Rattle.recovery_mtud.specs.DiscoveryLog.{MtuCall, polls, discovery_after, discovery_by, kept_limit}
-use Rattle.recovery_mtud.specs.MtuEntries.{IsUntold, MtuEntry, entry_of, entries_by, MtuProbe, probe_in_flight, size_at, limit_in_use, min_mtu_in_use, mtu_in_use}
+use Rattle.recovery_mtud.specs.MtuEntries.{probed, unprobed, poll_entry, IsUntold, MtuEntry, entry_of, entries_by, MtuProbe, probe_in_flight, size_at, limit_in_use, min_mtu_in_use, mtu_in_use}
 use Rattle.recovery_mtud.specs.SearchRuns.{search_runs}
 
 -- ---- the probe that a discovery holds
@@ -32,6 +32,12 @@ pub record Holds (made : Discovery) (entries : List MtuEntry) (discovery : Disco
 -- the size that the state gives at a number is the one of the probe held
 pub size_in_held : (number : ℕ) (search : Option MtuSearch) → size_in number search ≡ size_at number (held search)
 size_in_held number own = grind arith
+
+-- what holds of a poll's entry without a probe, and with one
+pub polled : (P : MtuEntry → Type 0) (now next : ℕ) (answer : Option ℕ) → P (unprobed now)
+    → ((size : ℕ) → P (probed now next size)) → P (poll_entry now next answer)
+polled P now next None none some = none
+polled P now next (Some size) none some = some size
 
 -- what a call leaves is what its entry says: the last line is a proof for each call
 pub holds_after : (made : Discovery) (entries : List MtuEntry) (call : MtuCall) (old : Discovery)

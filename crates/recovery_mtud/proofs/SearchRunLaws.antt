@@ -16,7 +16,7 @@ use Rattle.recovery_mtud.specs.Discovery.{Discovery, is_searching_of, limit_or_g
 use Rattle.recovery_mtud.specs.DiscoveryLog.{MtuCall, polls, is_limited, discovery_after, discovery_by}
 use Rattle.recovery_mtud.specs.MtuEntries.{IsUntold, search_settings, MtuEntry, unprobed, poll_entry, entry_of, entries_by, probe_in_flight, limit_in_use, mtu_in_use}
 use Rattle.recovery_mtud.specs.SearchRuns.{search_runs, search_of, before_search, is_due, next_activation, is_searched, ProbesInSearch, probed_sizes, acked_sizes, lost_sizes, TakesFew, AreLimitsOutside, IsHonest, IsNearBest, EndsNearBest}
-use Rattle.recovery_mtud.proofs.EntryLaws.{Holds, holds_by}
+use Rattle.recovery_mtud.proofs.EntryLaws.{polled, Holds, holds_by}
 use Rattle.recovery_mtud.proofs.SearchTies.{Narrows, narrows_begun, left, narrows_next, Fair, fair_next, fair_end}
 
 -- ---- the entries of a search
@@ -103,15 +103,15 @@ module _ (made : Discovery) (link : ℕ) (settings : MtuDiscoveryConfig) (entrie
       record { carried = omega (arith, fair.0, same); near = omega (arith, near, same) }
 
   -- a poll that goes on with one
-  polled : (further now next : ℕ) (p : Probing) → p.in_flight ≡ None
+  goes_on : (further now next : ℕ) (p : Probing) → p.in_flight ≡ None
       → Kept made link settings further entries mtu (Searching p) → mtu ≡ mtu_in_use made entries
       → probe_in_flight entries ≡ None → is_searched settings now entries ≡ true
       → (answer : Option ℕ) → size_to_probe settings.minimum_change p ≡ answer
       → Told made link settings (left further p) (poll_entry now next answer) entries mtu
       (Some (search_in (phase_with (later now settings.interval) next p answer)))
-  polled further now next p empty kept same quiet searched None is =
+  goes_on further now next p empty kept same quiet searched None is =
       let ends = ends_near further p empty kept same is in grind (arith, ends)
-  polled further now next p empty kept same quiet searched (Some size) is = (
+  goes_on further now next p empty kept same quiet searched (Some size) is = (
     (
       refl,
       λ wide. (
@@ -135,7 +135,7 @@ module _ (made : Discovery) (link : ℕ) (settings : MtuDiscoveryConfig) (entrie
       → Leaves made link settings entries call (old phase))
   searching further (polls now next) p None holds kept = (
     left further p,
-    polled further now next
+    goes_on further now next
         (record p { in_flight = None }) refl kept holds.mtu (sym holds.probe)
         (ap (λ b. b || is_due (next_activation settings entries) now) (sym holds.runs)) _ refl,
   )
@@ -148,8 +148,8 @@ module _ (made : Discovery) (link : ℕ) (settings : MtuDiscoveryConfig) (entrie
   told further call (Searching p) = searching further call p p.in_flight
   told further (polls now next) phase = λ holds kept. (
       let fresh = begun mtu (search_in phase) in
-      let goes_on = polled 16 now next fresh refl (fresh_kept phase holds (sym holds.runs)) in
-      (left 16 fresh, grind (arith, nat_tests, goes_on))
+      let found = goes_on 16 now next fresh refl (fresh_kept phase holds (sym holds.runs)) in
+      (left 16 fresh, grind (arith, nat_tests, found))
       )
   told further call phase = λ holds kept. (further, grind (arith, nat_tests))
 
@@ -227,6 +227,8 @@ IsInTurn call old = ⊤
 pub limits_outside_after : (made : Discovery) → IsUntold made → (call : MtuCall) (earlier : List MtuCall)
     → IsInTurn call (discovery_by made earlier)
     → AreLimitsOutside (entries_by made earlier) → AreLimitsOutside (entries_by made (call ∷ earlier))
+limits_outside_after made new (polls now next) earlier turn outside =
+    polled (λ entry. AreLimitsOutside (entry ∷ entries_by made earlier)) now next _ outside (λ size. outside)
 limits_outside_after made new call earlier turn outside =
     let runs = (holds_by made new earlier).runs in grind (arith, sym runs)
 
