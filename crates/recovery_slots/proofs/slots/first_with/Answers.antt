@@ -1,9 +1,7 @@
 use Rattle.std.proofs.Common.{arith}
-use Rattle.recovery_slots.proofs.EntryLaws.{first_fits, not_empty}
+use Rattle.std.proofs.lemmas.Bool.Decides.{nat_tests}
+use Rattle.recovery_slots.proofs.EntryLaws.{first_below}
 use Rattle.recovery_slots.proofs.slots.first_with.Goals as goal
 
 pub returns-else-is_empty : goal.returns-else-is_empty
-returns-else-is_empty g c =
-    let some = not_empty _ c.if-is_empty.ensures in
-    let len = c.args.slots.now.ok.0 in
-    λ rising. (first_fits c.args.slots.now.items c.args.first c.args.number (omega (arith, some, len)) rising, rising)
+returns-else-is_empty g c = λ rising. (grind (arith, nat_tests, first_below _ _ _ rising), rising)

@@ -1,17 +1,23 @@
-use Rattle.std.proofs.Common.{filter, sym, ap, subst, ◌∙◌, arith}
-use Rattle.recovery_slots.specs.Slots.{entries_of, first_number, is_from, AreFrom}
-use Rattle.recovery_slots.proofs.EntryLaws.{first_slot, entries_dropped, are_from, none_from}
+use Rattle.std.proofs.Common.{sym, subst, ◌∙◌, arith, refl}
+use Rattle.std.proofs.lemmas.List.{drop_all}
+use Rattle.recovery_slots.specs.Slots.{AreFrom, entries_of}
+use Rattle.recovery_slots.proofs.EntryLaws.{drop_slot, entries_dropped, divided, all_from}
 use Rattle.recovery_slots.proofs.slots.SlotQueue.first_from.Goals as goal
 
 pub returns-in-Some-clause-first : goal.returns-in-Some-clause-first
 returns-in-Some-clause-first g c =
-    sym (first_slot c.args.self.now c.loop-place.place c.in-Some.found c.in-Some.field-0-1.now c.in-Some.ensures.slot)
-    ∙ ap (first_number {T = g.row.T.Denot}) (c.loop-place.invariant ∙ c.place_from-place.ensures.entries)
+    grind (
+      arith,
+      c.loop-place.invariant,
+      c.place_from-place.ensures.entries,
+      drop_slot c.args.self.now c.loop-place.place _ c.in-Some.ensures.slot,
+    )
 
 pub returns-in-Some-clause-lowest : goal.returns-in-Some-clause-lowest
 returns-in-Some-clause-lowest g c =
-    subst (AreFrom {T = g.row.T.Denot} c.in-Some.found) (c.loop-place.invariant ∙ c.place_from-place.ensures.entries)
-    (are_from c.args.self.now c.in-Some.found c.loop-place.place c.in-Some.ensures.divides)
+    subst (AreFrom {T = g.row.T.Denot} c.in-Some.found)
+    (sym (divided _ _ _ c.in-Some.ensures.divides) ∙ c.loop-place.invariant ∙ c.place_from-place.ensures.entries)
+    (all_from (entries_of {T = g.row.T.Denot} c.args.self.now) c.in-Some.found)
 
 pub loop-place-preserved : goal.loop-place-preserved
 loop-place-preserved g c =
@@ -20,6 +26,7 @@ loop-place-preserved g c =
 
 pub returns-clause-first : goal.returns-clause-first
 returns-clause-first g c =
-    none_from c.args.self.now (filter (is_from {T = g.row.T.Denot} c.args.number) (entries_of c.args.self.now))
-    c.loop-place.place (omega (arith, c.loop-place-test.false, c.len-place-end.ensures))
-    (c.loop-place.invariant ∙ c.place_from-place.ensures.entries)
+    rw (
+      ← (c.loop-place.invariant ∙ c.place_from-place.ensures.entries),
+      drop_all c.loop-place.place c.args.self.now (omega arith),
+    ) refl
