@@ -228,10 +228,6 @@ module _ {T : Type 0} where
             (λ back. below (slot ∷ back.0, back.1, ap (λ (ss : List (Slot T)). slot ∷ ss) back.2, back.3)),
       )
 
-  pub first_below : (slots : List (Slot T)) (first end : ℕ) → AreRising first slots end → 0 < length slots → first < end
-  first_below [] first end rising some = absurd (omega arith)
-  first_below (slot ∷ slots) first end rising some = omega arith
-
   pub rises_pushed : (slots : List (Slot T)) (first number : ℕ) (item : Option T) → first ≤ number
       → AreRising first slots number → AreRising first (slots ++ slot_of number item ∷ []) (number + 1)
   rises_pushed [] first number item low rising = (low, omega arith, tt)

@@ -1,14 +1,12 @@
 use Rattle.std.proofs.Common.{◌<◌, ◌+◌, length, refl}
-use Rattle.recovery_slots.proofs.SlotLaws.{slot_at, with_item, divides_at}
+use Rattle.recovery_slots.proofs.SlotLaws.{slot_at, divides_at}
 use Rattle.recovery_slots.proofs.slots.SlotQueue.get.Goals as goal
 
 pub returns-in-Some-clause-slot : goal.returns-in-Some-clause-slot
 returns-in-Some-clause-slot g c =
     let within : c.args.place < length c.self.inside.slots.items = rw c.self.view_is c.requires in
-    rw (← c.self.view_is)
-    (with_item c.self.inside.slots.items c.args.place c.index-slot.result.now c.in-Some.item
+    rw (← c.self.view_is, ← c.in-Some.is)
     (slot_at c.self.inside.slots.items c.args.place c.index-slot.result.now within c.index-slot.ensures)
-    c.in-Some.is)
 
 pub returns-in-Some-clause-divides : goal.returns-in-Some-clause-divides
 returns-in-Some-clause-divides g c =

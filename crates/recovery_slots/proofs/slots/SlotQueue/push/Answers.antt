@@ -12,7 +12,7 @@ invariant_of-self-2 g c =
     let slot : Slot g.row.T.Denot = record { number = c.args.number; item = Some c.args.item } in
     let first = c.first_with-self-inside.ensures (c.cut.ensures.rising c.self.inside.first
     (subst (λ (ss : List (Slot g.row.T.Denot)). AreRising c.self.inside.first ss (c.self.inside.last + 1))
-    (sym c.in_ok-reserve.ensures.items) c.self.invariant.1)) in
+    (sym {A = List (Slot g.row.T.Denot)} c.in_ok-reserve.ensures.items) c.self.invariant.1)) in
     rw c.push_back_reserved.ensures.items (
       grind (arith, entries-append c.cut.new.slots.items (slot ∷ []), c.cut.ensures.entries, length-append),
       rises_pushed c.cut.new.slots.items _ _ _ first.0 first.1,
