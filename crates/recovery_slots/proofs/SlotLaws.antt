@@ -21,6 +21,11 @@ module _ {T : Type 0} where
   slot_at (first ∷ slots) zero slot within is = sym is
   slot_at (first ∷ slots) (suc place) slot within is = slot_at slots place slot (omega arith) is
 
+  -- what is read of the slots behind a queue
+  pub slot_read : (items slots : List (Slot T)) (place : ℕ) (slot : Slot T) → items ≡ slots → place < length slots
+      → slot ≡ get_or items place slot → IsSlotAt slots place slot
+  slot_read items slots place slot is within read = slot_at slots place slot within (rw is at read)
+
   pub slot_within : (slots : List (Slot T)) (place : ℕ) (slot : Slot T) → IsSlotAt slots place slot
       → place < length slots
   slot_within [] place slot at = absurd at

@@ -1,6 +1,5 @@
-use Rattle.std.proofs.Common.{List, ◌+◌, [], ◌∷◌, Some, subst, sym, arith, length-append}
+use Rattle.std.proofs.Common.{[], ◌∷◌, Some, arith, length-append}
 use Rattle.recovery_slots.specs.declared.slots.Slot.{Slot}
-use Rattle.recovery_slots.specs.Slots.{AreRising}
 use Rattle.recovery_slots.proofs.EntryLaws.{entries_fit, entries-append, rises_pushed}
 use Rattle.recovery_slots.proofs.slots.SlotQueue.push.Goals as goal
 
@@ -10,9 +9,8 @@ overflow_add-self g c = omega (arith, entries_fit c.self.inside.slots.items)
 pub invariant_of-self-2 : goal.invariant_of-self-2
 invariant_of-self-2 g c =
     let slot : Slot g.row.T.Denot = record { number = c.args.number; item = Some c.args.item } in
-    let first = c.first_with-self-inside.ensures (c.cut.ensures.rising c.self.inside.first
-    (subst (λ (ss : List (Slot g.row.T.Denot)). AreRising c.self.inside.first ss (c.self.inside.last + 1))
-    (sym {A = List (Slot g.row.T.Denot)} c.in_ok-reserve.ensures.items) c.self.invariant.1)) in
+    let first = c.first_with-self-inside.ensures
+    (c.cut.ensures.rising c.self.inside.first (rw c.in_ok-reserve.ensures.items c.self.invariant.1)) in
     rw c.push_back_reserved.ensures.items (
       grind (arith, entries-append c.cut.new.slots.items (slot ∷ []), c.cut.ensures.entries, length-append),
       rises_pushed c.cut.new.slots.items _ _ _ first.0 first.1,

@@ -1,5 +1,5 @@
-use Rattle.std.proofs.Common.{◌<◌, length, arith, refl}
-use Rattle.recovery_slots.proofs.SlotLaws.{slot_at}
+use Rattle.std.proofs.Common.{arith, refl}
+use Rattle.recovery_slots.proofs.SlotLaws.{slot_at, slot_read}
 use Rattle.recovery_slots.proofs.EntryLaws.{entries_fit, replaced_count, replaced_rises}
 use Rattle.recovery_slots.proofs.slots.SlotQueue.replace.Goals as goal
 
@@ -8,15 +8,13 @@ overflow_add-self g c = grind (arith, entries_fit c.self.inside.slots.items)
 
 pub overflow_sub-self : goal.overflow_sub-self
 overflow_sub-self g c =
-    let within : c.args.place < length c.self.inside.slots.items = rw c.self.view_is c.requires in
-    let at = slot_at c.self.inside.slots.items c.args.place c.index_mut-slot.result.now within
+    let at = slot_at c.self.inside.slots.items c.args.place c.index_mut-slot.result.now (rw c.self.view_is c.requires)
     c.index_mut-slot.ensures.value in
     grind (arith, replaced_count c.self.inside.slots.items c.args.place c.index_mut-slot.result.now c.args.item at)
 
 pub invariant_of-self : goal.invariant_of-self
 invariant_of-self g c =
-    let within : c.args.place < length c.self.inside.slots.items = rw c.self.view_is c.requires in
-    let at = slot_at c.self.inside.slots.items c.args.place c.index_mut-slot.result.now within
+    let at = slot_at c.self.inside.slots.items c.args.place c.index_mut-slot.result.now (rw c.self.view_is c.requires)
     c.index_mut-slot.ensures.value in
     rw c.replace-old.ensures.after (
       grind (arith, replaced_count c.self.inside.slots.items c.args.place c.index_mut-slot.result.now c.args.item at),
@@ -24,12 +22,9 @@ invariant_of-self g c =
     )
 
 pub returns : goal.returns
-returns g c =
-    let within : c.args.place < length c.self.inside.slots.items = rw c.self.view_is c.requires in
-    rw (← c.self.view_is, c.replace-old.ensures.after) (record {
-      slot = c.index_mut-slot.result.now;
-      at = slot_at c.self.inside.slots.items c.args.place c.index_mut-slot.result.now within
-          c.index_mut-slot.ensures.value;
-      found_is = c.replace-old.ensures.value;
-      left = refl;
-    })
+returns g c = rw c.replace-old.ensures.after (record {
+  slot = c.index_mut-slot.result.now;
+  at = slot_read _ _ _ _ c.self.view_is c.requires c.index_mut-slot.ensures.value;
+  found_is = c.replace-old.ensures.value;
+  left = rw (← c.self.view_is) refl;
+})
