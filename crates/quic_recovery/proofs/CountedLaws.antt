@@ -46,13 +46,8 @@ use Rattle.quic_recovery.proofs.TrackedLaws.{AllTracked, keeps_tracked, none_tra
 at_itself : (n : ℕ) → is_at (nat_cmp n) n ≡ true
 at_itself n = ap is_eq (tied_itself nat_cmp_total n)
 
-nothing_either : (b : Bool) → cond {A = ℕ} b 0 0 ≡ 0
-nothing_either true = refl
-nothing_either false = refl
-
 at_most_one : (tracked : Bool) (count : ℕ) → count ≡ cond tracked 1 0 → count ≤ 1
-at_most_one true count is = omega (arith, is)
-at_most_one false count is = omega (arith, is)
+at_most_one tracked count is = grind (arith, nat_tests, is)
 
 -- a number is gone too
 abbrev gone_too : (ℕ → Bool) → ℕ → ℕ → Bool
@@ -76,37 +71,17 @@ module _ {P M : Type 0} (weigh : ℕ → Bool → ℕ) (generation : ℕ) where
   sum_of_none : (packets : Packets P M) → sum_in (λ n. true) packets ≡ 0
   sum_of_none [] = refl
   sum_of_none (entry ∷ packets) =
-      let cons = sum_by-cons (weigh_in (λ n. true)) entry packets in
-      let later = sum_of_none packets in
-      let nothing = nothing_either (entry.1.path_generation == generation) in
-      omega (arith, cons, later, nothing)
+      grind (arith, nat_tests, sum_by-cons (weigh_in (λ n. true)) entry packets, sum_of_none packets)
 
   module _ (gone : ℕ → Bool) (number : ℕ) where
-    -- of another number it is all the same
-    other_number : (entry : ℕ × Packet P M) → (number == entry.0) ≡ false
-        → weigh_in (gone_too gone number) entry ≡ weigh_in gone entry
-    other_number entry other =
-        ap (λ b. cond (entry.1.path_generation == generation)
-        (cond (b || gone entry.0) 0 (weigh entry.1.size entry.1.ack_eliciting)) 0) other
-
-    that_number : (entry : ℕ × Packet P M) → (number == entry.0) ≡ true → weigh_in (gone_too gone number) entry ≡ 0
-    that_number entry is =
-        ap (λ b. cond (entry.1.path_generation == generation)
-        (cond (b || gone entry.0) 0 (weigh entry.1.size entry.1.ack_eliciting)) 0) is
-        ∙ nothing_either (entry.1.path_generation == generation)
-
     -- a number that is not there
     sum_of_others : (packets : Packets P M) → times number packets ≡ 0
         → sum_in (gone_too gone number) packets ≡ sum_in gone packets
     sum_of_others [] none = refl
     sum_of_others (entry ∷ packets) none =
-        let stands = sum_by-cons (λ (e : ℕ × Packet P M). one_if_same e.0 number) entry packets in
-        let cons = sum_by-cons (weigh_in gone) entry packets in
-        let cons_too = sum_by-cons (weigh_in (gone_too gone number)) entry packets in
-        let later = sum_of_others packets (omega (arith, stands, none)) in
-        let other : (number == entry.0) ≡ false = grind (arith, nat_tests, stands, none) in
-        let same = other_number entry other in
-        omega (arith, cons, cons_too, later, same)
+        grind (arith, nat_tests, none, sum_by-cons (λ (e : ℕ × Packet P M). one_if_same e.0 number) entry packets,
+        sum_by-cons (weigh_in gone) entry packets, sum_by-cons (weigh_in (gone_too gone number)) entry packets,
+        sum_of_others packets)
 
     -- the packet of a number, where it stands there once at most
     sum_without : (packets : Packets P M) → times number packets ≤ 1
@@ -119,23 +94,15 @@ module _ {P M : Type 0} (weigh : ℕ → Bool → ℕ) (generation : ℕ) where
             → sum_in gone (cond b packets (entry ∷ without packets number)) ≡ sum_in (gone_too gone number)
             (entry ∷ packets)
         go true at later =
-            let stands = sum_by-cons (λ (e : ℕ × Packet P M). one_if_same e.0 number) entry packets in
-            let cons_too = sum_by-cons (weigh_in (gone_too gone number)) entry packets in
             let same : entry.0 ≡ number = number_at number entry.0 at in
-            let is : (number == entry.0) ≡ true = grind (arith, nat_tests, same) in
-            let one : one_if_same entry.0 number ≡ 1 = grind (arith, nat_tests, same) in
-            let nothing = that_number entry is in
-            let others = sum_of_others packets (omega (arith, stands, once, one)) in
-            omega (arith, cons_too, nothing, others)
+            grind (arith, nat_tests, once, same, sum_by-cons (λ (e : ℕ × Packet P M). one_if_same e.0 number) entry packets,
+            sum_by-cons (weigh_in (gone_too gone number)) entry packets, sum_of_others packets)
         go false at later =
-            let stands = sum_by-cons (λ (e : ℕ × Packet P M). one_if_same e.0 number) entry packets in
-            let cons = sum_by-cons (weigh_in gone) entry (without packets number) in
-            let cons_too = sum_by-cons (weigh_in (gone_too gone number)) entry packets in
             let apart : ¬ (entry.0 ≡ number) = λ same. (let itself = at_itself number in cc (same, itself, at)) in
-            let other : (number == entry.0) ≡ false = grind (arith, nat_tests, apart) in
-            let same = other_number entry other in
-            let rest = later (omega (arith, stands, once)) in
-            omega (arith, cons, cons_too, same, rest)
+            grind (arith, nat_tests, once, apart, later,
+            sum_by-cons (λ (e : ℕ × Packet P M). one_if_same e.0 number) entry packets,
+            sum_by-cons (weigh_in gone) entry (without packets number),
+            sum_by-cons (weigh_in (gone_too gone number)) entry packets)
 
   -- ---- one entry more, in this space or in another one
 
@@ -145,10 +112,8 @@ module _ {P M : Type 0} (weigh : ℕ → Bool → ℕ) (generation : ℕ) where
       → sum_in gone (sent_more number packet sent).tracked ≡ sum_in (λ n. gone_with true forgotten gone n) sent.tracked
       + weigh_in gone (number, packet)
   sum_sent sent gone number packet forgotten is once =
-      let push = sum_by_push (weigh_in gone) (without_some sent.tracked (forgotten_by sent packet)) (number, packet) in
-      let same = ap (λ f. sum_in gone (without_some sent.tracked f)) is in
-      let left = go forgotten in
-      omega (arith, push, same, left)
+      omega (arith, sum_by_push (weigh_in gone) (without_some sent.tracked (forgotten_by sent packet)) (number, packet),
+      ap (λ f. sum_in gone (without_some sent.tracked f)) is, go forgotten)
     where
       go : (f : Option ℕ) → sum_in gone (without_some sent.tracked f) ≡ sum_in (λ n. gone_with true f gone n)
           sent.tracked
@@ -165,26 +130,17 @@ module _ {P M : Type 0} (weigh : ℕ → Bool → ℕ) (generation : ℕ) where
 -- ---- over all spaces
 
 spaces_same : (f g : SpaceId → ℕ) → ((space : SpaceId) → f space ≡ g space) → over_spaces f ≡ over_spaces g
-spaces_same f g same = let a = same Initial in let b = same Handshake in let c = same Data in omega (arith, a, b, c)
+spaces_same f g same = omega (arith, same Initial, same Handshake, same Data)
 
 spaces_more : (f g more : SpaceId → ℕ) (there : SpaceId)
     → ((space : SpaceId) → g space ≡ f space + cond (same_space there space) (more space) 0)
     → more there + over_spaces f ≡ over_spaces g
-spaces_more f g more Initial each =
-    let a : g Initial ≡ f Initial + more Initial = each Initial in
-    let b : g Handshake ≡ f Handshake + 0 = each Handshake in
-    let c : g Data ≡ f Data + 0 = each Data in omega (arith, a, b, c)
-spaces_more f g more Handshake each =
-    let a : g Initial ≡ f Initial + 0 = each Initial in
-    let b : g Handshake ≡ f Handshake + more Handshake = each Handshake in
-    let c : g Data ≡ f Data + 0 = each Data in omega (arith, a, b, c)
-spaces_more f g more Data each =
-    let a : g Initial ≡ f Initial + 0 = each Initial in
-    let b : g Handshake ≡ f Handshake + 0 = each Handshake in
-    let c : g Data ≡ f Data + more Data = each Data in omega (arith, a, b, c)
+spaces_more f g more Initial each = omega (arith, each Initial, each Handshake, each Data)
+spaces_more f g more Handshake each = omega (arith, each Initial, each Handshake, each Data)
+spaces_more f g more Data each = omega (arith, each Initial, each Handshake, each Data)
 
 none_more : (b : Bool) (x y : ℕ) → x ≡ y → cond b 0 0 + x ≡ y
-none_more b x y is = let nothing = nothing_either b in omega (arith, nothing, is)
+none_more b x y is = grind (arith, nat_tests, is)
 
 -- ---- the table
 
@@ -269,10 +225,7 @@ module _ {F K Q S M P : Type 0} (beginning : Beginning F K Q S M P) (before : Hi
 
   -- a packet goes out
   made_now : paths_made before ≡ known.paths.current.generation
-  made_now = some_same (sym (generation_told beginning before Current))
-    where
-      some_same : {m n : ℕ} → Some m ≡ Some n → m ≡ n
-      some_same e = cc
+  made_now = let told = generation_told beginning before Current in cc
 
   goes_out : (there : SpaceId) (number : ℕ) (packet : Packet P M) (forgotten : Option ℕ)
       → number ≡ number_in known there → forgotten ≡ forgotten_by (sent there) packet
@@ -319,18 +272,17 @@ module _ {F K Q S M P : Type 0} (beginning : Beginning F K Q S M P) (before : Hi
   answer_counts : (event : Event Q S M P) (answer : Answer Q) → Told beginning before event (Ok answer)
       → Answered event answer
   answer_counts (Send there now size eliciting largest queue frames) (answers.Sent number None) told =
-      let packet = packet_now known now size eliciting largest (beginning.queue.contents queue) frames in
       let is = past_four told in
-      goes_out there number packet None (cc) (cc) refl
+      goes_out there number (packet_now known now size eliciting largest (beginning.queue.contents queue) frames)
+      None (cc) (cc) refl
   answer_counts (Send there now size eliciting largest queue frames) (answers.Sent number (Some forgotten)) told =
-      let packet = packet_now known now size eliciting largest (beginning.queue.contents queue) frames in
       let is = past_four told in
-      goes_out there number packet (Some forgotten) (cc) (cc) refl
+      goes_out there number (packet_now known now size eliciting largest (beginning.queue.contents queue) frames)
+      (Some forgotten) (cc) (cc) refl
   answer_counts (Send there now size eliciting largest queue frames) answer told = let is = past_four told in cc
   answer_counts (PollMtu now) (Probe number size) told =
-      let packet = packet_now known now size true None beginning.queue.words.empty beginning.queue.blank in
-      let is = probe_number beginning.queue known now _ number size told.1.1 in
-      goes_out Data number packet None is refl refl
+      goes_out Data number (packet_now known now size true None beginning.queue.words.empty beginning.queue.blank) None
+      (probe_number beginning.queue known now _ number size told.1.1) refl refl
   answer_counts (PollMtu now) answer told = nothing
   answer_counts (Acked there now number app_limited) answer told =
       leaves_one there number (acknowledged number) (λ space. refl)
@@ -378,16 +330,9 @@ module _ {F K Q S M P : Type 0} (beginning : Beginning F K Q S M P) where
         ≡ sum_by (eliciting_in generation) packets
     eliciting_same generation [] = refl
     eliciting_same generation (entry ∷ packets) =
-        let weighs = weigh_in (λ size eliciting. if eliciting then 1 else 0) generation (λ n. false) in
-        let cons = sum_by-cons weighs entry packets in
-        let other = sum_by-cons (eliciting_in generation) entry packets in
-        let later = eliciting_same generation packets in
-        let one = both (entry.1.path_generation == generation) entry.1.ack_eliciting in
-        omega (arith, cons, other, later, one)
-      where
-        both : (a b : Bool) → cond {A = ℕ} a (cond b 1 0) 0 ≡ cond (a && b) 1 0
-        both true b = refl
-        both false b = refl
+        let weighs : ℕ × Packet P M → ℕ = weigh_in (λ size eliciting. if eliciting then 1 else 0) generation (λ n. false) in
+        grind (arith, nat_tests, sum_by-cons weighs entry packets, sum_by-cons (eliciting_in generation) entry packets,
+        eliciting_same generation packets)
 
     bytes_same : (generation : ℕ) → total (λ size eliciting. size) generation before
         ≡ over_spaces (λ space. sum_by (size_in generation) (sent_in beginning before space).tracked)

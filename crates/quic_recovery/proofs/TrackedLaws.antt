@@ -1,7 +1,7 @@
 -- A packet is tracked by its space exactly where the history says so; and each number that was given out, once at most,
 -- has one fate. The promises on what is tracked rest on it.
-use Rattle.std.proofs.Common.{◌≡◌, ◌<◌, ◌≤◌, ◌+◌, ◌^◌, ℕ, ◌==◌, ◌&&◌, ◌||◌, not, Bool, true, false, cond, List, [], ◌∷◌, Option, None, Some, Ok, Err, inl, inr, refl, sym, ap, subst, ◌∙◌, arith, eqb-true}
-use Rattle.std.proofs.lemmas.Bool.{cases_lt, false≢true}
+use Rattle.std.proofs.Common.{◌≡◌, ◌<◌, ◌≤◌, ◌+◌, ◌^◌, ℕ, ◌==◌, ◌&&◌, ◌||◌, not, Bool, true, false, cond, List, [], ◌∷◌, Option, None, Some, Ok, Err, refl, sym, ap, subst, ◌∙◌, arith, eqb-true}
+use Rattle.std.proofs.lemmas.Bool.{false≢true}
 use Rattle.std.specs.Prelude.{is_some, sum_by}
 use Rattle.std.specs.BTreeMap.{is_at}
 use Rattle.std.specs.Cmp.{nat_cmp_total, tied_itself}
@@ -58,64 +58,11 @@ module _ (n : ℕ) where
   is_it None = false
   is_it (Some m) = m == n
 
-  more_sent : (here forgotten tracked : Bool) (count : ℕ)
-      → count + cond (forgotten && tracked) 1 0 ≡ cond tracked 1 0 + cond here 1 0 → (here ≡ true → tracked ≡ false)
-      → count ≡ cond (here || (not forgotten && tracked)) 1 0
-  more_sent true forgotten true count sum apart = (let wrong = apart refl in cc)
-  more_sent true true false count sum apart = omega (arith, sum)
-  more_sent true false false count sum apart = omega (arith, sum)
-  more_sent false true true count sum apart = omega (arith, sum)
-  more_sent false true false count sum apart = omega (arith, sum)
-  more_sent false false true count sum apart = omega (arith, sum)
-  more_sent false false false count sum apart = omega (arith, sum)
-
-  one_less : (here tracked : Bool) (count : ℕ) → count + cond here 1 0 ≡ cond tracked 1 0
-      → count ≡ cond (not here && tracked) 1 0
-  one_less true true count sum = omega (arith, sum)
-  one_less true false count sum = absurd (omega (arith, sum))
-  one_less false tracked count sum = omega (arith, sum)
-
 -- ---- what became of a number that was given out
 
 -- so often it was given out, and so often it is gone; and whether it is tracked
 abbrev Adds : ℕ → Bool → ℕ → Type 0
 Adds given tracked departed = given ≡ more_if tracked departed
-
--- it is given out, or another one is, and perhaps it is forgotten
-adds_sent : (here forgotten tracked : Bool) (given departed : ℕ) → Adds given tracked departed
-    → (here ≡ true → given ≡ 0)
-    → (forgotten ≡ true → tracked ≡ true)
-    → Adds (more_if here given) (here || (not forgotten && tracked)) (more_if forgotten departed)
-adds_sent true forgotten true given departed adds new there = let none = new refl in absurd (omega (arith, adds, none))
-adds_sent here true false given departed adds new there = (let wrong = there refl in cc)
-adds_sent true false false given departed adds new there = omega (arith, adds)
-adds_sent false true true given departed adds new there = adds
-adds_sent false false tracked given departed adds new there = adds
-
--- given out at most once
-once_sent : (here : Bool) (given : ℕ) → given ≤ 1 → (here ≡ true → given ≡ 0) → more_if here given ≤ 1
-once_sent true given once new = let none = new refl in omega (arith, none)
-once_sent false given once new = once
-
-none_sent : (here : Bool) (given : ℕ) → here ≡ false → given ≡ 0 → more_if here given ≡ 0
-none_sent true given other none = cc
-none_sent false given other none = none
-
--- it leaves, where it is the one that does
-adds_less : (here tracked : Bool) (count given departed : ℕ) → count + cond here 1 0 ≡ cond tracked 1 0
-    → Adds given tracked departed
-    → Adds given (not here && tracked) (more_if here departed)
-adds_less true true count given departed sum adds = adds
-adds_less true false count given departed sum adds = absurd (omega (arith, sum))
-adds_less false tracked count given departed sum adds = adds
-
-stands_tracked : (tracked : Bool) (count : ℕ) → count ≡ cond tracked 1 0 → 1 ≤ count → tracked ≡ true
-stands_tracked true count same there = refl
-stands_tracked false count same there = absurd (omega (arith, same, there))
-
-untracked : (tracked : Bool) (given departed : ℕ) → Adds given tracked departed → given ≡ 0 → tracked ≡ false
-untracked true given departed adds none = absurd (omega (arith, adds, none))
-untracked false given departed adds none = refl
 
 module _ {P M : Type 0} (n : ℕ) where
   -- the number stands there once where it is tracked, and else not; it was given out once at most, and not yet from the
@@ -139,10 +86,8 @@ module _ {P M : Type 0} (n : ℕ) where
           → (packet_at packets n ≡ None → times n packets ≡ 0) → times n (entry ∷ packets) ≡ 0
       go true at is later = cc
       go false at is later =
-          let cons = sum_by-cons (λ (e : ℕ × Packet P M). one_if_same e.0 n) entry packets in
           let other : ¬ (entry.0 ≡ n) = λ same. (let itself = at_itself n in cc (same, itself, at)) in
-          let none = later is in
-          grind (arith, nat_tests, cons, other, none)
+          grind (arith, nat_tests, sum_by-cons (λ (e : ℕ × Packet P M). one_if_same e.0 n) entry packets, other, later is)
 
   -- what is forgotten takes the number from a count where it is that one, and tracked
   forgotten_counts : (packets : Packets P M) (forgotten : Option ℕ) (tracked : Bool)
@@ -154,13 +99,11 @@ module _ {P M : Type 0} (n : ℕ) where
       go : (found : Option (Packet P M)) (tracked : Bool) → packet_at packets m ≡ found
           → times n packets ≡ cond tracked 1 0
           → gone (λ entry. one_if_same entry.0 n) (numbered m found) ≡ cond (m == n && tracked) 1 0
-      go None true absent same =
+      go None tracked absent same =
           let none : m ≡ n → times n packets
           ≡ 0 = λ is. absent_counts packets (subst (λ k. packet_at packets k ≡ None) is absent) in
           grind (arith, nat_tests, none, same)
-      go None false absent same = grind (arith, nat_tests)
-      go (Some packet) true found same = grind (arith, nat_tests)
-      go (Some packet) false found same =
+      go (Some packet) tracked found same =
           let one : m ≡ n → 1 ≤ times n packets = λ is. found_counts packets packet
           (subst (λ k. packet_at packets k ≡ Some packet) is found) in
           grind (arith, nat_tests, one, same)
@@ -174,17 +117,10 @@ module _ {P M : Type 0} (n : ℕ) where
       go : (b : Bool) → least_number (cond b (entry ∷ silent_above last packets) (silent_above last packets)) ≡ Some n
           → (least_number (silent_above last packets) ≡ Some n → 1 ≤ times n packets) → 1 ≤ times n (entry ∷ packets)
       go true is later =
-          let cons = sum_by-cons (λ (e : ℕ × Packet P M). one_if_same e.0 n) entry packets in
-          let same : entry.0 ≡ n = some_same is in
-          let one : one_if_same entry.0 n ≡ 1 = grind (arith, nat_tests, same) in
-          omega (arith, cons, one)
-        where
-          some_same : {k m : ℕ} → Some k ≡ Some m → k ≡ m
-          some_same e = cc
+          let same : entry.0 ≡ n = cc in
+          grind (arith, nat_tests, sum_by-cons (λ (e : ℕ × Packet P M). one_if_same e.0 n) entry packets, same)
       go false is later =
-          let cons = sum_by-cons (λ (e : ℕ × Packet P M). one_if_same e.0 n) entry packets in
-          let there = later is in
-          omega (arith, cons, there)
+          omega (arith, sum_by-cons (λ (e : ℕ × Packet P M). one_if_same e.0 n) entry packets, later is)
 
   forgotten_stands : (sent : Sent P M) (packet : Packet P M) → is_it n (forgotten_by sent packet) ≡ true
       → 1 ≤ times n sent.tracked
@@ -211,20 +147,21 @@ module _ {P M : Type 0} (n : ℕ) where
         Tracks (sent_more number packet sent) (number == n || (not forgotten && tracked)) (more_if (number == n) given)
         (more_if forgotten departed)
     sent_tracks number packet new =
-        let forgotten = is_it n (forgotten_by sent packet) in
         let none : (number == n) ≡ true → given ≡ 0 = λ is. here.late (grind (arith, nat_tests, is, new)) in
+        let stands = forgotten_stands sent packet in
         record {
-          same =
-              let sum = sum-sent_onto (λ entry. one_if_same entry.0 n) sent.last number packet sent.tracked in
-              let left = forgotten_counts sent.tracked (forgotten_by sent packet) tracked here.same in
-              let was = here.same in
-              more_sent n (number == n) forgotten tracked _ (omega (arith, sum, left, was))
-              (λ is. untracked tracked given departed here.adds (none is));
-          adds = adds_sent (number == n) forgotten tracked given departed here.adds none
-              (λ is. stands_tracked tracked _ here.same (forgotten_stands sent packet is));
-          once = once_sent (number == n) given here.once none;
-          late = λ late. none_sent (number == n) given (grind (arith, nat_tests, late))
-              (here.late (omega (arith, late, new)));
+          same = grind (
+            arith,
+            nat_tests,
+            sum-sent_onto (λ entry. one_if_same entry.0 n) sent.last number packet sent.tracked,
+            forgotten_counts sent.tracked (forgotten_by sent packet) tracked here.same,
+            here.same,
+            here.adds,
+            none,
+          );
+          adds = grind (arith, nat_tests, here.adds, here.same, none, stands);
+          once = grind (arith, nat_tests, here.once, none);
+          late = λ late. grind (arith, nat_tests, late, new, here.late);
         }
 
     -- a tracked packet leaves
@@ -232,12 +169,9 @@ module _ {P M : Type 0} (n : ℕ) where
         → Tracks (sent_less number sent) (not (number == n) && tracked) given (more_if (number == n) departed)
     taken_tracks number there =
         let sum = sum-without (λ entry. one_if_same entry.0 n) sent.tracked number there.0 there.1 in
-        let was = here.same in
-        let left : times n (sent_less number sent).tracked + cond (number == n) 1 0 ≡ cond tracked 1 0 =
-        omega (arith, sum, was) in
         record {
-          same = one_less n (number == n) tracked _ left;
-          adds = adds_less (number == n) tracked _ given departed left here.adds;
+          same = grind (arith, nat_tests, sum, here.same);
+          adds = grind (arith, nat_tests, sum, here.same, here.adds);
           once = here.once;
           late = here.late;
         }
@@ -248,9 +182,7 @@ module _ {P M : Type 0} (n : ℕ) where
     moved_tracks empty nothing_found = here
     moved_tracks empty (moves number) = record {
       same =
-          let kept = sum-carrying sent.tracked number (λ entry. one_if_same entry.0 n) empty (λ m packet. refl) in
-          let was = here.same in
-          omega (arith, kept, was);
+          omega (arith, sum-carrying sent.tracked number (λ entry. one_if_same entry.0 n) empty (λ m packet. refl), here.same);
       adds = here.adds;
       once = here.once;
       late = here.late;
@@ -263,11 +195,8 @@ module _ {P M : Type 0} (n : ℕ) where
         go : (found : Option (Packet P M)) (tracked : Bool) → packet_at sent.tracked n ≡ found
             → times n sent.tracked ≡ cond tracked 1 0
             → is_some found ≡ tracked
-        go None true absent same = let none = absent_counts sent.tracked absent in absurd (omega (arith, none, same))
-        go None false absent same = refl
-        go (Some packet) true found same = refl
-        go (Some packet) false found same =
-            let one = found_counts sent.tracked packet found in absurd (omega (arith, one, same))
+        go None tracked absent same = grind (arith, nat_tests, absent_counts sent.tracked absent, same)
+        go (Some packet) tracked found same = grind (arith, nat_tests, found_counts sent.tracked packet found, same)
 
 -- ---- what an event does to it
 
@@ -299,7 +228,7 @@ pub probe_number : {K Q S M P : Type 0} (q : QueueMeaning Q S M P) (known : Know
     (number size : ℕ)
     → MtuProbeReply q known now due (Ok (Probe number size)) → number ≡ known.numbers.next
 probe_number q known now None number size told = cc
-probe_number q known now (Some due) number size told = let is = told.1 in cc
+probe_number q known now (Some due) number size told = cc (told.1)
 
 -- how often a number of a space is gone
 abbrev departed_in : {Q S M P : Type 0} → SpaceId → ℕ → History Q S M P → ℕ
@@ -307,28 +236,6 @@ departed_in space n history =
     times_in (is_acked space n) history + times_in (is_lost space n) history + times_in (is_forgotten_in space n)
     history
     + times_in (is_discarded space n) history
-
--- one more, by each of the four ways
-module _ (acked lost forgotten discarded : ℕ) where
-  acked_more : (one : Bool) → more_if one (acked + lost + forgotten + discarded) ≡ more_if one acked + lost + forgotten
-      + discarded
-  acked_more true = omega arith
-  acked_more false = refl
-
-  lost_more : (one : Bool) → more_if one (acked + lost + forgotten + discarded) ≡ acked + more_if one lost + forgotten
-      + discarded
-  lost_more true = omega arith
-  lost_more false = refl
-
-  forgotten_more : (one : Bool) → more_if one (acked + lost + forgotten + discarded) ≡ acked + lost + more_if one
-      forgotten + discarded
-  forgotten_more true = omega arith
-  forgotten_more false = refl
-
-  discarded_more : (one : Bool) → more_if one (acked + lost + forgotten + discarded) ≡ acked + lost + forgotten
-      + more_if one discarded
-  discarded_more true = omega arith
-  discarded_more false = refl
 
 -- the number is where the history says
 abbrev TracksIn : {F K Q S M P : Type 0} → Beginning F K Q S M P → History Q S M P → SpaceId → ℕ → Type 0
@@ -353,20 +260,12 @@ module _ {F K Q S M P : Type 0} (beginning : Beginning F K Q S M P) (before : Hi
   abbrev departed_now : ℕ
   departed_now = departed_in space n before
 
-  abbrev acked_now : ℕ
-  acked_now = times_in (is_acked space n) before
-
-  abbrev lost_now : ℕ
-  lost_now = times_in (is_lost space n) before
-
-  abbrev forgotten_now : ℕ
-  forgotten_now = times_in (is_forgotten_in space n) before
-
-  abbrev discarded_now : ℕ
-  discarded_now = times_in (is_discarded space n) before
-
   abbrev After : Option (SpaceEntry P M) → Bool → ℕ → ℕ → Type 0
   After entry tracked given departed = Tracks n (sent_by beginning.queue.words (onto entry log)) tracked given departed
+
+  gone_as : {sent : Sent P M} {tracked : Bool} {given d e : ℕ} → Tracks n sent tracked given d → d ≡ e
+      → Tracks n sent tracked given e
+  gone_as {sent} {tracked} {given} here is = subst (λ d. Tracks n sent tracked given d) is here
 
   -- an entry that leaves what is tracked
   unmoved : (entry : SpaceEntry P M) → keeps_packets (space_kind entry) ≡ true
@@ -446,17 +345,11 @@ module _ {F K Q S M P : Type 0} (beginning : Beginning F K Q S M P) (before : Hi
   answer_tracks : (event : Event Q S M P) (answer : Answer Q) → Told beginning before event (Ok answer)
       → Answered event answer
   answer_tracks (Acked there now number app_limited) answer told =
-      let b = same_space there space in
-      let entry : SpaceEntry P M = acknowledged number in
-      subst (λ d. After (cond b (Some entry) None) (not (b && number == n) && tracked_now) given_now d)
-      (acked_more acked_now lost_now forgotten_now discarded_now (b && number == n))
-      (takes b (number == n) entry (leaves_told there number told.1.0))
+      gone_as (takes (same_space there space) (number == n) (acknowledged number) (leaves_told there number told.1.0))
+      (grind (arith, nat_tests))
   answer_tracks (Lost there number) answer told =
-      let b = same_space there space in
-      let entry : SpaceEntry P M = loses number in
-      subst (λ d. After (cond b (Some entry) None) (not (b && number == n) && tracked_now) given_now d)
-      (lost_more acked_now lost_now forgotten_now discarded_now (b && number == n))
-      (takes b (number == n) entry (leaves_told there number told.1.0))
+      gone_as (takes (same_space there space) (number == n) (loses number) (leaves_told there number told.1.0))
+      (grind (arith, nat_tests))
   answer_tracks (Send there now size eliciting largest queue frames) (answers.Sent number None) told =
       let packet = packet_now known now size eliciting largest (beginning.queue.contents queue) frames in
       let is = past_four told in
@@ -464,13 +357,8 @@ module _ {F K Q S M P : Type 0} (beginning : Beginning F K Q S M P) (before : Hi
   answer_tracks (Send there now size eliciting largest queue frames) (answers.Sent number (Some forgotten)) told =
       let packet = packet_now known now size eliciting largest (beginning.queue.contents queue) frames in
       let is = past_four told in
-      let b = same_space there space in
-      let entry : SpaceEntry P M = sends (number_in known there) packet in
-      subst (λ d. After (cond b (Some entry) None) ((b && number == n) || (not (b && forgotten == n) && tracked_now))
-      (more_if (b && number == n) given_now) d)
-      (forgotten_more acked_now lost_now forgotten_now discarded_now (b && forgotten == n))
-      (goes_for b (number == n) (forgotten == n) entry
-      (λ at. goes_told there packet number (Some forgotten) at (cc) (cc)))
+      gone_as (goes_for (same_space there space) (number == n) (forgotten == n) (sends (number_in known there) packet)
+      (λ at. goes_told there packet number (Some forgotten) at (cc) (cc))) (grind (arith, nat_tests))
   answer_tracks (Send there now size eliciting largest queue frames) answer told = let is = past_four told in cc
   answer_tracks (PollMtu now) (Probe number size) told =
       let packet = packet_now known now size true None beginning.queue.words.empty beginning.queue.blank in
@@ -478,10 +366,7 @@ module _ {F K Q S M P : Type 0} (beginning : Beginning F K Q S M P) (before : Hi
       goes (same_space Data space) (number == n) _ (λ at. goes_told Data packet number None at is refl)
   answer_tracks (PollMtu now) answer told = here
   answer_tracks (DiscardSpace there) answer told =
-      let b = same_space there space in
-      let entry : SpaceEntry P M = emptied in
-      subst (λ d. After (cond b (Some entry) None) (not b && tracked_now) given_now d)
-      (discarded_more acked_now lost_now forgotten_now discarded_now (b && tracked_now)) (empties b)
+      gone_as (empties (same_space there space)) (grind (arith, nat_tests))
   answer_tracks event answer told =
       space_kept beginning.queue known space (λ entry. After entry tracked_now given_now departed_now) keeps_packets
       here unmoved event (Ok answer) refl
@@ -529,12 +414,8 @@ module _ {F K Q S M P : Type 0} (beginning : Beginning F K Q S M P) where
 
 -- ---- numbers rise
 
-below : (number : ℕ) → ¬ (2 ^ 62 ≤ number) → number < 2 ^ 62
-below number few = elim (cases_lt number (2 ^ 62)) [ inl is ↦ is | inr above ↦ absurd (few above) ]
-
 both_true : (a b : Bool) → (a && b) ≡ true → (a ≡ true) × (b ≡ true)
-both_true true b is = (refl, is)
-both_true false b is = absurd cc
+both_true a b is = (grind (arith, nat_tests, is), grind (arith, nat_tests, is))
 
 module _ {F K Q S M P : Type 0} (beginning : Beginning F K Q S M P) where
   module _ (before : History Q S M P) (all : AllTracked beginning before) where
@@ -550,10 +431,8 @@ module _ {F K Q S M P : Type 0} (beginning : Beginning F K Q S M P) where
         let Rises : SpaceId → ℕ → Type 0 = λ s n. (n < 2 ^ 62) × IsAbove s n before in
         subst (Rises space) (sym is ∙ eqb-true given number at.1)
         (subst (λ s. Rises s (number_in known_before there)) (one_space there space at.0) (
-          below (number_in known_before there) few,
-          λ n above. (
-              let next = is_new beginning before there in (all there n).late (omega (arith, next, above))
-              ),
+          omega (arith, few),
+          λ n above. (all there n).late (omega (arith, is_new beginning before there, above)),
         ))
 
     rises : (event : Event Q S M P) (reply : Reply Q) → Told beginning before event reply
