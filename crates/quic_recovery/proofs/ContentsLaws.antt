@@ -1,5 +1,6 @@
 -- Contents are neither lost nor doubled: what was sent is what is tracked and waits, and what is gone. The clause
 -- `contents` of `run` rests on it.
+use Rattle.std.proofs.lemmas.Bool.Decides.{nat_tests}
 use Rattle.std.proofs.Common.{◌≡◌, ◌+◌, ℕ, Bool, true, false, cond, List, [], ◌∷◌, Option, None, Some, Ok, Err, refl, sym, ap, subst, ◌∙◌, arith}
 use Rattle.std.proofs.lemmas.Bool.{false≢true}
 use Rattle.std.specs.Prelude.{sum_by, option_map}
@@ -15,7 +16,7 @@ use Rattle.recovery_ledger.specs.Queued.{joined_with, joined_found, pending_by}
 use Rattle.recovery_ledger.specs.SpaceLog.{SpaceEntry, sends, acknowledged, loses, probes, takes_pending, emptied}
 use Rattle.recovery_ledger.specs.Tracked.{Sent, sent_by, sent_moved, forgotten_by}
 use Rattle.recovery_ledger.proofs.LedgerLaws.{gone as gone_by, sum-sent_onto}
-use Rattle.recovery_ledger.proofs.PacketLaws.{sum-without, without-absent, some_packet, none_found}
+use Rattle.recovery_ledger.proofs.PacketLaws.{sum-without, without-absent, none_found}
 use Rattle.recovery_queue.specs.Queues.{QueueWords}
 use Rattle.recovery_events.specs.declared.event.Event.{Event}
 use Rattle.recovery_events.specs.declared.event.Event.TheVariants.{Send, PollMtu, Acked, DiscardSpace, TakePending}
@@ -53,9 +54,7 @@ module _ {P M S : Type 0} (words : QueueWords P S) (measure : P → ℕ) (adds :
       go : (found : Option (Packet P M)) → packet_at packets n ≡ found
           → sum_by carries (without packets n) + measure (contents_or words.empty found) ≡ sum_by carries packets
       go None absent =
-          let same = ap (λ (es : Packets P M). sum_by carries es) (without-absent packets n absent) in
-          let none = adds.empty in
-          omega (arith, same, none)
+          omega (arith, ap (λ (es : Packets P M). sum_by carries es) (without-absent packets n absent), adds.empty)
       go (Some packet) found = sum-without carries packets n packet found
 
   -- a packet carries something else
@@ -74,30 +73,32 @@ module _ {P M S : Type 0} (words : QueueWords P S) (measure : P → ℕ) (adds :
           + measure packet.retransmits
           ≡ sum_by carries (entry ∷ packets) + measure other.retransmits
       go true is later =
-          let cons = sum_by-cons carries entry packets in
-          let here = sum_by-cons carries (entry.0, other) packets in
-          let same = ap (λ (p : Packet P M). measure p.retransmits) (some_packet entry.1 packet is) in
-          omega (arith, cons, here, same)
+          let same : entry.1 ≡ packet = cc in
+          omega (
+            arith,
+            sum_by-cons carries entry packets,
+            sum_by-cons carries (entry.0, other) packets,
+            ap (λ (p : Packet P M). measure p.retransmits) same,
+          )
       go false is later =
-          let cons = sum_by-cons carries entry packets in
-          let here = sum_by-cons carries entry (replaced n (Some other) packets) in
-          let rest = later is in
-          omega (arith, cons, here, rest)
+          omega (
+            arith,
+            sum_by-cons carries entry packets,
+            sum_by-cons carries entry (replaced n (Some other) packets),
+            later is,
+          )
 
   -- what a packet carried waits, where it is tracked
   joins : (pending : P) (found : Option (Packet P M))
       → measure (joined_with words pending found) ≡ measure pending + measure (contents_or words.empty found)
-  joins pending None = let none = adds.empty in omega (arith, none)
+  joins pending None = omega (arith, adds.empty)
   joins pending (Some packet) = adds.joined pending packet.retransmits
 
   -- a lost packet's contents wait
   loses_none : (pending : P) (packets : Packets P M) (n : ℕ)
       → sum_by carries (without packets n) + measure (joined_with words pending (packet_at packets n)) ≡ sum_by carries
       packets + measure pending
-  loses_none pending packets n =
-      let left = sum_leaves packets n in
-      let waits = joins pending (packet_at packets n) in
-      omega (arith, left, waits)
+  loses_none pending packets n = omega (arith, sum_leaves packets n, joins pending (packet_at packets n))
 
   -- what a probe finds waits
   moves_none : (pending : P) (found : ProbeFound) (sent : Sent P M)
@@ -114,10 +115,12 @@ module _ {P M S : Type 0} (words : QueueWords P S) (measure : P → ℕ) (adds :
           ≡ sum_by carries sent.tracked + measure pending
       go None absent = refl
       go (Some packet) found =
-          let sum = sum_replaced sent.tracked n packet (with_contents words.empty packet) found in
-          let waits = joins pending (Some packet) in
-          let none = adds.empty in
-          omega (arith, sum, waits, none)
+          omega (
+            arith,
+            sum_replaced sent.tracked n packet (with_contents words.empty packet) found,
+            joins pending (Some packet),
+            adds.empty,
+          )
 
   -- what goes with a packet that is forgotten
   forgets : (packets : Packets P M) (n : ℕ) → gone_by carries (entry_at packets (Some n)) ≡ carried_at packets n
@@ -164,35 +167,16 @@ module _ {F K Q S M P : Type 0} (beginning : Beginning F K Q S M P) (before : Hi
 
   stays : (b : Bool) (entry : SpaceEntry P M) → held_by (entry ∷ log) ≡ held_by log
       → outgoing_now ≡ held_after b entry + gone_now
-  stays true entry keeps = go (held_by (entry ∷ log)) (held_by log) keeps same
-    where
-      go : (after now : ℕ) → after ≡ now → outgoing_now ≡ now + gone_now → outgoing_now ≡ after + gone_now
-      go after now keeps same = cc
-  stays false entry keeps = same
+  stays b entry keeps = grind (arith, nat_tests, same, keeps)
 
   leaves : (b : Bool) (entry : SpaceEntry P M) (left : ℕ) → (b ≡ true → held_by (entry ∷ log) + left ≡ held_by log)
       → outgoing_now ≡ held_after b entry + (cond b left 0 + gone_now)
-  leaves true entry left less = go outgoing_now (held_by (entry ∷ log)) (held_by log) gone_now (less refl) same
-    where
-      go : (out after now gone : ℕ) → after + left ≡ now → out ≡ now + gone → out ≡ after + (left + gone)
-      go out after now gone less same = omega (arith, less, same)
-  leaves false entry left less = go outgoing_now (held_by log) gone_now same
-    where
-      go : (out now gone : ℕ) → out ≡ now + gone → out ≡ now + (0 + gone)
-      go out now gone same = omega (arith, same)
+  leaves b entry left less = grind (arith, nat_tests, same, less)
 
   goes : (b : Bool) (entry : SpaceEntry P M) (out left : ℕ)
       → (b ≡ true → held_by (entry ∷ log) + left ≡ held_by log + out)
       → cond b out 0 + outgoing_now ≡ held_after b entry + (cond b left 0 + gone_now)
-  goes true entry out left changes = go outgoing_now (held_by (entry ∷ log)) (held_by log) gone_now (changes refl) same
-    where
-      go : (before after now gone : ℕ) → after + left ≡ now + out → before ≡ now + gone
-          → out + before ≡ after + (left + gone)
-      go before after now gone changes same = omega (arith, changes, same)
-  goes false entry out left changes = go outgoing_now (held_by log) gone_now same
-    where
-      go : (out now gone : ℕ) → out ≡ now + gone → 0 + out ≡ now + (0 + gone)
-      go out now gone same = omega (arith, same)
+  goes b entry out left changes = grind (arith, nat_tests, same, changes)
 
   abbrev words : QueueWords P S
   words = beginning.queue.words
@@ -208,18 +192,17 @@ module _ {F K Q S M P : Type 0} (beginning : Beginning F K Q S M P) (before : Hi
       → held_by (sends k packet ∷ log) + carried beginning measure space forgotten before ≡ held_by log
       + measure packet.retransmits
   sends_more k packet forgotten is =
-      let sum = sum-sent_onto (carries words measure adds) sent.last k packet sent.tracked in
-      let left = ap (λ f. gone_by (carries words measure adds) (entry_at sent.tracked f)) (sym is) ∙ go forgotten in
-      plain _ _ _ _ _ _ sum left
+      omega (
+        arith,
+        sum-sent_onto (carries words measure adds) sent.last k packet sent.tracked,
+        ap (λ f. gone_by (carries words measure adds) (entry_at sent.tracked f)) is,
+        go forgotten,
+      )
     where
       go : (f : Option ℕ) → gone_by (carries words measure adds) (entry_at sent.tracked f) ≡ carried beginning measure
           space f before
       go None = refl
       go (Some n) = forgets words measure adds sent.tracked n
-
-      plain : (after now forgot left more waits : ℕ) → after + forgot ≡ now + more → forgot ≡ left
-          → (after + waits) + left ≡ (now + waits) + more
-      plain after now forgot left more waits sum same = omega (arith, sum, same)
 
   goes_told : (there : SpaceId) (packet : Packet P M) (forgotten : Option ℕ)
       → forgotten ≡ forgotten_by (known.spaces there).sent packet
@@ -235,32 +218,18 @@ module _ {F K Q S M P : Type 0} (beginning : Beginning F K Q S M P) (before : Hi
   probe_goes : (packet : Packet P M) → packet.retransmits ≡ words.empty → packet.ack_eliciting ≡ true
       → outgoing_now ≡ held_after (same_space Data space) (sends (number_in known Data) packet) + gone_now
   probe_goes packet empty eliciting =
+      let none : None ≡ forgotten_by sent packet = cc in
       stays (same_space Data space) (sends (number_in known Data) packet)
-      (plain _ _ _ (sends_more (number_in known Data) packet None none) (ap measure empty ∙ adds.empty))
-    where
-      none : None ≡ forgotten_by sent packet
-      none = cc
-
-      plain : (after now more : ℕ) → after + 0 ≡ now + more → more ≡ 0 → after ≡ now
-      plain after now more sum nothing = omega (arith, sum, nothing)
+      (omega (arith, sends_more (number_in known Data) packet None none, ap measure empty, adds.empty))
 
   leaves_less : (n : ℕ) → held_by (acknowledged n ∷ log) + carried beginning measure space (Some n) before ≡ held_by log
-  leaves_less n = plain _ _ _ _ (sum_leaves words measure adds sent.tracked n)
-    where
-      plain : (after now left waits : ℕ) → after + left ≡ now → (after + waits) + left ≡ now + waits
-      plain after now left waits sum = omega (arith, sum)
+  leaves_less n = omega (arith, sum_leaves words measure adds sent.tracked n)
 
   hands_out : (waits : ℕ) → waits ≡ measure pending → held_by (takes_pending ∷ log) + waits ≡ held_by log
-  hands_out waits is = plain _ _ _ _ adds.empty is
-    where
-      plain : (sum none waits pending : ℕ) → none ≡ 0 → waits ≡ pending → (sum + none) + waits ≡ sum + pending
-      plain sum none waits pending nothing is = omega (arith, nothing, is)
+  hands_out waits is = omega (arith, adds.empty, is)
 
   empties : held_by (emptied ∷ log) + held_by log ≡ held_by log
-  empties = plain _ (held_by log) adds.empty
-    where
-      plain : (none held : ℕ) → none ≡ 0 → (0 + none) + held ≡ held
-      plain none held nothing = omega (arith, nothing)
+  empties = omega (arith, adds.empty)
 
   -- an entry by which no contents come or go
   unmoved : (entry : SpaceEntry P M) → keeps_contents (space_kind entry) ≡ true
@@ -327,7 +296,7 @@ module _ {F K Q S M P : Type 0} (beginning : Beginning F K Q S M P) where
       told
 
   nothing_yet : LosesNothing beginning []
-  nothing_yet = λ measure adds space. let none = adds.empty in omega (arith, none)
+  nothing_yet = λ measure adds space. omega (arith, adds.empty)
 
   pub loses_nothing : (events : List (Event Q S M P)) (replies : List (Reply Q))
       → Throughout (Told beginning) events replies

@@ -1,17 +1,18 @@
 -- What the search of the path in use is told of a number happened to that number in the space of 1-RTT packets.
 -- `BurstLaws` rest on it.
+use Rattle.std.proofs.lemmas.Bool.Decides.{nat_tests}
 use Rattle.std.proofs.Common.{◌≡◌, ℕ, ◌+◌, ◌≤◌, ◌==◌, ◌&&◌, Bool, true, false, cond, if◌then◌else◌, List, [], ◌∷◌, ◌++◌, Option, None, Some, Ok, Err, refl, arith}
 use Rattle.std.proofs.lemmas.Bool.{false≢true}
 use Rattle.recovery_base.specs.declared.below.SpaceId.{SpaceId}
-use Rattle.recovery_base.specs.declared.below.SpaceId.TheVariants.{Initial, Handshake, Data}
+use Rattle.recovery_base.specs.declared.below.SpaceId.TheVariants.{Data}
 use Rattle.recovery_base.specs.Spaces.{same_space}
 use Rattle.recovery_congestion.specs.Calls.{ControllerCall}
 use Rattle.recovery_ledger.specs.Departures.{one_if_same}
 use Rattle.recovery_ledger.specs.Packets.{Packet, packet_at}
 use Rattle.recovery_mtud.specs.Discovery.{is_probe}
 use Rattle.recovery_mtud.specs.DiscoveryLog.{MtuCall, loses_probe, loses as loses_packet, acks as acks_packet}
-use Rattle.recovery_paths.specs.declared.live_paths.PathName.TheVariants.{Current, Previous}
-use Rattle.recovery_paths.specs.PathLog.{PathEntry, PathsEntry, on, moves, drops_previous, on_current, tells, searches}
+use Rattle.recovery_paths.specs.declared.live_paths.PathName.TheVariants.{Current}
+use Rattle.recovery_paths.specs.PathLog.{PathEntry, PathsEntry, on, on_current, tells, searches}
 use Rattle.recovery_paths.specs.PathStates.{is_path_probe, loss_call}
 use Rattle.recovery_paths.proofs.FateLaws.{fate, fates, told_in, told-append, fates_by}
 use Rattle.recovery_events.specs.declared.event.Event.{Event}
@@ -33,8 +34,7 @@ module _ {K P M : Type 0} (known : Known K P M) (number : ℕ) where
 
   -- a call of the search tells its own
   searched_tells : (changes : Bool) (call : MtuCall) → told_in number (searched known changes call) ≡ fate number call
-  searched_tells true call = omega arith
-  searched_tells false call = omega arith
+  searched_tells changes call = grind (arith, nat_tests)
 
   -- what the controller is told says nothing of numbers
   told_if : (own : Bool) (call : ControllerCall) → told_in number (cond own (on_current (tells call) ∷ []) []) ≡ 0
@@ -49,8 +49,7 @@ module _ {K P M : Type 0} (known : Known K P M) (number : ℕ) where
   -- a lost probe has no fate, and another packet has one
   lost_tells : (probe : Bool) (other bytes : ℕ) → fate number (cond probe loses_probe (loses_packet other bytes))
       ≤ one_if_same other number
-  lost_tells true other bytes = omega arith
-  lost_tells false other bytes = omega arith
+  lost_tells probe other bytes = grind (arith, nat_tests)
 
   -- ---- the packets that leave
 
@@ -59,34 +58,26 @@ module _ {K P M : Type 0} (known : Known K P M) (number : ℕ) where
       → told_in number (acked_entry known now app_limited packet ++ acked_search known space other packet) ≤ leaves_data
       space other number
   acked_departs space now other app_limited None = omega arith
-  acked_departs Initial now other app_limited (Some packet) =
-      omega (
-        arith,
-        told-append number (acked_entry known now app_limited (Some packet)) [],
-        acked_entry_tells now app_limited (Some packet),
-      )
-  acked_departs Handshake now other app_limited (Some packet) =
-      omega (
-        arith,
-        told-append number (acked_entry known now app_limited (Some packet)) [],
-        acked_entry_tells now app_limited (Some packet),
-      )
   acked_departs Data now other app_limited (Some packet) =
-      let seen = searched known (is_path_probe Data other known.paths.current.state) (acks_packet other packet.size) in
+      let probed = is_path_probe Data other known.paths.current.state in
+      let call = acks_packet other packet.size in
       omega (
         arith,
-        told-append number (acked_entry known now app_limited (Some packet)) seen,
+        told-append number (acked_entry known now app_limited (Some packet)) (searched known probed call),
         acked_entry_tells now app_limited (Some packet),
-        searched_tells
-            (is_path_probe Data other known.paths.current.state) (acks_packet other packet.size),
+        searched_tells probed call,
+      )
+  acked_departs space now other app_limited (Some packet) =
+      omega (
+        arith,
+        told-append number (acked_entry known now app_limited (Some packet)) [],
+        acked_entry_tells now app_limited (Some packet),
       )
 
   -- and of a lost one
   lost_departs : (space : SpaceId) (other : ℕ) (packet : Option (Packet P M))
       → told_in number (lost_search known space other packet) ≤ leaves_data space other number
   lost_departs space other None = omega arith
-  lost_departs Initial other (Some packet) = omega arith
-  lost_departs Handshake other (Some packet) = omega arith
   lost_departs Data other (Some packet) =
       let discovery = known.paths.current.state.discovery in
       omega (
@@ -94,6 +85,7 @@ module _ {K P M : Type 0} (known : Known K P M) (number : ℕ) where
         searched_tells false (loss_call other packet.size discovery),
         lost_tells (is_probe other discovery) other packet.size,
       )
+  lost_departs space other (Some packet) = omega arith
 
 -- ---- all else
 
@@ -117,9 +109,7 @@ module _ (number : ℕ) where
   silent_one : (entry : PathsEntry) (earlier : List PathsEntry) → is_silent (path_kind entry) ≡ true
       → told_in number earlier ≡ 0 → told_in number (entry ∷ earlier) ≡ 0
   silent_one (on Current entry) earlier silent none = silent_here entry earlier silent none
-  silent_one (on Previous entry) earlier silent none = omega (arith, none)
-  silent_one (moves following) earlier silent none = omega (arith, none)
-  silent_one drops_previous earlier silent none = omega (arith, none)
+  silent_one entry earlier silent none = omega (arith, none)
 
 module _ {K Q S M P : Type 0} (q : QueueMeaning Q S M P) (known : Known K P M) (number : ℕ) (earlier : History Q S M P)
   where
@@ -129,25 +119,22 @@ module _ {K Q S M P : Type 0} (q : QueueMeaning Q S M P) (known : Known K P M) (
         told_in number entries.paths + departures_of Data number earlier ≤ departures_of Data number
         (happened ∷ earlier)
 
-    -- nothing is told of a number by these entries
-    at_least : (told now after : ℕ) → told ≡ 0 → now ≤ after → told + now ≤ after
-    at_least told now after none grows = omega (arith, none, grows)
-
     -- by each event
     answer_departs : (event : Event Q S M P) (answer : Answer Q)
         → Departs (answered q known event answer) (event, Ok answer)
     answer_departs (Acked space now other app_limited) answer =
-        let departs = acked_departs known number space now other app_limited
-        (packet_at (tracked_known known space) other) in
-        omega (arith, departs)
+        omega (
+          arith,
+          acked_departs known number space now other app_limited (packet_at (tracked_known known space) other),
+        )
     answer_departs (Lost space other) answer =
-        let departs = lost_departs known number space other (packet_at (tracked_known known space) other) in
-        omega (arith, departs)
+        omega (arith, lost_departs known number space other (packet_at (tracked_known known space) other))
     answer_departs event answer =
-        at_least _ (departures_of Data number earlier) (departures_of Data number earlier)
-        (paths_kept q known (λ entries. told_in number entries ≡ 0) is_silent refl (silent_one number) event (Ok answer)
-        refl)
-        (omega arith)
+        omega (
+          arith,
+          paths_kept q known (λ entries. told_in number entries ≡ 0) is_silent refl (silent_one number)
+              event (Ok answer) refl,
+        )
 
     -- and by a refused one
     refusal_departs : (event : Event Q S M P) (refusal : Refusal) → Departs nothing (event, Err refusal)
@@ -168,15 +155,19 @@ module _ {F K Q S M P : Type 0} (beginning : Beginning F K Q S M P) (number : �
   told_departs (happened ∷ earlier) =
       let logs = logs_of beginning earlier in
       let known = known_by beginning logs in
-      let before = told_departs earlier in
-      let both = told-append number (entries_of beginning.queue known happened.0 happened.1).paths logs.paths in
-      let now = event_departs beginning.queue known number earlier happened.0 happened.1 in
-      omega (arith, before, both, now)
+      omega (
+        arith,
+        told_departs earlier,
+        told-append number (entries_of beginning.queue known happened.0 happened.1).paths logs.paths,
+        event_departs beginning.queue known number earlier happened.0 happened.1,
+      )
 
   -- at each moment a number was told at most as often to the search of the path in use as it left its space
   pub fates_depart : (history : History Q S M P)
       → fates number (pasts_of beginning history).current.searched ≤ departures_of Data number history
   fates_depart history =
-      let told = fates_by (settings_of beginning) number (first_path beginning) (logs_of beginning history).paths in
-      let departs = told_departs history in
-      omega (arith, told, departs)
+      omega (
+        arith,
+        told_departs history,
+        fates_by (settings_of beginning) number (first_path beginning) (logs_of beginning history).paths,
+      )

@@ -42,15 +42,11 @@ use Rattle.quic_recovery.specs.Told.{EcnAnswer, InSpace, Is, IsFlag, IsNextTimeo
 
 -- ---- what a test is, by what it says
 
-one_bool : (a b : Bool) → (IsTrue a → IsTrue b) → (IsTrue b → IsTrue a) → a ≡ b
-one_bool true true to from = refl
-one_bool true false to from = sym (to refl)
-one_bool false true to from = from refl
-one_bool false false to from = refl
-
 -- two tests of one thing are equal
 same_test : (A : Type 0) (a b : Bool) → (IsTrue a ↔ A) → (IsTrue b ↔ A) → a ≡ b
-same_test A a b is_a is_b = one_bool a b (λ t. is_b.1 (is_a.0 t)) (λ t. is_a.1 (is_b.0 t))
+same_test A a b is_a is_b =
+    let to : IsTrue a → IsTrue b = λ t. is_b.1 (is_a.0 t) in
+    let from : IsTrue b → IsTrue a = λ t. is_a.1 (is_b.0 t) in grind (arith, nat_tests, to, from)
 
 -- ---- refusals, by their numbers
 
@@ -69,26 +65,8 @@ of_number n =
     else refusal.Conflict
 
 named : (e : Refusal) → (refusal_number e == 17) ≡ false → e ≡ of_number (refusal_number e)
-named refusal.NoMemory no_text = refl
-named refusal.NumberTooLarge no_text = refl
-named refusal.NumbersExhausted no_text = refl
-named refusal.NotTracked no_text = refl
-named refusal.SpaceDiscarded no_text = refl
-named refusal.NoSuchPath no_text = refl
-named refusal.Searching no_text = refl
-named refusal.ZeroMtu no_text = refl
-named refusal.Overflow no_text = refl
-named refusal.Retired no_text = refl
-named refusal.ExceedsLimit no_text = refl
-named refusal.BadRetirePriorTo no_text = refl
-named refusal.CidsNotInUse no_text = refl
-named refusal.UnissuedCid no_text = refl
-named refusal.DelayTooSmall no_text = refl
-named refusal.SkippedAcked no_text = refl
-named (refusal.Ecn text) no_text = absurd (cc)
-named refusal.NotInitialId no_text = refl
-named refusal.BadRange no_text = refl
-named refusal.Conflict no_text = refl
+named (refusal.Ecn text) no_text = cc
+named e no_text = refl
 
 same_as_itself : (e : Refusal) → SameRefusal e e
 same_as_itself (refusal.Ecn text) = refl
