@@ -1,8 +1,8 @@
 -- What is to be acknowledged is by the table what the history says: new numbers, but those dropped since they came. The
 -- clause `to_acknowledge` of `run` rests on it.
-use Rattle.std.proofs.Common.{◌≡◌, ◌≢◌, ◌≤◌, ◌<◌, ℕ, ◌==◌, ◌&&◌, Bool, true, false, cond, List, [], ◌∷◌, length, Option, None, Some, Ok, Err, ◌⊎◌, inl, inr, ◌↔◌, IsTrue, IsSomeAnd, refl, sym, subst, arith, lt-ltb, ltb-true}
+use Rattle.std.proofs.lemmas.Bool.Decides.{nat_tests}
+use Rattle.std.proofs.Common.{◌≡◌, ◌≤◌, ℕ, ◌==◌, ◌&&◌, Bool, true, false, cond, List, [], ◌∷◌, length, Option, None, Some, Ok, Err, ◌⊎◌, inl, inr, ◌↔◌, IsTrue, IsSomeAnd, refl, sym, subst, arith}
 use Rattle.std.proofs.lemmas.Bool.{cases_lt, false≢true}
-use Rattle.std.proofs.lemmas.Bool.Decides.{eqb_tells}
 use Rattle.recovery_acks.specs.Runs.{AtMost, EndsRun, IsInHighest}
 use Rattle.recovery_acks.proofs.RunLaws.{highest_alike}
 use Rattle.recovery_base.specs.declared.below.SpaceId.{SpaceId}
@@ -60,45 +60,20 @@ module _ {P M S : Type 0} (words : QueueWords P S) (log : List (SpaceEntry P M))
   Drops b m n = ((b ≡ true) × LiesBelow (With m Stands) n) ⊎ (((b && m == n) ≡ false) × Dropped n)
 
   module _ (m n : ℕ) where
-    abbrev IsSameOrNot : Type 0
-    IsSameOrNot = (((m == n) ≡ true) × (m ≡ n)) ⊎ (((m == n) ≡ false) × (m ≢ n))
-
     high_stands : IsInHighest 64 (With m Stands) n → Comes true m n × ¬ Drops true m n
-    high_stands high = go high.0 (eqb_tells m n)
-      where
-        go : With m Stands n → IsSameOrNot → Comes true m n × ¬ Drops true m n
-        go there (inl own) = (
-          inl own.0,
-          λ drops. elim drops [
-            | inl low ↦ low.1 high.1
-            | inr was ↦ (let other = was.0 in let same = own.0 in cc)
-          ],
-        )
-        go (inl same) (inr other) = absurd (other.1 (sym same))
-        go (inr old) (inr other) = (
-          inr old.0,
-          λ drops. elim drops [
-            | inl low ↦ low.1 high.1
-            | inr was ↦ old.1 was.1
-          ],
-        )
+    high_stands high =
+        let came = high.0 in
+        let some = high.1 in
+        (grind (arith, nat_tests, came), λ drops. grind (arith, nat_tests, came, some, drops))
 
     stands_high : Comes true m n → ¬ Drops true m n → IsInHighest 64 (With m Stands) n
-    stands_high come none = (go come (eqb_tells m n), few (λ low. none (inl (refl, low))))
-      where
-        few : ¬ LiesBelow (With m Stands) n → AtMost 64 (λ end. (n ≤ end) × EndsRun (With m Stands) end)
-        few = many_or_few 64 (λ end. (n ≤ end) × EndsRun (With m Stands) end)
-
-        go : Comes true m n → IsSameOrNot → With m Stands n
-        go come (inl own) = inl (sym own.1)
-        go (inl own) (inr other) = let same = other.0 in cc
-        go (inr came) (inr other) = inr (came, λ was. none (inr (other.0, was)))
+    stands_high come none = (
+      grind (arith, nat_tests, come, none),
+      many_or_few 64 (λ end. (n ≤ end) × EndsRun (With m Stands) end) (λ low. none (inl (refl, low))),
+    )
 
     alike : (k : ℕ) → With m Pending k ↔ With m Stands k
-    alike k = (
-      λ h. elim h [ inl same ↦ inl same | inr there ↦ inr ((kept k).0 there) ],
-      λ h. elim h [ inl same ↦ inl same | inr there ↦ inr ((kept k).1 there) ],
-    )
+    alike k = let is = kept k in (λ h. grind (arith, h, is), λ h. grind (arith, h, is))
 
     arrives : (b : Bool) (now : ℕ) (eliciting : Bool)
         → IsAfter (cond b (Some (heard now m eliciting)) None) n (Comes b m n) (Drops b m n)
@@ -107,16 +82,11 @@ module _ {P M S : Type 0} (words : QueueWords P S) (log : List (SpaceEntry P M))
       λ both. highest_alike (With m Stands) (With m Pending) (λ k. ((alike k).1, (alike k).0)) 64 n
           (stands_high both.0 both.1),
     )
-    arrives false now eliciting = (
-      λ set. let old = (kept n).0 set in (
-        inr old.0,
-        λ drops. elim drops [
-          | inl low ↦ (let is = low.0 in cc)
-          | inr was ↦ old.1 was.1
-        ],
-      ),
-      λ both. elim both.0 [ inl is ↦ cc | inr came ↦ (kept n).1 (came, λ was. both.1 (inr (refl, was))) ],
-    )
+    arrives false now eliciting =
+        let is = kept n in (
+          λ set. (grind (arith, is, set), λ drops. grind (arith, is, set, drops)),
+          λ both. let come = both.0 in let none = both.1 in grind (arith, is, come, none),
+        )
 
   -- ---- a tracked packet is acknowledged, which carried the ACK of the numbers up to a largest one
 
@@ -125,25 +95,12 @@ module _ {P M S : Type 0} (words : QueueWords P S) (log : List (SpaceEntry P M))
 
   above_largest : (n : ℕ) (largest : Option ℕ)
       → (Pending n × IsTrue (is_above largest n)) ↔ (Came n × ¬ Goes true largest n)
-  above_largest n None = (
-    λ set. let old = (kept n).0 set.0 in (old.0, λ goes. elim goes [ inl up ↦ up.1 | inr was ↦ old.1 was ]),
-    λ both. ((kept n).1 (both.0, λ was. both.1 (inr was)), refl),
-  )
-  above_largest n (Some last) = (
-    λ set.
-        let old = (kept n).0 set.0 in
-        let above : last < n = ltb-true last n set.1 in (
-          old.0,
-          λ goes. elim goes [
-            | inl up ↦ (let under : n ≤ last = up.1 in omega (arith, above, under))
-            | inr was ↦ old.1 was
-          ],
-        ),
-    λ both.
-        let above : last < n = elim (cases_lt last n)
-        [ inl is ↦ is | inr under ↦ absurd (both.1 (inl (refl, under))) ] in
-        ((kept n).1 (both.0, λ was. both.1 (inr was)), lt-ltb last n above),
-  )
+  above_largest n largest =
+      let is = kept n in (
+        λ set. (grind (arith, is, set), λ goes. grind (arith, nat_tests, is, set, goes)),
+        λ both. let come = both.0 in let none = both.1 in
+            (grind (arith, is, come, none), grind (arith, nat_tests, come, none)),
+      )
 
   leaves : (b : Bool) (m n : ℕ) (largest : Option ℕ)
       → (b ≡ true → largest_acked_by (packet_at (sent_by words log).tracked m) ≡ largest)
@@ -151,16 +108,11 @@ module _ {P M S : Type 0} (words : QueueWords P S) (log : List (SpaceEntry P M))
   leaves true m n largest is =
       let Holds : Option ℕ → Type 0 = λ o. (Pending n × IsTrue (is_above o n)) ↔ (Came n × ¬ Goes true largest n) in
       subst Holds (sym (is refl)) (above_largest n largest)
-  leaves false m n largest is = (
-    λ set. let old = (kept n).0 set in (
-      old.0,
-      λ goes. elim goes [
-        | inl up ↦ (let is = up.0 in cc)
-        | inr was ↦ old.1 was
-      ],
-    ),
-    λ both. (kept n).1 (both.0, λ was. both.1 (inr was)),
-  )
+  leaves false m n largest is =
+      let same = kept n in (
+        λ set. (grind (arith, same, set), λ goes. grind (arith, same, set, goes)),
+        λ both. let come = both.0 in let none = both.1 in grind (arith, same, come, none),
+      )
 
 -- ---- what an event does
 

@@ -1,12 +1,11 @@
 -- While an ack-eliciting packet waits, an ACK is required at once or the timer was started, by what each event is told:
 -- the clause `duty` of `run`.
-use Rattle.std.proofs.Common.{◌≡◌, ◌<◌, ℕ, Bool, true, false, not, ◌&&◌, ◌||◌, cond, List, [], ◌∷◌, Option, None, Some, Ok, Err, ◌⊎◌, inl, inr, IsTrue, refl, subst, arith}
+use Rattle.std.proofs.lemmas.Bool.Decides.{nat_tests}
+use Rattle.std.proofs.Common.{◌≡◌, ◌<◌, ℕ, Bool, true, false, not, ◌&&◌, ◌||◌, cond, List, [], ◌∷◌, Option, None, Some, Ok, Err, ◌⊎◌, refl, subst, arith}
 use Rattle.std.proofs.lemmas.Bool.{false≢true}
-use Rattle.recovery_acks.specs.Acks.{counted}
 use Rattle.recovery_base.specs.declared.below.SpaceId.{SpaceId}
 use Rattle.recovery_base.specs.Spaces.{same_space}
-use Rattle.recovery_ledger.specs.Acks.{Arms, AsksAtOnce, IsRequired, StartedAt, counts_by, heard_by}
-use Rattle.recovery_ledger.specs.Received.{CameIn}
+use Rattle.recovery_ledger.specs.Acks.{Arms, IsRequired, StartedAt, counts_by, heard_by}
 use Rattle.recovery_ledger.specs.SpaceLog.{SpaceEntry, heard, heard_again, ack_goes, ack_is_late}
 use Rattle.recovery_queue.specs.Queues.{QueueWords}
 use Rattle.recovery_events.specs.declared.event.Event.{Event}
@@ -22,7 +21,7 @@ use Rattle.quic_recovery.specs.Promises.Duty.{KeepsDuty, timer_runs, waits}
 use Rattle.quic_recovery.specs.Told.{Told}
 use Rattle.quic_recovery.proofs.Runs.{throughout_kept}
 use Rattle.quic_recovery.proofs.EntryKinds.{SpaceKind, hearing, answering, delaying, space_kind, space_kept, refused_keeps}
-use Rattle.quic_recovery.proofs.RequiredLaws.{Decided, either, asks, is_required}
+use Rattle.quic_recovery.proofs.RequiredLaws.{either, asks, is_required}
 use Rattle.quic_recovery.proofs.TrackedLaws.{one_space}
 
 -- ---- what a packet, an ACK and a timeout do
@@ -41,82 +40,29 @@ AttendsTo words waiting running log =
 
 module _ {P M S : Type 0} (words : QueueWords P S) (waiting running : Bool) (log : List (SpaceEntry P M))
     (attends : AttendsTo words waiting running log) where
-  above_zero : (n : ℕ) → 0 < counted n
-  above_zero n = omega arith
-
-  -- what was required stays so at a packet more
-  still : {A B : Type 0} → IsRequired log ⊎ A → (IsRequired log ⊎ B) ⊎ A
-  still (inl required) = inl (inl required)
-  still (inr other) = inr other
-
   module _ (now number : ℕ) where
     -- the timer starts at a new ack-eliciting packet
     starts_now : AttendsTo words true true (heard now number true ∷ log)
-    starts_now = record {
-      counts = λ is. above_zero (counts_by log).eliciting;
-      armed = λ started. above_zero (counts_by log).eliciting;
-      started = λ started. inr refl;
-      duty = λ is. inr refl;
-    }
+    starts_now = grind (arith, nat_tests)
 
     -- or it does not: it was started, or an ACK is required
     not_now : ¬ Arms (heard_by words log) (counts_by log) number true
         → AttendsTo words true running (heard now number true ∷ log)
-    not_now other = record {
-      counts = λ is. above_zero (counts_by log).eliciting;
-      armed = λ started. above_zero (counts_by log).eliciting;
-      started = λ started. elim started.1 [
-        | inl was ↦ still (attends.started (started.0, was))
-        | inr now ↦ absurd (other now.1)
-      ];
-      duty = λ is. go running attends.started (either (is_required log) (asks log (counts_by log) number));
-    }
-      where
-        go : (b : Bool) → ((m : ℕ) × StartedAt words log m → IsRequired log ⊎ (b ≡ true))
-            → Decided (IsRequired log ⊎ AsksAtOnce (CameIn log) (counts_by log) number)
-            → (IsRequired log ⊎ (IsTrue true × AsksAtOnce (CameIn log) (counts_by log) number)) ⊎ (b ≡ true)
-        go true started why = inr refl
-        go false started (inl (inl was)) = inl (inl was)
-        go false started (inl (inr now)) = inl (inr (refl, now))
-        go false started (inr none) =
-            absurd (other (
-              refl,
-              λ was. elim (started was) [ inl required ↦ none (inl required) | inr runs ↦ false≢true runs ],
-              none,
-            ))
+    not_now other =
+        let why = either (is_required log) (asks log (counts_by log) number) in
+        grind (arith, nat_tests, attends, other, why)
 
     -- a packet that elicits no ACK
     silent : AttendsTo words waiting running (heard now number false ∷ log)
-    silent = record {
-      counts = attends.counts;
-      armed = λ started. elim started.1 [
-        | inl was ↦ attends.armed (started.0, was)
-        | inr now ↦ (let is = now.1.0 in cc)
-      ];
-      started = λ started. elim started.1 [
-        | inl was ↦ still (attends.started (started.0, was))
-        | inr now ↦ (let is = now.1.0 in cc)
-      ];
-      duty = λ is. still (attends.duty is);
-    }
+    silent = grind (arith, nat_tests, attends)
 
   -- an ACK is sent
   acked : AttendsTo words false false (ack_goes ∷ log)
-  acked = record {
-    counts = λ is. cc;
-    armed = λ started. absurd started.1;
-    started = λ started. absurd started.1;
-    duty = λ is. cc;
-  }
+  acked = grind (arith, nat_tests)
 
   -- the timer for a late one expired
   late : AttendsTo words waiting false (ack_is_late ∷ log)
-  late = record {
-    counts = attends.counts;
-    armed = attends.armed;
-    started = λ started. inl (attends.armed started);
-    duty = λ is. inl (attends.counts is);
-  }
+  late = grind (arith, nat_tests, attends)
 
 -- ---- what an event does
 

@@ -1,9 +1,9 @@
 -- A number is called new exactly where the history itself says so: the clause `new` of `run`, and `RefusedLaws` rest on
 -- it.
-use Rattle.std.proofs.Common.{◌≡◌, ◌≤◌, ◌+◌, ◌^◌, ℕ, Bool, true, false, not, ◌&&◌, ◌||◌, cond, nat_eq, nat_lt, nat_le, List, [], ◌∷◌, None, Some, Ok, Err, ◌⊎◌, inl, inr, ◌↔◌, refl, sym, ap, subst, ◌∙◌}
+use Rattle.std.proofs.lemmas.Bool.Decides.{nat_tests}
+use Rattle.std.proofs.Common.{arith, ◌≡◌, ◌≤◌, ◌+◌, ◌^◌, ℕ, Bool, true, false, ◌||◌, cond, nat_eq, nat_lt, nat_le, List, [], ◌∷◌, None, Some, Ok, Err, ◌⊎◌, inl, inr, ◌↔◌, refl, sym, ap, subst, ◌∙◌}
 use Rattle.std.specs.List.{list_all, list_any}
 use Rattle.std.proofs.lemmas.Bool.{false_from_ne_true, ltb-true, lt-ltb, leb-true, le-leb, false≢true}
-use Rattle.std.proofs.lemmas.Bool.Decides.{eqb_tells}
 use Rattle.recovery_base.specs.declared.below.SpaceId.{SpaceId}
 use Rattle.recovery_base.specs.Numbers.{IsNew}
 use Rattle.recovery_base.specs.Spaces.{same_space}
@@ -32,91 +32,45 @@ abbrev In : ℕ → List ℕ → Type 0
 In n [] = ⊥
 In n (m ∷ ms) = (n ≡ m) ⊎ In n ms
 
-or_right : (a b : Bool) → a ≡ false → (a || b) ≡ true → b ≡ true
-or_right true b e is = cc
-or_right false b e is = is
-
-or_one : (a b : Bool) → b ≡ true → (a || b) ≡ true
-or_one true b e = refl
-or_one false b e = e
-
-and_both : (a b : Bool) → a ≡ true → b ≡ true → (a && b) ≡ true
-and_both true b e is = is
-and_both false b e is = cc
-
-and_first : (a b : Bool) → (a && b) ≡ true → a ≡ true
-and_first true b is = refl
-and_first false b is = is
-
-and_second : (a b : Bool) → (a && b) ≡ true → b ≡ true
-and_second true b is = is
-and_second false b is = cc
-
-abbrev Told-eq : ℕ → ℕ → Type 0
-Told-eq n m = ((nat_eq n m ≡ true) × (n ≡ m)) ⊎ ((nat_eq n m ≡ false) × ¬ (n ≡ m))
-
-to_first : (n m : ℕ) (ms : List ℕ) → (list_any (nat_eq n) ms ≡ true → In n ms) → Told-eq n m
-    → (nat_eq n m || list_any (nat_eq n) ms) ≡ true → In n (m ∷ ms)
-to_first n m ms rest (inl is) e = inl is.1
-to_first n m ms rest (inr other) e = inr (rest (or_right _ _ other.0 e))
-
 member_to : (n : ℕ) (ms : List ℕ) → list_any (nat_eq n) ms ≡ true → In n ms
 member_to n [] e = cc
-member_to n (m ∷ ms) e = to_first n m ms (member_to n ms) (eqb_tells n m) e
-
-or_first : (a b : Bool) → a ≡ true → (a || b) ≡ true
-or_first true b is = refl
-or_first false b is = cc
-
-from_first : (n m : ℕ) (ms : List ℕ) → (In n ms → list_any (nat_eq n) ms ≡ true) → Told-eq n m → In n (m ∷ ms)
-    → (nat_eq n m || list_any (nat_eq n) ms) ≡ true
-from_first n m ms rest (inl is) there = or_first _ _ is.0
-from_first n m ms rest (inr other) (inl is) = absurd (other.1 is)
-from_first n m ms rest (inr other) (inr there) = or_one _ _ (rest there)
+member_to n (m ∷ ms) e = grind (arith, nat_tests, e, member_to n ms)
 
 member_from : (n : ℕ) (ms : List ℕ) → In n ms → list_any (nat_eq n) ms ≡ true
 member_from n [] there = absurd there
-member_from n (m ∷ ms) there = from_first n m ms (member_from n ms) (eqb_tells n m) there
+member_from n (m ∷ ms) there = grind (arith, nat_tests, there, member_from n ms)
 
 module _ (test : ℕ → Bool) where
   all_to : (ms : List ℕ) → list_all test ms ≡ true → (m : ℕ) → In m ms → test m ≡ true
-  all_to (first ∷ ms) all m (inl is) = subst (λ k. test k ≡ true) (sym is) (and_first _ _ all)
-  all_to (first ∷ ms) all m (inr there) = all_to ms (and_second _ _ all) m there
+  all_to (first ∷ ms) all m there = grind (arith, nat_tests, all, there, all_to ms)
   all_to [] all m there = absurd there
 
   all_from : (ms : List ℕ) → ((m : ℕ) → In m ms → test m ≡ true) → list_all test ms ≡ true
   all_from [] each = refl
-  all_from (m ∷ ms) each = and_both _ _ (each m (inl refl)) (all_from ms (λ k there. each k (inr there)))
-
-parts : (a b c : Bool) → (a || (not b && c)) ≡ true → (a ≡ true) ⊎ ((b ≡ false) × (c ≡ true))
-parts true b c e = inl refl
-parts false true c e = cc
-parts false false c e = inr (refl, e)
-
-joined : (a b c : Bool) → b ≡ false → c ≡ true → (a || (not b && c)) ≡ true
-joined a true c e is = cc
-joined a false c e is = or_one a c is
+  all_from (m ∷ ms) each =
+      let here = each m (inl refl) in
+      let rest = all_from ms (λ k there. each k (inr there)) in grind (arith, nat_tests, here, rest)
 
 module _ (Numbers : ℕ → Type 0) (came : List ℕ) (same : (m : ℕ) → In m came ↔ Numbers m) (n : ℕ) where
   new_from : IsNew Numbers n → is_new came n ≡ true
   new_from (inl exceeds) =
-      or_first _ _ (all_from (λ m. nat_lt m n) came (λ m there. lt-ltb m n (exceeds m ((same m).0 there))))
+      let all = all_from (λ m. nat_lt m n) came (λ m there. lt-ltb m n (exceeds m ((same m).0 there))) in
+      grind (arith, nat_tests, all)
   new_from (inr other) =
-      joined (list_all (λ m. nat_lt m n) came) _ _
-      (false_from_ne_true _ (λ member. other.0 ((same n).0 (member_to n came member))))
-      (all_from (λ m. nat_le m (n + 128)) came (λ m there. le-leb m (n + 128) (other.1 m ((same m).0 there))))
+      let all = all_from (λ m. nat_le m (n + 128)) came (λ m there. le-leb m (n + 128) (other.1 m ((same m).0 there))) in
+      let none = false_from_ne_true _ (λ member. other.0 ((same n).0 (member_to n came member))) in
+      grind (arith, nat_tests, all, none)
 
   new_to : is_new came n ≡ true → IsNew Numbers n
-  new_to e = go (parts (list_all (λ m. nat_lt m n) came) (list_any (nat_eq n) came) _ e)
+  new_to e = go (list_all (λ m. nat_lt m n) came) refl
     where
-      go : (list_all (λ m. nat_lt m n) came ≡ true)
-          ⊎ ((list_any (nat_eq n) came ≡ false) × (list_all (λ m. nat_le m (n + 128)) came ≡ true))
-          → IsNew Numbers n
-      go (inl all) = inl (λ m in_set. ltb-true m n (all_to _ came all m ((same m).1 in_set)))
-      go (inr other) =
+      go : (b : Bool) → list_all (λ m. nat_lt m n) came ≡ b → IsNew Numbers n
+      go true all = inl (λ m in_set. ltb-true m n (all_to _ came all m ((same m).1 in_set)))
+      go false some =
+          let all : list_all (λ m. nat_le m (n + 128)) came ≡ true = grind (arith, nat_tests, e, some) in
           inr (
-            (λ in_set. let is = member_from n came ((same n).1 in_set) in cc (is, other.0)),
-            λ m in_set. leb-true m (n + 128) (all_to _ came other.1 m ((same m).1 in_set)),
+            (λ in_set. let is = member_from n came ((same n).1 in_set) in grind (arith, nat_tests, e, some, is)),
+            λ m in_set. leb-true m (n + 128) (all_to _ came all m ((same m).1 in_set)),
           )
 
 -- ---- what came, and which spaces were discarded
@@ -126,15 +80,7 @@ Alike came log = (m : ℕ) → In m came ↔ CameIn log m
 
 module _ {P M : Type 0} (came : List ℕ) (log : List (SpaceEntry P M)) (alike : Alike came log) where
   one_more : (n m : ℕ) → In m (n ∷ came) ↔ ((m ≡ n) ⊎ CameIn log m)
-  one_more n m = (there, back)
-    where
-      there : In m (n ∷ came) → (m ≡ n) ⊎ CameIn log m
-      there (inl is) = inl is
-      there (inr other) = inr ((alike m).0 other)
-
-      back : (m ≡ n) ⊎ CameIn log m → In m (n ∷ came)
-      back (inl is) = inl is
-      back (inr other) = inr ((alike m).1 other)
+  one_more n m = (λ there. grind (arith, there, alike m), λ back. grind (arith, back, alike m))
 
   arrive : (b c : Bool) (n : ℕ) (entry : SpaceEntry P M) → b ≡ c → Alike (n ∷ came) (entry ∷ log)
       → Alike (cond b (n ∷ came) came) (onto (cond c (Some entry) None) log)
