@@ -1,6 +1,6 @@
 -- The datagrams of each path by the history itself are those that its past in the logs has. `ThreefoldLaws` and
 -- `BlockedLaws` rest on it.
-use Rattle.std.proofs.Common.{ℕ, ◌≡◌, ◌+◌, ◌&&◌, Bool, true, false, List, [], ◌∷◌, ◌++◌, Option, None, Some, option_map, Ok, Err, refl, sym, ap, subst, ◌∙◌, arith}
+use Rattle.std.proofs.Common.{ℕ, ◌≡◌, ◌+◌, ◌&&◌, Bool, true, false, List, [], ◌∷◌, ◌++◌, Option, None, Some, option_map, Ok, Err, refl, sym, ap, subst, arith}
 use Rattle.std.proofs.lemmas.Bool.{false≢true}
 use Rattle.std.specs.Prelude.{sum_by}
 use Rattle.std.specs.List.{list_all}
@@ -34,11 +34,6 @@ pub record Flow : Type 0 where
 abbrev flow : Bool → Bool → ℕ → ℕ → Flow
 flow validated checked came went = record { validated = validated; checked = checked; came = came; went = went }
 
-same_flow : (validated checked : Bool) (came came2 went went2 : ℕ) → came ≡ came2 → went ≡ went2
-    → flow validated checked came went ≡ flow validated checked came2 went2
-same_flow validated checked came came2 went went2 comes goes =
-    ap (λ n. flow validated checked n went) comes ∙ ap (λ n. flow validated checked came2 n) goes
-
 -- by its past in the logs
 abbrev pub flow_of : {K : Type 0} → PathPast K → Flow
 flow_of past = flow past.validated (list_all (λ transmission. transmission.checked) past.transmissions)
@@ -59,11 +54,12 @@ module _ {Q S M P : Type 0} where
       → flow_by validated ((DatagramIn name bytes, reply) ∷ here) ≡ flow old.validated old.checked (old.came + bytes)
       old.went
   came_more validated here name bytes reply old same =
-      let comes = sum_by-cons bytes_in (DatagramIn name bytes, reply) here in
-      let goes = sum_by-cons bytes_out (DatagramIn name bytes, reply) here in
-      same_flow validated (list_all is_checked here) _ (sum_by bytes_in here + bytes) _ (sum_by bytes_out here)
-      (omega (arith, comes)) (omega (arith, goes))
-      ∙ ap (λ (f : Flow). flow f.validated f.checked (f.came + bytes) f.went) same
+      grind (
+        arith,
+        same,
+        sum_by-cons bytes_in (DatagramIn name bytes, reply) here,
+        sum_by-cons bytes_out (DatagramIn name bytes, reply) here,
+      )
 
   -- one went out
   went_more : (validated : Bool) (here : History Q S M P) (now bytes : ℕ) (checked : Bool) (reply : Reply Q)
@@ -71,12 +67,12 @@ module _ {Q S M P : Type 0} where
       → flow_by validated ((Transmit now bytes checked, reply) ∷ here) ≡ flow old.validated (checked && old.checked)
       old.came (old.went + bytes)
   went_more validated here now bytes checked reply old same =
-      let comes = sum_by-cons bytes_in (Transmit now bytes checked, reply) here in
-      let goes = sum_by-cons bytes_out (Transmit now bytes checked, reply) here in
-      same_flow validated (checked && list_all is_checked here) _ (sum_by bytes_in here) _
-      (sum_by bytes_out here + bytes)
-      (omega (arith, comes)) (omega (arith, goes))
-      ∙ ap (λ (f : Flow). flow f.validated (checked && f.checked) f.came (f.went + bytes)) same
+      grind (
+        arith,
+        same,
+        sum_by-cons bytes_in (Transmit now bytes checked, reply) here,
+        sum_by-cons bytes_out (Transmit now bytes checked, reply) here,
+      )
 
   -- both are the same of each path, and no datagrams are those of a path that does not live
   abbrev pub IsFlowWhereLives : Bool → History Q S M P → Option Flow → Type 0
@@ -220,9 +216,7 @@ module _ {F K Q S M P : Type 0} (beginning : Beginning F K Q S M P) (earlier : H
     refusal_flows : (event : Event Q S M P) (refusal : Refusal)
         → AreFlows first ((event, Err refusal) ∷ earlier) (flows log)
     refusal_flows (DatagramIn Current bytes) refusal = same
-    refusal_flows (DatagramIn Previous bytes) refusal = same
     refusal_flows (Validated Current) refusal = same
-    refusal_flows (Validated Previous) refusal = same
     refusal_flows event refusal = same
 
     -- one event more

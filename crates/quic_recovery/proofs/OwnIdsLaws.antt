@@ -1,5 +1,6 @@
 -- Ids of this end are issued and retired as the history itself says: the clause `own_ids` of `run`.
-use Rattle.std.proofs.Common.{◌≡◌, ◌≢◌, ◌<◌, ◌+◌, ◌^◌, ℕ, ◌==◌, ◌&&◌, ◌||◌, nat_lt, nat_le, not, Bool, true, false, cond, List, [], ◌∷◌, length, map, filter, Ok, Err, refl, sym, ap, subst, ◌∙◌, leb-true, le-leb}
+use Rattle.std.proofs.lemmas.Bool.Decides.{nat_tests}
+use Rattle.std.proofs.Common.{arith, ◌≡◌, ◌≢◌, ◌<◌, ◌+◌, ◌^◌, ℕ, ◌==◌, ◌&&◌, ◌||◌, nat_lt, nat_le, not, Bool, true, false, cond, List, [], ◌∷◌, length, map, filter, Ok, Err, refl, sym, ap, subst, ◌∙◌, leb-true, le-leb}
 use Rattle.std.specs.Prelude.{count_by, if◌then◌else◌}
 use Rattle.std.specs.Bool.{Decides}
 use Rattle.std.specs.List.{range_with_len}
@@ -50,10 +51,7 @@ filter_twice {X} p q (x ∷ xs) = go (q x) (filter_twice p q xs)
     go false same = same
 
 neither : (a b : Bool) → (not b && not a) ≡ not (a || b)
-neither true true = refl
-neither true false = refl
-neither false true = refl
-neither false false = refl
+neither a b = grind (arith, nat_tests)
 
 -- ---- what was issued and retired
 
@@ -98,23 +96,13 @@ module _ {Q : Type 0} where
   issue_told : (Large On Grows : Type 0) (large on : Bool) → Decides large Large → Decides on On → (reply : Reply Q)
       → Refuses NumberTooLarge Large (Refuses BadRange (¬ On) (Answers Grows (λ answer. answer ≡ Done))) reply
       → IsValue Grows large on reply
-  issue_told Large On Grows true on is_large is_on (Ok answer) told = absurd (told.0 (is_large.0 refl))
-  issue_told Large On Grows true on is_large is_on (Err NumberTooLarge) told = refl
-  issue_told Large On Grows true on is_large is_on (Err BadRange) told = absurd (told.0 (is_large.0 refl))
-  issue_told Large On Grows true on is_large is_on (Err NoMemory) told = absurd (told.0 (is_large.0 refl))
-  issue_told Large On Grows true on is_large is_on (Err refusal) told = absurd (told.0 (is_large.0 refl))
-  issue_told Large On Grows false true is_large is_on (Ok answer) told = ap (λ (a : Answer Q). Ok a) told.1.1
-  issue_told Large On Grows false true is_large is_on (Err NumberTooLarge) told = let wrong = is_large.1 told in cc
-  issue_told Large On Grows false true is_large is_on (Err BadRange) told = absurd (told.1 (is_on.0 refl))
-  issue_told Large On Grows false true is_large is_on (Err NoMemory) told = (told.1.1, refl)
-  issue_told Large On Grows false true is_large is_on (Err refusal) told = absurd told.1.1
-  issue_told Large On Grows false false is_large is_on (Ok answer) told =
-      absurd (told.1.0 (λ on. (let wrong = is_on.1 on in cc)))
-  issue_told Large On Grows false false is_large is_on (Err NumberTooLarge) told = let wrong = is_large.1 told in cc
-  issue_told Large On Grows false false is_large is_on (Err BadRange) told = refl
-  issue_told Large On Grows false false is_large is_on (Err NoMemory) told =
-      absurd (told.1.0 (λ on. (let wrong = is_on.1 on in cc)))
-  issue_told Large On Grows false false is_large is_on (Err refusal) told = absurd told.1.1
+  issue_told Large On Grows large on is_large is_on (Ok answer) told = grind (arith, nat_tests, is_large, is_on, told)
+  issue_told Large On Grows large on is_large is_on (Err NumberTooLarge) told = grind (arith, nat_tests, is_large, told)
+  issue_told Large On Grows large on is_large is_on (Err BadRange) told =
+      grind (arith, nat_tests, is_large, is_on, told)
+  issue_told Large On Grows large on is_large is_on (Err NoMemory) told =
+      grind (arith, nat_tests, is_large, is_on, told)
+  issue_told Large On Grows large on is_large is_on (Err refusal) told = absurd told.1.1
 
   issue_as : (count : ℕ) (more : List IssuedCid) (reply : Reply Q)
       → IsValue (more ≢ []) (nat_lt (2 ^ 62) (count + length more)) (go_on count more) reply → IsIssue count more reply

@@ -1,7 +1,6 @@
 -- The next timeout is the least moment that the history itself says is set: the clause `timers` of `run`.
-use Rattle.std.proofs.Common.{◌≡◌, ◌≤◌, ◌<◌, ℕ, min, map, List, [], ◌∷◌, Option, None, Some, Ok, Err, ◌⊎◌, inl, inr, refl, sym, ◌∙◌, ap, subst, arith}
+use Rattle.std.proofs.Common.{◌≡◌, ◌≤◌, ℕ, map, List, [], ◌∷◌, Option, None, Some, Ok, Err, ◌⊎◌, inl, inr, refl, sym, ◌∙◌, ap, subst, arith}
 use Rattle.std.specs.Prelude.{if◌then◌else◌}
-use Rattle.std.proofs.lemmas.Bool.{cases_lt}
 use Rattle.std.proofs.lemmas.Option.{none-some}
 use Rattle.recovery_base.specs.declared.timer.Timer.{Timer}
 use Rattle.recovery_base.specs.declared.timer.Timer.TheVariants.{LossDetection, Idle, Close, KeyDiscard, PathValidation, KeepAlive, Pacing, PushNewCid, MaxAckDelay}
@@ -62,41 +61,13 @@ abbrev IsLeast : List (Option ℕ) → Option ℕ → Type 0
 IsLeast ms None = (y : ℕ) → ¬ In (Some y) ms
 IsLeast ms (Some x) = In (Some x) ms × ((y : ℕ) → In (Some y) ms → x ≤ y)
 
-same_some : {x y : ℕ} → (let some : Option ℕ = Some x in some ≡ Some y) → x ≡ y
-same_some e = cc
-
-skip_in : (ms : List (Option ℕ)) (y : ℕ) → In (Some y) (None ∷ ms) → In (Some y) ms
-skip_in ms y (inl is) = absurd (none-some _ (sym is))
-skip_in ms y (inr there) = there
-
 skips : (ms : List (Option ℕ)) (m : Option ℕ) → IsLeast ms m → IsLeast (None ∷ ms) m
-skips ms None none = λ y there. none y (skip_in ms y there)
-skips ms (Some x) is = (inr is.0, λ y there. is.1 y (skip_in ms y there))
-
-below_first : (ms : List (Option ℕ)) (n y : ℕ) → ((z : ℕ) → ¬ In (Some z) ms) → In (Some y) (Some n ∷ ms) → n ≤ y
-below_first ms n y none (inl is) = let e = same_some is in omega (arith, e)
-below_first ms n y none (inr there) = absurd (none y there)
-
-below_both : (ms : List (Option ℕ)) (n x y : ℕ) → ((z : ℕ) → In (Some z) ms → x ≤ z) → In (Some y) (Some n ∷ ms)
-    → min n x ≤ y
-below_both ms n x y least_there (inl is) = let e = same_some is in omega (arith, e)
-below_both ms n x y least_there (inr there) = let b = least_there y there in omega (arith, b)
-
-min_in : (ms : List (Option ℕ)) (n x : ℕ) → In (Some x) ms → (min n x ≡ n) ⊎ (min n x ≡ x)
-    → In (Some (min n x)) (Some n ∷ ms)
-min_in ms n x there (inl first) = inl (ap Some first)
-min_in ms n x there (inr second) = inr (subst (λ m. In (Some m) ms) (sym second) there)
-
-min_is : (n x : ℕ) → (min n x ≡ n) ⊎ (min n x ≡ x)
-min_is n x = either (cases_lt n x)
-  where
-    either : (n < x) ⊎ (x ≤ n) → (min n x ≡ n) ⊎ (min n x ≡ x)
-    either (inl less) = inl (omega (arith, less))
-    either (inr more) = inr (omega (arith, more))
+skips ms None none = λ y there. grind (arith, none y, there)
+skips ms (Some x) is = (inr is.0, λ y there. grind (arith, is.1 y, there))
 
 takes : (ms : List (Option ℕ)) (n : ℕ) (m : Option ℕ) → IsLeast ms m → IsLeast (Some n ∷ ms) (Some (earlier_of n m))
-takes ms n None none = (inl refl, λ y there. below_first ms n y none there)
-takes ms n (Some x) is = (min_in ms n x is.0 (min_is n x), λ y there. below_both ms n x y is.1 there)
+takes ms n None none = (inl refl, λ y there. grind (arith, none y, there))
+takes ms n (Some x) is = let in_it = is.0 in (grind (arith, in_it), λ y there. grind (arith, is.1 y, there))
 
 least_is : (ms : List (Option ℕ)) → IsLeast ms (least ms)
 least_is [] = λ y there. absurd there
