@@ -25,20 +25,15 @@ ascend_as P Q low other (n ∷ others) less step up = let h : low ≤ n =
 end_behind : (low : ℕ) (range : Range ℕ) (others : Ranges) → AreApart low (range ∷ others) → (n : ℕ) → range.end ≤ n
     → EndsRun (InRanges (range ∷ others)) n → EndsRun (InRanges others) n
 unfolding InRanges
-end_behind low range others apart n above ends = (
-  elim ends.0
-      [ inl here ↦ (let h : n < range.end = here.1 in absurd (omega arith)) | inr there ↦ there ],
-  λ next. ends.1 (inr next),
-)
+end_behind low range others apart n above ends =
+    let here = ends.0 in (grind (arith, here, above), λ next. ends.1 (inr next))
 
 -- and the other way
 end_before : (low : ℕ) (range : Range ℕ) (others : Ranges) → AreApart low (range ∷ others) → (n : ℕ) → range.end ≤ n
     → EndsRun (InRanges others) n → EndsRun (InRanges (range ∷ others)) n
 unfolding InRanges
-end_before low range others apart n above ends = (
-  inr ends.0,
-  λ next. elim next [ inl here ↦ (let h : n + 1 < range.end = here.1 in omega arith) | inr there ↦ ends.1 there ],
-)
+end_before low range others apart n above ends =
+    let last = ends.1 in (inr ends.0, λ next. grind (arith, next, above, last))
 
 -- there are at most as many ends as ranges
 few_ends : (low from : ℕ) (ranges : Ranges) → AreApart low ranges → (numbers : List ℕ)
@@ -50,16 +45,11 @@ few_ends low from (range ∷ others) apart (n ∷ numbers) up =
     go (λ start ns u. few_ends (range.end + 1) start others apart.2 ns u) (cases_lt n range.end)
   where
     first_ends : n < range.end → range.end ≤ n + 1
-    first_ends below = elim (cases_lt (n + 1) range.end) [
-      | inl under ↦ absurd (up.1.1 (inl (
-        elim up.1.0 [
-          | inl here ↦ (let h : range.start ≤ n = here.0 in omega arith)
-          | inr there ↦ (let h : range.end + 1 ≤ n = in_above (range.end + 1) others n apart.2 there in omega arith)
-        ],
-        under,
-      )))
-      | inr over ↦ over
-    ]
+    first_ends below =
+        let here = up.1.0 in
+        let last = up.1.1 in
+        let behind = λ (there : InRanges others n). in_above (range.end + 1) others n apart.2 there in
+        grind (arith, below, here, last, behind)
 
     go : ((start : ℕ) (ns : List ℕ) → Ascend (EndsRun (InRanges others)) start ns → length ns ≤ length others)
         → (n < range.end) ⊎ (range.end ≤ n) → length (n ∷ numbers) ≤ length (range ∷ others)
@@ -89,14 +79,9 @@ end_of_first : (low : ℕ) (range : Range ℕ) (others : Ranges) → AreApart lo
     → EndsRun (InRanges (range ∷ others)) (range.end - 1)
 unfolding InRanges AreApart
 end_of_first low range others apart =
-    let filled : range.start < range.end = apart.1 in (
-      inl (omega arith, omega arith),
-      λ next. elim next [
-        | inl here ↦ (let h : range.end - 1 + 1 < range.end = here.1 in omega arith)
-        | inr there ↦ (let h : range.end + 1 ≤ range.end - 1 + 1 = in_above (range.end + 1) others (range.end - 1 + 1)
-            apart.2 there in omega arith)
-      ],
-    )
+    let filled : range.start < range.end = apart.1 in
+    let behind = in_above (range.end + 1) others (range.end - 1 + 1) apart.2 in
+    (inl (omega arith, omega arith), λ next. grind (arith, next, filled, behind))
 
 ends_ascend : (low : ℕ) (ranges : Ranges) → AreApart low ranges → Ascend (EndsRun (InRanges ranges)) low (ends ranges)
 unfolding Ascend AreApart ends

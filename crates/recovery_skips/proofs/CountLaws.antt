@@ -2,7 +2,6 @@
 use Rattle.std.proofs.Common.{◌≡◌, ℕ, zero, suc, ◌<◌, ◌↔◌, Option, None, Some, Bool, true, false, refl, ap, sym, subst, ◌∙◌, arith, inl, inr}
 use Rattle.std.specs.Prelude.{if◌then◌else◌}
 use Rattle.std.proofs.lemmas.Bool.{cases_lt}
-use Rattle.std.proofs.lemmas.Option.{same_Some}
 use Rattle.rand_core.specs.Stream.{Stream}
 use Rattle.recovery_skips.specs.declared.filter.Skips.{Skips}
 use Rattle.recovery_skips.specs.Skips.{skip_at, is_at, skips_below, is_skipped, skip_before, IsGreatestBelow}
@@ -37,54 +36,27 @@ module _ (skips : Skips) (words : Stream) where
   -- the skip counted by those below n is the only one that can be n
   only_at : (n count : ℕ) → Counts n count → (k : ℕ) → (skip_at skips words k).number ≡ Some n → k ≡ count
   only_at n count counts k here =
-      elim (cases_lt k count) [
-        | inl below ↦ (let less : n < n = (counts k n here).1 below in absurd (omega (arith, less)))
-        | inr above ↦ elim (cases_lt count k) [
-          | inl further ↦
-              let found = lower count k n further here in
-              let less : count < count = (counts count found.0 found.1).0 found.2 in
-              absurd (omega (arith, less))
-          | inr near ↦ omega (arith, above, near)
-        ]
+      elim (cases_lt count k) [
+        | inl further ↦
+            let found = lower count k n further here in
+            let below = found.2 in
+            let at = counts count found.0 found.1 in absurd (grind (arith, below, at))
+        | inr near ↦ let at = counts k n here in grind (arith, near, at)
       ]
 
   with_skip : (n count : ℕ) → Counts n count → (skip_at skips words count).number ≡ Some n → Counts (suc n) (suc count)
-  with_skip n count counts here k s is = (to, from)
-    where
-      to : s < suc n → k < suc count
-      to less = elim (cases_lt s n) [
-        | inl below ↦ (let under : k < count = (counts k s is).0 below in omega (arith, under))
-        | inr near ↦
-            let same : s ≡ n = omega (arith, near, less) in
-            let at = only_at n count counts k (is ∙ ap (λ x. Some x) same) in
-            omega (arith, at)
-      ]
-
-      from : k < suc count → s < suc n
-      from less = elim (cases_lt k count) [
-        | inl below ↦ (let under : s < n = (counts k s is).1 below in omega (arith, under))
-        | inr near ↦
-            let at : count ≡ k = omega (arith, near, less) in
-            let same = same_Some s n (sym is ∙ ap (λ i. (skip_at skips words i).number) (sym at) ∙ here) in
-            omega (arith, same)
-      ]
+  with_skip n count counts here k s is =
+      let at = counts k s is in
+      let only = only_at n count counts k in
+      (λ less. grind (arith, less, at, is, only), λ less. grind (arith, less, at, is, here))
 
   without_skip : (n count : ℕ) → Counts n count → is_at n (skip_at skips words count).number ≡ false
       → Counts (suc n) count
-  without_skip n count counts free k s is = (to, from)
-    where
-      to : s < suc n → k < count
-      to less = elim (cases_lt s n) [
-        | inl below ↦ (counts k s is).0 below
-        | inr near ↦
-            let same : s ≡ n = omega (arith, near, less) in
-            let here = is ∙ ap (λ x. Some x) same in
-            let at = only_at n count counts k here in
-            false_true (sym free ∙ is_at-self n _ (ap (λ i. (skip_at skips words i).number) (sym at) ∙ here))
-      ]
-
-      from : k < count → s < suc n
-      from less = let under : s < n = (counts k s is).1 less in omega (arith, under)
+  without_skip n count counts free k s is =
+      let at = counts k s is in
+      let only = only_at n count counts k in
+      let self = is_at-self n (skip_at skips words count).number in
+      (λ less. grind (arith, less, at, is, only, free, self), λ less. grind (arith, less, at))
 
   -- a skip lies below n just where its place is below their count
   pub skips_below_counts : (n k s : ℕ) → (skip_at skips words k).number ≡ Some s
@@ -113,18 +85,13 @@ module _ (skips : Skips) (words : Stream) where
     where
       more : (last : Option ℕ) → is_skipped skips words n ≡ false → IsGreatestBelow skips words n last
           → IsGreatestBelow skips words (suc n) last
-      more None free none = λ m less. elim (cases_lt m n) [
-        | inl below ↦ none m below
-        | inr near ↦ ap (λ i. is_skipped skips words i) (let same : m ≡ n = omega (arith, near, less) in same) ∙ free
-      ]
-      more (Some s) free greatest = (
-        omega (arith, greatest.0),
-        greatest.1,
-        λ m above less. elim (cases_lt m n) [
-          | inl below ↦ greatest.2 m above below
-          | inr near ↦ ap (λ i. is_skipped skips words i) (let same : m ≡ n = omega (arith, near, less) in same) ∙ free
-        ],
-      )
+      more None free none = λ m less. let below = none m in grind (arith, less, free, below)
+      more (Some s) free greatest =
+          let under = greatest.0 in (
+            omega (arith, under),
+            greatest.1,
+            λ m above less. let below = greatest.2 m above in grind (arith, less, free, below),
+          )
 
       go : IsGreatestBelow skips words n (skip_before skips words n) → (here : Bool) → is_skipped skips words n ≡ here
           → IsGreatestBelow skips words (suc n) (if here then Some n else skip_before skips words n)
