@@ -82,18 +82,15 @@ module _ {K P M : Type 0} (settings : PathSettings K) (first : PathMaking K) (lo
   acked_seen : (space : SpaceId) (now number : ℕ) (app_limited : Bool) (packet : Option (Packet P M))
       → entries_with (acked_entry known now app_limited packet ++ acked_search known space number packet)
       ≡ (if is_data space then of_packet (acked number) packet else []) ++ before
-  acked_seen space.Initial now number app_limited None = refl
-  acked_seen space.Handshake now number app_limited None = refl
   acked_seen space.Data now number app_limited None = refl
-  acked_seen space.Initial now number app_limited (Some packet) =
-      acked_with (is_own known packet && packet.ack_eliciting) _ []
-  acked_seen space.Handshake now number app_limited (Some packet) =
-      acked_with (is_own known packet && packet.ack_eliciting) _ []
   acked_seen space.Data now number app_limited (Some packet) =
       let probed = is_path_probe space.Data number known.paths.current.state in
       let call = acks_packet number packet.size in
       acked_with (is_own known packet && packet.ack_eliciting) _ (searched known probed call)
       ∙ searched_seen probed call
+  acked_seen space now number app_limited None = refl
+  acked_seen space now number app_limited (Some packet) =
+      acked_with (is_own known packet && packet.ack_eliciting) _ []
 
   lost_seen : (own : Bool) (number bytes : ℕ)
       → entries_with (searched known false (if own then loses_probe else loses number bytes))

@@ -1,15 +1,14 @@
 -- What each tracked packet says of itself, as its size, goes with its number: so it stays as packets come and go.
 -- `SizeLaws` and `CarriedLaws` rest on it.
-use Rattle.std.proofs.Common.{ℕ, ◌≡◌, ◌+◌, ◌<◌, ◌≤◌, Bool, true, false, cond, List, [], ◌∷◌, ◌++◌, Option, None, Some, refl, sym, ap, ◌∙◌, arith}
+use Rattle.std.proofs.lemmas.Bool.Decides.{nat_tests}
+use Rattle.std.proofs.Common.{ℕ, ◌≡◌, ◌+◌, ◌<◌, ◌≤◌, true, List, [], ◌∷◌, ◌++◌, Option, None, Some, refl, ◌∙◌, arith}
 use Rattle.std.proofs.lemmas.Bool.{false≢true}
 use Rattle.std.specs.Prelude.{option_map}
-use Rattle.std.specs.Ordering.{nat_cmp}
-use Rattle.std.specs.BTreeMap.{is_at}
 use Rattle.recovery_ledger.specs.Packets.{Packet, Packets, packet_at, without, without_some, replaced, carrying, with_contents, forgotten_number, sent_onto}
 use Rattle.recovery_ledger.specs.Probes.{ProbeFound, pending_stands, moves, nothing_found}
 use Rattle.recovery_ledger.specs.SpaceLog.{SpaceEntry, sends, acknowledged, loses, probes, emptied}
 use Rattle.recovery_ledger.specs.Tracked.{Sent, sent_by, sent_moved}
-use Rattle.recovery_ledger.proofs.PacketLaws.{number_at, some_packet, none_found}
+use Rattle.recovery_ledger.proofs.PacketLaws.{number_at, none_found}
 use Rattle.recovery_queue.specs.Queues.{QueueWords}
 use Rattle.quic_recovery.proofs.EntryKinds.{space_kind, sends_none}
 
@@ -24,26 +23,16 @@ module _ {P M A : Type 0} (says : Packet P M → A) where
     pub said_found : (packets : Packets P M) → AreSaid by limit packets → (number : ℕ) (packet : Packet P M)
         → packet_at packets number ≡ Some packet → says packet ≡ by number
     said_found [] said number packet found = none_found packet found
-    said_found (entry ∷ packets) said number packet found = go (is_at (nat_cmp number) entry.0) refl found
-        (said_found packets said.2 number packet)
-      where
-        go : (b : Bool) → is_at (nat_cmp number) entry.0 ≡ b
-            → cond b (Some entry.1) (packet_at packets number) ≡ Some packet
-            → (packet_at packets number ≡ Some packet → says packet ≡ by number) → says packet ≡ by number
-        go true at e later = ap says (sym (some_packet entry.1 packet e)) ∙ said.0 ∙ ap by (number_at number entry.0 at)
-        go false at e later = later e
+    said_found (entry ∷ packets) said number packet found =
+        let at = number_at number entry.0 in
+        let later = said_found packets said.2 number packet in grind (arith, nat_tests, said, found, at, later)
 
     -- some that are left
     pub said_without : (packets : Packets P M) (number : ℕ) → AreSaid by limit packets
         → AreSaid by limit (without packets number)
     said_without [] number said = tt
     said_without (entry ∷ packets) number said =
-        go (is_at (nat_cmp number) entry.0) (said_without packets number said.2)
-      where
-        go : (b : Bool) → AreSaid by limit (without packets number)
-            → AreSaid by limit (cond b packets (entry ∷ without packets number))
-        go true later = said.2
-        go false later = (said.0, said.1, later)
+        let later = said_without packets number said.2 in grind (arith, nat_tests, said, later)
 
     said_without_some : (packets : Packets P M) (forgotten : Option ℕ) → AreSaid by limit packets
         → AreSaid by limit (without_some packets forgotten)
@@ -55,14 +44,10 @@ module _ {P M A : Type 0} (says : Packet P M → A) where
       said_replaced : (packets : Packets P M) (number : ℕ) (packet : Packet P M) → says packet ≡ by number
           → AreSaid by limit packets → AreSaid by limit (replaced number (Some packet) packets)
       said_replaced [] number packet same said = tt
-      said_replaced (entry ∷ packets) number packet same said = go (is_at (nat_cmp number) entry.0) refl
-          (said_replaced packets number packet same said.2)
-        where
-          go : (b : Bool) → is_at (nat_cmp number) entry.0 ≡ b
-              → AreSaid by limit (replaced number (Some packet) packets)
-              → AreSaid by limit (cond b ((entry.0, packet) ∷ packets) (entry ∷ replaced number (Some packet) packets))
-          go true at later = (same ∙ ap by (sym (number_at number entry.0 at)), said.1, said.2)
-          go false at later = (said.0, said.1, later)
+      said_replaced (entry ∷ packets) number packet same said =
+          let at = number_at number entry.0 in
+          let later = said_replaced packets number packet same said.2 in
+          grind (arith, nat_tests, said, same, at, later)
 
       pub said_carrying : (packets : Packets P M) (number : ℕ) (contents : P) → AreSaid by limit packets
           → AreSaid by limit (carrying number contents packets)
@@ -81,11 +66,8 @@ module _ {P M A : Type 0} (says : Packet P M → A) where
           → AreSaid by limit packets → AreSaid then_by (number + 1) (packets ++ (number, packet) ∷ [])
       said_push [] packet own said = (own, omega arith, tt)
       said_push (entry ∷ packets) packet own said =
-          let below : entry.0 < limit = said.1 in (
-            said.0 ∙ same entry.0 below,
-            omega (arith, below, above),
-            said_push packets packet own said.2,
-          )
+          let goes_on = same entry.0 in
+          let later = said_push packets packet own said.2 in grind (arith, said, goes_on, later, above)
 
       pub said_sent : (last : Option ℕ) (packets : Packets P M) (packet : Packet P M) → says packet ≡ then_by number
           → AreSaid by limit packets → AreSaid then_by (number + 1) (sent_onto last number packet packets)
