@@ -26,7 +26,7 @@ use Rattle.recovery_ledger.specs.Packets.{Packets, no_packets}
 use Rattle.recovery_ledger.specs.Paths.{generation_of, counters_of, fresh_ledger}
 use Rattle.recovery_ledger.specs.Probes.{ProbeFound, pending_stands, moves, nothing_found}
 use Rattle.recovery_ledger.specs.Queued.{Queued}
-use Rattle.recovery_ledger.specs.SpaceLog.{SpaceEntry, heard, heard_again, sends, acknowledged, loses, probes, takes_pending, feeds_back, emptied, ack_goes, ack_is_late, asked}
+use Rattle.recovery_ledger.specs.SpaceLog.{SpaceEntry, sends, probes}
 use Rattle.recovery_ledger.specs.Spaces.{Spaces, space_of, tracking_of, sent_of, acks_of, counts_of, queued_of, next_number_of, SpaceStep, SpaceLeft}
 use Rattle.recovery_ledger.specs.Tracked.{Sent, sent_by, sent_moved}
 use Rattle.recovery_ledger.proofs.CoherentLaws.{fresh_coherent}
@@ -176,20 +176,10 @@ module _ {F K Q S M P : Type 0} (beginning : Beginning F K Q S M P) where
   skipping_law (Some (sends number packet)) log n old new next left step =
       (allocated beginning.config.skips beginning.random n number old new
       (left ∙ ap (skipping_at beginning.config.skips beginning.random) (sym next)) step.0 step.1).1
-  skipping_law None log n old new next left step = step ∙ left
-  skipping_law (Some (heard now number eliciting)) log n old new next left step = step ∙ left
-  skipping_law (Some (heard_again number)) log n old new next left step = step ∙ left
-  skipping_law (Some (acknowledged number)) log n old new next left step = step ∙ left
-  skipping_law (Some (loses number)) log n old new next left step = step ∙ left
   skipping_law (Some (probes immediate found)) log n old new next left step = step ∙ left
       ∙ ap (skipping_at beginning.config.skips beginning.random)
       (sym (moved_next beginning.queue.words.empty found (sent_by beginning.queue.words log)))
-  skipping_law (Some takes_pending) log n old new next left step = step ∙ left
-  skipping_law (Some (feeds_back counts)) log n old new next left step = step ∙ left
-  skipping_law (Some emptied) log n old new next left step = step ∙ left
-  skipping_law (Some ack_goes) log n old new next left step = step ∙ left
-  skipping_law (Some ack_is_late) log n old new next left step = step ∙ left
-  skipping_law (Some (asked frame)) log n old new next left step = step ∙ left
+  skipping_law entry log n old new next left step = step ∙ left
 
   pub left_after : (logs : Logs P M) (entries : Entries P M) (old new : Parts K P M) → LeftBy beginning logs old
       → Steps beginning.queue.words entries old new → AreBalanced new.spaces new.paths

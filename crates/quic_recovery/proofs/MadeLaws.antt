@@ -17,14 +17,7 @@ module _ {F K Q S M P : Type 0} (beginning : Beginning F K Q S M P) where
 
   still : IsStill (settings_of beginning) made_of
   still (receives bytes) paths = refl
-  still is_validated paths = refl
-  still (samples delay rtt) paths = refl
-  still (tells call) paths = refl
-  still (searches call) paths = refl
-  still (asks now bytes) paths = refl
-  still (transmits bytes) paths = refl
-  still (passes now bytes) paths = refl
-  still (is_reset now) paths = refl
+  still entry paths = refl
 
   still_on : IsStillOn (settings_of beginning) made_of
   still_on Current paths = (λ bytes. refl, refl)

@@ -36,14 +36,7 @@ module _ {K : Type 0} (settings : PathSettings K) (first : PathMaking K) where
 
   entry_stays : (entry : PathEntry) (past : PathPast K) → (past_with settings entry past).generation ≡ past.generation
   entry_stays (receives bytes) past = refl
-  entry_stays is_validated past = refl
-  entry_stays (samples delay rtt) past = refl
-  entry_stays (tells call) past = refl
-  entry_stays (searches call) past = refl
-  entry_stays (asks now bytes) past = refl
-  entry_stays (transmits bytes) past = refl
-  entry_stays (passes now bytes) past = refl
-  entry_stays (is_reset now) past = refl
+  entry_stays entry past = refl
 
   previous_stays : (entry : PathEntry) (previous : Option (PathPast K))
       → option_map (λ past. past.generation) (option_map (past_with settings entry) previous)

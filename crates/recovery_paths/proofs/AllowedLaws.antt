@@ -8,7 +8,7 @@ use Rattle.recovery_mtud.proofs.SearchRunLaws.{IsInTurn}
 use Rattle.recovery_paths.specs.declared.live_paths.PathName.TheVariants.{Current, Previous}
 use Rattle.recovery_paths.specs.PathMaking.{PathMaking, PathSettings}
 use Rattle.recovery_paths.specs.PathStates.{PathState, is_blocked, path_delay}
-use Rattle.recovery_paths.specs.PathLog.{OfPaths, OnEachPath, PathsEntry, PathEntry, PathPast, PathKnown, Following, paths_with, paths_after, pasts_by, each_path, state_of, known_of, known_with, known_following, past_with, past_following, on, moves, drops_previous, receives, is_validated, samples, tells, searches, asks, transmits, passes, is_reset}
+use Rattle.recovery_paths.specs.PathLog.{OfPaths, OnEachPath, PathsEntry, PathEntry, PathPast, PathKnown, Following, paths_with, paths_after, pasts_by, each_path, state_of, known_of, known_with, known_following, past_with, past_following, on, moves, drops_previous, searches, passes}
 use Rattle.recovery_paths.proofs.PathLogLaws.{each-after}
 
 -- what passes was neither blocked nor delayed, and a limit is told while no search runs
@@ -53,14 +53,8 @@ module _ {K : Type 0} (settings : PathSettings K) where
   allowed_anywhere : (entry : PathEntry) (state : PathState K) → PassesNothing entry
       → IsAllowed settings.words state entry
   allowed_anywhere (passes now bytes) state nothing = absurd nothing
-  allowed_anywhere (receives bytes) state nothing = tt
-  allowed_anywhere is_validated state nothing = tt
-  allowed_anywhere (samples delay rtt) state nothing = tt
-  allowed_anywhere (tells call) state nothing = tt
   allowed_anywhere (searches call) state nothing = absurd nothing
-  allowed_anywhere (asks now bytes) state nothing = tt
-  allowed_anywhere (transmits bytes) state nothing = tt
-  allowed_anywhere (is_reset now) state nothing = tt
+  allowed_anywhere entry state nothing = tt
 
   module _ (Holds : PathPast K → Type 0) (kept : IsKept Holds) where
     -- on the previous path nothing passes

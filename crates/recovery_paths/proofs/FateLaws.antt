@@ -8,11 +8,11 @@ use Rattle.std.proofs.lemmas.Bool.Decides.{nat_tests}
 use Rattle.recovery_ledger.specs.Departures.{one_if_same}
 use Rattle.recovery_mtud.specs.BurstRuns.{AreFatesApart}
 use Rattle.recovery_mtud.specs.Discovery.{Discovery}
-use Rattle.recovery_mtud.specs.DiscoveryLog.{MtuCall, polls, is_limited, acks, loses_probe, loses, losses_end, resets}
+use Rattle.recovery_mtud.specs.DiscoveryLog.{MtuCall, acks, loses}
 use Rattle.recovery_mtud.specs.MtuEntries.{entries_by}
 use Rattle.recovery_mtud.proofs.BurstRunLaws.{acked_in_calls, lost_in_calls, fates_apart_by}
 use Rattle.recovery_paths.specs.declared.live_paths.PathName.TheVariants.{Current, Previous}
-use Rattle.recovery_paths.specs.PathLog.{PathsEntry, PathEntry, PathPast, Following, pasts_by, past_with, past_following, on, moves, drops_previous, fresh, goes_on, receives, is_validated, samples, tells, searches, asks, transmits, passes, is_reset}
+use Rattle.recovery_paths.specs.PathLog.{PathsEntry, PathEntry, PathPast, Following, pasts_by, past_with, past_following, on, moves, drops_previous, fresh, goes_on, receives, searches}
 use Rattle.recovery_paths.specs.PathMaking.{PathMaking, PathSettings}
 
 -- ---- the fates of a number, by the calls of a search
@@ -42,12 +42,7 @@ fates_are : (number : ℕ) (calls : List MtuCall)
     → fates number calls ≡ times number (acked_in_calls calls) + times number (lost_in_calls calls)
 fates_are number [] = refl
 fates_are number (acks other bytes ∷ earlier) = omega (arith, fates_are number earlier)
-fates_are number (loses other bytes ∷ earlier) = omega (arith, fates_are number earlier)
-fates_are number (polls now next ∷ earlier) = omega (arith, fates_are number earlier)
-fates_are number (is_limited limit ∷ earlier) = omega (arith, fates_are number earlier)
-fates_are number (loses_probe ∷ earlier) = omega (arith, fates_are number earlier)
-fates_are number (losses_end now ∷ earlier) = omega (arith, fates_are number earlier)
-fates_are number (resets mtu min_mtu ∷ earlier) = omega (arith, fates_are number earlier)
+fates_are number (call ∷ earlier) = omega (arith, fates_are number earlier)
 
 -- a number that is another stands there
 one_here : (number other : ℕ) → nat_eq number other ≡ true → one_if_same other number ≡ 1
@@ -109,14 +104,7 @@ module _ {K : Type 0} (settings : PathSettings K) (number : ℕ) where
   fates_with : (entry : PathEntry) (past : PathPast K)
       → fates_on (past_with settings entry past) ≤ fates_on past + told_on_path number entry
   fates_with (receives bytes) past = omega arith
-  fates_with is_validated past = omega arith
-  fates_with (samples delay rtt) past = omega arith
-  fates_with (tells call) past = omega arith
-  fates_with (searches call) past = omega arith
-  fates_with (asks now bytes) past = omega arith
-  fates_with (transmits bytes) past = omega arith
-  fates_with (passes now bytes) past = omega arith
-  fates_with (is_reset now) past = omega arith
+  fates_with entry past = omega arith
 
   -- a path that follows begins with none, or with those of the path before it
   fates_following : (following : Following) (past : PathPast K)

@@ -4,7 +4,7 @@ use Rattle.std.proofs.lemmas.Bool.{false≢true}
 use Rattle.std.proofs.lemmas.Option.{none-some}
 use Rattle.recovery_pacing.proofs.PacerLogLaws.{HavePassed}
 use Rattle.recovery_paths.specs.PathMaking.{PathMaking, PathSettings, bucket_of}
-use Rattle.recovery_paths.specs.PathLog.{OnEachPath, PathsEntry, PathEntry, PathPast, Following, pasts_by, each_path, state_of, known_of, past_with, past_following, fresh, goes_on, receives, is_validated, samples, tells, searches, asks, transmits, passes, is_reset}
+use Rattle.recovery_paths.specs.PathLog.{OnEachPath, PathsEntry, PathEntry, PathPast, Following, pasts_by, each_path, state_of, known_of, past_with, past_following, fresh, goes_on, transmits, passes, is_reset}
 use Rattle.recovery_paths.proofs.AllowedLaws.{IsAllowed, IsKept, AreAllowed, kept_after}
 
 -- on one path, since its pacer was made
@@ -15,15 +15,10 @@ module _ {K : Type 0} (settings : PathSettings K) where
   -- an entry keeps that
   passed_law : (entry : PathEntry) (past : PathPast K) → IsAllowed settings.words (state_of settings past) entry
       → HavePassedOn past → HavePassedOn (past_with settings entry past)
-  passed_law (receives bytes) past allowed passed = passed
-  passed_law is_validated past allowed passed = passed
-  passed_law (samples delay rtt) past allowed passed = passed
-  passed_law (tells call) past allowed passed = passed
-  passed_law (searches call) past allowed passed = passed
-  passed_law (asks now bytes) past allowed passed = passed
   passed_law (transmits bytes) past allowed passed = (λ checked. absurd (false≢true checked), passed)
   passed_law (passes now bytes) past allowed passed = (λ checked. (refl, allowed.1), passed)
   passed_law (is_reset now) past allowed passed = tt
+  passed_law entry past allowed passed = passed
 
   -- a path that follows has a new pacer
   follows_passed : (following : Following) (past : PathPast K) → HavePassedOn past

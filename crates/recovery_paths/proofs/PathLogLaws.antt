@@ -2,7 +2,7 @@
 use Rattle.std.proofs.Common.{◌≡◌, List, [], ◌∷◌, ◌++◌, Option, None, Some, option_map, refl, ap, ◌∙◌}
 use Rattle.recovery_paths.specs.declared.live_paths.PathName.TheVariants.{Current, Previous}
 use Rattle.recovery_paths.specs.PathMaking.{PathMaking, PathSettings}
-use Rattle.recovery_paths.specs.PathLog.{OfPaths, PathsEntry, PathEntry, PathPast, PathKnown, Following, paths_with, paths_after, pasts_by, each_path, past_with, past_following, known_of, known_with, known_following, PathsStep, PathsLeft, on, moves, drops_previous, fresh, goes_on, receives, is_validated, samples, tells, searches, asks, transmits, passes, is_reset}
+use Rattle.recovery_paths.specs.PathLog.{OfPaths, PathsEntry, PathEntry, PathPast, PathKnown, Following, paths_with, paths_after, pasts_by, each_path, past_with, past_following, known_of, known_with, known_following, PathsStep, PathsLeft, on, moves, drops_previous, fresh, goes_on, receives}
 
 -- what is mapped after a change is the change of what is mapped
 option-each : {P Q : Type 0} (f : P → Q) (change : P → P) (changed : Q → Q) → ((p : P) → changed (f p) ≡ f (change p))
@@ -15,14 +15,7 @@ module _ {K : Type 0} (settings : PathSettings K) where
   pub known_of-with : (entry : PathEntry) (past : PathPast K)
       → known_with settings entry (known_of settings past) ≡ known_of settings (past_with settings entry past)
   known_of-with (receives bytes) past = refl
-  known_of-with is_validated past = refl
-  known_of-with (samples delay rtt) past = refl
-  known_of-with (tells call) past = refl
-  known_of-with (searches call) past = refl
-  known_of-with (asks now bytes) past = refl
-  known_of-with (transmits bytes) past = refl
-  known_of-with (passes now bytes) past = refl
-  known_of-with (is_reset now) past = refl
+  known_of-with entry past = refl
 
   known_of-following : (following : Following) (past : PathPast K)
       → known_following settings following (known_of settings past)

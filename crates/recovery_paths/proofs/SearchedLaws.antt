@@ -12,7 +12,7 @@ use Rattle.recovery_mtud.specs.SearchRuns.{AreLimitsOutside}
 use Rattle.recovery_mtud.proofs.EntryLaws.{discovery_made_untold, discovery_disabled_untold}
 use Rattle.recovery_mtud.proofs.SearchRunLaws.{IsInTurn, limits_outside_after}
 use Rattle.recovery_paths.specs.PathMaking.{PathMaking, PathSettings, discovery_with, first_discovery, reset_call}
-use Rattle.recovery_paths.specs.PathLog.{OnEachPath, PathsEntry, PathEntry, PathPast, Following, pasts_by, each_path, state_of, known_of, past_with, past_following, fresh, goes_on, receives, is_validated, samples, tells, searches, asks, transmits, passes, is_reset}
+use Rattle.recovery_paths.specs.PathLog.{OnEachPath, PathsEntry, PathEntry, PathPast, Following, pasts_by, each_path, state_of, known_of, past_with, past_following, fresh, goes_on, searches, is_reset}
 use Rattle.recovery_paths.proofs.AllowedLaws.{IsAllowed, IsKept, AreAllowed, kept_after}
 
 -- a discovery that was made so and called so is searched by these settings, if any
@@ -55,17 +55,11 @@ module _ {K : Type 0} (settings : PathSettings K) (by : Option MtuDiscoveryConfi
   -- an entry that is allowed keeps that
   searched_law : (entry : PathEntry) (past : PathPast K) → IsAllowed settings.words (state_of settings past) entry
       → IsPathSearchedBy by past → IsPathSearchedBy by (past_with settings entry past)
-  searched_law (receives bytes) past allowed searched = searched
-  searched_law is_validated past allowed searched = searched
-  searched_law (samples delay rtt) past allowed searched = searched
-  searched_law (tells call) past allowed searched = searched
   searched_law (searches call) past allowed searched =
       searched_after by past.making.discovery call past.searched allowed searched
-  searched_law (asks now bytes) past allowed searched = searched
-  searched_law (transmits bytes) past allowed searched = searched
-  searched_law (passes now bytes) past allowed searched = searched
   searched_law (is_reset now) past allowed searched =
       searched_after by past.making.discovery (reset_call settings) past.searched tt searched
+  searched_law entry past allowed searched = searched
 
   -- a fresh path is searched from its making on, and one that goes on as the path before it
   follows_searched : (following : Following) (past : PathPast K) → IsPathSearchedBy by past

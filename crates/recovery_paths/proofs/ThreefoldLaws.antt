@@ -4,7 +4,7 @@ use Rattle.std.proofs.Common.{ℕ, ◌≡◌, ◌≤◌, ◌*◌, ◌&&◌, Bool
 use Rattle.std.proofs.lemmas.Bool.{ltb-false}
 use Rattle.std.proofs.lemmas.Option.{none-some}
 use Rattle.recovery_paths.specs.PathMaking.{PathMaking, PathSettings}
-use Rattle.recovery_paths.specs.PathLog.{OnEachPath, PathsEntry, PathEntry, PathPast, Following, pasts_by, each_path, state_of, known_of, past_with, past_following, fresh, goes_on, receives, is_validated, samples, tells, searches, asks, transmits, passes, is_reset}
+use Rattle.recovery_paths.specs.PathLog.{OnEachPath, PathsEntry, PathEntry, PathPast, Following, pasts_by, each_path, state_of, known_of, past_with, past_following, fresh, goes_on, receives, is_validated, transmits, passes}
 use Rattle.recovery_paths.specs.Threefold.{IsWithinThreefold}
 use Rattle.recovery_paths.proofs.AllowedLaws.{IsAllowed, IsKept, AreAllowed, kept_after}
 
@@ -24,15 +24,11 @@ module _ {K : Type 0} (settings : PathSettings K) where
   threefold_law (receives bytes) past allowed within = λ unproved checked. let all =
       within unproved checked in omega (arith, all)
   threefold_law is_validated past allowed within = λ unproved checked. true_is_not_false unproved
-  threefold_law (samples delay rtt) past allowed within = within
-  threefold_law (tells call) past allowed within = within
-  threefold_law (searches call) past allowed within = within
-  threefold_law (asks now bytes) past allowed within = within
   threefold_law (transmits bytes) past allowed within = λ unproved checked. true_is_not_false
       (sym (checked 0 (record { bytes = 0; checked = true }) (omega arith)))
   threefold_law (passes now bytes) past allowed within =
       λ unproved checked. unblocked past.validated _ _ allowed.0 unproved
-  threefold_law (is_reset now) past allowed within = within
+  threefold_law entry past allowed within = within
 
   -- a path that follows begins within it
   follows_within : (following : Following) (past : PathPast K) → IsWithinThreefold past

@@ -2,7 +2,7 @@
 use Rattle.std.proofs.Common.{ℕ, List, [], ◌∷◌, Option}
 use Rattle.recovery_mtud.specs.MtuEntries.{IsUntold}
 use Rattle.recovery_paths.specs.declared.live_paths.PathName.TheVariants.{Current, Previous}
-use Rattle.recovery_paths.specs.PathLog.{PathsEntry, PathEntry, PathPast, Following, pasts_by, past_with, past_following, on, moves, drops_previous, fresh, goes_on, receives, is_validated, samples, tells, searches, asks, transmits, passes, is_reset}
+use Rattle.recovery_paths.specs.PathLog.{PathsEntry, PathEntry, PathPast, Following, pasts_by, past_with, past_following, on, moves, drops_previous, fresh, goes_on, receives}
 use Rattle.recovery_paths.specs.PathMaking.{PathMaking, PathSettings}
 
 -- of one path
@@ -14,14 +14,7 @@ module _ {K : Type 0} (settings : PathSettings K) (made : (limit : Option ℕ) �
     -- an entry leaves the search as it was made
     untold_law : (entry : PathEntry) (past : PathPast K) → WasUntold past → WasUntold (past_with settings entry past)
     untold_law (receives bytes) past untold = untold
-    untold_law is_validated past untold = untold
-    untold_law (samples delay rtt) past untold = untold
-    untold_law (tells call) past untold = untold
-    untold_law (searches call) past untold = untold
-    untold_law (asks now bytes) past untold = untold
-    untold_law (transmits bytes) past untold = untold
-    untold_law (passes now bytes) past untold = untold
-    untold_law (is_reset now) past untold = untold
+    untold_law entry past untold = untold
 
     -- a path that follows has a new one, or goes on with that of the path before it
     follows_untold : (following : Following) (past : PathPast K) → WasUntold past
