@@ -3,7 +3,7 @@ use Rattle.std.proofs.Common.{◌≡◌, ℕ, true, false, Option, None, Some, o
 use Rattle.std.proofs.lemmas.Option.{none-some, same_Some}
 use Rattle.recovery_base.specs.declared.below.frames.EcnCounts.{EcnCounts}
 use Rattle.recovery_ledger.specs.Probes.{pending_stands, moves, nothing_found}
-use Rattle.recovery_ledger.specs.SpaceLog.{SpaceEntry, heard, heard_again, sends, acknowledged, loses, probes, takes_pending, feeds_back, emptied, ack_goes, ack_is_late, asked}
+use Rattle.recovery_ledger.specs.SpaceLog.{SpaceEntry, heard, heard_again, sends, acknowledged, probes}
 use Rattle.recovery_ledger.specs.Spaces.{Space, SpaceStep}
 use Rattle.recovery_ledger.specs.Queued.{no_ecn}
 use Rattle.recovery_paths.specs.PathLog.{OfPaths, paths_marks}
@@ -91,16 +91,10 @@ module _ {P M S : Type 0} (words : QueueWords P S) where
   beside_step (heard_again number) old new step = ap beside_of step.1
   beside_step (sends number packet) old new step = ap beside_of step.1
   beside_step (acknowledged number) old new step = ap beside_of step.others
-  beside_step (loses number) old new step = ap beside_of step
   beside_step (probes immediate pending_stands) old new step = ap beside_of step
   beside_step (probes immediate (moves number)) old new step = ap beside_of step
   beside_step (probes immediate nothing_found) old new step = ap beside_of step
-  beside_step takes_pending old new step = ap beside_of step
-  beside_step (feeds_back counts) old new step = ap beside_of step
-  beside_step emptied old new step = ap beside_of step
-  beside_step ack_goes old new step = ap beside_of step
-  beside_step ack_is_late old new step = ap beside_of step
-  beside_step (asked frame) old new step = ap beside_of step
+  beside_step entry old new step = ap beside_of step
 
   pub beside_stays : (entry : Option (SpaceEntry P M)) (old new : Space P M) → StepBy (SpaceStep words) entry old new
       → beside_of new ≡ beside_of old

@@ -188,20 +188,14 @@ module _ {K Q S M P : Type 0} (q : QueueMeaning Q S M P) (known : Known K P M) (
   answer_kept (Acked there now number app_limited) answer idle = pick there (acknowledged number) idle
   answer_kept (Lost there number) answer idle = pick there (loses number) idle
   answer_kept (AckFrequencyIn frame) (Flag true) idle = pick Data (asked frame) idle
-  answer_kept (AckFrequencyIn frame) (Flag false) idle = none
-  answer_kept (AckFrequencyIn frame) answer idle = none
   answer_kept (AcksSent there) answer idle = pick there ack_goes idle
   answer_kept (AckDelayTimeout there) answer idle = pick there ack_is_late idle
   answer_kept (DiscardSpace there) answer idle = pick there emptied idle
   answer_kept (PollMtu now) (Probe number size) idle = pick Data _ idle
-  answer_kept (PollMtu now) answer idle = none
   answer_kept (Ecn there newly counts) answer idle = pick there (feeds_back counts) idle
   answer_kept (QueueProbe there immediate streams) answer idle = pick there _ idle
   answer_kept (TakePending there) answer idle = pick there takes_pending idle
   answer_kept (Transmit now bytes true) Transmitted idle = none
-  answer_kept (Transmit now bytes true) (Delayed until) idle = none
-  answer_kept (Transmit now bytes true) answer idle = none
-  answer_kept (Transmit now bytes false) answer idle = none
   answer_kept event answer idle = none
 
   -- what holds of none, and of entries of some kinds, holds of what an event of those kinds makes
@@ -297,7 +291,6 @@ module _ {K Q S M P : Type 0} (q : QueueMeaning Q S M P) (known : Known K P M) (
   answer_keeps (Received space now number eliciting) answer quiet = none
   answer_keeps (AckFrequencyIn frame) (Flag true) quiet = none
   answer_keeps (AckFrequencyIn frame) (Flag false) quiet = none
-  answer_keeps (AckFrequencyIn frame) answer quiet = none
   answer_keeps event answer quiet = none
 
   -- what holds of none, and of one more that is of some kinds, holds of what an event of those kinds makes
@@ -316,16 +309,9 @@ module _ {K Q S M P : Type 0} (q : QueueMeaning Q S M P) (known : Known K P M) w
   pub plainly : (event : Event Q S M P) (answer : Answer Q)
       → but_logs (answered q known event answer) ≡ but_logs (answered q known (plain event) Done)
   plainly (Received there now number eliciting) (New arm) = refl
-  plainly (Received there now number eliciting) answer = refl
   plainly (AckFrequencyIn frame) (Flag true) = refl
-  plainly (AckFrequencyIn frame) (Flag false) = refl
-  plainly (AckFrequencyIn frame) answer = refl
   plainly (PollMtu now) (Probe number size) = refl
-  plainly (PollMtu now) answer = refl
   plainly (Transmit now bytes true) Transmitted = refl
-  plainly (Transmit now bytes true) (Delayed until) = refl
-  plainly (Transmit now bytes true) answer = refl
-  plainly (Transmit now bytes false) answer = refl
   plainly event answer = refl
 
   -- what holds of the entries that an event makes whatever its answer holds of those that it makes
