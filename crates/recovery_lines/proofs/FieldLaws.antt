@@ -1,11 +1,11 @@
 -- A field that is read is the field that is spelled, and what is spelled is read. `FormLaws` rest on it.
-use Rattle.std.proofs.Common.{◌≡◌, ℕ, ◌<◌, ◌≤◌, ◌^◌, Bool, true, false, cond, List, [], ◌∷◌, Option, Some, None, IfSome, decimal, bytes_eq, length, refl, sym, subst, ap, ◌∙◌, lit≤}
+use Rattle.std.proofs.Common.{◌≡◌, ℕ, ◌<◌, ◌≤◌, ◌^◌, Bool, true, false, cond, List, [], ◌∷◌, Option, Some, None, IfSome, decimal, bytes_eq, refl, subst, ap, ◌∙◌, lit≤}
 use Rattle.std.specs.List.{AllByRecursion}
 use Rattle.std.proofs.lemmas.Slice.Eq.{bytes_eq-Decides}
 use Rattle.recovery_base.specs.declared.below.SpaceId.{SpaceId}
 use Rattle.recovery_base.specs.declared.below.SpaceId.TheVariants.{Initial, Handshake, Data}
 use Rattle.recovery_base.specs.declared.timer.Timer.{Timer}
-use Rattle.recovery_base.specs.declared.timer.Timer.TheVariants.{LossDetection, Idle, Close, KeyDiscard, PathValidation, KeepAlive, Pacing, PushNewCid, MaxAckDelay}
+use Rattle.recovery_base.specs.declared.timer.Timer.TheVariants.{LossDetection}
 use lib.Chars.{codes}
 use Rattle.recovery_events.specs.declared.event.PathName.{PathName}
 use Rattle.recovery_events.specs.declared.event.PathName.TheVariants.{Current, Previous}
@@ -72,14 +72,7 @@ space_field = record {
 pub timer_again : (t : Timer) → timer_of (timer_word t) ≡ Some t
 unfolding timer_of
 timer_again LossDetection = refl
-timer_again Idle = refl
-timer_again Close = refl
-timer_again KeyDiscard = refl
-timer_again PathValidation = refl
-timer_again KeepAlive = refl
-timer_again Pacing = refl
-timer_again PushNewCid = refl
-timer_again MaxAckDelay = refl
+timer_again t = refl
 
 pub timer_field : IsField timer_word (λ t. Unit {0}) timer_of
 unfolding timer_of

@@ -8,23 +8,11 @@ use Rattle.std.specs.List.{AllByRecursion}
 use Rattle.std.proofs.lemmas.Slice.Eq.{bytes_eq-Decides}
 use lib.Chars.{codes}
 use Rattle.recovery_base.specs.declared.below.SpaceId.{SpaceId}
-use Rattle.recovery_base.specs.declared.below.SpaceId.TheVariants.{Initial, Handshake, Data}
+use Rattle.recovery_base.specs.declared.below.SpaceId.TheVariants.{Initial}
 use Rattle.recovery_base.specs.declared.below.ids.IssuedCid.{IssuedCid}
 use Rattle.recovery_base.specs.declared.timer.Timer.{Timer}
-use Rattle.recovery_base.specs.declared.timer.Timer.TheVariants.{LossDetection, Idle, Close, KeyDiscard, PathValidation, KeepAlive, Pacing, PushNewCid, MaxAckDelay}
-use Rattle.recovery_events.specs.declared.event.Event.TheVariants.{Received, Send, Acked, Lost}
-use Rattle.recovery_events.specs.declared.event.Event.TheVariants.{NewId, NextId, InitialId, IssueIds}
-use Rattle.recovery_events.specs.declared.event.Event.TheVariants.{IdTimeout, PeerRetired}
-use Rattle.recovery_events.specs.declared.event.Event.TheVariants.{AckFrequencyIn, AcksSent}
-use Rattle.recovery_events.specs.declared.event.Event.TheVariants.{AckDelayTimeout, SetTimer}
-use Rattle.recovery_events.specs.declared.event.Event.TheVariants.{StopTimer, NextTimeout}
-use Rattle.recovery_events.specs.declared.event.Event.TheVariants.{DiscardSpace, InFlight}
-use Rattle.recovery_events.specs.declared.event.Event.TheVariants.{Sample, DatagramIn, Validated}
-use Rattle.recovery_events.specs.declared.event.Event.TheVariants.{Transmit, PacerCheck}
-use Rattle.recovery_events.specs.declared.event.Event.TheVariants.{Congestion, EndAcks}
-use Rattle.recovery_events.specs.declared.event.Event.TheVariants.{PollMtu, PeerLimit, LossesDone}
-use Rattle.recovery_events.specs.declared.event.Event.TheVariants.{Ecn, CheckAck, QueueProbe, TakePending}
-use Rattle.recovery_events.specs.declared.event.Event.TheVariants.{NewPath, ResetPath, DropPrevious}
+use Rattle.recovery_base.specs.declared.timer.Timer.TheVariants.{LossDetection}
+use Rattle.recovery_events.specs.declared.event.Event.TheVariants.{Received}
 use Rattle.recovery_events.specs.declared.event.PathName.{PathName}
 use Rattle.recovery_events.specs.declared.event.PathName.TheVariants.{Current, Previous}
 use Rattle.recovery_lines.specs.declared.lines.Line.{Line}
@@ -51,20 +39,12 @@ flag_plain false = refl
 space_plain : (s : SpaceId) → is_plain (space_word s) ≡ true
 unfolding is_plain
 space_plain Initial = refl
-space_plain Handshake = refl
-space_plain Data = refl
+space_plain s = refl
 
 timer_plain : (t : Timer) → is_plain (timer_word t) ≡ true
 unfolding is_plain
 timer_plain LossDetection = refl
-timer_plain Idle = refl
-timer_plain Close = refl
-timer_plain KeyDiscard = refl
-timer_plain PathValidation = refl
-timer_plain KeepAlive = refl
-timer_plain Pacing = refl
-timer_plain PushNewCid = refl
-timer_plain MaxAckDelay = refl
+timer_plain t = refl
 
 path_plain : (p : PathName) → is_plain (path_word p) ≡ true
 unfolding is_plain
@@ -85,12 +65,7 @@ field_plain a_timer x h = tested_plain (timer_word x) (timer_plain x)
 field_plain a_path x h = tested_plain (path_word x) (path_plain x)
 field_plain a_flag x h = tested_plain (flag_word x) (flag_plain x)
 field_plain a_largest x h = largest_plain x h
-field_plain a_u64 x h = decimal_plain x (omega (arith, h))
-field_plain a_span x h = decimal_plain x (omega (arith, h))
-field_plain a_u16 x h = decimal_plain x (omega (arith, h))
-field_plain a_var_int x h = decimal_plain x (omega (arith, h))
-field_plain a_byte x h = decimal_plain x (omega (arith, h))
-field_plain a_count x h = decimal_plain x (omega (arith, h))
+field_plain f x h = decimal_plain x (omega (arith, h))
 
 is_field : (f : Field) → IsField (word_for f) (Fits f) (value_of f)
 is_field a_space = space_field
@@ -277,40 +252,7 @@ are_forms =
 is_listed : (unkept : ℕ) (event : ItemEvent)
     → form_named forms (saying unkept event).0.name ≡ Some (saying unkept event).0
 is_listed unkept (Received space now number ack_eliciting) = refl
-is_listed unkept (Send space now size ack_eliciting largest_acked items none) = refl
-is_listed unkept (Acked space now number app_limited) = refl
-is_listed unkept (Lost space number) = refl
-is_listed unkept (NewId frame) = refl
-is_listed unkept NextId = refl
-is_listed unkept (InitialId id) = refl
-is_listed unkept (IssueIds now ids) = refl
-is_listed unkept IdTimeout = refl
-is_listed unkept (PeerRetired sequence limit) = refl
-is_listed unkept (AckFrequencyIn frame) = refl
-is_listed unkept (AcksSent space) = refl
-is_listed unkept (AckDelayTimeout space) = refl
-is_listed unkept (SetTimer timer time) = refl
-is_listed unkept (StopTimer timer) = refl
-is_listed unkept NextTimeout = refl
-is_listed unkept (DiscardSpace space) = refl
-is_listed unkept (InFlight path) = refl
-is_listed unkept (Sample delay rtt) = refl
-is_listed unkept (DatagramIn path bytes) = refl
-is_listed unkept (Validated path) = refl
-is_listed unkept (Transmit now bytes checked) = refl
-is_listed unkept (PacerCheck now bytes) = refl
-is_listed unkept (Congestion now sent persistent bytes) = refl
-is_listed unkept (EndAcks now app_limited largest) = refl
-is_listed unkept (PollMtu now) = refl
-is_listed unkept (PeerLimit size) = refl
-is_listed unkept (LossesDone now) = refl
-is_listed unkept (Ecn space newly_acked counts) = refl
-is_listed unkept (CheckAck space low high) = refl
-is_listed unkept (QueueProbe space immediate_ack none) = refl
-is_listed unkept (TakePending space) = refl
-is_listed unkept (NewPath now remote fresh) = refl
-is_listed unkept (ResetPath now) = refl
-is_listed unkept DropPrevious = refl
+is_listed unkept event = refl
 
 named_form : (listed : List Form) → AllByRecursion IsForm listed → (name : List ℕ) (form : Form)
     → form_named listed name ≡ Some form → (name ≡ form.name) × IsForm form

@@ -1,6 +1,6 @@
 -- What is read from a line is what it spells, and what a line spells is read from it: the laws of lines and of scripts
 -- rest on it.
-use Rattle.std.proofs.Common.{IfSome, IfOk, OnErr, IsSome, IsSomeAnd, ◌≡◌, ◌≢◌, ℕ, ◌<◌, ◌≤◌, ◌==◌, Bool, true, false, cond, List, [], ◌∷◌, length, Option, Some, None, Result, Ok, Err, inl, inr, refl, sym, ap, ap₂, subst, ◌∙◌, arith, eqb-true, bytes_eq}
+use Rattle.std.proofs.Common.{IsSomeAnd, ◌≡◌, ◌≢◌, ℕ, ◌<◌, ◌≤◌, ◌==◌, Bool, true, false, cond, List, [], ◌∷◌, length, Option, Some, None, inl, inr, refl, sym, ap, ap₂, subst, ◌∙◌, arith, eqb-true, bytes_eq}
 use lib.Chars.{codes}
 use Rattle.std.specs.List.{AllByRecursion, All, join_with_byte}
 use Rattle.std.proofs.lemmas.List.{append-nil}

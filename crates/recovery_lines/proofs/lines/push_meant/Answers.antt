@@ -1,4 +1,4 @@
-use Rattle.std.proofs.Common.{refl, subst, sym, rules, arith, ◌≡◌, ◌++◌, List, [], ◌∷◌}
+use Rattle.std.proofs.Common.{refl, subst, sym, rules}
 use Rattle.recovery_events.specs.declared.event.Event.TheVariants.{IssueIds}
 use Rattle.recovery_lines.specs.declared.lines.Line.{Line}
 use Rattle.recovery_lines.specs.Lines.{Means}
