@@ -79,9 +79,15 @@ module _ {P M : Type 0} (weigh : ℕ → Bool → ℕ) (generation : ℕ) where
         → sum_in (gone_too gone number) packets ≡ sum_in gone packets
     sum_of_others [] none = refl
     sum_of_others (entry ∷ packets) none =
-        grind (arith, nat_tests, none, sum_by-cons (λ (e : ℕ × Packet P M). one_if_same e.0 number) entry packets,
-        sum_by-cons (weigh_in gone) entry packets, sum_by-cons (weigh_in (gone_too gone number)) entry packets,
-        sum_of_others packets)
+        grind (
+          arith,
+          nat_tests,
+          none,
+          sum_by-cons (λ (e : ℕ × Packet P M). one_if_same e.0 number) entry packets,
+          sum_by-cons (weigh_in gone) entry packets,
+          sum_by-cons (weigh_in (gone_too gone number)) entry packets,
+          sum_of_others packets,
+        )
 
     -- the packet of a number, where it stands there once at most
     sum_without : (packets : Packets P M) → times number packets ≤ 1
@@ -95,14 +101,27 @@ module _ {P M : Type 0} (weigh : ℕ → Bool → ℕ) (generation : ℕ) where
             (entry ∷ packets)
         go true at later =
             let same : entry.0 ≡ number = number_at number entry.0 at in
-            grind (arith, nat_tests, once, same, sum_by-cons (λ (e : ℕ × Packet P M). one_if_same e.0 number) entry packets,
-            sum_by-cons (weigh_in (gone_too gone number)) entry packets, sum_of_others packets)
+            grind (
+              arith,
+              nat_tests,
+              once,
+              same,
+              sum_by-cons (λ (e : ℕ × Packet P M). one_if_same e.0 number) entry packets,
+              sum_by-cons (weigh_in (gone_too gone number)) entry packets,
+              sum_of_others packets,
+            )
         go false at later =
             let apart : ¬ (entry.0 ≡ number) = λ same. (let itself = at_itself number in cc (same, itself, at)) in
-            grind (arith, nat_tests, once, apart, later,
-            sum_by-cons (λ (e : ℕ × Packet P M). one_if_same e.0 number) entry packets,
-            sum_by-cons (weigh_in gone) entry (without packets number),
-            sum_by-cons (weigh_in (gone_too gone number)) entry packets)
+            grind (
+              arith,
+              nat_tests,
+              once,
+              apart,
+              later,
+              sum_by-cons (λ (e : ℕ × Packet P M). one_if_same e.0 number) entry packets,
+              sum_by-cons (weigh_in gone) entry (without packets number),
+              sum_by-cons (weigh_in (gone_too gone number)) entry packets,
+            )
 
   -- ---- one entry more, in this space or in another one
 
@@ -112,8 +131,12 @@ module _ {P M : Type 0} (weigh : ℕ → Bool → ℕ) (generation : ℕ) where
       → sum_in gone (sent_more number packet sent).tracked ≡ sum_in (λ n. gone_with true forgotten gone n) sent.tracked
       + weigh_in gone (number, packet)
   sum_sent sent gone number packet forgotten is once =
-      omega (arith, sum_by_push (weigh_in gone) (without_some sent.tracked (forgotten_by sent packet)) (number, packet),
-      ap (λ f. sum_in gone (without_some sent.tracked f)) is, go forgotten)
+      omega (
+        arith,
+        sum_by_push (weigh_in gone) (without_some sent.tracked (forgotten_by sent packet)) (number, packet),
+        ap (λ f. sum_in gone (without_some sent.tracked f)) is,
+        go forgotten,
+      )
     where
       go : (f : Option ℕ) → sum_in gone (without_some sent.tracked f) ≡ sum_in (λ n. gone_with true f gone n)
           sent.tracked
@@ -330,9 +353,15 @@ module _ {F K Q S M P : Type 0} (beginning : Beginning F K Q S M P) where
         ≡ sum_by (eliciting_in generation) packets
     eliciting_same generation [] = refl
     eliciting_same generation (entry ∷ packets) =
-        let weighs : ℕ × Packet P M → ℕ = weigh_in (λ size eliciting. if eliciting then 1 else 0) generation (λ n. false) in
-        grind (arith, nat_tests, sum_by-cons weighs entry packets, sum_by-cons (eliciting_in generation) entry packets,
-        eliciting_same generation packets)
+        let weighs : ℕ × Packet P M → ℕ =
+        weigh_in (λ size eliciting. if eliciting then 1 else 0) generation (λ n. false) in
+        grind (
+          arith,
+          nat_tests,
+          sum_by-cons weighs entry packets,
+          sum_by-cons (eliciting_in generation) entry packets,
+          eliciting_same generation packets,
+        )
 
     bytes_same : (generation : ℕ) → total (λ size eliciting. size) generation before
         ≡ over_spaces (λ space. sum_by (size_in generation) (sent_in beginning before space).tracked)

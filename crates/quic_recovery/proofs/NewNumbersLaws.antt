@@ -57,7 +57,8 @@ module _ (Numbers : ℕ → Type 0) (came : List ℕ) (same : (m : ℕ) → In m
       let all = all_from (λ m. nat_lt m n) came (λ m there. lt-ltb m n (exceeds m ((same m).0 there))) in
       grind (arith, nat_tests, all)
   new_from (inr other) =
-      let all = all_from (λ m. nat_le m (n + 128)) came (λ m there. le-leb m (n + 128) (other.1 m ((same m).0 there))) in
+      let all = all_from (λ m. nat_le m (n + 128)) came
+      (λ m there. le-leb m (n + 128) (other.1 m ((same m).0 there))) in
       let none = false_from_ne_true _ (λ member. other.0 ((same n).0 (member_to n came member))) in
       grind (arith, nat_tests, all, none)
 

@@ -87,7 +87,13 @@ module _ {P M : Type 0} (n : ℕ) where
       go true at is later = cc
       go false at is later =
           let other : ¬ (entry.0 ≡ n) = λ same. (let itself = at_itself n in cc (same, itself, at)) in
-          grind (arith, nat_tests, sum_by-cons (λ (e : ℕ × Packet P M). one_if_same e.0 n) entry packets, other, later is)
+          grind (
+            arith,
+            nat_tests,
+            sum_by-cons (λ (e : ℕ × Packet P M). one_if_same e.0 n) entry packets,
+            other,
+            later is,
+          )
 
   -- what is forgotten takes the number from a count where it is that one, and tracked
   forgotten_counts : (packets : Packets P M) (forgotten : Option ℕ) (tracked : Bool)
@@ -182,7 +188,11 @@ module _ {P M : Type 0} (n : ℕ) where
     moved_tracks empty nothing_found = here
     moved_tracks empty (moves number) = record {
       same =
-          omega (arith, sum-carrying sent.tracked number (λ entry. one_if_same entry.0 n) empty (λ m packet. refl), here.same);
+          omega (
+            arith,
+            here.same,
+            sum-carrying sent.tracked number (λ entry. one_if_same entry.0 n) empty (λ m packet. refl),
+          );
       adds = here.adds;
       once = here.once;
       late = here.late;
