@@ -1,5 +1,5 @@
 -- Laws of the balance and of the rate, on histories alone. `PacerLogLaws` rest on it.
-use Rattle.std.proofs.Common.{◌≡◌, ℕ, ◌+◌, ◌-◌, ◌*◌, ◌≤◌, max, List, [], ◌∷◌, ◌++◌, refl, sym, ap, ◌∙◌, subst, arith, inl, inr}
+use Rattle.std.proofs.Common.{◌≡◌, ℕ, ◌+◌, ◌-◌, ◌*◌, ◌≤◌, max, List, [], ◌∷◌, ◌++◌, refl, sym, ap, subst, arith, inl, inr}
 use Rattle.std.proofs.Math.Nat.{mul-le-mul, mul-le-mul_left, mul-add}
 use Rattle.std.proofs.lemmas.Bool.{cases_lt}
 use Rattle.recovery_pacing.specs.Pacing.{Bucket, PacerCall, capacity_of}
@@ -72,81 +72,47 @@ module _ (made : Bucket) where
       → NoDebt (credits + more) bytes past
   no_debt_more credits bytes more [] h = omega arith
   no_debt_more credits bytes more (changed call ∷ past) h = (omega arith, no_debt_more credits bytes more past h.1)
-  no_debt_more credits bytes more (credited call credit ∷ past) h = (
-    omega arith,
-    subst (λ n. NoDebt n bytes past) (swap_last credits credit more)
-        (no_debt_more (credits + credit) bytes more past h.1),
-  )
-  no_debt_more credits bytes more (answered call ∷ past) h = no_debt_more credits bytes more past h
-  no_debt_more credits bytes more (transmitted sent ∷ past) h = no_debt_more credits (bytes + sent) more past h
+  no_debt_more credits bytes more (mark ∷ past) h = grind (arith, h, λ (c b : ℕ). no_debt_more c b more past)
 
   pub balance_more : (credits bytes more : ℕ) (past : List PacerMark) → NoDebt credits bytes past
       → balance_from made (credits + more) bytes past ≡ balance_from made credits bytes past + more
   balance_more credits bytes more [] h = omega arith
   balance_more credits bytes more (changed call ∷ past) h = omega (arith, balance_more credits bytes more past h.1)
-  balance_more credits bytes more (credited call credit ∷ past) h =
-      omega (
-        arith,
-        balance_more (credits + credit) bytes more past h.1,
-        ap (λ n. balance_from made n bytes past) (swap_last credits more credit),
-      )
-  balance_more credits bytes more (answered call ∷ past) h = balance_more credits bytes more past h
-  balance_more credits bytes more (transmitted sent ∷ past) h = balance_more credits (bytes + sent) more past h
+  balance_more credits bytes more (mark ∷ past) h = grind (arith, h, λ (c b : ℕ). balance_more c b more past)
 
   pub balance_less : (credits bytes taken : ℕ) (past : List PacerMark)
       → balance_from made credits (bytes + taken) past ≡ balance_from made credits bytes past - taken
   balance_less credits bytes taken [] = omega arith
   balance_less credits bytes taken (changed call ∷ past) = omega (arith, balance_less credits bytes taken past)
-  balance_less credits bytes taken (credited call credit ∷ past) =
-      omega (arith, balance_less (credits + credit) bytes taken past)
-  balance_less credits bytes taken (answered call ∷ past) = balance_less credits bytes taken past
-  balance_less credits bytes taken (transmitted sent ∷ past) =
-      ap (λ n. balance_from made credits n past) (swap_last bytes taken sent)
-      ∙ balance_less credits (bytes + sent) taken past
+  balance_less credits bytes taken (mark ∷ past) = grind (arith, λ (c b : ℕ). balance_less c b taken past)
 
   pub no_debt_less : (credits bytes taken : ℕ) (past : List PacerMark) → NoDebt credits bytes past
       → taken ≤ balance_from made credits bytes past → NoDebt credits (bytes + taken) past
   no_debt_less credits bytes taken [] h low = omega arith
   no_debt_less credits bytes taken (changed call ∷ past) h low =
       (omega arith, no_debt_less credits bytes taken past h.1 (omega arith))
-  no_debt_less credits bytes taken (credited call credit ∷ past) h low =
-      (omega arith, no_debt_less (credits + credit) bytes taken past h.1 (omega arith))
-  no_debt_less credits bytes taken (answered call ∷ past) h low = no_debt_less credits bytes taken past h low
-  no_debt_less credits bytes taken (transmitted sent ∷ past) h low =
-      subst (λ n. NoDebt credits n past) (swap_last bytes sent taken)
-      (no_debt_less credits (bytes + sent) taken past h low)
+  no_debt_less credits bytes taken (mark ∷ past) h low =
+      grind (arith, h, low, λ (c b : ℕ). no_debt_less c b taken past)
 
   -- what was transmitted after a cap point is within its capacity and the credits after it
   covered : (credits bytes : ℕ) (later past : List PacerMark) → IsCapPoint past → NoDebt credits bytes (later ++ past)
       → bytes + bytes_in later ≤ capacity_in made past + credits + credits_in later
-  covered credits bytes [] [] p h = omega arith
   covered credits bytes [] (changed call ∷ past) p h = omega arith
-  covered credits bytes [] (credited call credit ∷ past) p h = omega arith
-  covered credits bytes [] (answered call ∷ past) p h = absurd p
-  covered credits bytes [] (transmitted sent ∷ past) p h = absurd p
+  covered credits bytes [] past p h = grind (arith, p, h)
   covered credits bytes (changed call ∷ later) past p h = covered credits bytes later past p h.1
-  covered credits bytes (credited call credit ∷ later) past p h =
-      omega (arith, covered (credits + credit) bytes later past p h.1)
-  covered credits bytes (answered call ∷ later) past p h = covered credits bytes later past p h
-  covered credits bytes (transmitted sent ∷ later) past p h =
-      omega (arith, covered credits (bytes + sent) later past p h)
+  covered credits bytes (mark ∷ later) past p h = grind (arith, h, λ (c b : ℕ). covered c b later past p)
 
   -- the greatest moment rises, and is at most the latest of the calls
   greatest_rises : (later past : List PacerMark) → greatest_moment made past ≤ greatest_moment made (later ++ past)
   greatest_rises [] past = omega arith
   greatest_rises (changed call ∷ later) past = greatest_rises later past
-  greatest_rises (credited call credit ∷ later) past = omega (arith, greatest_rises later past)
-  greatest_rises (answered call ∷ later) past = greatest_rises later past
-  greatest_rises (transmitted sent ∷ later) past = greatest_rises later past
+  greatest_rises (mark ∷ later) past = omega (arith, greatest_rises later past)
 
   greatest_below : (w r latest : ℕ) (later past : List PacerMark) → AreWithin w r latest (calls_in later)
       → greatest_moment made (later ++ past) ≤ max latest (greatest_moment made past)
   greatest_below w r latest [] past h = omega arith
   greatest_below w r latest (changed call ∷ later) past h = greatest_below w r latest later past h.1
-  greatest_below w r latest (credited call credit ∷ later) past h =
-      omega (arith, greatest_below w r latest later past h.1)
-  greatest_below w r latest (answered call ∷ later) past h = greatest_below w r latest later past h.1
-  greatest_below w r latest (transmitted sent ∷ later) past h = greatest_below w r latest later past h
+  greatest_below w r latest (mark ∷ later) past h = grind (arith, h, greatest_below w r latest later past)
 
   -- all credits together are at most five fourths of the greatest window for each least RTT
   credits_below : (w r latest : ℕ) (later past : List PacerMark) → AreWithin w r latest (calls_in later)
@@ -158,8 +124,7 @@ module _ (made : Bucket) where
       step_bound r call.rtt w call.window credit (credits_in later) call.now (greatest_moment made (later ++ past))
       (greatest_moment made past) h.0.1 h.0.0 (greatest_rises later past) e.0
       (credits_below w r latest later past h.1 e.1)
-  credits_below w r latest (answered call ∷ later) past h e = credits_below w r latest later past h.1 e
-  credits_below w r latest (transmitted sent ∷ later) past h e = credits_below w r latest later past h e
+  credits_below w r latest (mark ∷ later) past h e = grind (arith, h, e, credits_below w r latest later past)
 
   -- the pacing bound
   pub rate_bound : (history later past : List PacerMark) → NoDebt 0 0 history → AreEarned history
@@ -183,17 +148,10 @@ module _ (made : Bucket) where
       → NoDebt credits bytes (later ++ past)
       → balance_from made credits bytes (later ++ past) + bytes + bytes_in later ≤ capacity_in made past + credits +
       credits_in later
-  below_each credits bytes [] [] p h = omega arith
   below_each credits bytes [] (changed call ∷ past) p h = omega arith
-  below_each credits bytes [] (credited call credit ∷ past) p h = omega arith
-  below_each credits bytes [] (answered call ∷ past) p h = absurd p
-  below_each credits bytes [] (transmitted sent ∷ past) p h = absurd p
+  below_each credits bytes [] past p h = grind (arith, p, h)
   below_each credits bytes (changed call ∷ later) past p h = omega (arith, below_each credits bytes later past p h.1)
-  below_each credits bytes (credited call credit ∷ later) past p h =
-      omega (arith, below_each (credits + credit) bytes later past p h.1)
-  below_each credits bytes (answered call ∷ later) past p h = below_each credits bytes later past p h
-  below_each credits bytes (transmitted sent ∷ later) past p h =
-      omega (arith, below_each credits (bytes + sent) later past p h)
+  below_each credits bytes (mark ∷ later) past p h = grind (arith, h, λ (c b : ℕ). below_each c b later past p)
 
   abbrev Met : ℕ → ℕ → List PacerMark → Type 0
   Met credits bytes history =
