@@ -1,16 +1,16 @@
 -- A bucket that is only asked fills up as it was said: what was delayed until a moment passes from that moment on. The
 -- clause `named` of `run` rests on it.
-use Rattle.std.proofs.Common.{◌≡◌, ℕ, suc, ◌+◌, ◌-◌, ◌*◌, ◌/◌, ◌%◌, ◌^◌, ◌<◌, ◌≤◌, min, max, nat_le, Bool, true, false, List, [], ◌∷◌, ◌++◌, map, length, ◌||◌, ◌==◌, cond, None, Some, refl, sym, ap, ap₂, subst, ◌∙◌, arith, inl, inr}
+use Rattle.std.proofs.lemmas.Bool.Decides.{nat_tests}
+use Rattle.std.proofs.Common.{◌≡◌, ℕ, suc, ◌+◌, ◌-◌, ◌*◌, ◌/◌, ◌%◌, ◌^◌, ◌<◌, ◌≤◌, min, max, Bool, true, false, List, [], ◌∷◌, ◌++◌, map, length, cond, None, Some, refl, sym, ap, ap₂, subst, ◌∙◌, arith, inl, inr}
 use Rattle.std.specs.List.{AllByRecursion}
 use Rattle.std.proofs.Math.Nat.{div-add-mod, mod-lt, mul-le-mul_left, mul-le-mul_right}
-use Rattle.std.proofs.lemmas.Bool.{cases_lt, or_parts, le-leb, eqb-false}
-use Rattle.std.proofs.lemmas.Option.{none-some}
+use Rattle.std.proofs.lemmas.Bool.{cases_lt}
 use Rattle.recovery_base.specs.Times.{longest_span}
 use Rattle.recovery_pacing.specs.NamedMoment.{HasRoom, IsAlike, PassesAtMoment}
 use Rattle.recovery_pacing.specs.PacerLog.{PacerEntry, asked, bucket_by}
-use Rattle.recovery_pacing.specs.Pacing.{Bucket, PacerCall, credit_of, wait_of, resized, refilled, may_send, is_unpaced, paced, next_moment, delay_of}
+use Rattle.recovery_pacing.specs.Pacing.{Bucket, PacerCall, credit_of, wait_of, resized, refilled, may_send, paced, next_moment, delay_of}
 use Rattle.recovery_pacing.proofs.PacerLogLaws.{paced-knows}
-use Rattle.recovery_pacing.proofs.ProgressLaws.{resized_alike, short_of}
+use Rattle.recovery_pacing.proofs.ProgressLaws.{short_of}
 
 -- a credit is rounded down by less than one byte
 credit_comes : (rtt window elapsed : ℕ) → 0 < rtt
@@ -109,8 +109,7 @@ module _ (call : PacerCall) (first : Bucket) where
       (by_test (may_send other bucket))
     where
       same : resized other.rtt other.window other.mtu bucket ≡ bucket
-      same = resized_alike other.rtt other.window other.mtu bucket (alike.window ∙ sym fills.window) (alike.mtu
-          ∙ sym fills.mtu)
+      same = let window = fills.window in let mtu = fills.mtu in grind (arith, nat_tests, alike, window, mtu)
 
       again : Fills (suc questions) (refilled other.rtt other.window other.now bucket)
       again = subst (λ (b : Bucket). Fills (suc questions) b)
@@ -201,20 +200,7 @@ late_by moment until now is before_end late = omega (arith, is, before_end, late
 -- a call that is delayed has refilled, and a refilled bucket holds no more than it takes
 refilled_sound : (call : PacerCall) (old : Bucket) (until : ℕ) → delay_of call (paced call old) ≡ Some until
     → (paced call old).tokens ≤ (paced call old).capacity
-refilled_sound call old until delays = by_test (may_send call bucket) refl
-  where
-    bucket : Bucket
-    bucket = resized call.rtt call.window call.mtu old
-
-    by_test : (pass : Bool) → may_send call bucket ≡ pass
-        → (cond pass bucket (refilled call.rtt call.window call.now bucket)).tokens
-        ≤ (cond pass bucket (refilled call.rtt call.window call.now bucket)).capacity
-    by_test true is =
-        let left = ap (λ (c : Bool). delay_of call (cond c bucket (refilled call.rtt call.window call.now bucket)))
-        is in
-        let passes = ap (λ (c : Bool). cond c None (Some (next_moment call bucket))) is in
-        absurd (none-some until (sym passes ∙ sym left ∙ delays))
-    by_test false is = omega arith
+refilled_sound call old until delays = grind (arith, nat_tests, delays)
 
 pub passes_at_moment : (made : Bucket) (entries : List PacerEntry) (later : PacerCall)
     → PassesAtMoment made entries later (delay_of later (paced later (bucket_by made entries)))
@@ -230,15 +216,8 @@ passes_at_moment made entries later between call earlier until is alike like sam
     short : (may_send call first ≡ false) × (until ≡ next_moment call first)
     short = short_of call first until delays
 
-    uncovered : (nat_le call.bytes first.tokens ≡ false) × (is_unpaced call ≡ false)
-    uncovered = or_parts (nat_le call.bytes first.tokens) (is_unpaced call) short.0
-
     some_rtt : 0 < call.rtt
-    some_rtt = let none =
-        eqb-false call.rtt 0 (or_parts (nat_le (2 ^ 32) call.window) (call.rtt == 0) uncovered.1).1 in omega (
-          arith,
-          none,
-        )
+    some_rtt = let fails = short.0 in grind (arith, nat_tests, fails)
 
     sound : first.tokens ≤ first.capacity
     sound = refilled_sound call (bucket_by made earlier) until delays
@@ -262,26 +241,7 @@ passes_at_moment made entries later between call earlier until is alike like sam
     enough : call.bytes ≤ (refilled call.rtt call.window later.now bucket).tokens
     enough = covers call first (length between) bucket some_rtt fills later.now room waited sound
 
-    passing : (b : Bucket) → later.bytes ≤ b.tokens → delay_of later b ≡ None
-    passing b enough = ap (λ (c : Bool). cond (c || is_unpaced later) None (Some (next_moment later b)))
-        (le-leb later.bytes b.tokens enough)
-
-    refills : later.bytes ≤ (refilled later.rtt later.window later.now bucket).tokens
-    refills = subst (λ (n : ℕ). n ≤ (refilled later.rtt later.window later.now bucket).tokens) (sym same_bytes)
-        (subst (λ (b : Bucket). call.bytes ≤ b.tokens) (ap₂ (λ (r w : ℕ). refilled r w later.now bucket) (sym like.rtt)
-        (sym like.window)) enough)
-
-    by_test : (pass : Bool) → may_send later bucket ≡ pass
-        → delay_of later (cond (may_send later bucket) bucket (refilled later.rtt later.window later.now bucket)) ≡ None
-    by_test true is = ap (λ (c : Bool).
-        delay_of later (cond c bucket (refilled later.rtt later.window later.now bucket))) is
-        ∙ ap (λ (c : Bool). cond c None (Some (next_moment later bucket))) is
-    by_test false is = ap
-        (λ (c : Bool). delay_of later (cond c bucket (refilled later.rtt later.window later.now bucket))) is
-        ∙ passing (refilled later.rtt later.window later.now bucket) refills
-
     goes : delay_of later (paced later bucket) ≡ None
-    goes = ap (λ (b : Bucket). delay_of later (cond (may_send later b) b (refilled later.rtt later.window later.now b)))
-        (resized_alike later.rtt later.window later.mtu bucket (like.window ∙ sym fills.window) (like.mtu
-        ∙ sym fills.mtu))
-        ∙ by_test (may_send later bucket) refl
+    goes =
+        let window = fills.window in
+        let mtu = fills.mtu in grind (arith, nat_tests, window, mtu, like, enough, same_bytes)

@@ -1,12 +1,11 @@
 -- What was delayed passes in time. The clause `soon` of `run` and `NamedMomentLaws` rest on it.
-use Rattle.std.proofs.Common.{◌≡◌, ℕ, ◌+◌, ◌-◌, ◌*◌, ◌/◌, ◌%◌, ◌^◌, ◌<◌, ◌≤◌, min, max, nat_le, Bool, true, false, List, [], ◌∷◌, ◌&&◌, ◌||◌, ◌==◌, cond, None, Some, refl, sym, ap, ap₂, ◌∙◌, arith}
+use Rattle.std.proofs.lemmas.Bool.Decides.{nat_tests}
+use Rattle.std.proofs.Common.{◌≡◌, ℕ, ◌+◌, ◌-◌, ◌*◌, ◌/◌, ◌%◌, ◌^◌, ◌<◌, ◌≤◌, min, max, false, List, [], ◌∷◌, None, Some, ap, ◌∙◌, arith}
 use Rattle.std.proofs.Math.Nat.{div-add-mod, mod-lt, mul-le-mul_left, mul-le-mul_right}
-use Rattle.std.proofs.lemmas.Bool.{or_parts, leb-false, le-leb, eq-eqb, eqb-false}
 use Rattle.std.proofs.lemmas.Nat.{le-div}
-use Rattle.std.proofs.lemmas.Option.{none-some}
 use Rattle.recovery_base.specs.Times.{longest_span}
 use Rattle.recovery_pacing.specs.PacerLog.{PacerEntry, asked, took, bucket_by}
-use Rattle.recovery_pacing.specs.Pacing.{Bucket, PacerCall, credit_of, wait_of, resized, refilled, may_send, capacity_of, is_unpaced, paced, next_moment, delay_of}
+use Rattle.recovery_pacing.specs.Pacing.{Bucket, PacerCall, credit_of, wait_of, resized, refilled, may_send, paced, next_moment, delay_of}
 use Rattle.recovery_pacing.proofs.PacerLogLaws.{paced-knows}
 use Rattle.recovery_pacing.specs.Progress.{PassesInTime, PassesBehind}
 
@@ -42,33 +41,16 @@ waited rtt window short elapsed some_rtt some_window uncut waits =
 -- the window and MTU of the call before compute no capacity anew
 pub resized_alike : (rtt window mtu : ℕ) (bucket : Bucket) → window ≡ bucket.window → mtu ≡ bucket.mtu
     → resized rtt window mtu bucket ≡ bucket
-resized_alike rtt window mtu bucket same_window same_mtu = ap (λ (same : Bool). cond same bucket anew)
-    (ap₂ (λ (a b : Bool). a && b) (eq-eqb window bucket.window same_window) (eq-eqb mtu bucket.mtu same_mtu))
-  where
-    anew : Bucket
-    anew = record bucket {
-      capacity = capacity_of rtt window mtu;
-      window = window;
-      mtu = mtu;
-      tokens = min (capacity_of rtt window mtu) bucket.tokens;
-    }
+resized_alike rtt window mtu bucket same_window same_mtu = grind (arith, nat_tests, same_window, same_mtu)
 
 -- a call that is delayed is paced, and the tokens do not cover it
 pub short_of : (call : PacerCall) (bucket : Bucket) (until : ℕ) → delay_of call bucket ≡ Some until
     → (may_send call bucket ≡ false) × (until ≡ next_moment call bucket)
-short_of call bucket until delays = go (may_send call bucket) refl delays
-  where
-    some_same : (a : ℕ) → Some a ≡ Some until → until ≡ a
-    some_same a e = cc
-
-    go : (pass : Bool) → may_send call bucket ≡ pass → cond pass None (Some (next_moment call bucket)) ≡ Some until
-        → (may_send call bucket ≡ false) × (until ≡ next_moment call bucket)
-    go true is delays = absurd (none-some until delays)
-    go false is delays = (is, some_same (next_moment call bucket) delays)
+short_of call bucket until delays = (grind (arith, nat_tests, delays), grind (arith, nat_tests, delays))
 
 pub passes_in_time : (call later : PacerCall) (old : Bucket)
     → PassesInTime old call later (delay_of later (paced later (paced call old)))
-passes_in_time call later old until delays again reach late before_end = goes (may_send later bucket) refl
+passes_in_time call later old until delays again reach late before_end = goes
   where
     bucket : Bucket
     bucket = paced call old
@@ -76,18 +58,11 @@ passes_in_time call later old until delays again reach late before_end = goes (m
     short : (may_send call bucket ≡ false) × (until ≡ next_moment call bucket)
     short = short_of call bucket until delays
 
-    uncovered : (nat_le call.bytes bucket.tokens ≡ false) × (is_unpaced call ≡ false)
-    uncovered = or_parts (nat_le call.bytes bucket.tokens) (is_unpaced call) short.0
-
     lacks : bucket.tokens < call.bytes
-    lacks = leb-false call.bytes bucket.tokens uncovered.0
+    lacks = let fails = short.0 in grind (arith, nat_tests, fails)
 
     some_rtt : 0 < call.rtt
-    some_rtt = let none =
-        eqb-false call.rtt 0 (or_parts (nat_le (2 ^ 32) call.window) (call.rtt == 0) uncovered.1).1 in omega (
-          arith,
-          none,
-        )
+    some_rtt = let fails = short.0 in grind (arith, nat_tests, fails)
 
     lacking : ℕ
     lacking = bucket.capacity - bucket.tokens
@@ -115,27 +90,10 @@ passes_in_time call later old until delays again reach late before_end = goes (m
     covers : call.bytes ≤ after.tokens
     covers = let fits = reach.fits in omega (arith, credited, fits, lacks)
 
-    goes : (pass : Bool) → may_send later bucket ≡ pass → delay_of later (paced later bucket) ≡ None
-    goes pass is = ap (λ (b : Bucket). delay_of later (cond (may_send later b) b
-        (refilled later.rtt later.window later.now b))) (let knows = paced-knows call old in
-        resized_alike later.rtt later.window later.mtu bucket (again.window ∙ sym knows.0) (again.mtu ∙ sym knows.1))
-        ∙ by_test pass is
-      where
-        passing : (b : Bucket) → later.bytes ≤ b.tokens → delay_of later b ≡ None
-        passing b enough = ap (λ (c : Bool). cond (c || is_unpaced later) None (Some (next_moment later b)))
-            (le-leb later.bytes b.tokens enough)
-
-        by_test : (pass : Bool) → may_send later bucket ≡ pass
-            → delay_of later (cond (may_send later bucket) bucket (refilled later.rtt later.window later.now bucket))
-            ≡ None
-        by_test true is = ap (λ (c : Bool). delay_of later (cond c bucket
-            (refilled later.rtt later.window later.now bucket))) is
-            ∙ ap (λ (c : Bool). cond c None (Some (next_moment later bucket))) is
-        by_test false is = ap
-            (λ (c : Bool). delay_of later (cond c bucket (refilled later.rtt later.window later.now bucket))) is
-            ∙ passing (refilled later.rtt later.window later.now bucket)
-            (let same = again.bytes in let credit = ap₂ (λ (r w : ℕ). credit_of r w (later.now - bucket.last))
-            again.rtt again.window in omega (arith, covers, same, credit))
+    goes : delay_of later (paced later bucket) ≡ None
+    goes =
+        let knows = paced-knows call old in
+        let like = again in grind (arith, nat_tests, knows, like, covers)
 
 pub passes_behind : (made : Bucket) (entries : List PacerEntry) (later : PacerCall)
     → PassesBehind made entries later (delay_of later (paced later (bucket_by made entries)))
