@@ -3,7 +3,7 @@
 use Rattle.std.proofs.Common.{◌≡◌, ℕ, suc, zero, ◌+◌, ◌<◌, ◌≤◌, inl, inr, ◌⊎◌, ◌↔◌, List, [], ◌∷◌, ◌++◌, length, take, drop, set, get_or, sym, ◌∙◌, ap, subst, arith, append_assoc, drop-cons, add-one}
 use Rattle.std.specs.declared.ops.Range.{Range}
 use Rattle.std.specs.List.{insert, remove}
-use Rattle.std.proofs.lemmas.Bool.{eqb-true, eqb-false, cases_lt, cases_eq}
+use Rattle.std.proofs.lemmas.Bool.{eqb-true, eqb-false}
 use Rattle.std.proofs.lemmas.List.{append-nil, length-append, take-append-drop, take_all, set_split, set_at, length-take-le, drop_all, get_or_default}
 use Rattle.std.proofs.Math.Seq.{take-suc}
 use Rattle.std.specs.Prelude.{ltb}
@@ -60,48 +60,38 @@ apart_joined low (range ∷ before) after first second =
 pub in_joined : (before after : Ranges) (n : ℕ) → InRanges (before ++ after) n → InRanges before n ⊎ InRanges after n
 unfolding InRanges
 in_joined [] after n here = inr here
-in_joined (range ∷ before) after n (inl here) = inl (inl here)
-in_joined (range ∷ before) after n (inr there) =
-    elim (in_joined before after n there) [ inl h ↦ inl (inr h) | inr h ↦ inr h ]
+in_joined (range ∷ before) after n here = grind (arith, here, in_joined before after n)
 
 pub in_left : (before after : Ranges) (n : ℕ) → InRanges before n → InRanges (before ++ after) n
 unfolding InRanges
 in_left [] after n here = absurd here
-in_left (range ∷ before) after n (inl here) = inl here
-in_left (range ∷ before) after n (inr there) = inr (in_left before after n there)
+in_left (range ∷ before) after n here = grind (arith, here, in_left before after n)
 
 pub in_right : (before after : Ranges) (n : ℕ) → InRanges after n → InRanges (before ++ after) n
 unfolding InRanges
 in_right [] after n here = here
 in_right (range ∷ before) after n here = inr (in_right before after n here)
 
+in_both : (before after : Ranges) (n : ℕ) → InRanges (before ++ after) n ↔ (InRanges before n ⊎ InRanges after n)
+in_both before after n =
+    (in_joined before after n, λ here. elim here [ inl h ↦ in_left before after n h | inr h ↦ in_right before after n h ])
+
 pub in_above : (low : ℕ) (ranges : Ranges) (n : ℕ) → AreApart low ranges → InRanges ranges n → low ≤ n
 unfolding InRanges AreApart
 in_above low [] n apart here = absurd here
-in_above low (range ∷ others) n apart (inl here) = let a : low ≤ range.start = apart.0 in let b : range.start ≤ n =
-    here.0 in omega arith
-in_above low (range ∷ others) n apart (inr there) =
-    let a : low ≤ range.start = apart.0 in
-    let b : range.start < range.end = apart.1 in
-    let c : range.end + 1 ≤ n = in_above (range.end + 1) others n apart.2 there in
-    omega arith
+in_above low (range ∷ others) n apart here = grind (arith, apart, here, in_above (range.end + 1) others n)
 
 pub floor_grows : (low : ℕ) (ranges : Ranges) → AreApart low ranges → low ≤ floor_above low ranges
 unfolding AreApart floor_above
 floor_grows low [] apart = omega arith
-floor_grows low (range ∷ others) apart =
-    let a : low ≤ range.start = apart.0 in
-    let b : range.start < range.end = apart.1 in
-    let c : range.end + 1 ≤ floor_above (range.end + 1) others = floor_grows (range.end + 1) others apart.2 in
-    omega arith
+floor_grows low (range ∷ others) apart = grind (arith, apart, floor_grows (range.end + 1) others)
 
 pub in_below : (low : ℕ) (ranges : Ranges) (n : ℕ) → AreApart low ranges → InRanges ranges n
     → n < floor_above low ranges
 unfolding InRanges AreApart floor_above
 in_below low [] n apart here = absurd here
-in_below low (range ∷ others) n apart (inl here) = let h : n < range.end = here.1 in let f : range.end + 1 ≤ floor_above
-    (range.end + 1) others = floor_grows (range.end + 1) others apart.2 in omega arith
-in_below low (range ∷ others) n apart (inr there) = in_below (range.end + 1) others n apart.2 there
+in_below low (range ∷ others) n apart here =
+    grind (arith, apart, here, in_below (range.end + 1) others n, floor_grows (range.end + 1) others)
 
 -- the first of some ranges begins above x
 abbrev pub BeginsAbove : ℕ → Ranges → Type 0
@@ -122,30 +112,16 @@ replaced : (before old new after : Ranges) (x : ℕ) → AreApart 0 (before ++ (
     → InsertsOne (before ++ (old ++ after)) x true (before ++ (new ++ after))
 replaced before old new after x apart fits numbers few absent = record {
   answer = absent;
-  numbers = λ n. (to n, from n);
+  numbers = λ n.
+      let is = numbers n in
+      let now = in_both before (new ++ after) n in
+      let then = in_both before (old ++ after) n in
+      let news = in_both new after n in
+      let olds = in_both old after n in
+      (λ here. grind (arith, here, is, now, then, news, olds), λ here. grind (arith, here, is, now, then, news, olds));
   apart = apart_joined 0 before (new ++ after) (apart_left 0 before (old ++ after) apart) fits;
   count = simp length-append (omega arith);
 }
-  where
-    to : (n : ℕ) → InRanges (before ++ (new ++ after)) n → With x (InRanges (before ++ (old ++ after))) n
-    to n here = elim (in_joined before (new ++ after) n here) [
-      | inl h ↦ inr (in_left before (old ++ after) n h)
-      | inr h ↦ elim (in_joined new after n h) [
-        | inl k ↦ elim ((numbers n).0 k)
-            [ inl same ↦ inl same | inr there ↦ inr (in_right before (old ++ after) n (in_left old after n there)) ]
-        | inr k ↦ inr (in_right before (old ++ after) n (in_right old after n k))
-      ]
-    ]
-
-    from : (n : ℕ) → With x (InRanges (before ++ (old ++ after))) n → InRanges (before ++ (new ++ after)) n
-    from n (inl same) = in_right before (new ++ after) n (in_left new after n ((numbers n).1 (inl same)))
-    from n (inr there) = elim (in_joined before (old ++ after) n there) [
-      | inl h ↦ in_left before (new ++ after) n h
-      | inr h ↦ elim (in_joined old after n h) [
-        | inl k ↦ in_right before (new ++ after) n (in_left new after n ((numbers n).1 (inr k)))
-        | inr k ↦ in_right before (new ++ after) n (in_right new after n k)
-      ]
-    ]
 
 absent_from : (before after : Ranges) (x : ℕ) → floor_above 0 before ≤ x → AreApart 0 (before ++ after)
     → ¬ InRanges after x → ¬ InRanges (before ++ after) x
@@ -163,38 +139,21 @@ module _ (before : Ranges) (x : ℕ) (low : floor_above 0 before ≤ x) where
   unfolding AreApart InRanges
   adds_alone after apart above = replaced before [] (span x (x + 1) ∷ []) after x apart
       (low, omega arith, apart_raised (floor_above 0 before) (x + 1) after above (apart_right 0 before after apart))
-      (λ n. (to n, from n)) (omega arith) (absent_from before after x low apart
+      (λ n. (λ here. grind (arith, here), λ here. grind (arith, here))) (omega arith) (absent_from before after x low apart
       (absent_above (x + 1 + 1) after x (omega arith) (apart_raised (floor_above 0 before) (x + 1) after above
       (apart_right 0 before after apart))))
-    where
-      to : (n : ℕ) → InRanges (span x (x + 1) ∷ []) n → With x (InRanges []) n
-      to n (inl here) = let a : x ≤ n = here.0 in let b : n < x + 1 = here.1 in inl (omega arith)
-      to n (inr none) = absurd none
-
-      from : (n : ℕ) → With x (InRanges []) n → InRanges (span x (x + 1) ∷ []) n
-      from n (inl same) = inl (omega arith, omega arith)
-      from n (inr none) = absurd none
 
   pub adds_below : (range : Range ℕ) (after : Ranges) → AreApart 0 (before ++ (range ∷ after)) → x + 1 ≡ range.start
       → InsertsOne (before ++ (range ∷ after)) x true (before ++ (span x range.end ∷ after))
   unfolding AreApart InRanges
   adds_below range after apart touches = replaced before (range ∷ []) (span x range.end ∷ []) after x apart
-      (low, (let h : range.start < range.end = right.1 in omega arith), right.2) (λ n. (to n, from n)) (omega arith)
-      (absent_from before (range ∷ after) x low apart (absent_above (x + 1) (range ∷ after) x (omega arith)
+      (low, (let h : range.start < range.end = right.1 in omega arith), right.2)
+      (λ n. (λ here. grind (arith, here, touches), λ here. (let filled = right.1 in grind (arith, here, touches, filled))))
+      (omega arith) (absent_from before (range ∷ after) x low apart (absent_above (x + 1) (range ∷ after) x (omega arith)
       (omega arith, right.1, right.2)))
     where
       right : AreApart (floor_above 0 before) (range ∷ after)
       right = apart_right 0 before (range ∷ after) apart
-
-      to : (n : ℕ) → InRanges (span x range.end ∷ []) n → With x (InRanges (range ∷ [])) n
-      to n (inl here) = let a : x ≤ n =
-          here.0 in elim (cases_eq n x) [ inl same ↦ inl same | inr apart ↦ inr (inl (omega (arith, apart), here.1)) ]
-      to n (inr none) = absurd none
-
-      from : (n : ℕ) → With x (InRanges (range ∷ [])) n → InRanges (span x range.end ∷ []) n
-      from n (inl same) = inl (omega arith, let h : range.start < range.end = right.1 in omega arith)
-      from n (inr (inl here)) = inl (let a : range.start ≤ n = here.0 in omega arith, here.1)
-      from n (inr (inr none)) = absurd none
 
   pub adds_above : (range : Range ℕ) (after : Ranges) → AreApart 0 (before ++ (range ∷ after)) → range.end ≡ x
       → BeginsAbove (x + 1) after
@@ -205,25 +164,17 @@ module _ (before : Ranges) (x : ℕ) (low : floor_above 0 before ≤ x) where
         right.0,
         (let h : range.start < range.end = right.1 in omega arith),
         apart_raised (range.end + 1) (x + 1) after above right.2,
-      ) (λ n. (to n, from n)) (omega arith)
+      )
+      (λ n. (λ here. grind (arith, here, touches), λ here. (let filled = right.1 in grind (arith, here, touches, filled))))
+      (omega arith)
       (absent_from before (range ∷ after) x low apart absent)
     where
       right : AreApart (floor_above 0 before) (range ∷ after)
       right = apart_right 0 before (range ∷ after) apart
 
       absent : ¬ InRanges (range ∷ after) x
-      absent (inl here) = let h : x < range.end = here.1 in omega arith
-      absent (inr there) = absent_above (range.end + 1) after x (omega arith) right.2 there
-
-      to : (n : ℕ) → InRanges (span range.start (x + 1) ∷ []) n → With x (InRanges (range ∷ [])) n
-      to n (inl here) = let a : n < x + 1 =
-          here.1 in elim (cases_eq n x) [ inl same ↦ inl same | inr apart ↦ inr (inl (here.0, omega (arith, apart))) ]
-      to n (inr none) = absurd none
-
-      from : (n : ℕ) → With x (InRanges (range ∷ [])) n → InRanges (span range.start (x + 1) ∷ []) n
-      from n (inl same) = inl (let h : range.start < range.end = right.1 in omega arith, omega arith)
-      from n (inr (inl here)) = inl (here.0, let a : n < range.end = here.1 in omega arith)
-      from n (inr (inr none)) = absurd none
+      absent here =
+          let behind = absent_above (range.end + 1) after x (omega arith) right.2 in grind (arith, here, touches, behind)
 
   pub adds_joining : (range next : Range ℕ) (after : Ranges) → AreApart 0 (before ++ (range ∷ next ∷ after))
       → range.end ≡ x → next.start ≡ x + 1
@@ -234,31 +185,22 @@ module _ (before : Ranges) (x : ℕ) (low : floor_above 0 before ≤ x) where
         right.0,
         (let h : range.start < range.end = right.1 in let k : next.start < next.end = right.2.1 in omega arith),
         right.2.2,
-      ) (λ n. (to n, from n)) (omega arith) (absent_from before (range ∷ next ∷ after) x low apart absent)
+      )
+      (λ n.
+      let filled = right.1 in
+      let follows_it = right.2.1 in (
+        λ here. grind (arith, here, touches, follows),
+        λ here. grind (arith, here, touches, follows, filled, follows_it),
+      ))
+      (omega arith) (absent_from before (range ∷ next ∷ after) x low apart absent)
     where
       right : AreApart (floor_above 0 before) (range ∷ next ∷ after)
       right = apart_right 0 before (range ∷ next ∷ after) apart
 
       absent : ¬ InRanges (range ∷ next ∷ after) x
-      absent (inl here) = let h : x < range.end = here.1 in omega arith
-      absent (inr there) = absent_above (range.end + 1) (next ∷ after) x (omega arith) right.2 there
-
-      to : (n : ℕ) → InRanges (span range.start next.end ∷ []) n → With x (InRanges (range ∷ next ∷ [])) n
-      to n (inl here) = elim (cases_lt n x) [
-        | inl below ↦ inr (inl (here.0, omega arith))
-        | inr from ↦ elim (cases_eq n x)
-            [ inl same ↦ inl same | inr apart ↦ inr (inr (inl (omega (arith, apart), here.1))) ]
-      ]
-      to n (inr none) = absurd none
-
-      from : (n : ℕ) → With x (InRanges (range ∷ next ∷ [])) n → InRanges (span range.start next.end ∷ []) n
-      from n (inl same) = let h : range.start < range.end = right.1 in let k : next.start < next.end =
-          right.2.1 in inl (omega arith, omega arith)
-      from n (inr (inl here)) = let a : n < range.end = here.1 in let k : next.start < next.end =
-          right.2.1 in inl (here.0, omega arith)
-      from n (inr (inr (inl here))) = let a : next.start ≤ n = here.0 in let h : range.start < range.end =
-          right.1 in inl (omega arith, here.1)
-      from n (inr (inr (inr none))) = absurd none
+      absent here =
+          let behind = absent_above (range.end + 1) (next ∷ after) x (omega arith) right.2 in
+          grind (arith, here, touches, behind)
 
   pub known : (range : Range ℕ) (after : Ranges) → AreApart 0 (before ++ (range ∷ after)) → range.start ≤ x
       → x < range.end → InsertsOne (before ++ (range ∷ after)) x false (before ++ (range ∷ after))
