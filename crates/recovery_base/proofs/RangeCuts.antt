@@ -1,24 +1,18 @@
 -- Ranges that lie apart, without the numbers that leave them. `remove` of the set of ranges rests on it.
+use Rattle.std.proofs.lemmas.Bool.Decides.{nat_tests}
 use Rattle.std.proofs.Common.{◌≡◌, ℕ, suc, ◌+◌, ◌<◌, ◌≤◌, inl, inr, [], ◌∷◌, ◌++◌, length, take, drop, set, get_or, sym, ◌∙◌, ap, subst, refl, arith, append_assoc, drop-cons, add-one}
-use Rattle.std.specs.Prelude.{Bool, true, false, cond, min, max, ltb}
+use Rattle.std.specs.Prelude.{Bool, true, false, cond, max, ltb}
 use Rattle.std.specs.declared.ops.Range.{Range}
 use Rattle.std.specs.List.{insert}
-use Rattle.std.proofs.lemmas.Bool.{cases_lt, ltb-true, ltb-false}
 use Rattle.std.proofs.lemmas.List.{take-append-drop, take_all, set_at, length-take-le}
 use Rattle.std.proofs.Math.Seq.{take-suc}
 use Rattle.recovery_base.specs.Ranges.{InRanges, AreApart, Removes, IsBetween, floor_above, EndsFrom, IsPlace, span, clipped, is_some_range, cut_ranges}
-use Rattle.recovery_base.proofs.RangeLaws.{Ranges, apart_lower, apart_left, apart_right, apart_joined, in_joined, in_left, in_right, in_above, floor_grows}
+use Rattle.recovery_base.proofs.RangeLaws.{in_both, Ranges, apart_lower, apart_left, apart_right, apart_joined, in_joined, in_right, in_above, floor_grows}
 
 -- no range holds numbers on both sides of those that leave
 unfoldable pub NoneSpans : ℕ → ℕ → Ranges → Type 0
 NoneSpans start end [] = Unit {0}
 NoneSpans start end (range ∷ others) = ((range.start < start) → range.end ≤ end) × NoneSpans start end others
-
-clipped_by : (start end : ℕ) (range : Range ℕ) (below : Bool) → ltb range.start start ≡ below
-    → clipped start end range ≡ cond below (span range.start (min range.end start))
-    (span (max range.start end) range.end)
-clipped_by start end range below is =
-    ap (λ b. cond b (span range.start (min range.end start)) (span (max range.start end) range.end)) is
 
 record Clips (start end : ℕ) (range new : Range ℕ) : Type 0 where
   from : range.start ≤ new.start
@@ -28,23 +22,7 @@ record Clips (start end : ℕ) (range new : Range ℕ) : Type 0 where
 
 clips : (start end : ℕ) (range : Range ℕ) → start < end → ((range.start < start) → range.end ≤ end) → (below : Bool)
     → ltb range.start start ≡ below → Clips start end range (clipped start end range)
-clips start end range some short true is =
-    let lower : range.start < start = ltb-true range.start start is in
-    let under : range.end ≤ end = short lower in
-    subst (λ (r : Range ℕ). Clips start end range r) (sym (clipped_by start end range true is)) (record {
-      from = omega arith;
-      to = omega arith;
-      keeps = λ n a b out. (a, elim (cases_lt n start) [ inl h ↦ omega arith | inr h ↦ absurd (out (h, omega arith)) ]);
-      takes = λ n a b inside. (let h : start ≤ n = inside.0 in omega arith);
-    })
-clips start end range some short false is =
-    let upper : start ≤ range.start = ltb-false range.start start is in
-    subst (λ (r : Range ℕ). Clips start end range r) (sym (clipped_by start end range false is)) (record {
-      from = omega arith;
-      to = omega arith;
-      keeps = λ n a b out. (elim (cases_lt n end) [ inl h ↦ absurd (out (omega arith, h)) | inr h ↦ omega arith ], b);
-      takes = λ n a b inside. (let h : n < end = inside.1 in omega arith);
-    })
+clips start end range some short below is = grind (arith, nat_tests, some, short, is)
 
 record Cut (start end low : ℕ) (ranges new : Ranges) : Type 0 where
   apart : AreApart low new
@@ -56,35 +34,23 @@ cut_one : (start end low : ℕ) (range new : Range ℕ) (others left : Ranges) �
     → Cut start end low (range ∷ others) (cond some (new ∷ left) left)
 unfolding InRanges AreApart
 cut_one start end low range new others left first filled clip rest true is =
-    let a : range.start ≤ new.start = clip.from in
-    let b : new.end ≤ range.end = clip.to in
+    let begins = clip.from in
+    let ends = clip.to in
+    let below = λ (less : new.end + 1 ≤ range.end + 1). apart_lower (range.end + 1) (new.end + 1) left less rest.apart in
     record {
-      apart = (
-        omega arith,
-        ltb-true new.start new.end is,
-        apart_lower (range.end + 1) (new.end + 1) left (omega arith)
-            rest.apart,
+      apart = grind (arith, nat_tests, first, begins, ends, is, below);
+      to = λ n here. (
+        let was = rest.to n in grind (arith, here, begins, ends, was),
+        let was = rest.to n in let taken = clip.takes n in grind (arith, here, was, taken),
       );
-      to = λ n here. elim here [
-        | inl h ↦ (
-          inl (let c : new.start ≤ n = h.0 in omega arith, let d : n < new.end = h.1 in omega arith),
-          clip.takes n h.0 h.1,
-        )
-        | inr h ↦ (inr (rest.to n h).0, (rest.to n h).1)
-      ];
-      from = λ n here out. elim here [ inl h ↦ inl (clip.keeps n h.0 h.1 out) | inr h ↦ inr (rest.from n h out) ];
+      from = λ n here out. let kept = clip.keeps n in let was = rest.from n in grind (arith, here, out, kept, was);
     }
-cut_one start end low range new others left first filled clip rest false is =
-    let none : new.end ≤ new.start = ltb-false new.start new.end is in
-    record {
-      apart = apart_lower (range.end + 1) low left (omega arith) rest.apart;
-      to = λ n here. (inr (rest.to n here).0, (rest.to n here).1);
-      from = λ n here out. elim here [
-        | inl h ↦ (let k = clip.keeps n h.0 h.1 out in let c : new.start ≤ n = k.0 in let d : n
-            < new.end = k.1 in absurd (omega arith))
-        | inr h ↦ rest.from n h out
-      ];
-    }
+cut_one start end low range new others left first filled clip rest false is = record {
+  apart = apart_lower (range.end + 1) low left (omega arith) rest.apart;
+  to = λ n here. (inr (rest.to n here).0, (rest.to n here).1);
+  from = λ n here out.
+      let kept = clip.keeps n in let was = rest.from n in grind (arith, nat_tests, here, out, kept, was, is);
+}
 
 cut_all : (start end low : ℕ) (ranges : Ranges) → start < end → NoneSpans start end ranges → AreApart low ranges
     → Cut start end low ranges (cut_ranges start end ranges)
@@ -159,9 +125,8 @@ in_far_below : (low : ℕ) (ranges : Ranges) (n : ℕ) → AreApart low ranges �
     → n + 1 < floor_above low ranges
 unfolding InRanges AreApart floor_above
 in_far_below low [] n apart here = absurd here
-in_far_below low (range ∷ others) n apart (inl here) = let h : n < range.end = here.1 in let f : range.end + 1 ≤
-    floor_above (range.end + 1) others = floor_grows (range.end + 1) others apart.2 in omega arith
-in_far_below low (range ∷ others) n apart (inr there) = in_far_below (range.end + 1) others n apart.2 there
+in_far_below low (range ∷ others) n apart here =
+    grind (arith, apart, here, in_far_below (range.end + 1) others n, floor_grows (range.end + 1) others)
 
 -- ---- numbers out of the ranges, by places
 
@@ -266,48 +231,19 @@ module _ (ranges : Ranges) (start end at : ℕ) (apart : AreApart 0 ranges) (som
         to : (n : ℕ)
             → InRanges (take at ranges ++ (span range.start start ∷ span end range.end ∷ drop (suc at) ranges)) n
             → InRanges ranges n × ¬ IsBetween start end n
-        to n here = elim (in_joined (take at ranges) (span range.start start ∷ span end range.end ∷ drop (suc at)
-            ranges) n here) [
-              | inl h ↦ (
-                subst (λ (rs : Ranges). InRanges rs n) split
-                    (in_left (take at ranges) (range ∷ drop (suc at) ranges) n h),
-                λ between. let a : n < start = far_below n h in let b : start ≤ n = between.0 in omega arith,
-              )
-              | inr h ↦ elim h [
-                | inl k ↦ (let a : n < start = k.1 in (
-                  subst (λ (rs : Ranges). InRanges rs n) split
-                      (in_right (take at ranges) (range ∷ drop (suc at) ranges) n (inl (k.0, omega arith))),
-                  λ between. let b : start ≤ n = between.0 in omega arith,
-                ))
-                | inr rest ↦ elim rest [
-                  | inl k ↦ (let a : end ≤ n = k.0 in (
-                    subst (λ (rs : Ranges). InRanges rs n) split
-                        (in_right (take at ranges) (range ∷ drop (suc at) ranges) n (inl (omega arith, k.1))),
-                    λ between. let b : n < end = between.1 in omega arith,
-                  ))
-                  | inr k ↦ (
-                    subst (λ (rs : Ranges). InRanges rs n) split
-                        (in_right (take at ranges) (range ∷ drop (suc at) ranges) n (inr k)),
-                    λ between. let a : range.end + 1 ≤ n = in_above (range.end + 1) (drop (suc at) ranges) n right.2
-                        k in let b : n < end = between.1 in omega arith,
-                  )
-                ]
-              ]
-            ]
+        to n here =
+            let was = subst (λ (rs : Ranges). InRanges (take at ranges ++ (range ∷ drop (suc at) ranges)) n
+            → InRanges rs n) split (λ h. h) in
+            let now = in_both (take at ranges) (span range.start start ∷ span end range.end ∷ drop (suc at) ranges) n in
+            let then = in_both (take at ranges) (range ∷ drop (suc at) ranges) n in
+            let far = far_below n in
+            let behind = in_above (range.end + 1) (drop (suc at) ranges) n right.2 in
+            (grind (arith, here, was, now, then, lower, upper), grind (arith, here, now, far, behind, lower, upper))
 
         from : (n : ℕ) → InRanges ranges n → ¬ IsBetween start end n
             → InRanges (take at ranges ++ (span range.start start ∷ span end range.end ∷ drop (suc at) ranges)) n
-        from n here out = elim (in_joined (take at ranges) (range ∷ drop (suc at) ranges) n
-            (subst (λ (rs : Ranges). InRanges rs n) (sym split) here)) [
-              | inl h ↦ in_left (take at ranges) (span range.start start ∷ span end range.end ∷ drop (suc at) ranges) n
-                  h
-              | inr h ↦ in_right (take at ranges) (span range.start start ∷ span end range.end ∷ drop (suc at) ranges) n
-                  (elim h [
-                    | inl k ↦ elim (cases_lt n start) [
-                      | inl below ↦ inl (k.0, below)
-                      | inr above ↦ inr (inl
-                          (elim (cases_lt n end) [ inl under ↦ absurd (out (above, under)) | inr over ↦ over ], k.1))
-                    ]
-                    | inr k ↦ inr (inr k)
-                  ])
-            ]
+        from n here out =
+            let was = subst (λ (rs : Ranges). InRanges rs n) (sym split) here in
+            let now = in_both (take at ranges) (span range.start start ∷ span end range.end ∷ drop (suc at) ranges) n in
+            let then = in_both (take at ranges) (range ∷ drop (suc at) ranges) n in
+            grind (arith, was, now, then, out)

@@ -72,7 +72,7 @@ unfolding InRanges
 in_right [] after n here = here
 in_right (range ∷ before) after n here = inr (in_right before after n here)
 
-in_both : (before after : Ranges) (n : ℕ) → InRanges (before ++ after) n ↔ (InRanges before n ⊎ InRanges after n)
+pub in_both : (before after : Ranges) (n : ℕ) → InRanges (before ++ after) n ↔ (InRanges before n ⊎ InRanges after n)
 in_both before after n =
     (in_joined before after n, λ here. elim here [ inl h ↦ in_left before after n h | inr h ↦ in_right before after n h ])
 
