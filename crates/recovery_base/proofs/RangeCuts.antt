@@ -36,7 +36,8 @@ unfolding InRanges AreApart
 cut_one start end low range new others left first filled clip rest true is =
     let begins = clip.from in
     let ends = clip.to in
-    let below = λ (less : new.end + 1 ≤ range.end + 1). apart_lower (range.end + 1) (new.end + 1) left less rest.apart in
+    let below =
+    λ (less : new.end + 1 ≤ range.end + 1). apart_lower (range.end + 1) (new.end + 1) left less rest.apart in
     record {
       apart = grind (arith, nat_tests, first, begins, ends, is, below);
       to = λ n here. (

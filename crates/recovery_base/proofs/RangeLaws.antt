@@ -74,7 +74,8 @@ in_right (range ∷ before) after n here = inr (in_right before after n here)
 
 pub in_both : (before after : Ranges) (n : ℕ) → InRanges (before ++ after) n ↔ (InRanges before n ⊎ InRanges after n)
 in_both before after n =
-    (in_joined before after n, λ here. elim here [ inl h ↦ in_left before after n h | inr h ↦ in_right before after n h ])
+    let left = in_left before after n in
+    let right = in_right before after n in (in_joined before after n, λ here. grind (arith, here, left, right))
 
 pub in_above : (low : ℕ) (ranges : Ranges) (n : ℕ) → AreApart low ranges → InRanges ranges n → low ≤ n
 unfolding InRanges AreApart
@@ -139,7 +140,8 @@ module _ (before : Ranges) (x : ℕ) (low : floor_above 0 before ≤ x) where
   unfolding AreApart InRanges
   adds_alone after apart above = replaced before [] (span x (x + 1) ∷ []) after x apart
       (low, omega arith, apart_raised (floor_above 0 before) (x + 1) after above (apart_right 0 before after apart))
-      (λ n. (λ here. grind (arith, here), λ here. grind (arith, here))) (omega arith) (absent_from before after x low apart
+      (λ n. (λ here. grind (arith, here), λ here. grind (arith, here))) (omega arith)
+      (absent_from before after x low apart
       (absent_above (x + 1 + 1) after x (omega arith) (apart_raised (floor_above 0 before) (x + 1) after above
       (apart_right 0 before after apart))))
 
@@ -148,9 +150,11 @@ module _ (before : Ranges) (x : ℕ) (low : floor_above 0 before ≤ x) where
   unfolding AreApart InRanges
   adds_below range after apart touches = replaced before (range ∷ []) (span x range.end ∷ []) after x apart
       (low, (let h : range.start < range.end = right.1 in omega arith), right.2)
-      (λ n. (λ here. grind (arith, here, touches), λ here. (let filled = right.1 in grind (arith, here, touches, filled))))
-      (omega arith) (absent_from before (range ∷ after) x low apart (absent_above (x + 1) (range ∷ after) x (omega arith)
-      (omega arith, right.1, right.2)))
+      (λ n.
+      let filled = right.1 in
+      (λ here. grind (arith, here, touches), λ here. grind (arith, here, touches, filled)))
+      (omega arith) (absent_from before (range ∷ after) x low apart
+      (absent_above (x + 1) (range ∷ after) x (omega arith) (omega arith, right.1, right.2)))
     where
       right : AreApart (floor_above 0 before) (range ∷ after)
       right = apart_right 0 before (range ∷ after) apart
@@ -165,7 +169,9 @@ module _ (before : Ranges) (x : ℕ) (low : floor_above 0 before ≤ x) where
         (let h : range.start < range.end = right.1 in omega arith),
         apart_raised (range.end + 1) (x + 1) after above right.2,
       )
-      (λ n. (λ here. grind (arith, here, touches), λ here. (let filled = right.1 in grind (arith, here, touches, filled))))
+      (λ n.
+      let filled = right.1 in
+      (λ here. grind (arith, here, touches), λ here. grind (arith, here, touches, filled)))
       (omega arith)
       (absent_from before (range ∷ after) x low apart absent)
     where
@@ -174,7 +180,8 @@ module _ (before : Ranges) (x : ℕ) (low : floor_above 0 before ≤ x) where
 
       absent : ¬ InRanges (range ∷ after) x
       absent here =
-          let behind = absent_above (range.end + 1) after x (omega arith) right.2 in grind (arith, here, touches, behind)
+          let behind = absent_above (range.end + 1) after x (omega arith) right.2 in
+          grind (arith, here, touches, behind)
 
   pub adds_joining : (range next : Range ℕ) (after : Ranges) → AreApart 0 (before ++ (range ∷ next ∷ after))
       → range.end ≡ x → next.start ≡ x + 1
