@@ -1,6 +1,6 @@
 -- By the history alone reports of black holes need four bursts and come at four, as the entries of the search say: the
 -- clause `holes` of `run`.
-use Rattle.std.proofs.Common.{ℕ, ◌≡◌, ◌||◌, ◌≤◌, nat_lt, length, Bool, true, false, if◌then◌else◌, List, [], ◌∷◌, ◌++◌, filter, Option, None, Some, Ok, Err, refl, sym, ap, ap₂, subst, ◌∙◌, is_some}
+use Rattle.std.proofs.Common.{ℕ, ◌≡◌, ◌≤◌, length, true, false, if◌then◌else◌, List, [], ◌∷◌, ◌++◌, filter, Option, None, Some, Ok, Err, refl, sym, ap, ap₂, subst, ◌∙◌, arith}
 use Rattle.recovery_base.specs.declared.below.SpaceId.TheVariants as space
 use Rattle.recovery_config.specs.declared.config.TransportConfig.{TransportConfig}
 use Rattle.recovery_ledger.specs.Packets.{Packet}
@@ -9,14 +9,13 @@ use Rattle.recovery_mtud.specs.declared.config.MtuDiscoveryConfig.{MtuDiscoveryC
 use Rattle.recovery_mtud.specs.BurstRuns.{Loss, follows, from_first, if_any, is_above, is_past}
 use Rattle.recovery_mtud.specs.BurstRuns as entries_
 use Rattle.recovery_mtud.specs.Discovery.{Discovery}
-use Rattle.recovery_mtud.specs.MtuEntries.{MtuEntry, acked, probe_lost, lost, losses_over, reported, reset, probe_in_flight, size_at, min_mtu_in_use}
+use Rattle.recovery_mtud.specs.MtuEntries.{MtuEntry, reset, min_mtu_in_use}
 use Rattle.recovery_paths.specs.PathMaking.{discovery_with}
 use Rattle.recovery_events.specs.declared.event.Event.{Event}
 use Rattle.recovery_events.specs.declared.event.Event.TheVariants.{PollMtu, Acked, Lost, LossesDone, PeerLimit, ResetPath, NewPath}
-use Rattle.recovery_events.specs.declared.event.Answer.{Answer}
 use Rattle.recovery_events.specs.declared.event.Answer.TheVariants as answer
-use Rattle.recovery_events.specs.declared.event.Refusal.{Refusal}
 use Rattle.quic_recovery.specs.Entries.{logs_of}
+use Rattle.quic_recovery.specs.Known.{settings_of}
 use Rattle.quic_recovery.specs.History.{Beginning, History, Reply, Throughout}
 use Rattle.quic_recovery.specs.Promises.Bursts.{size_of, open_run}
 use Rattle.quic_recovery.specs.Promises.Holes.{ReportsAtFour, larger_acked, standing, unanswered}
@@ -25,7 +24,7 @@ use Rattle.quic_recovery.proofs.SearchSaid.{ComesAtFourBursts, NeedsFourBursts, 
 use Rattle.quic_recovery.proofs.BurstLaws.{comes_at_four, needs_four}
 use Rattle.quic_recovery.proofs.FieldLaws.{said_found}
 use Rattle.quic_recovery.proofs.MadeLaws.{is_made, made_after, made_in}
-use Rattle.quic_recovery.proofs.SearchSteps.{Facts, facts, seen_as, turned, acked_as, lost_as, ended_as, throughout_both, throughout_by}
+use Rattle.quic_recovery.proofs.SearchSteps.{Facts, Step, facts, stepped, throughout_both, throughout_by}
 use Rattle.quic_recovery.proofs.SizeLaws.{Sized, sized_after, size_in}
 
 -- ---- the least MTU is that of the settings
@@ -60,55 +59,23 @@ module _ {Q S M P : Type 0} (least : ℕ) where
       × (larger_acked least history ≡ entries_.larger_acked least entries)
       × ResetsTo least entries
 
-  module _ (history : History Q S M P) (entries : List MtuEntry) (tied : TiedTo history entries) where
-    acked_tied : (now number bytes : ℕ) (app_limited : Bool) → bytes ≡ size_of history number
-        → TiedTo ((
-          Acked space.Data now number app_limited,
-          Ok (answer.Acked (is_some (size_at number (probe_in_flight entries)))),
-        ) ∷ history)
-        (acked number bytes ∷ entries)
-    acked_tied now number bytes app_limited same = let is_own = is_some (size_at number (probe_in_flight entries)) in (
-      tied.0,
-      ap₂ (λ (size : ℕ) (bursts : List (List Loss)). if is_some (size_at number (probe_in_flight entries)) then []
-          else filter (is_above size) bursts)
-          (sym same) tied.1,
-      ap₂ (λ (size : ℕ) (bursts : List (List Loss)). if is_own || nat_lt least size then [] else bursts) (sym same)
-          tied.2,
-      ap₂ (λ (size : ℕ) (numbers : List ℕ). if is_own || nat_lt least size then number ∷ numbers else numbers)
-          (sym same) tied.3,
-      tied.4,
-    )
-
-    -- the losses up to one more
-    abbrev longer : Loss → List Loss → List Loss
-    longer loss run = loss ∷ (if follows loss.number run then run else [])
-
-    abbrev ends : ℕ → List Loss → List (List Loss)
-    ends number run = if follows number run then [] else if_any run
-
-    lost_tied : (number bytes : ℕ) (probe : Bool) → bytes ≡ size_of history number
-        → TiedTo ((Lost space.Data number, Ok (answer.Lost probe)) ∷ history)
-        ((if probe then probe_lost else lost number bytes) ∷ entries)
-    lost_tied number bytes true same = tied
-    lost_tied number bytes false same = (
-      ap₂ (λ (size : ℕ) (run : List Loss). longer (record { number = number; bytes = size }) run) (sym same) tied.0,
-      ap₂ (λ (run : List Loss) (bursts : List (List Loss)). ends number run ++ bursts) tied.0 tied.1,
-      ap₂ (λ (run : List Loss) (bursts : List (List Loss)). ends number run ++ bursts) tied.0 tied.2,
-      tied.3,
-      tied.4,
-    )
-
-    ended_tied : (now : ℕ) (hole : Bool)
-        → TiedTo ((LossesDone now, Ok (answer.BlackHole hole)) ∷ history)
-        ((if hole then reported now else losses_over) ∷ entries)
-    ended_tied now true = (refl, refl, refl, tied.3, tied.4)
-    ended_tied now false = (
-      refl,
-      ap₂ (λ (run : List Loss) (bursts : List (List Loss)). if_any run ++ bursts) tied.0 tied.1,
-      ap₂ (λ (run : List Loss) (bursts : List (List Loss)). if_any run ++ bursts) tied.0 tied.2,
-      tied.3,
-      tied.4,
-    )
+  module _ (first : ℕ) (history : History Q S M P) (entries : List MtuEntry) (tied : TiedTo history entries) where
+    step_tied : (event : Event Q S M P) (reply : Reply Q)
+        → Step first least entries (λ number bytes. bytes ≡ size_of history number)
+        (λ r after. TiedTo ((event, r) ∷ history) after) event reply
+    step_tied (PollMtu now) (Ok (answer.Probe number size)) = tied
+    step_tied (PollMtu now) (Ok answer.NoProbe) = tied
+    step_tied (PeerLimit size) (Ok given) = λ outside. tied
+    step_tied (Acked space.Data now number app_limited) (Ok given) = grind arith
+    step_tied (Lost space.Data number) (Ok given) = grind arith
+    step_tied (LossesDone now) (Ok given) = grind arith
+    step_tied (ResetPath now) (Ok given) = (refl, refl, refl, tied.3, (refl, tied.4))
+    step_tied (NewPath now remote true) (Ok given) = (refl, refl, refl, refl, tt)
+    step_tied (NewPath now remote true) (Err refusal) = tied
+    step_tied (Acked space.Data now number app_limited) (Err refusal) = tied
+    step_tied (Lost space.Data number) (Err refusal) = tied
+    step_tied event (Ok given) = tied
+    step_tied event (Err refusal) = tied
 
 module _ {F K Q S M P : Type 0} (beginning : Beginning F K Q S M P) where
   -- the least MTU of the settings
@@ -124,51 +91,6 @@ module _ {F K Q S M P : Type 0} (beginning : Beginning F K Q S M P) where
   size_known history sized number packet found =
       let sent = sent_by beginning.queue.words ((logs_of beginning history).spaces space.Data) in
       said_found size_in (size_of history) sent.next sent.tracked sized number packet found
-
-  module _ (history : History Q S M P) (sized : Sized beginning history) (tied : Tied history) where
-    abbrev before : List MtuEntry
-    before = entered_so_far beginning history
-
-    abbrev After : Event Q S M P → Answer Q → List MtuEntry → Type 0
-    After event given entries = TiedTo least ((event, Ok given) ∷ history) entries
-
-    answer_tied : (event : Event Q S M P) (given : Answer Q) → Facts beginning history event (Ok given)
-        → Tied ((event, Ok given) ∷ history)
-    answer_tied (PollMtu now) (answer.Probe number size) facts =
-        turned (After (PollMtu now) (answer.Probe number size)) facts.entered tied
-    answer_tied (PollMtu now) answer.NoProbe facts = turned (After (PollMtu now) answer.NoProbe) facts.entered tied
-    answer_tied (PollMtu now) given facts = turned (After (PollMtu now) given) facts.entered tied
-    answer_tied (PeerLimit size) given facts = turned (After (PeerLimit size) given) facts.entered tied
-    answer_tied (Acked space.Data now number app_limited) given facts =
-        acked_as beginning history (After (Acked space.Data now number app_limited)) now number app_limited given facts
-        (λ packet found. acked_tied least history before tied now number packet.size app_limited
-        (size_known history sized number packet found))
-    answer_tied (Acked there now number app_limited) given facts =
-        seen_as (After (Acked there now number app_limited)) given (answer.Acked false) _ before facts.tells
-        facts.entered tied
-    answer_tied (Lost space.Data number) given facts =
-        lost_as beginning history (After (Lost space.Data number)) number given facts
-        (λ packet found. lost_tied least history before tied number packet.size _
-        (size_known history sized number packet found))
-    answer_tied (Lost there number) given facts =
-        seen_as (After (Lost there number)) given (answer.Lost false) _ before facts.tells facts.entered tied
-    answer_tied (LossesDone now) given facts =
-        ended_as beginning history (After (LossesDone now)) now given facts (ended_tied least history before tied now)
-    answer_tied (ResetPath now) given facts =
-        turned (After (ResetPath now) given) facts.entered (refl, refl, refl, tied.3, (refl, tied.4))
-    answer_tied (NewPath now remote true) given facts =
-        turned (After (NewPath now remote true) given) facts.entered (refl, refl, refl, refl, tt)
-    answer_tied event given facts = turned (After event given) facts.entered tied
-
-    refused_tied : (event : Event Q S M P) (refusal : Refusal) → Facts beginning history event (Err refusal)
-        → Tied ((event, Err refusal) ∷ history)
-    refused_tied (NewPath now remote true) refusal facts =
-        subst (TiedTo least ((NewPath now remote true, Err refusal) ∷ history)) (sym facts.entered) tied
-    refused_tied (Acked space.Data now number app_limited) refusal facts =
-        turned (TiedTo least ((Acked space.Data now number app_limited, Err refusal) ∷ history)) facts.entered tied
-    refused_tied (Lost space.Data number) refusal facts =
-        turned (TiedTo least ((Lost space.Data number, Err refusal) ∷ history)) facts.entered tied
-    refused_tied event refusal facts = subst (TiedTo least ((event, Err refusal) ∷ history)) (sym facts.entered) tied
 
   -- ---- what is kept
 
@@ -193,16 +115,14 @@ module _ {F K Q S M P : Type 0} (beginning : Beginning F K Q S M P) where
   pub kept_after : (history : History Q S M P) (event : Event Q S M P) (reply : Reply Q)
       → Facts beginning history event reply → Kept history
       → Kept ((event, reply) ∷ history)
-  kept_after history event reply facts kept = record {
-    tied = go reply facts;
-    sized = sized_after beginning history event reply facts.told kept.sized;
+  kept_after history event reply known kept = record {
+    tied = stepped beginning history (λ number bytes. bytes ≡ size_of history number)
+        (size_known history kept.sized) (λ r after. TiedTo least ((event, r) ∷ history) after) event reply known
+        (step_tied least (settings_of beginning).mtu history (entered_so_far beginning history) kept.tied event reply);
+    sized = sized_after beginning history event reply known.told kept.sized;
     made = ap (λ made. made.bursts.min_mtu) (is_made beginning history event reply)
         ∙ made_least history event reply kept.made;
   }
-    where
-      go : (reply : Reply Q) → Facts beginning history event reply → Tied ((event, reply) ∷ history)
-      go (Ok given) facts = answer_tied history kept.sized kept.tied event given facts
-      go (Err refusal) facts = refused_tied history kept.sized kept.tied event refusal facts
 
   pub kept_first : Kept []
   kept_first =

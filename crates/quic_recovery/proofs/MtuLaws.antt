@@ -1,23 +1,21 @@
 -- By the history alone the MTU in use is the one that is kept, on both paths: the clause `mtu` of `run`.
-use Rattle.std.proofs.Common.{ℕ, ◌≡◌, ◌<◌, ◌^◌, min, Bool, true, false, if◌then◌else◌, List, [], ◌∷◌, Option, None, Some, Ok, Err, refl, sym, ap, subst, ◌∙◌, is_some}
-use Rattle.std.specs.Prelude.{IsSomeAnd, option_map, unwrap_or}
+use Rattle.std.proofs.Common.{ℕ, ◌≡◌, ◌<◌, ◌^◌, true, false, List, [], ◌∷◌, Option, None, Some, Ok, Err, refl, sym, ap, subst, ◌∙◌, is_some, arith}
+use Rattle.std.specs.Prelude.{IsSomeAnd, option_map}
 use Rattle.std.specs.Option.{ForSome}
 use Rattle.recovery_base.specs.declared.below.SpaceId.TheVariants as space
 use Rattle.recovery_config.specs.declared.config.TransportConfig.{TransportConfig}
 use Rattle.recovery_config.specs.Settings.{initial_mtu_of}
 use Rattle.recovery_mtud.specs.declared.config.MtuDiscoveryConfig.{MtuDiscoveryConfig}
-use Rattle.recovery_mtud.specs.Discovery.{Discovery, within}
+use Rattle.recovery_mtud.specs.Discovery.{Discovery}
 use Rattle.recovery_mtud.specs.DiscoveryLog.{kept_limit}
-use Rattle.recovery_mtud.specs.MtuEntries.{MtuEntry, MtuProbe, probed, acked, probe_lost, lost, losses_over, reported, probe_in_flight, size_at, unless_number, limit_in_use, min_mtu_in_use, mtu_in_use as by_entries}
+use Rattle.recovery_mtud.specs.MtuEntries.{MtuEntry, probed, probe_in_flight, limit_in_use, min_mtu_in_use, mtu_in_use as by_entries}
 use Rattle.recovery_mtud.specs.SearchRuns.{ProbesInSearch}
 use Rattle.recovery_paths.specs.declared.live_paths.PathName.TheVariants.{Current, Previous}
 use Rattle.recovery_paths.specs.PathLog.{OfPaths, PathKnown, PathPast, is_validated, known_of, past_with, receives, state_of}
 use Rattle.recovery_paths.specs.PathMaking.{discovery_with}
 use Rattle.recovery_events.specs.declared.event.Event.{Event}
 use Rattle.recovery_events.specs.declared.event.Event.TheVariants.{PollMtu, Acked, Lost, LossesDone, PeerLimit, ResetPath, NewPath, DropPrevious}
-use Rattle.recovery_events.specs.declared.event.Answer.{Answer}
 use Rattle.recovery_events.specs.declared.event.Answer.TheVariants as answer
-use Rattle.recovery_events.specs.declared.event.Refusal.{Refusal}
 use Rattle.quic_recovery.specs.Entries.{logs_of, pasts_of}
 use Rattle.quic_recovery.specs.History.{Beginning, History, Reply, Throughout}
 use Rattle.quic_recovery.specs.Known.{last_limit, settings_of}
@@ -25,11 +23,11 @@ use Rattle.quic_recovery.specs.Promises.Mtu.{UsesMtu, before_move, mtu, mtu_in_u
 use Rattle.quic_recovery.specs.Search.{discovery_settings}
 use Rattle.quic_recovery.specs.Told.{Told}
 use Rattle.quic_recovery.proofs.HolesLaws as holes
-use Rattle.quic_recovery.proofs.MadeLaws.{is_made, made_after, made_in}
+use Rattle.quic_recovery.proofs.MadeLaws.{is_made, made_in}
 use Rattle.quic_recovery.proofs.NearLaws as near
 use Rattle.quic_recovery.proofs.SearchLaws.{mtu as mtu_by_entries, probes}
 use Rattle.quic_recovery.proofs.SearchSaid.{MtuByEntries, ProbesInTurn, entered_so_far}
-use Rattle.quic_recovery.proofs.SearchSteps.{Facts, acked_as, ended_as, lost_as, seen_as, throughout_both, throughout_by, turned}
+use Rattle.quic_recovery.proofs.SearchSteps.{Facts, Step, stepped, throughout_both, throughout_by}
 use Rattle.quic_recovery.proofs.SeenLaws.{IsStill, IsStillOn, stays_seen}
 
 -- ---- where paths are not searched: no probe goes out, and no limit is kept
@@ -39,36 +37,32 @@ module _ {Q S M P : Type 0} (first least : ℕ) where
   TiedTo made history entries = (probe_in_flight entries ≡ None) × (limit_in_use made entries ≡ None)
       × (mtu false first least history ≡ by_entries made entries)
 
-  module _ (made : Discovery) (history : History Q S M P) (entries : List MtuEntry) (tied : TiedTo made history entries)
-    where
-      acked_tied : (now number bytes : ℕ) (app_limited : Bool) → TiedTo made
-          ((
-            Acked space.Data now number app_limited,
-            Ok (answer.Acked (is_some (size_at number (probe_in_flight entries)))),
-          ) ∷ history)
-          (acked number bytes ∷ entries)
-      acked_tied now number bytes app_limited = go (probe_in_flight entries) tied.0
-        where
-          go : (flight : Option MtuProbe) → flight ≡ None → (unless_number number flight ≡ None)
-              × (limit_in_use made entries ≡ None)
-              × (mtu false first least
-              ((Acked space.Data now number app_limited, Ok (answer.Acked (is_some (size_at number flight))))
-              ∷ history)
-              ≡ unwrap_or (size_at number flight) (by_entries made entries))
-          go None is = (refl, tied.1, tied.2)
-          go (Some probe) is = absurd (cc)
+  -- no probe is answered
+  abbrev ProbesNone : Event Q S M P → Reply Q → Type 0
+  ProbesNone (PollMtu now) (Ok (answer.Probe number size)) = ⊥
+  ProbesNone event reply = Unit {0}
 
-      lost_tied : (number bytes : ℕ) (probe : Bool)
-          → TiedTo made ((Lost space.Data number, Ok (answer.Lost probe)) ∷ history)
-          ((if probe then probe_lost else lost number bytes) ∷ entries)
-      lost_tied number bytes true = (refl, tied.1, tied.2)
-      lost_tied number bytes false = tied
+  module _ (fresh made : Discovery) (history : History Q S M P) where
+    abbrev After : Event Q S M P → Reply Q → List MtuEntry → Type 0
+    After event reply after =
+        ProbesNone event reply → TiedTo (near.made_then fresh made event reply) ((event, reply) ∷ history) after
 
-      ended_tied : (now : ℕ) → least ≡ min_mtu_in_use made entries → (hole : Bool)
-          → TiedTo made ((LossesDone now, Ok (answer.BlackHole hole)) ∷ history)
-          ((if hole then reported now else losses_over) ∷ entries)
-      ended_tied now is true = (refl, tied.1, is)
-      ended_tied now is false = tied
+    module _ (entries : List MtuEntry) (tied : TiedTo made history entries)
+        (least_is : least ≡ min_mtu_in_use made entries) (fresh_is : (kept_limit fresh ≡ None) × (first ≡ fresh.mtu))
+      where
+        step_tied : (event : Event Q S M P) (reply : Reply Q)
+            → Step first least entries (λ number bytes. Unit {0}) (After event) event reply
+        step_tied (PollMtu now) (Ok (answer.Probe number size)) = λ none. absurd none
+        step_tied (PollMtu now) (Ok answer.NoProbe) = λ none. tied
+        step_tied (PeerLimit size) (Ok given) = grind arith
+        step_tied (Acked space.Data now number app_limited) (Ok given) = grind arith
+        step_tied (Lost space.Data number) (Ok given) = grind arith
+        step_tied (LossesDone now) (Ok given) = grind arith
+        step_tied (ResetPath now) (Ok given) = grind arith
+        step_tied (NewPath now remote true) (Ok given) = λ none. (refl, fresh_is.0, fresh_is.1)
+        step_tied (NewPath now remote true) (Err refusal) = λ none. tied
+        step_tied event (Ok given) = λ none. tied
+        step_tied event (Err refusal) = λ none. tied
 
 module _ {F : Type 0} (limit : Option ℕ) (config : TransportConfig F) where
   fresh_limit : (by : Option MtuDiscoveryConfig) → by ≡ None → kept_limit (discovery_with limit config by) ≡ None
@@ -90,72 +84,30 @@ module _ {F K Q S M P : Type 0} (beginning : Beginning F K Q S M P) (is : discov
   abbrev pub Unsearched : History Q S M P → Type 0
   Unsearched history = TiedTo first least (made_in beginning history) history (entered_so_far beginning history)
 
-  module _ (history : History Q S M P) (tied : Unsearched history)
-      (least_is : least ≡ min_mtu_in_use (made_in beginning history) (entered_so_far beginning history)) where
-    abbrev Then : Event Q S M P → Reply Q → List MtuEntry → Type 0
-    Then event reply entries =
-        TiedTo first least (made_after beginning history event reply) ((event, reply) ∷ history) entries
+  probes_none : (history : History Q S M P) (event : Event Q S M P) (reply : Reply Q)
+      → ProbesInTurn beginning history event reply → ProbesNone first least event reply
+  probes_none history (PollMtu now) (Ok (answer.Probe number size)) turn =
+      subst (λ by. IsSomeAnd by
+      (λ settings. ProbesInSearch settings (probed now number size ∷ entered_so_far beginning history))) is turn
+  probes_none history event reply turn = tt
 
-    abbrev Given : Event Q S M P → Answer Q → List MtuEntry → Type 0
-    Given event given entries = Then event (Ok given) entries
-
-    abbrev made : Discovery
-    made = made_in beginning history
-
-    abbrev so_far : List MtuEntry
-    so_far = entered_so_far beginning history
-
-    answer_tied : (event : Event Q S M P) (given : Answer Q) → Facts beginning history event (Ok given)
-        → ProbesInTurn beginning history event (Ok given)
-        → Given event given (entered_so_far beginning ((event, Ok given) ∷ history))
-    answer_tied (PollMtu now) (answer.Probe number size) facts turn = absurd
-        (subst (λ by. IsSomeAnd by (λ settings. ProbesInSearch settings (probed now number size ∷ so_far))) is turn)
-    answer_tied (PollMtu now) answer.NoProbe facts turn = turned (Given (PollMtu now) answer.NoProbe) facts.entered tied
-    answer_tied (PollMtu now) given facts turn = turned (Given (PollMtu now) given) facts.entered tied
-    answer_tied (PeerLimit size) given facts turn = turned (Given (PeerLimit size) given) facts.entered
-        (tied.0, ap (option_map (λ old. size)) tied.1, ap (λ m. min m size) tied.2)
-    answer_tied (Acked space.Data now number app_limited) given facts turn =
-        acked_as beginning history (Given (Acked space.Data now number app_limited)) now number app_limited given facts
-        (λ packet found. acked_tied first least made history so_far tied now number packet.size app_limited)
-    answer_tied (Acked there now number app_limited) given facts turn =
-        seen_as (Given (Acked there now number app_limited)) given (answer.Acked false) _ so_far facts.tells
-        facts.entered tied
-    answer_tied (Lost space.Data number) given facts turn =
-        lost_as beginning history (Given (Lost space.Data number)) number given facts
-        (λ packet found. lost_tied first least made history so_far tied number packet.size _)
-    answer_tied (Lost there number) given facts turn =
-        seen_as (Given (Lost there number)) given (answer.Lost false) _ so_far facts.tells facts.entered tied
-    answer_tied (LossesDone now) given facts turn =
-        ended_as beginning history (Given (LossesDone now)) now given facts
-        (ended_tied first least made history so_far tied now least_is)
-    answer_tied (ResetPath now) given facts turn = turned (Given (ResetPath now) given) facts.entered
-        (refl, tied.1, ap (within first) (sym tied.1))
-    answer_tied (NewPath now remote true) given facts turn =
-        let limit = last_limit (logs_of beginning history).limits in
-        turned (Given (NewPath now remote true) given) facts.entered (
-          refl,
-          fresh_limit limit beginning.config.transport (discovery_settings beginning) is,
-          fresh_mtu limit beginning.config.transport (discovery_settings beginning) is,
-        )
-    answer_tied event given facts turn = turned (Given event given) facts.entered tied
-
-    refused_tied : (event : Event Q S M P) (refusal : Refusal) → Facts beginning history event (Err refusal)
-        → Then event (Err refusal) (entered_so_far beginning ((event, Err refusal) ∷ history))
-    refused_tied (NewPath now remote true) refusal facts =
-        turned (Then (NewPath now remote true) (Err refusal)) facts.entered tied
-    refused_tied event refusal facts = turned (Then event (Err refusal)) facts.entered tied
-
-    pub unsearched_after : (event : Event Q S M P) (reply : Reply Q) → Facts beginning history event reply
-        → ProbesInTurn beginning history event reply → Unsearched ((event, reply) ∷ history)
-    unsearched_after event reply facts turn =
-        let entries = entered_so_far beginning ((event, reply) ∷ history) in
-        let Now : Discovery → Type 0 = λ d. TiedTo first least d ((event, reply) ∷ history) entries in
-        subst Now (sym (is_made beginning history event reply)) (go reply facts turn)
-      where
-        go : (reply : Reply Q) → Facts beginning history event reply → ProbesInTurn beginning history event reply
-            → Then event reply (entered_so_far beginning ((event, reply) ∷ history))
-        go (Ok given) facts turn = answer_tied event given facts turn
-        go (Err refusal) facts turn = refused_tied event refusal facts
+  pub unsearched_after : (history : History Q S M P) → Unsearched history
+      → least ≡ min_mtu_in_use (made_in beginning history) (entered_so_far beginning history)
+      → (event : Event Q S M P) (reply : Reply Q) → Facts beginning history event reply
+      → ProbesInTurn beginning history event reply → Unsearched ((event, reply) ∷ history)
+  unsearched_after history tied least_is event reply known turn =
+      let limit = last_limit (logs_of beginning history).limits in
+      let fresh = (settings_of beginning).discovery limit in
+      let made = made_in beginning history in
+      let Now : Discovery → Type 0 =
+      λ d. TiedTo first least d ((event, reply) ∷ history) (entered_so_far beginning ((event, reply) ∷ history)) in
+      subst Now (sym (is_made beginning history event reply))
+      (stepped beginning history (λ number bytes. Unit {0}) (λ number packet found. tt {0})
+      (After first least fresh made history event) event reply known
+      (step_tied first least fresh made history (entered_so_far beginning history) tied least_is (
+        fresh_limit limit beginning.config.transport (discovery_settings beginning) is,
+        fresh_mtu limit beginning.config.transport (discovery_settings beginning) is,
+      ) event reply) (probes_none history event reply turn))
 
   pub unsearched_first : Unsearched []
   unsearched_first = (

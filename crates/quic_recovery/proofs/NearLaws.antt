@@ -1,7 +1,7 @@
 -- By the history alone a search ends near the best size of an honest link, as its entries say: the clause `near` of
 -- `run`.
-use Rattle.std.proofs.Common.{ℕ, ◌≡◌, ◌+◌, ◌*◌, ◌<◌, ◌≤◌, ◌^◌, ◌&&◌, ◌||◌, min, max, Bool, true, false, not, if◌then◌else◌, List, [], ◌∷◌, ◌++◌, Option, None, Some, Ok, Err, refl, sym, ap, ap₂, subst, ◌∙◌, is_some, arith}
-use Rattle.std.specs.Prelude.{All, is_none, option_map, option_to_list, unwrap_or}
+use Rattle.std.proofs.Common.{ℕ, ◌≡◌, ◌+◌, ◌*◌, ◌<◌, ◌≤◌, ◌^◌, ◌||◌, min, max, Bool, true, false, if◌then◌else◌, List, [], ◌∷◌, Option, None, Some, Ok, Err, refl, sym, ap, ap₂, subst, ◌∙◌, is_some, arith}
+use Rattle.std.specs.Prelude.{All}
 use Rattle.std.specs.Option.{ForSome}
 use Rattle.recovery_base.specs.declared.below.SpaceId.TheVariants as space
 use Rattle.recovery_config.specs.declared.config.TransportConfig.{TransportConfig}
@@ -9,8 +9,8 @@ use Rattle.recovery_config.specs.Settings.{initial_mtu_of}
 use Rattle.recovery_mtud.specs.declared.config.MtuDiscoveryConfig.{MtuDiscoveryConfig}
 use Rattle.recovery_mtud.specs.Discovery.{Discovery, limit_or_greatest, within}
 use Rattle.recovery_mtud.specs.DiscoveryLog.{kept_limit}
-use Rattle.recovery_mtud.specs.MtuEntries.{MtuEntry, MtuProbe, probed as probed_entry, unprobed, limited, acked, probe_lost, lost, losses_over, reported, reset, probe_in_flight, size_at, unless_number, limit_in_use, min_mtu_in_use, mtu_in_use}
-use Rattle.recovery_mtud.specs.Search.{later, upper_from}
+use Rattle.recovery_mtud.specs.MtuEntries.{MtuEntry, MtuProbe, unprobed, probe_in_flight, limit_in_use, min_mtu_in_use, mtu_in_use}
+use Rattle.recovery_mtud.specs.Search.{upper_from}
 use Rattle.recovery_mtud.specs.SearchRuns.{AreLimitsOutside, EndsNearBest, start_upper, acked_sizes, before_search, is_due, lost_sizes, next_activation, probed_sizes, search_of, search_runs}
 use Rattle.recovery_paths.specs.PathMaking.{discovery_with}
 use Rattle.recovery_events.specs.declared.event.Event.{Event}
@@ -20,7 +20,7 @@ use Rattle.recovery_events.specs.declared.event.Answer.TheVariants as answer
 use Rattle.recovery_events.specs.declared.event.Refusal.{Refusal}
 use Rattle.quic_recovery.specs.Entries.{Entries, nothing as no_entries, answered, entries_of, logs_of}
 use Rattle.quic_recovery.specs.History.{Beginning, History, QueueMeaning, Reply, Throughout}
-use Rattle.quic_recovery.specs.Known.{Known, known_by, last_limit}
+use Rattle.quic_recovery.specs.Known.{Known, known_by, last_limit, settings_of}
 use Rattle.quic_recovery.specs.Logs.{onto}
 use Rattle.quic_recovery.specs.Search.{discovery_settings}
 use Rattle.quic_recovery.specs.Promises.Few.{is_in_flight}
@@ -33,9 +33,9 @@ use Rattle.quic_recovery.proofs.SearchSaid.{EndsNear, LimitsOutside, entered_so_
 use Rattle.quic_recovery.proofs.FewLaws as few
 use Rattle.quic_recovery.proofs.FlightLaws.{before_idle}
 use Rattle.quic_recovery.proofs.HolesLaws as holes
-use Rattle.quic_recovery.proofs.MadeLaws.{is_made, made_after, made_in}
+use Rattle.quic_recovery.proofs.MadeLaws.{is_made, made_in}
 use Rattle.quic_recovery.proofs.SearchLaws.{ends, limits}
-use Rattle.quic_recovery.proofs.SearchSteps.{Facts, facts, seen_as, turned, acked_as, lost_as, ended_as, throughout_both, throughout_by}
+use Rattle.quic_recovery.proofs.SearchSteps.{Facts, Step, facts, stepped, throughout_both, throughout_by}
 
 -- ---- the limit that the peer told last
 
@@ -70,42 +70,18 @@ limit_known beginning (happened ∷ earlier) =
 
 -- ---- the entries of the search that runs
 
-is_none_not : {A : Type 0} (o : Option A) → not (is_some o) ≡ is_none o
-is_none_not None = refl
-is_none_not (Some a) = refl
+-- where none runs there are none; one runs exactly where it probed some, and while a probe is in flight; its entries
+-- have that probe
+abbrev Seen : List MtuEntry → Type 0
+Seen entries =
+    (search_runs entries ≡ false → search_of entries ≡ [])
+    × (are_some (probed_sizes (search_of entries)) ≡ search_runs entries)
+    × (is_some (probe_in_flight entries) ≡ true → search_runs entries ≡ true)
+    × (search_runs entries ≡ true → probe_in_flight (search_of entries) ≡ probe_in_flight entries)
 
--- where none runs, there are none
-idle : (entries : List MtuEntry) → search_runs entries ≡ false → search_of entries ≡ []
-idle [] is = refl
-idle (entry ∷ earlier) is = ap (λ b. if b then entry ∷ search_of earlier else []) is
-
--- one runs exactly where it probed some
-runs_by_sizes : (entries : List MtuEntry) → are_some (probed_sizes (search_of entries)) ≡ search_runs entries
-runs_by_sizes [] = refl
-runs_by_sizes (entry ∷ earlier) = grind (arith, runs_by_sizes earlier)
-
--- one runs while a probe is in flight
-flying_before : (number : ℕ) (flight : Option MtuProbe) → is_some (unless_number number flight) ≡ true
-    → is_some flight ≡ true
-flying_before number None is = is
-flying_before number (Some probe) is = refl
-
-runs_in_flight : (entries : List MtuEntry) → is_some (probe_in_flight entries) ≡ true → search_runs entries ≡ true
-runs_in_flight [] is = absurd (cc)
-runs_in_flight (acked number bytes ∷ earlier) is = runs_in_flight earlier
-    (flying_before number (probe_in_flight earlier) is)
-runs_in_flight (entry ∷ earlier) is = grind (arith, runs_in_flight earlier, is_none_not (probe_in_flight earlier))
-
--- its entries have the probe in flight
-probe_in_search : (entries : List MtuEntry) → search_runs entries ≡ true
-    → probe_in_flight (search_of entries) ≡ probe_in_flight entries
-probe_in_search [] runs = refl
-probe_in_search (entry ∷ earlier) runs = grind (arith, probe_in_search earlier)
-
--- what was before a search stays so while it runs
-before_kept : (entry : MtuEntry) (entries : List MtuEntry) → search_runs (entry ∷ entries) ≡ true
-    → before_search (entry ∷ entries) ≡ before_search entries
-before_kept entry entries is = ap (λ b. if b then before_search entries else entry ∷ entries) is
+seen : (entries : List MtuEntry) → Seen entries
+seen [] = grind arith
+seen (entry ∷ earlier) = grind (arith, seen earlier)
 
 -- the limit was the same as it began
 limit_before : (made : Discovery) (entries : List MtuEntry) → AreLimitsOutside entries
@@ -113,53 +89,10 @@ limit_before : (made : Discovery) (entries : List MtuEntry) → AreLimitsOutside
 limit_before made [] outside = refl
 limit_before made (entry ∷ earlier) outside = grind (arith, limit_before made earlier)
 
--- ---- the probe in flight
-
--- its size is that of the last one
+-- the size of the probe in flight is that of the last one
 abbrev LastOf : ℕ → Option MtuProbe → Type 0
 LastOf size None = Unit {0}
 LastOf size (Some probe) = size ≡ probe.size
-
-last_unless : (size number : ℕ) (flight : Option MtuProbe) → LastOf size flight
-    → LastOf size (unless_number number flight)
-last_unless size number None last = last
-last_unless size number (Some probe) last = grind arith
-
--- where a number is that of the probe in flight
-flying_size : (number : ℕ) (flight : Option MtuProbe) (found : ℕ) → size_at number flight ≡ Some found
-    → option_map (λ probe. probe.size) flight ≡ Some found
-flying_size number None found is = absurd (cc)
-flying_size number (Some probe) found is = grind arith
-
-last_found : (size : ℕ) (flight : Option MtuProbe) (found : ℕ) → LastOf size flight
-    → option_map (λ probe. probe.size) flight ≡ Some found → size ≡ found
-last_found size None found last is = absurd (cc)
-last_found size (Some probe) found last is = grind arith
-
-flies : (flight : Option MtuProbe) (found : ℕ) → option_map (λ probe. probe.size) flight ≡ Some found
-    → is_some flight ≡ true
-flies None found is = absurd (cc)
-flies (Some probe) found is = refl
-
-module _ (entries : List MtuEntry) where
-  -- a number that is not that of the probe in flight is none in the search
-  none_in_search : (number : ℕ) → size_at number (probe_in_flight entries) ≡ None
-      → size_at number (probe_in_flight (search_of entries)) ≡ None
-  none_in_search number is = grind (arith, probe_in_search entries, idle entries)
-
-  -- ---- sizes of the probes of the search that runs, by a history
-
-  module _ (sizes : List MtuEntry → List ℕ) (none : sizes [] ≡ []) (old : List ℕ)
-      (is : old ≡ sizes (search_of entries)) where
-    -- by an entry that adds none
-    list_kept : (entry : MtuEntry) → sizes (entry ∷ search_of entries) ≡ sizes (search_of entries) → (r s : Bool)
-        → r ≡ s
-        → (if r then old else []) ≡ sizes (if s then entry ∷ search_of entries else [])
-    list_kept entry same r s e = grind arith
-
-    -- by none
-    list_still : (r : Bool) → r ≡ search_runs entries → (if r then old else []) ≡ sizes (search_of entries)
-    list_still r e = grind (arith, idle entries)
 
 -- ---- what is read off the history is what the entries say
 
@@ -170,7 +103,12 @@ Carries made old after entries = search_runs after ≡ true → (before_search a
 -- a search runs by the history where one does by its entries
 pub runs_same : {Q S M P : Type 0} (history : History Q S M P) (entries : List MtuEntry) → few.TiedTo history entries
     → runs history ≡ search_runs entries
-runs_same history entries tied = ap are_some tied.1 ∙ runs_by_sizes entries
+runs_same history entries tied = ap are_some tied.1 ∙ (seen entries).1
+
+-- the discovery of the path in use, by the one that a fresh path has
+abbrev pub made_then : {Q S M P : Type 0} → Discovery → Discovery → Event Q S M P → Reply Q → Discovery
+made_then fresh made (NewPath now remote true) (Ok given) = fresh
+made_then fresh made event reply = made
 
 module _ {Q S M P : Type 0} (first least : ℕ) (settings : MtuDiscoveryConfig) where
   abbrev pub TiedTo : Discovery → History Q S M P → List MtuEntry → Type 0
@@ -183,210 +121,39 @@ module _ {Q S M P : Type 0} (first least : ℕ) (settings : MtuDiscoveryConfig) 
       × (lost_probes history ≡ lost_sizes (search_of entries))
       × AreLimitsOutside entries
 
-  module _ (made : Discovery) (history : History Q S M P) (entries : List MtuEntry)
-      (before : few.TiedTo history entries) (tied : TiedTo made history entries) where
-    abbrev After : Event Q S M P × Reply Q → List MtuEntry → Type 0
-    After happened after = few.TiedTo (happened ∷ history) after → TiedTo made (happened ∷ history) after
-        × Carries made made after entries
+  module _ (fresh made : Discovery) (history : History Q S M P) (entries : List MtuEntry) where
+    abbrev pub After : Event Q S M P → Reply Q → List MtuEntry → Type 0
+    After event reply after =
+        let now = made_then fresh made event reply in
+        TiedTo now ((event, reply) ∷ history) after × Carries now made after entries
 
-    -- what most events leave of the probes
-    abbrev Acks : Event Q S M P × Reply Q → List MtuEntry → Type 0
-    Acks happened after = (if runs (happened ∷ history) then acked_probes history else [])
-        ≡ acked_sizes (search_of after)
+  module _ (fresh made : Discovery) (history : History Q S M P) (entries : List MtuEntry)
+      (before : few.TiedTo history entries) (tied : TiedTo made history entries)
+      (least_is : least ≡ min_mtu_in_use made entries)
+      (fresh_is : (kept_limit fresh ≡ Some (limit_or_greatest (limit history)))
+      × (within first (limit history) ≡ fresh.mtu)) where
+    -- where nothing is entered
+    stays : ((if runs history then acked_probes history else []) ≡ acked_sizes (search_of entries))
+        × ((if runs history then lost_probes history else []) ≡ lost_sizes (search_of entries))
+    stays = grind (arith, seen entries)
 
-    abbrev Losses : Event Q S M P × Reply Q → List MtuEntry → Type 0
-    Losses happened after = (if runs (happened ∷ history) then lost_probes history else [])
-        ≡ lost_sizes (search_of after)
-
-    acks_kept : (happened : Event Q S M P × Reply Q) (entry : MtuEntry)
-        → acked_sizes (entry ∷ search_of entries) ≡ acked_sizes (search_of entries)
-        → few.TiedTo (happened ∷ history) (entry ∷ entries) → Acks happened (entry ∷ entries)
-    acks_kept happened entry same after =
-        list_kept entries acked_sizes refl (acked_probes history) tied.4 entry same (runs (happened ∷ history))
-        (search_runs (entry ∷ entries))
-        (runs_same (happened ∷ history) (entry ∷ entries) after)
-
-    losses_kept : (happened : Event Q S M P × Reply Q) (entry : MtuEntry)
-        → lost_sizes (entry ∷ search_of entries) ≡ lost_sizes (search_of entries)
-        → few.TiedTo (happened ∷ history) (entry ∷ entries) → Losses happened (entry ∷ entries)
-    losses_kept happened entry same after =
-        list_kept entries lost_sizes refl (lost_probes history) tied.5 entry same (runs (happened ∷ history))
-        (search_runs (entry ∷ entries))
-        (runs_same (happened ∷ history) (entry ∷ entries) after)
-
-    -- and of those where nothing is entered
-    still : (happened : Event Q S M P × Reply Q) → few.TiedTo (happened ∷ history) entries → Acks happened entries
-        × Losses happened entries
-    still happened after =
-        let same = runs_same (happened ∷ history) entries after in (
-          list_still entries acked_sizes refl (acked_probes history) tied.4 (runs (happened ∷ history)) same,
-          list_still entries lost_sizes refl (lost_probes history) tied.5 (runs (happened ∷ history)) same,
-        )
-
-    -- the search goes on
-    goes : (entry : MtuEntry) → Carries made made (entry ∷ entries) entries
-    goes entry = λ is. (before_kept entry entries is, refl)
-
-    polled_tied : (now : ℕ) → After (PollMtu now, Ok answer.NoProbe) (unprobed now ∷ entries)
-    polled_tied now = λ after. (
-        let by : Bool → Bool → Option ℕ → Option ℕ = λ quiet running last.
-        if quiet && (running || is_due last now) then Some (later now settings.interval) else last in
-        let quiet = ap not before.0 ∙ is_none_not (probe_in_flight entries) in (
-          (
-            tied.0,
-            tied.1,
-            tied.2,
-            ap (λ q. by q (runs history) (next settings history)) quiet
-                ∙ ap (λ r. by (is_none (probe_in_flight entries)) r (next settings history))
-                (runs_same history entries before)
-                ∙ ap (λ l. by (is_none (probe_in_flight entries)) (search_runs entries) l) tied.3,
-            acks_kept (PollMtu now, Ok answer.NoProbe) (unprobed now) refl after,
-            losses_kept (PollMtu now, Ok answer.NoProbe) (unprobed now) refl after,
-            tied.6,
-          ),
-          goes (unprobed now),
-        )
-        )
-
-    acked_tied : (now number bytes : ℕ) (app_limited : Bool) (found : Option ℕ)
-        → size_at number (probe_in_flight entries) ≡ found
-        → After (Acked space.Data now number app_limited, Ok (answer.Acked (is_some found)))
-        (acked number bytes ∷ entries)
-    acked_tied now number bytes app_limited None is = λ after. (
-        let happened : Event Q S M P × Reply Q = (Acked space.Data now number app_limited, Ok (answer.Acked false)) in (
-          (
-            last_unless (last_probe history) number (probe_in_flight entries) tied.0,
-            tied.1,
-            tied.2 ∙ ap (λ (o : Option ℕ). unwrap_or o (mtu_in_use made entries)) (sym is),
-            tied.3,
-            acks_kept happened (acked number bytes)
-                (ap (λ (o : Option ℕ). option_to_list o ++ acked_sizes (search_of entries))
-                (none_in_search entries number is)) after,
-            losses_kept happened (acked number bytes) refl after,
-            tied.6,
-          ),
-          goes (acked number bytes),
-        )
-        )
-    acked_tied now number bytes app_limited (Some found) is = λ after. (
-        let happened : Event Q S M P × Reply Q = (Acked space.Data now number app_limited, Ok (answer.Acked true)) in
-        let flying = flying_size number (probe_in_flight entries) found is in
-        let last = last_found (last_probe history) (probe_in_flight entries) found tied.0 flying in
-        let running = runs_in_flight entries (flies (probe_in_flight entries) found flying) in (
-          (
-            last_unless (last_probe history) number (probe_in_flight entries) tied.0,
-            tied.1,
-            last ∙ ap (λ (o : Option ℕ). unwrap_or o (mtu_in_use made entries)) (sym is),
-            tied.3,
-            ap₂ (λ (size : ℕ) (sizes : List ℕ). size ∷ sizes) last tied.4
-                ∙ sym (ap (λ (b : Bool). acked_sizes (if b then acked number bytes ∷ search_of entries else [])) running
-                ∙ ap (λ (o : Option ℕ). option_to_list o ++ acked_sizes (search_of entries))
-                (ap (size_at number) (probe_in_search entries running) ∙ is)),
-            losses_kept happened (acked number bytes) refl after,
-            tied.6,
-          ),
-          goes (acked number bytes),
-        )
-        )
-
-    lost_tied : (number bytes : ℕ) (found : Option ℕ) → size_at number (probe_in_flight entries) ≡ found
-        → After (Lost space.Data number, Ok (answer.Lost (is_some found)))
-        ((if is_some found then probe_lost else lost number bytes) ∷ entries)
-    lost_tied number bytes None is = λ after. (
-        let happened : Event Q S M P × Reply Q = (Lost space.Data number, Ok (answer.Lost false)) in (
-          (
-            tied.0,
-            tied.1,
-            tied.2,
-            tied.3,
-            acks_kept happened (lost number bytes) refl after,
-            losses_kept happened (lost number bytes) refl after,
-            tied.6,
-          ),
-          goes (lost number bytes),
-        )
-        )
-    lost_tied number bytes (Some found) is = λ after. (
-        let happened : Event Q S M P × Reply Q = (Lost space.Data number, Ok (answer.Lost true)) in
-        let flying = flying_size number (probe_in_flight entries) found is in
-        let last = last_found (last_probe history) (probe_in_flight entries) found tied.0 flying in
-        let running = runs_in_flight entries (flies (probe_in_flight entries) found flying) in (
-          (
-            tt,
-            tied.1,
-            tied.2,
-            tied.3,
-            acks_kept happened probe_lost refl after,
-            ap₂ (λ (size : ℕ) (sizes : List ℕ). size ∷ sizes) last tied.5
-                ∙ sym (ap (λ (b : Bool). lost_sizes (if b then probe_lost ∷ search_of entries else [])) running
-                ∙ ap (λ (o : Option ℕ). option_to_list o ++ lost_sizes (search_of entries))
-                (ap (option_map (λ probe. probe.size)) (probe_in_search entries running) ∙ flying)),
-            tied.6,
-          ),
-          goes probe_lost,
-        )
-        )
-
-    ended_tied : (now : ℕ) → least ≡ min_mtu_in_use made entries → (hole : Bool)
-        → After (LossesDone now, Ok (answer.BlackHole hole)) ((if hole then reported now else losses_over) ∷ entries)
-    ended_tied now is true = λ after. ((tt, tied.1, is, refl, refl, refl, tied.6), goes (reported now))
-    ended_tied now is false = λ after. (
-        let happened : Event Q S M P × Reply Q = (LossesDone now, Ok (answer.BlackHole false)) in (
-          (
-            tied.0,
-            tied.1,
-            tied.2,
-            tied.3,
-            acks_kept happened losses_over refl after,
-            losses_kept happened losses_over refl after,
-            tied.6,
-          ),
-          goes losses_over,
-        )
-        )
-
-    limited_tied : (size : ℕ) (given : Answer Q) → search_runs entries ≡ false
-        → After (PeerLimit size, Ok given) (limited size ∷ entries)
-    limited_tied size given outside = λ after. (
-        let happened : Event Q S M P × Reply Q = (PeerLimit size, Ok given) in (
-          (
-            tied.0,
-            ap (option_map (λ old. size)) tied.1,
-            ap (λ m. min m size) tied.2,
-            tied.3,
-            acks_kept happened (limited size) refl after,
-            losses_kept happened (limited size) refl after,
-            (outside, tied.6),
-          ),
-          goes (limited size),
-        )
-        )
-
-    -- where nothing is entered, and what is read off the history stays
-    abbrev Stays : Event Q S M P × Reply Q → Type 0
-    Stays happened =
-        (last_probe (happened ∷ history) ≡ last_probe history)
-        × (limit (happened ∷ history) ≡ limit history)
-        × (mtu true first least (happened ∷ history) ≡ mtu true first least history)
-        × (next settings (happened ∷ history) ≡ next settings history)
-        × (acked_probes (happened ∷ history) ≡ (if runs (happened ∷ history) then acked_probes history else []))
-        × (lost_probes (happened ∷ history) ≡ (if runs (happened ∷ history) then lost_probes history else []))
-
-    stays_tied : (happened : Event Q S M P × Reply Q) → Stays happened → After happened entries
-    stays_tied happened same = λ after. (
-        let lists = still happened after in (
-          (
-            subst (λ size. LastOf size (probe_in_flight entries)) (sym same.0) tied.0,
-            tied.1 ∙ ap (λ (l : Option ℕ). Some (limit_or_greatest l)) (sym same.1),
-            same.2 ∙ tied.2,
-            same.3 ∙ tied.3,
-            same.4 ∙ lists.0,
-            same.5 ∙ lists.1,
-            tied.6,
-          ),
-          λ is. (refl, refl),
-        )
-        )
+    pub step_tied : (event : Event Q S M P) (reply : Reply Q)
+        → Step first least entries (λ number bytes. Unit {0}) (After fresh made history entries event) event reply
+    step_tied (PollMtu now) (Ok (answer.Probe number size)) = grind arith
+    step_tied (PollMtu now) (Ok answer.NoProbe) = grind (arith, seen entries)
+    step_tied (PeerLimit size) (Ok given) = grind (arith, seen entries)
+    step_tied (Acked space.Data now number app_limited) (Ok given) = grind (arith, seen entries)
+    step_tied (Lost space.Data number) (Ok given) = grind (arith, seen entries)
+    step_tied (LossesDone now) (Ok given) = grind (arith, seen entries)
+    step_tied (ResetPath now) (Ok given) = grind arith
+    step_tied (NewPath now remote true) (Ok given) =
+        ((tt, fresh_is.0, fresh_is.1, refl, refl, refl, tt), λ runs. absurd (cc))
+    step_tied (NewPath now remote true) (Err refusal) =
+        ((tied.0, tied.1, tied.2, tied.3, stays.0, stays.1, tied.6), λ runs. (refl, refl))
+    step_tied event (Ok given) =
+        ((tied.0, tied.1, tied.2, tied.3, stays.0, stays.1, tied.6), λ runs. (refl, refl))
+    step_tied event (Err refusal) =
+        ((tied.0, tied.1, tied.2, tied.3, stays.0, stays.1, tied.6), λ runs. (refl, refl))
 
 -- ---- a path that is fresh
 
@@ -411,103 +178,6 @@ module _ {F K Q S M P : Type 0} (beginning : Beginning F K Q S M P) (settings : 
 
   abbrev pub TiedAt : History Q S M P → Type 0
   TiedAt history = TiedTo first least settings (made_in beginning history) history (entered_so_far beginning history)
-
-  module _ (history : History Q S M P) (before : few.Tied beginning history) (tied : TiedAt history)
-      (least_is : least ≡ min_mtu_in_use (made_in beginning history) (entered_so_far beginning history)) where
-    abbrev so_far : List MtuEntry
-    so_far = entered_so_far beginning history
-
-    abbrev made : Discovery
-    made = made_in beginning history
-
-    abbrev Then : Event Q S M P → Reply Q → List MtuEntry → Type 0
-    Then event reply entries =
-        let made_then = made_after beginning history event reply in
-        few.TiedTo ((event, reply) ∷ history) entries
-        → TiedTo first least settings made_then ((event, reply) ∷ history) entries
-        × Carries made_then made entries so_far
-
-    abbrev Given : Event Q S M P → Answer Q → List MtuEntry → Type 0
-    Given event given = Then event (Ok given)
-
-    nothing : (happened : Event Q S M P × Reply Q) → Stays first least settings made history so_far before tied happened
-        → After first least settings made history so_far before tied happened so_far
-    nothing = stays_tied first least settings made history so_far before tied
-
-    answer_tied : (event : Event Q S M P) (given : Answer Q) → Facts beginning history event (Ok given)
-        → LimitsOutside beginning history event (Ok given)
-        → Given event given (entered_so_far beginning ((event, Ok given) ∷ history))
-    answer_tied (PollMtu now) (answer.Probe number size) known outside =
-        turned (Given (PollMtu now) (answer.Probe number size)) known.entered
-        (λ after. (
-          (refl, tied.1, tied.2, tied.3, tied.4, tied.5, tied.6),
-          goes first least settings made history so_far before tied (probed_entry now number size),
-        ))
-    answer_tied (PollMtu now) answer.NoProbe known outside =
-        turned (Given (PollMtu now) answer.NoProbe) known.entered
-        (polled_tied first least settings made history so_far before tied now)
-    answer_tied (PollMtu now) given known outside =
-        turned (Given (PollMtu now) given) known.entered
-        (nothing (PollMtu now, Ok given) (refl, refl, refl, refl, refl, refl))
-    answer_tied (PeerLimit size) given known outside =
-        turned (Given (PeerLimit size) given) known.entered
-        (limited_tied first least settings made history so_far before tied size given outside)
-    answer_tied (Acked space.Data now number app_limited) given known outside =
-        acked_as beginning history (Given (Acked space.Data now number app_limited)) now number app_limited given known
-        (λ packet found.
-        acked_tied first least settings made history so_far before tied now number packet.size app_limited
-        (size_at number (probe_in_flight so_far)) refl)
-    answer_tied (Acked there now number app_limited) given known outside =
-        seen_as (Given (Acked there now number app_limited)) given
-        (answer.Acked false) _ so_far known.tells known.entered
-        (nothing (Acked there now number app_limited, Ok (answer.Acked false))
-        (refl, refl, refl, refl, refl, refl))
-    answer_tied (Lost space.Data number) given known outside =
-        lost_as beginning history (Given (Lost space.Data number)) number given known
-        (λ packet found. lost_tied first least settings made history so_far before tied number packet.size
-        (size_at number (probe_in_flight so_far)) refl)
-    answer_tied (Lost there number) given known outside =
-        seen_as (Given (Lost there number)) given (answer.Lost false) _ so_far known.tells known.entered
-        (nothing (Lost there number, Ok (answer.Lost false)) (refl, refl, refl, refl, refl, refl))
-    answer_tied (LossesDone now) given known outside =
-        ended_as beginning history (Given (LossesDone now)) now given known
-        (ended_tied first least settings made history so_far before tied now least_is)
-    answer_tied (ResetPath now) given known outside =
-        turned (Given (ResetPath now) given) known.entered (λ after. (
-          (tt, tied.1, ap (within first) (sym tied.1), refl, refl, refl, tied.6),
-          goes first least settings made history so_far before tied (reset first least),
-        ))
-    answer_tied (NewPath now remote true) given known outside =
-        turned (Given (NewPath now remote true) given) known.entered (λ after. (
-          (
-            tt,
-            fresh_limit _ beginning.config.transport settings (discovery_settings beginning) is
-                ∙ ap (λ (l : Option ℕ). Some (limit_or_greatest l)) (sym (limit_known beginning history)),
-            ap (within first) (limit_known beginning history)
-                ∙ fresh_mtu _ beginning.config.transport settings (discovery_settings beginning) is,
-            refl,
-            refl,
-            refl,
-            tt,
-          ),
-          λ runs_then. absurd (cc),
-        ))
-    answer_tied event given known outside = turned (Given event given) known.entered
-        (nothing (event, Ok given) (refl, refl, refl, refl, refl, refl))
-
-    refused_tied : (event : Event Q S M P) (refusal : Refusal) → Facts beginning history event (Err refusal)
-        → Then event (Err refusal) (entered_so_far beginning ((event, Err refusal) ∷ history))
-    refused_tied (NewPath now remote true) refusal known =
-        turned (Then (NewPath now remote true) (Err refusal)) known.entered
-        (nothing (NewPath now remote true, Err refusal) (refl, refl, refl, refl, refl, refl))
-    refused_tied event refusal known = turned (Then event (Err refusal)) known.entered
-        (nothing (event, Err refusal) (refl, refl, refl, refl, refl, refl))
-
-    reply_tied : (event : Event Q S M P) (reply : Reply Q) → Facts beginning history event reply
-        → LimitsOutside beginning history event reply
-        → Then event reply (entered_so_far beginning ((event, reply) ∷ history))
-    reply_tied event (Ok given) known outside = answer_tied event given known outside
-    reply_tied event (Err refusal) known outside = refused_tied event refusal known
 
   -- ---- what is kept
 
@@ -551,15 +221,25 @@ module _ {F K Q S M P : Type 0} (beginning : Beginning F K Q S M P) (settings : 
             ∙ ap (mtu_in_use made_then) (sym (before_idle after_it running))
 
     searched_after : (event : Event Q S M P) (reply : Reply Q) → Facts beginning history event reply
-        → LimitsOutside beginning history event reply
         → few.Tied beginning ((event, reply) ∷ history) → Searched ((event, reply) ∷ history)
-    searched_after event reply known outside after =
+    searched_after event reply known after =
         let entries = entered_so_far beginning ((event, reply) ∷ history) in
+        let made = made_in beginning history in
+        let so_far = entered_so_far beginning history in
+        let limit = last_limit (logs_of beginning history).limits in
+        let fresh = (settings_of beginning).discovery limit in
+        let same = limit_known beginning history in
         let Now : Discovery → Type 0 =
-        λ d. TiedTo first least settings d ((event, reply) ∷ history) entries
-        × Carries d (made_in beginning history) entries (entered_so_far beginning history) in
+        λ d. TiedTo first least settings d ((event, reply) ∷ history) entries × Carries d made entries so_far in
         let both = subst Now (sym (is_made beginning history event reply))
-        (reply_tied history before searched.tied least_is event reply known outside after) in
+        (stepped beginning history (λ number bytes. Unit {0}) (λ number packet found. tt {0})
+        (After first least settings fresh made history so_far event) event reply known
+        (step_tied first least settings fresh made history so_far before searched.tied least_is (
+          fresh_limit limit beginning.config.transport settings (discovery_settings beginning) is
+              ∙ ap (λ (l : Option ℕ). Some (limit_or_greatest l)) (sym same),
+          ap (within first) same
+              ∙ fresh_mtu limit beginning.config.transport settings (discovery_settings beginning) is,
+        ) event reply)) in
         record { tied = both.0; start = start_after (event, reply) after both.0.2 both.1 }
 
   searched_first : Searched []
@@ -636,7 +316,7 @@ module _ {F K Q S M P : Type 0} (beginning : Beginning F K Q S M P) where
         holes = holes.kept_after beginning history event reply known.0 kept.holes;
         few = after;
         searched = λ settings is. searched_after beginning settings is history kept.few (kept.searched settings is)
-            (sym (holes.least_known beginning history kept.holes)) event reply known.0 known.1.0 after;
+            (sym (holes.least_known beginning history kept.holes)) event reply known.0 after;
       }
 
   pub kept_first : Kept []

@@ -1,21 +1,22 @@
 -- What an event is to the search on the path in use, for what is read off the history: one step of its entries. The
 -- promises on searches by events alone rest on it.
-use Rattle.std.proofs.Common.{ℕ, ◌≡◌, Bool, if◌then◌else◌, List, [], ◌∷◌, ◌++◌, Option, None, Some, Ok, refl, sym, ap, subst, ◌∙◌, is_some}
+use Rattle.std.proofs.Common.{ℕ, ◌≡◌, Bool, true, false, if◌then◌else◌, List, [], ◌∷◌, ◌++◌, Option, None, Some, Ok, Err, refl, sym, ap, subst, ◌∙◌, is_some}
 use Rattle.recovery_base.specs.declared.below.SpaceId.TheVariants.{Data}
 use Rattle.recovery_ledger.specs.Packets.{Packet}
 use Rattle.recovery_mtud.specs.Discovery.{reports}
-use Rattle.recovery_mtud.specs.MtuEntries.{MtuEntry, acked, lost, losses_over, probe_in_flight, probe_lost, reported, size_at}
+use Rattle.recovery_mtud.specs.MtuEntries.{MtuEntry, probed, unprobed, limited, acked, lost, losses_over, probe_in_flight, probe_lost, reported, reset, size_at}
+use Rattle.recovery_mtud.specs.SearchRuns.{search_runs}
 use Rattle.recovery_events.specs.declared.event.Event.{Event}
-use Rattle.recovery_events.specs.declared.event.Event.TheVariants.{Acked, Lost, LossesDone}
+use Rattle.recovery_events.specs.declared.event.Event.TheVariants.{PollMtu, Acked, Lost, LossesDone, PeerLimit, ResetPath, NewPath}
 use Rattle.recovery_events.specs.declared.event.Answer.{Answer}
 use Rattle.recovery_events.specs.declared.event.Answer.TheVariants as answer
 use Rattle.quic_recovery.specs.Entries.{logs_of}
 use Rattle.quic_recovery.specs.History.{Beginning, History, Reply, Throughout, ThroughoutFrom}
-use Rattle.quic_recovery.specs.Known.{known_by}
+use Rattle.quic_recovery.specs.Known.{known_by, settings_of}
 use Rattle.quic_recovery.specs.Told.{Told}
-use Rattle.quic_recovery.proofs.SearchSaid.{EntersAsTold, TellsProbes, data_packet, entered, entered_so_far, of_packet}
+use Rattle.quic_recovery.proofs.SearchSaid.{EntersAsTold, LimitsOutside, TellsProbes, data_packet, entered, entered_so_far, of_packet}
 use Rattle.quic_recovery.proofs.EnteredLaws.{entries_told}
-use Rattle.quic_recovery.proofs.SearchLaws.{tells}
+use Rattle.quic_recovery.proofs.SearchLaws.{limits, tells}
 
 -- ---- throughout a run
 
@@ -55,25 +56,27 @@ pub record Facts {F K Q S M P : Type 0} (beginning : Beginning F K Q S M P) (his
   pub told : Told beginning history event reply
   pub entered : EntersAsTold beginning history event reply
   pub tells : TellsProbes beginning history event reply
+  pub outside : LimitsOutside beginning history event reply
 
 module _ {F K Q S M P : Type 0} (beginning : Beginning F K Q S M P) where
   facts_from : (before : History Q S M P) (events : List (Event Q S M P)) (replies : List (Reply Q))
       → ThroughoutFrom (Told beginning) before events replies
       → ThroughoutFrom (EntersAsTold beginning) before events replies
       → ThroughoutFrom (TellsProbes beginning) before events replies
+      → ThroughoutFrom (LimitsOutside beginning) before events replies
       → ThroughoutFrom (Facts beginning) before events replies
-  facts_from before [] [] told enters probes = tt
-  facts_from before (event ∷ events) (reply ∷ replies) told enters probes = (
-    record { told = told.0; entered = enters.0; tells = probes.0 },
-    facts_from ((event, reply) ∷ before) events replies told.1 enters.1 probes.1,
+  facts_from before [] [] told enters probes limits = tt
+  facts_from before (event ∷ events) (reply ∷ replies) told enters probes limits = (
+    record { told = told.0; entered = enters.0; tells = probes.0; outside = limits.0 },
+    facts_from ((event, reply) ∷ before) events replies told.1 enters.1 probes.1 limits.1,
   )
-  facts_from before [] (reply ∷ replies) told enters probes = absurd told
-  facts_from before (event ∷ events) [] told enters probes = absurd told
+  facts_from before [] (reply ∷ replies) told enters probes limits = absurd told
+  facts_from before (event ∷ events) [] told enters probes limits = absurd told
 
   pub facts : (events : List (Event Q S M P)) (replies : List (Reply Q)) → Throughout (Told beginning) events replies
       → Throughout (Facts beginning) events replies
   facts events replies told = facts_from [] events replies told (entries_told beginning events replies told)
-      (tells beginning events replies told)
+      (tells beginning events replies told) (limits beginning events replies told)
 
 -- ---- events whose answer says what they are
 
@@ -83,56 +86,77 @@ pub found_packet : {P M : Type 0} (found : Option (Packet P M)) → ¬ (found �
 found_packet None there = absurd (there refl)
 found_packet (Some packet) there = (packet, refl)
 
--- what holds of some entries holds of those after it, where they are the same
-pub turned : {after entries : List MtuEntry} (G : List MtuEntry → Type 0) → after ≡ entries → G entries → G after
-turned G is holds = subst G (sym is) holds
+-- whether a number is that of the probe in flight
+abbrev is_probed : List MtuEntry → ℕ → Bool
+is_probed entries number = is_some (size_at number (probe_in_flight entries))
 
--- so of what is answered, and of the entries after it
-pub seen_as : {Q : Type 0} (G : Answer Q → List MtuEntry → Type 0) (given other : Answer Q)
-    (after entries : List MtuEntry) → given ≡ other → after ≡ entries
-    → G other entries → G given after
-seen_as G given other after entries same is holds = subst (λ g. G g after) (sym same) (subst (G other) (sym is) holds)
+module _ {Q S M P : Type 0} (first least : ℕ) (entries : List MtuEntry) (IsSize : ℕ → ℕ → Type 0)
+    (G : Reply Q → List MtuEntry → Type 0) where
+  -- what is to show for an event, by each reply that it may have: that this holds of the reply and the entries then
+  abbrev pub Step : Event Q S M P → Reply Q → Type 0
+  Step event (Err refusal) = G (Err refusal) entries
+  Step (PollMtu now) (Ok (answer.Probe number size)) =
+      G (Ok (answer.Probe number size)) (probed now number size ∷ entries)
+  Step (PollMtu now) (Ok answer.NoProbe) = G (Ok answer.NoProbe) (unprobed now ∷ entries)
+  Step (PeerLimit size) (Ok given) = search_runs entries ≡ false → G (Ok given) (limited size ∷ entries)
+  Step (Acked Data now number app_limited) (Ok given) =
+      (bytes : ℕ) → IsSize number bytes
+      → G (Ok (answer.Acked (is_probed entries number))) (acked number bytes ∷ entries)
+  Step (Acked there now number app_limited) (Ok given) = G (Ok (answer.Acked false)) entries
+  Step (Lost Data number) (Ok given) =
+      (bytes : ℕ) → IsSize number bytes
+      → G (Ok (answer.Lost (is_probed entries number)))
+      ((if is_probed entries number then probe_lost else lost number bytes) ∷ entries)
+  Step (Lost there number) (Ok given) = G (Ok (answer.Lost false)) entries
+  Step (LossesDone now) (Ok given) =
+      (hole : Bool) → G (Ok (answer.BlackHole hole)) ((if hole then reported now else losses_over) ∷ entries)
+  Step (ResetPath now) (Ok given) = G (Ok given) (reset first least ∷ entries)
+  Step (NewPath now remote true) (Ok given) = G (Ok given) []
+  Step event (Ok given) = G (Ok given) entries
 
 module _ {F K Q S M P : Type 0} (beginning : Beginning F K Q S M P) (history : History Q S M P)
-    (G : Answer Q → List MtuEntry → Type 0) where
+    (IsSize : ℕ → ℕ → Type 0)
+    (sizes : (number : ℕ) (packet : Packet P M) → data_packet beginning history number ≡ Some packet
+    → IsSize number packet.size)
+    (G : Reply Q → List MtuEntry → Type 0) where
   abbrev before : List MtuEntry
   before = entered_so_far beginning history
 
-  -- whether a number is that of the probe in flight
-  abbrev pub is_probed : ℕ → Bool
-  is_probed number = is_some (size_at number (probe_in_flight before))
+  abbrev Shows : Event Q S M P → Reply Q → Type 0
+  Shows = let settings = settings_of beginning in Step settings.mtu settings.min_mtu before IsSize G
 
-  -- a packet of 1-RTT keys is acknowledged
-  pub acked_as : (now number : ℕ) (app_limited : Bool) (given : Answer Q)
-      → Facts beginning history (Acked Data now number app_limited) (Ok given)
-      → ((packet : Packet P M) → data_packet beginning history number ≡ Some packet
-      → G (answer.Acked (is_probed number)) (acked number packet.size ∷ before))
-      → G given (entered_so_far beginning ((Acked Data now number app_limited, Ok given) ∷ history))
-  acked_as now number app_limited given facts each =
-      let found = found_packet (data_packet beginning history number) facts.told.1.0 in
-      seen_as G given (answer.Acked (is_probed number)) _ (acked number found.0.size ∷ before) facts.tells
-      (facts.entered ∙ ap (λ (packet : Option (Packet P M)). of_packet (acked number) packet ++ before) found.1)
-      (each found.0 found.1)
+  turned : {reply other : Reply Q} {after entries : List MtuEntry} → reply ≡ other → after ≡ entries → G other entries
+      → G reply after
+  turned {other = other} {after = after} same is holds =
+      subst (λ r. G r after) (sym same) (subst (G other) (sym is) holds)
 
-  -- one is lost
-  pub lost_as : (number : ℕ) (given : Answer Q) → Facts beginning history (Lost Data number) (Ok given)
-      → ((packet : Packet P M) → data_packet beginning history number ≡ Some packet
-      → G (answer.Lost (is_probed number))
-      ((if is_probed number then probe_lost else lost number packet.size) ∷ before))
-      → G given (entered_so_far beginning ((Lost Data number, Ok given) ∷ history))
-  lost_as number given facts each =
-      let found = found_packet (data_packet beginning history number) facts.told.1.0 in
-      let entry : ℕ → MtuEntry = λ bytes. if is_probed number then probe_lost else lost number bytes in
-      seen_as G given (answer.Lost (is_probed number)) _ (entry found.0.size ∷ before) facts.tells
-      (facts.entered ∙ ap (λ (g : Answer Q). entered beginning history (Lost Data number) g ++ before) facts.tells
-      ∙ ap (λ (packet : Option (Packet P M)). of_packet entry packet ++ before) found.1) (each found.0 found.1)
-
-  -- all losses of a moment were told
-  pub ended_as : (now : ℕ) (given : Answer Q) → Facts beginning history (LossesDone now) (Ok given)
-      → ((hole : Bool) → G (answer.BlackHole hole) ((if hole then reported now else losses_over) ∷ before))
-      → G given (entered_so_far beginning ((LossesDone now, Ok given) ∷ history))
-  ended_as now given facts each =
-      let hole = reports (known_by beginning (logs_of beginning history)).paths.current.state.discovery in
-      seen_as G given (answer.BlackHole hole) _ ((if hole then reported now else losses_over) ∷ before) facts.told
-      (facts.entered ∙ ap (λ (g : Answer Q). entered beginning history (LossesDone now) g ++ before) facts.told)
-      (each hole)
+  -- so it holds
+  pub stepped : (event : Event Q S M P) (reply : Reply Q) → Facts beginning history event reply → Shows event reply
+      → G reply (entered_so_far beginning ((event, reply) ∷ history))
+  stepped (PollMtu now) (Ok (answer.Probe number size)) known step = turned refl known.entered step
+  stepped (PollMtu now) (Ok answer.NoProbe) known step = turned refl known.entered step
+  stepped (PeerLimit size) (Ok given) known step = turned refl known.entered (step known.outside)
+  stepped (Acked Data now number app_limited) (Ok given) known step =
+      let found = found_packet (data_packet beginning history number) known.told.1.0 in
+      turned (ap (λ (g : Answer Q). Ok g) known.tells)
+      (known.entered ∙ ap (λ (packet : Option (Packet P M)). of_packet (acked number) packet ++ before) found.1)
+      (step found.0.size (sizes number found.0 found.1))
+  stepped (Lost Data number) (Ok given) known step =
+      let found = found_packet (data_packet beginning history number) known.told.1.0 in
+      let probe = is_probed before number in
+      let entry : ℕ → MtuEntry = λ bytes. if probe then probe_lost else lost number bytes in
+      turned (ap (λ (g : Answer Q). Ok g) known.tells)
+      (known.entered ∙ ap (λ (g : Answer Q). entered beginning history (Lost Data number) g ++ before) known.tells
+      ∙ ap (λ (packet : Option (Packet P M)). of_packet entry packet ++ before) found.1)
+      (step found.0.size (sizes number found.0 found.1))
+  stepped (LossesDone now) (Ok given) known step =
+      turned (ap (λ (g : Answer Q). Ok g) known.told)
+      (known.entered ∙ ap (λ (g : Answer Q). entered beginning history (LossesDone now) g ++ before) known.told)
+      (step (reports (known_by beginning (logs_of beginning history)).paths.current.state.discovery))
+  stepped (Acked there now number app_limited) (Ok given) known step =
+      turned (ap (λ (g : Answer Q). Ok g) known.tells) known.entered step
+  stepped (Lost there number) (Ok given) known step =
+      turned (ap (λ (g : Answer Q). Ok g) known.tells) known.entered step
+  stepped (NewPath now remote true) (Ok given) known step = turned refl known.entered step
+  stepped event (Ok given) known step = turned refl known.entered step
+  stepped event (Err refusal) known step = turned refl known.entered step

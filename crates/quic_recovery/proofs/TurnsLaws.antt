@@ -6,14 +6,14 @@ use Rattle.std.proofs.lemmas.Bool.Decides.{nat_tests}
 use Rattle.recovery_base.specs.declared.below.SpaceId.{SpaceId}
 use Rattle.recovery_base.specs.declared.below.SpaceId.TheVariants as space
 use Rattle.recovery_mtud.specs.declared.config.MtuDiscoveryConfig.{MtuDiscoveryConfig}
-use Rattle.recovery_mtud.specs.MtuEntries.{MtuEntry, MtuProbe, probed, probe_lost, lost, losses_over, reported, probe_in_flight, size_at, unless_number}
+use Rattle.recovery_mtud.specs.MtuEntries.{MtuEntry, MtuProbe, probed, probe_in_flight, size_at}
 use Rattle.recovery_mtud.specs.SearchRuns.{ProbesInSearch, is_due}
 use Rattle.recovery_events.specs.declared.event.Event.{Event}
 use Rattle.recovery_events.specs.declared.event.Event.TheVariants.{PollMtu, Acked, Lost, LossesDone, PeerLimit, ResetPath, NewPath}
 use Rattle.recovery_events.specs.declared.event.Answer.{Answer}
 use Rattle.recovery_events.specs.declared.event.Answer.TheVariants as answer
-use Rattle.recovery_events.specs.declared.event.Refusal.{Refusal}
 use Rattle.recovery_events.specs.declared.event.Refusal.TheVariants.{Searching, ZeroMtu}
+use Rattle.quic_recovery.specs.Known.{settings_of}
 use Rattle.quic_recovery.specs.History.{Beginning, History, Reply, Throughout}
 use Rattle.quic_recovery.specs.Search.{discovery_settings}
 use Rattle.quic_recovery.specs.Promises.Few.{is_in_flight as flies}
@@ -24,18 +24,13 @@ use Rattle.quic_recovery.specs.Told.{Told}
 use Rattle.quic_recovery.proofs.SearchSaid.{ProbesInTurn, entered_so_far, is_in_flight}
 use Rattle.quic_recovery.proofs.NearLaws.{IsKnownOf, Kept, kept_after, kept_first, known_of, runs_same}
 use Rattle.quic_recovery.proofs.SearchLaws.{probes}
-use Rattle.quic_recovery.proofs.SearchSteps.{Facts, acked_as, ended_as, lost_as, seen_as, throughout_both, throughout_by, turned}
+use Rattle.quic_recovery.proofs.SearchSteps.{Facts, Step, stepped, throughout_both, throughout_by}
 
 -- ---- the number of the probe in flight
 
 abbrev IsLast : ℕ → Option MtuProbe → Type 0
 IsLast number None = Unit {0}
 IsLast number (Some probe) = number ≡ probe.number
-
-last_unless : (last number : ℕ) (flight : Option MtuProbe) → IsLast last flight
-    → IsLast last (unless_number number flight)
-last_unless last number None is = tt
-last_unless last number (Some probe) is = grind arith
 
 -- a number is that of the probe in flight where one is and it is the last one
 size_is : (last number : ℕ) (flight : Option MtuProbe) → IsLast last flight
@@ -61,63 +56,37 @@ module _ {Q : Type 0} where
       ≡ limit_reply (size == 0) runs
   limit_of_none size runs none = grind (arith, nat_tests)
 
-module _ {F K Q S M P : Type 0} (beginning : Beginning F K Q S M P) where
+module _ {Q S M P : Type 0} where
   abbrev Numbered : History Q S M P → List MtuEntry → Type 0
   Numbered history entries = IsLast (last_number history) (probe_in_flight entries)
 
+  module _ (first least : ℕ) (history : History Q S M P) (entries : List MtuEntry) (is : Numbered history entries) where
+    step_numbered : (event : Event Q S M P) (reply : Reply Q)
+        → Step first least entries (λ number bytes. Unit {0}) (λ r after. Numbered ((event, r) ∷ history) after) event
+        reply
+    step_numbered (PollMtu now) (Ok (answer.Probe number size)) = refl
+    step_numbered (PollMtu now) (Ok answer.NoProbe) = is
+    step_numbered (PeerLimit size) (Ok given) = λ outside. is
+    step_numbered (Acked space.Data now number app_limited) (Ok given) = grind arith
+    step_numbered (Lost space.Data number) (Ok given) = grind arith
+    step_numbered (LossesDone now) (Ok given) = grind arith
+    step_numbered (ResetPath now) (Ok given) = tt
+    step_numbered (NewPath now remote true) (Ok given) = tt
+    step_numbered (PollMtu now) (Err refusal) = is
+    step_numbered event (Ok given) = is
+    step_numbered event (Err refusal) = is
+
+module _ {F K Q S M P : Type 0} (beginning : Beginning F K Q S M P) where
   abbrev IsNumbered : History Q S M P → Type 0
   IsNumbered history = Numbered history (entered_so_far beginning history)
 
-  module _ (history : History Q S M P) (numbered : IsNumbered history) where
-    abbrev After : Event Q S M P → Answer Q → List MtuEntry → Type 0
-    After event given entries = Numbered ((event, Ok given) ∷ history) entries
-
-    answer_numbered : (event : Event Q S M P) (given : Answer Q) → Facts beginning history event (Ok given)
-        → IsNumbered ((event, Ok given) ∷ history)
-    answer_numbered (PollMtu now) (answer.Probe number size) facts =
-        turned (After (PollMtu now) (answer.Probe number size)) facts.entered refl
-    answer_numbered (PollMtu now) answer.NoProbe facts =
-        turned (After (PollMtu now) answer.NoProbe) facts.entered numbered
-    answer_numbered (PollMtu now) given facts = turned (After (PollMtu now) given) facts.entered numbered
-    answer_numbered (Acked space.Data now number app_limited) given facts =
-        acked_as beginning history (After (Acked space.Data now number app_limited)) now number app_limited given facts
-        (λ packet found. last_unless (last_number history) number (probe_in_flight (entered_so_far beginning history))
-        numbered)
-    answer_numbered (Lost space.Data number) given facts =
-        lost_as beginning history (After (Lost space.Data number)) number given facts
-        (λ packet found. lost_one number packet.size _)
-      where
-        lost_one : (number bytes : ℕ) (probe : Bool) → After (Lost space.Data number) (answer.Lost probe)
-            ((if probe then probe_lost else lost number bytes) ∷ entered_so_far beginning history)
-        lost_one number bytes true = tt
-        lost_one number bytes false = numbered
-    answer_numbered (LossesDone now) given facts =
-        ended_as beginning history (After (LossesDone now)) now given facts ended_one
-      where
-        ended_one : (hole : Bool) → After (LossesDone now) (answer.BlackHole hole)
-            ((if hole then reported now else losses_over) ∷ entered_so_far beginning history)
-        ended_one true = tt
-        ended_one false = numbered
-    answer_numbered (ResetPath now) given facts = turned (After (ResetPath now) given) facts.entered tt
-    answer_numbered (NewPath now remote true) given facts =
-        turned (After (NewPath now remote true) given) facts.entered tt
-    answer_numbered (Acked there now number app_limited) given facts =
-        seen_as (After (Acked there now number app_limited)) given (answer.Acked false) _ _ facts.tells
-        facts.entered numbered
-    answer_numbered (Lost there number) given facts =
-        seen_as (After (Lost there number)) given (answer.Lost false) _ _ facts.tells facts.entered numbered
-    answer_numbered event given facts = turned (After event given) facts.entered numbered
-
-    refused_numbered : (event : Event Q S M P) (refusal : Refusal) → Facts beginning history event (Err refusal)
-        → IsNumbered ((event, Err refusal) ∷ history)
-    refused_numbered (NewPath now remote true) refusal facts =
-        turned (Numbered ((NewPath now remote true, Err refusal) ∷ history)) facts.entered numbered
-    refused_numbered event refusal facts = turned (Numbered ((event, Err refusal) ∷ history)) facts.entered numbered
-
-    reply_numbered : (event : Event Q S M P) (reply : Reply Q) → Facts beginning history event reply
-        → IsNumbered ((event, reply) ∷ history)
-    reply_numbered event (Ok given) facts = answer_numbered event given facts
-    reply_numbered event (Err refusal) facts = refused_numbered event refusal facts
+  numbered_after : (history : History Q S M P) (event : Event Q S M P) (reply : Reply Q)
+      → Facts beginning history event reply → IsNumbered history → IsNumbered ((event, reply) ∷ history)
+  numbered_after history event reply known is =
+      let settings = settings_of beginning in
+      stepped beginning history (λ number bytes. Unit {0}) (λ number packet found. tt {0})
+      (λ r after. Numbered ((event, r) ∷ history) after) event reply known
+      (step_numbered settings.mtu settings.min_mtu history (entered_so_far beginning history) is event reply)
 
   -- ---- in turn
 
@@ -179,7 +148,7 @@ module _ {F K Q S M P : Type 0} (beginning : Beginning F K Q S M P) where
       (SearchesInTurn beginning) AllKept
       (λ history event reply known kept. (
         kept_after beginning history event reply known.0 kept.0,
-        reply_numbered history kept.1 event reply known.0.0,
+        numbered_after history event reply known.0.0 kept.1,
       ))
       (λ history event reply known kept after. turns_one history kept.0 kept.1 event reply known)
       [] events replies
