@@ -1,5 +1,5 @@
 -- A report of a black hole needs four bursts, and comes at four, throughout a run. `HolesLaws` say it of events alone.
-use Rattle.std.proofs.Common.{◌≡◌, ◌≤◌, ℕ, Bool, true, false, cond, List, [], ◌∷◌, Option, None, Some, Ok, Err, refl, sym, ap, subst, arith, ◌∙◌}
+use Rattle.std.proofs.Common.{◌≡◌, ◌≤◌, ℕ, Bool, true, false, cond, List, [], Option, None, Some, Ok, Err, refl, sym, ap, subst, arith, ◌∙◌}
 use Rattle.recovery_base.specs.declared.below.SpaceId.TheVariants.{Data}
 use Rattle.recovery_config.specs.declared.config.TransportConfig.{TransportConfig}
 use Rattle.recovery_mtud.specs.declared.config.MtuDiscoveryConfig.{MtuDiscoveryConfig}
@@ -17,7 +17,7 @@ use Rattle.recovery_events.specs.declared.event.Answer.{Answer}
 use Rattle.recovery_events.specs.declared.event.Answer.TheVariants.{BlackHole}
 use Rattle.recovery_events.specs.declared.event.Refusal.TheVariants.{NoMemory}
 use Rattle.quic_recovery.specs.Entries.{logs_of, pasts_of}
-use Rattle.quic_recovery.specs.History.{Beginning, History, Reply, ThroughoutFrom, Throughout}
+use Rattle.quic_recovery.specs.History.{Beginning, History, Reply, Throughout}
 use Rattle.quic_recovery.specs.Known.{first_path, settings_of}
 use Rattle.quic_recovery.specs.Promises.Once.{departures_of}
 use Rattle.quic_recovery.specs.Told.{Told}
@@ -57,7 +57,8 @@ module _ {F K Q S M P : Type 0} (beginning : Beginning F K Q S M P) where
   -- ---- a report comes at four
 
   -- where four have closed unanswered, the answer is a report
-  comes_one : (before : History Q S M P) (event : Event Q S M P) (reply : Reply Q) → Told beginning before event reply
+  pub comes_one : (before : History Q S M P) (event : Event Q S M P) (reply : Reply Q)
+      → Told beginning before event reply
       → ComesAtFourBursts beginning before event reply
   comes_one before (LossesDone now) (Ok answer) told = λ many.
       let past = (pasts_of beginning before).current in
@@ -68,21 +69,6 @@ module _ {F K Q S M P : Type 0} (beginning : Beginning F K Q S M P) where
   comes_one before (LossesDone now) (Err NoMemory) told = absurd told
   comes_one before (LossesDone now) (Err refusal) told = absurd told
   comes_one before event reply told = tt
-
-  -- from a moment on
-  comes_from : (before : History Q S M P) (events : List (Event Q S M P)) (replies : List (Reply Q))
-      → ThroughoutFrom (Told beginning) before events replies
-      → ThroughoutFrom (ComesAtFourBursts beginning) before events replies
-  comes_from before [] [] told = tt
-  comes_from before (event ∷ events) (reply ∷ replies) told =
-      (comes_one before event reply told.0, comes_from ((event, reply) ∷ before) events replies told.1)
-  comes_from before [] (reply ∷ replies) told = absurd told
-  comes_from before (event ∷ events) [] told = absurd told
-
-  -- throughout a run
-  pub comes_at_four : (events : List (Event Q S M P)) (replies : List (Reply Q))
-      → Throughout (Told beginning) events replies → Throughout (ComesAtFourBursts beginning) events replies
-  comes_at_four = comes_from []
 
   -- ---- a report needs four
 

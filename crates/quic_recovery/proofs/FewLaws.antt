@@ -14,9 +14,9 @@ use Rattle.quic_recovery.specs.History.{Beginning, History, Reply, Throughout}
 use Rattle.quic_recovery.specs.Search.{discovery_settings}
 use Rattle.quic_recovery.specs.Promises.Few.{ProbesFew, is_in_flight, probed}
 use Rattle.quic_recovery.specs.Told.{Told}
-use Rattle.quic_recovery.proofs.SearchSaid.{SearchesFew, entered_so_far}
-use Rattle.quic_recovery.proofs.SearchLaws.{searches}
-use Rattle.quic_recovery.proofs.SearchSteps.{Facts, Step, facts, stepped, throughout_both, throughout_by}
+use Rattle.quic_recovery.proofs.SearchSaid.{entered_so_far}
+use Rattle.quic_recovery.proofs.SearchLaws.{few_one}
+use Rattle.quic_recovery.proofs.SearchSteps.{Facts, Step, facts, stepped, throughout_by}
 
 -- ---- the sizes probed by the search that runs
 
@@ -64,24 +64,18 @@ module _ {F K Q S M P : Type 0} (beginning : Beginning F K Q S M P) where
       (λ r after. TiedTo ((event, r) ∷ history) after) event reply known
       (step_tied settings.mtu settings.min_mtu history (entered_so_far beginning history) tied event reply)
 
-  few_one : (history : History Q S M P) (event : Event Q S M P) (reply : Reply Q)
-      → Facts beginning history event reply × SearchesFew beginning history event reply → Tied history
-      → Tied ((event, reply) ∷ history)
-      → ProbesFew beginning history event reply
-  few_one history event reply known tied after = λ settings is change. (
-      let few = (known.1 settings is change).0 in (
-        subst (λ sizes. length sizes ≤ 48) (sym after.1) few.probes,
-        subst (λ sizes. distinct_count nat_eq sizes ≤ 16)
-            (sym after.1) few.sizes,
-      )
-      )
-
   -- throughout a run, where the upper bound of a search is a `u16`
   pub few_told : ForSome (discovery_settings beginning) (λ settings. settings.upper_bound < 2 ^ 16)
       → (events : List (Event Q S M P)) (replies : List (Reply Q))
       → Throughout (Told beginning) events replies → Throughout (ProbesFew beginning) events replies
   few_told small events replies told =
-      throughout_by _ (ProbesFew beginning) Tied
-      (λ history event reply known tied. tied_after history event reply known.0 tied) few_one [] events replies
-      (throughout_both (Facts beginning) (SearchesFew beginning) [] events replies (facts beginning events replies told)
-      (searches beginning small events replies told)) (refl, refl)
+      throughout_by (Facts beginning) (ProbesFew beginning) Tied tied_after few [] events replies
+      (facts beginning events replies told) (refl, refl)
+    where
+      few : (history : History Q S M P) (event : Event Q S M P) (reply : Reply Q)
+          → Facts beginning history event reply → Tied history → Tied ((event, reply) ∷ history)
+          → ProbesFew beginning history event reply
+      few history event reply known tied after = λ settings is change.
+          let few = (few_one beginning small history event reply known.told known.searched settings is change).0 in
+          subst (λ sizes. (length sizes ≤ 48) × (distinct_count nat_eq sizes ≤ 16)) (sym after.1)
+          (few.probes, few.sizes)

@@ -20,8 +20,8 @@ use Rattle.quic_recovery.specs.History.{Beginning, History, Reply, Throughout}
 use Rattle.quic_recovery.specs.Promises.Bursts.{size_of, open_run}
 use Rattle.quic_recovery.specs.Promises.Holes.{ReportsAtFour, larger_acked, standing, unanswered}
 use Rattle.quic_recovery.specs.Told.{Told}
-use Rattle.quic_recovery.proofs.SearchSaid.{ComesAtFourBursts, NeedsFourBursts, data_packet, entered_so_far}
-use Rattle.quic_recovery.proofs.BurstLaws.{comes_at_four, needs_four}
+use Rattle.quic_recovery.proofs.SearchSaid.{NeedsFourBursts, data_packet, entered_so_far}
+use Rattle.quic_recovery.proofs.BurstLaws.{comes_one, needs_four}
 use Rattle.quic_recovery.proofs.FieldLaws.{said_found}
 use Rattle.quic_recovery.proofs.MadeLaws.{is_made, made_after, made_in}
 use Rattle.quic_recovery.proofs.SearchSteps.{Facts, Step, facts, stepped, throughout_both, throughout_by}
@@ -142,8 +142,7 @@ module _ {F K Q S M P : Type 0} (beginning : Beginning F K Q S M P) where
   -- ---- what is promised
 
   holes_one : (history : History Q S M P) (event : Event Q S M P) (reply : Reply Q)
-      → Facts beginning history event reply
-      × (NeedsFourBursts beginning history event reply × ComesAtFourBursts beginning history event reply)
+      → Facts beginning history event reply × NeedsFourBursts beginning history event reply
       → Kept history → Kept ((event, reply) ∷ history) → ReportsAtFour least history event reply
   holes_one history (LossesDone now) reply known kept after =
       let entries = entered_so_far beginning history in
@@ -157,8 +156,8 @@ module _ {F K Q S M P : Type 0} (beginning : Beginning F K Q S M P) where
       let unanswered_same = ap₂ all kept.tied.2 kept.tied.0 in (
         λ reports. subst (Stand least) (sym standing_same)
             (subst (λ size. Stand size (all (entries_.standing entries) (entries_.open_run entries))) is
-            (subst Needed reports known.1.0)),
-        λ four. known.1.1
+            (subst Needed reports known.1)),
+        λ four. comes_one beginning history (LossesDone now) reply known.0.told
             (subst (λ size. Force size (entries_.larger_acked size entries)
             (all (entries_.unanswered size entries) (entries_.open_run entries))) (sym is)
             (subst (λ numbers. Force least numbers
@@ -172,9 +171,7 @@ module _ {F K Q S M P : Type 0} (beginning : Beginning F K Q S M P) where
       → Throughout (Told beginning) events replies
       → Throughout (ReportsAtFour least) events replies
   holes_told events replies told =
-      throughout_by _ (ReportsAtFour least) Kept (λ history event reply known kept.
-      kept_after history event reply known.0 kept) holes_one [] events replies
-      (throughout_both (Facts beginning) _ [] events replies (facts beginning events replies told)
-      (throughout_both (NeedsFourBursts beginning) (ComesAtFourBursts beginning) [] events replies
-      (needs_four beginning events replies told)
-      (comes_at_four beginning events replies told))) kept_first
+      throughout_by _ (ReportsAtFour least) Kept (λ history event reply known. kept_after history event reply known.0)
+      holes_one [] events replies
+      (throughout_both (Facts beginning) (NeedsFourBursts beginning) [] events replies
+      (facts beginning events replies told) (needs_four beginning events replies told)) kept_first

@@ -25,9 +25,9 @@ use Rattle.quic_recovery.specs.Told.{Told}
 use Rattle.quic_recovery.proofs.HolesLaws as holes
 use Rattle.quic_recovery.proofs.MadeLaws.{is_made, made_in}
 use Rattle.quic_recovery.proofs.NearLaws as near
-use Rattle.quic_recovery.proofs.SearchLaws.{mtu as mtu_by_entries, probes}
-use Rattle.quic_recovery.proofs.SearchSaid.{MtuByEntries, ProbesInTurn, entered_so_far}
-use Rattle.quic_recovery.proofs.SearchSteps.{Facts, Step, stepped, throughout_both, throughout_by}
+use Rattle.quic_recovery.proofs.SearchLaws.{mtu_one, probes_one}
+use Rattle.quic_recovery.proofs.SearchSaid.{ProbesInTurn, entered_so_far}
+use Rattle.quic_recovery.proofs.SearchSteps.{Facts, Step, facts, stepped, throughout_by}
 use Rattle.quic_recovery.proofs.SeenLaws.{IsStill, IsStillOn, stays_seen}
 
 -- ---- where paths are not searched: no probe goes out, and no limit is kept
@@ -94,8 +94,8 @@ module _ {F K Q S M P : Type 0} (beginning : Beginning F K Q S M P) (is : discov
   pub unsearched_after : (history : History Q S M P) → Unsearched history
       → least ≡ min_mtu_in_use (made_in beginning history) (entered_so_far beginning history)
       → (event : Event Q S M P) (reply : Reply Q) → Facts beginning history event reply
-      → ProbesInTurn beginning history event reply → Unsearched ((event, reply) ∷ history)
-  unsearched_after history tied least_is event reply known turn =
+      → Unsearched ((event, reply) ∷ history)
+  unsearched_after history tied least_is event reply known =
       let limit = last_limit (logs_of beginning history).limits in
       let fresh = (settings_of beginning).discovery limit in
       let made = made_in beginning history in
@@ -107,7 +107,8 @@ module _ {F K Q S M P : Type 0} (beginning : Beginning F K Q S M P) (is : discov
       (step_tied first least fresh made history (entered_so_far beginning history) tied least_is (
         fresh_limit limit beginning.config.transport (discovery_settings beginning) is,
         fresh_mtu limit beginning.config.transport (discovery_settings beginning) is,
-      ) event reply) (probes_none history event reply turn))
+      ) event reply)
+      (probes_none history event reply (probes_one beginning history event reply known.told known.searched)))
 
   pub unsearched_first : Unsearched []
   unsearched_first = (
@@ -187,22 +188,20 @@ module _ {F K Q S M P : Type 0} (beginning : Beginning F K Q S M P) where
       go None is = ap of is ∙ (unsearched is).2
       go (Some settings) is = ap of is ∙ (near.searched settings is).tied.2
 
-  abbrev IsKnown : History Q S M P → Event Q S M P → Reply Q → Type 0
-  IsKnown history event reply = near.IsKnownOf beginning history event reply
-      × (ProbesInTurn beginning history event reply × MtuByEntries beginning history event reply)
-
-  kept_after : (history : History Q S M P) (event : Event Q S M P) (reply : Reply Q) → IsKnown history event reply
+  kept_after : (history : History Q S M P) (event : Event Q S M P) (reply : Reply Q)
+      → Facts beginning history event reply
       → Kept history
       → Kept ((event, reply) ∷ history)
   kept_after history event reply known kept =
-      let after = near.kept_after beginning history event reply known.0 kept.near in
+      let after = near.kept_by beginning history event reply known kept.near in
       let least_is = sym (holes.least_known beginning history kept.near.holes) in
       let unsearched : (is : discovery_settings beginning ≡ None) → Unsearched beginning is ((event, reply) ∷ history) =
-      λ is. unsearched_after beginning is history (kept.unsearched is) least_is event reply known.0.0 known.1.0 in
+      λ is. unsearched_after beginning is history (kept.unsearched is) least_is event reply known in
       record {
         near = after;
         unsearched = unsearched;
-        now = known.1.1.0 ∙ sym (in_use_same ((event, reply) ∷ history) after unsearched);
+        now = (mtu_one beginning history event reply known.told known.searched).0
+            ∙ sym (in_use_same ((event, reply) ∷ history) after unsearched);
         left = left_after history event reply kept.now kept.left;
       }
 
@@ -222,7 +221,8 @@ module _ {F K Q S M P : Type 0} (beginning : Beginning F K Q S M P) where
   state_mtu None path is = absurd (cc)
   state_mtu (Some past) path is = ap (λ (p : PathKnown K). Some p.state.discovery.mtu) (some_same is)
 
-  uses_mtu : (history : History Q S M P) (event : Event Q S M P) (reply : Reply Q) → IsKnown history event reply
+  uses_mtu : (history : History Q S M P) (event : Event Q S M P) (reply : Reply Q)
+      → Facts beginning history event reply
       → Kept history
       → Kept ((event, reply) ∷ history) → UsesMtu beginning history event reply
   uses_mtu history event reply known kept after = (
@@ -235,9 +235,5 @@ module _ {F K Q S M P : Type 0} (beginning : Beginning F K Q S M P) where
       → (events : List (Event Q S M P)) (replies : List (Reply Q))
       → Throughout (Told beginning) events replies → Throughout (UsesMtu beginning) events replies
   mtu_told small events replies told =
-      throughout_by IsKnown (UsesMtu beginning) Kept kept_after uses_mtu [] events replies
-      (throughout_both (near.IsKnownOf beginning) _ [] events replies
-      (near.known_of beginning small events replies told)
-      (throughout_both (ProbesInTurn beginning) (MtuByEntries beginning) [] events replies
-      (probes beginning events replies told) (mtu_by_entries beginning events replies told)))
-      kept_first
+      throughout_by (Facts beginning) (UsesMtu beginning) Kept kept_after uses_mtu [] events replies
+      (facts beginning events replies told) kept_first

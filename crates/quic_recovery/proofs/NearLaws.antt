@@ -29,13 +29,13 @@ use Rattle.quic_recovery.specs.Promises.Near.{EndsNearBy, IsNear, next, start}
 use Rattle.quic_recovery.specs.Promises.Probes.{acked_probes, are_some, last_probe, lost_probes, runs}
 use Rattle.quic_recovery.specs.Told.{Told}
 use Rattle.quic_recovery.proofs.EntryKinds.{plain, plainly_keeps, refused_keeps}
-use Rattle.quic_recovery.proofs.SearchSaid.{EndsNear, LimitsOutside, entered_so_far}
+use Rattle.quic_recovery.proofs.SearchSaid.{entered_so_far}
 use Rattle.quic_recovery.proofs.FewLaws as few
 use Rattle.quic_recovery.proofs.FlightLaws.{before_idle}
 use Rattle.quic_recovery.proofs.HolesLaws as holes
 use Rattle.quic_recovery.proofs.MadeLaws.{is_made, made_in}
-use Rattle.quic_recovery.proofs.SearchLaws.{ends, limits}
-use Rattle.quic_recovery.proofs.SearchSteps.{Facts, Step, facts, stepped, throughout_both, throughout_by}
+use Rattle.quic_recovery.proofs.SearchLaws.{ends_one}
+use Rattle.quic_recovery.proofs.SearchSteps.{Facts, Step, facts, stepped, throughout_by}
 
 -- ---- the limit that the peer told last
 
@@ -304,19 +304,15 @@ module _ {F K Q S M P : Type 0} (beginning : Beginning F K Q S M P) where
     pub searched : (settings : MtuDiscoveryConfig) (is : discovery_settings beginning ≡ Some settings)
         → Searched beginning settings is history
 
-  abbrev pub IsKnownOf : History Q S M P → Event Q S M P → Reply Q → Type 0
-  IsKnownOf history event reply = Facts beginning history event reply
-      × (LimitsOutside beginning history event reply × EndsNear beginning history event reply)
-
-  pub kept_after : (history : History Q S M P) (event : Event Q S M P) (reply : Reply Q) → IsKnownOf history event reply
-      → Kept history → Kept ((event, reply) ∷ history)
-  kept_after history event reply known kept =
-      let after = few.tied_after beginning history event reply known.0 kept.few in
+  pub kept_by : (history : History Q S M P) (event : Event Q S M P) (reply : Reply Q)
+      → Facts beginning history event reply → Kept history → Kept ((event, reply) ∷ history)
+  kept_by history event reply known kept =
+      let after = few.tied_after beginning history event reply known kept.few in
       record {
-        holes = holes.kept_after beginning history event reply known.0 kept.holes;
+        holes = holes.kept_after beginning history event reply known kept.holes;
         few = after;
         searched = λ settings is. searched_after beginning settings is history kept.few (kept.searched settings is)
-            (sym (holes.least_known beginning history kept.holes)) event reply known.0 after;
+            (sym (holes.least_known beginning history kept.holes)) event reply known after;
       }
 
   pub kept_first : Kept []
@@ -326,25 +322,18 @@ module _ {F K Q S M P : Type 0} (beginning : Beginning F K Q S M P) where
     searched = λ settings is. searched_first beginning settings is;
   }
 
-  near_one : (history : History Q S M P) (event : Event Q S M P) (reply : Reply Q) → IsKnownOf history event reply
-      → Kept history
-      → Kept ((event, reply) ∷ history) → EndsNearBy beginning history event reply
-  near_one history (PollMtu now) (Ok answer.NoProbe) known kept after = λ settings is change.
-      near_after beginning settings is history now kept.few (kept.searched settings is) (known.1.1 settings is change)
-  near_one history event reply known kept after = tt
-
-  pub known_of : ForSome (discovery_settings beginning) (λ settings. settings.upper_bound < 2 ^ 16)
-      → (events : List (Event Q S M P)) (replies : List (Reply Q))
-      → Throughout (Told beginning) events replies → Throughout IsKnownOf events replies
-  known_of small events replies told =
-      throughout_both (Facts beginning) _ [] events replies (facts beginning events replies told)
-      (throughout_both (LimitsOutside beginning) (EndsNear beginning) [] events replies
-      (limits beginning events replies told) (ends beginning small events replies told))
-
   pub near_told : ForSome (discovery_settings beginning) (λ settings. settings.upper_bound < 2 ^ 16)
       → (events : List (Event Q S M P)) (replies : List (Reply Q))
       → Throughout (Told beginning) events replies → Throughout (EndsNearBy beginning) events replies
   near_told small events replies told =
-      throughout_by IsKnownOf (EndsNearBy beginning) Kept kept_after near_one [] events replies
-      (known_of small events replies told)
-      kept_first
+      throughout_by (Facts beginning) (EndsNearBy beginning) Kept kept_by near [] events replies
+      (facts beginning events replies told) kept_first
+    where
+      near : (history : History Q S M P) (event : Event Q S M P) (reply : Reply Q)
+          → Facts beginning history event reply → Kept history → Kept ((event, reply) ∷ history)
+          → EndsNearBy beginning history event reply
+      near history (PollMtu now) (Ok answer.NoProbe) known kept after = λ settings is change.
+          near_after beginning settings is history now kept.few (kept.searched settings is)
+          (ends_one beginning small history (PollMtu now) (Ok answer.NoProbe) known.told known.searched settings is
+          change)
+      near history event reply known kept after = tt

@@ -27,12 +27,11 @@ use Rattle.recovery_events.specs.declared.event.Answer.TheVariants.{Probe, NoPro
 use Rattle.recovery_events.specs.declared.event.Answer.TheVariants as answer
 use Rattle.recovery_events.specs.declared.event.Refusal.TheVariants.{Searching}
 use Rattle.quic_recovery.specs.Entries.{entries_of, logs_of, pasts_of}
-use Rattle.quic_recovery.specs.History.{Beginning, History, QueueMeaning, Reply, Throughout}
+use Rattle.quic_recovery.specs.History.{Beginning, History, QueueMeaning, Reply}
 use Rattle.quic_recovery.specs.Known.{Known, known_by, first_path, settings_of}
 use Rattle.quic_recovery.specs.Search.{discovery_settings}
 use Rattle.quic_recovery.specs.Told.{Told, MtuProbeReply}
 use Rattle.quic_recovery.proofs.SearchSaid.{EndsNear, LimitsOutside, ProbesInTurn, SearchesFew, TellsProbes, MtuByEntries, entries_on, is_in_flight}
-use Rattle.quic_recovery.proofs.Runs.{throughout_kept}
 use Rattle.quic_recovery.proofs.AmplificationLaws.{is_allowed}
 
 not_true : (b : Bool) → (¬ (b ≡ true)) → b ≡ false
@@ -115,7 +114,8 @@ module _ {F K Q S M P : Type 0} (beginning : Beginning F K Q S M P) where
 
   -- the upper bound is a `u16`
   module _ (small : ForSome (discovery_settings beginning) (λ settings. settings.upper_bound < 2 ^ 16)) where
-    few_one : (before : History Q S M P) (event : Event Q S M P) (reply : Reply Q) → Told beginning before event reply
+    pub few_one : (before : History Q S M P) (event : Event Q S M P) (reply : Reply Q)
+        → Told beginning before event reply
         → AreSearched before → SearchesFew beginning before event reply
     few_one before event reply told searched = λ settings is change. (
         let after = searched_one before event reply told searched in
@@ -128,7 +128,8 @@ module _ {F K Q S M P : Type 0} (beginning : Beginning F K Q S M P) where
         )
         )
 
-    ends_one : (before : History Q S M P) (event : Event Q S M P) (reply : Reply Q) → Told beginning before event reply
+    pub ends_one : (before : History Q S M P) (event : Event Q S M P) (reply : Reply Q)
+        → Told beginning before event reply
         → AreSearched before → EndsNear beginning before event reply
     ends_one before (PollMtu now) (Ok NoProbe) told searched = λ settings is change. (
         let known = known_by beginning (logs_of beginning before) in
@@ -144,18 +145,8 @@ module _ {F K Q S M P : Type 0} (beginning : Beginning F K Q S M P) where
         )
     ends_one before event reply told searched = tt
 
-    pub searches : (events : List (Event Q S M P)) (replies : List (Reply Q))
-        → Throughout (Told beginning) events replies → Throughout (SearchesFew beginning) events replies
-    searches events replies told = throughout_kept beginning AreSearched (SearchesFew beginning) searched_one few_one []
-        events replies told (first_is beginning)
-
-    pub ends : (events : List (Event Q S M P)) (replies : List (Reply Q)) → Throughout (Told beginning) events replies
-        → Throughout (EndsNear beginning) events replies
-    ends events replies told =
-        throughout_kept beginning AreSearched (EndsNear beginning) searched_one ends_one [] events replies told
-        (first_is beginning)
-
-  probes_one : (before : History Q S M P) (event : Event Q S M P) (reply : Reply Q) → Told beginning before event reply
+  pub probes_one : (before : History Q S M P) (event : Event Q S M P) (reply : Reply Q)
+      → Told beginning before event reply
       → AreSearched before → ProbesInTurn beginning before event reply
   probes_one before (PollMtu now) (Ok (Probe number size)) told searched = go (discovery_settings beginning) refl
     where
@@ -180,7 +171,8 @@ module _ {F K Q S M P : Type 0} (beginning : Beginning F K Q S M P) where
   probes_one before event reply told searched = tt
 
   -- a search runs on the path in use exactly where its entries say so
-  limits_one : (before : History Q S M P) (event : Event Q S M P) (reply : Reply Q) → Told beginning before event reply
+  pub limits_one : (before : History Q S M P) (event : Event Q S M P) (reply : Reply Q)
+      → Told beginning before event reply
       → AreSearched before → LimitsOutside beginning before event reply
   limits_one before (PeerLimit size) (Err Searching) told searched =
       let past = (pasts_of beginning before).current in
@@ -198,7 +190,8 @@ module _ {F K Q S M P : Type 0} (beginning : Beginning F K Q S M P) where
       let past = (pasts_of beginning before).current in
       ap (λ probe. is_data space && probe) (is_probe_by past.making.discovery searched.0.untold past.searched number)
 
-  tells_one : (before : History Q S M P) (event : Event Q S M P) (reply : Reply Q) → Told beginning before event reply
+  pub tells_one : (before : History Q S M P) (event : Event Q S M P) (reply : Reply Q)
+      → Told beginning before event reply
       → AreSearched before → TellsProbes beginning before event reply
   tells_one before (Acked space now number app_limited) (Ok given) told searched = told.1.1
       ∙ ap (λ probe. answer.Acked probe) (probe_same before searched space number)
@@ -206,7 +199,7 @@ module _ {F K Q S M P : Type 0} (beginning : Beginning F K Q S M P) where
       told.1.1 ∙ ap (λ probe. answer.Lost probe) (probe_same before searched space number)
   tells_one before event reply told searched = tt
 
-  mtu_one : (before : History Q S M P) (event : Event Q S M P) (reply : Reply Q) → Told beginning before event reply
+  pub mtu_one : (before : History Q S M P) (event : Event Q S M P) (reply : Reply Q) → Told beginning before event reply
       → AreSearched before → MtuByEntries beginning before event reply
   mtu_one before event reply told searched =
       let after = searched_one before event reply told searched in
@@ -214,25 +207,3 @@ module _ {F K Q S M P : Type 0} (beginning : Beginning F K Q S M P) where
         mtu_by past.making.discovery after.0.untold past.searched,
         λ past lives. mtu_by past.making.discovery (after.1 past lives).untold past.searched,
       )
-
-  pub probes : (events : List (Event Q S M P)) (replies : List (Reply Q)) → Throughout (Told beginning) events replies
-      → Throughout (ProbesInTurn beginning) events replies
-  probes events replies told = throughout_kept beginning AreSearched (ProbesInTurn beginning) searched_one probes_one []
-      events replies told (first_is beginning)
-
-  pub limits : (events : List (Event Q S M P)) (replies : List (Reply Q)) → Throughout (Told beginning) events replies
-      → Throughout (LimitsOutside beginning) events replies
-  limits events replies told = throughout_kept beginning AreSearched (LimitsOutside beginning) searched_one limits_one
-      [] events replies told (first_is beginning)
-
-  pub tells : (events : List (Event Q S M P)) (replies : List (Reply Q)) → Throughout (Told beginning) events replies
-      → Throughout (TellsProbes beginning) events replies
-  tells events replies told =
-      throughout_kept beginning AreSearched (TellsProbes beginning) searched_one tells_one [] events replies told
-      (first_is beginning)
-
-  pub mtu : (events : List (Event Q S M P)) (replies : List (Reply Q)) → Throughout (Told beginning) events replies
-      → Throughout (MtuByEntries beginning) events replies
-  mtu events replies told =
-      throughout_kept beginning AreSearched (MtuByEntries beginning) searched_one mtu_one [] events replies told
-      (first_is beginning)

@@ -16,7 +16,7 @@ use Rattle.quic_recovery.specs.Known.{known_by, settings_of}
 use Rattle.quic_recovery.specs.Told.{Told}
 use Rattle.quic_recovery.proofs.SearchSaid.{EntersAsTold, LimitsOutside, TellsProbes, data_packet, entered, entered_so_far, of_packet}
 use Rattle.quic_recovery.proofs.EnteredLaws.{entries_told}
-use Rattle.quic_recovery.proofs.SearchLaws.{limits, tells}
+use Rattle.quic_recovery.proofs.SearchLaws.{AreSearched, first_is, limits_one, searched_one, tells_one}
 
 -- ---- throughout a run
 
@@ -55,28 +55,34 @@ pub record Facts {F K Q S M P : Type 0} (beginning : Beginning F K Q S M P) (his
     : Type 0 where
   pub told : Told beginning history event reply
   pub entered : EntersAsTold beginning history event reply
+  pub searched : AreSearched beginning history
   pub tells : TellsProbes beginning history event reply
   pub outside : LimitsOutside beginning history event reply
 
 module _ {F K Q S M P : Type 0} (beginning : Beginning F K Q S M P) where
   facts_from : (before : History Q S M P) (events : List (Event Q S M P)) (replies : List (Reply Q))
       → ThroughoutFrom (Told beginning) before events replies
-      → ThroughoutFrom (EntersAsTold beginning) before events replies
-      → ThroughoutFrom (TellsProbes beginning) before events replies
-      → ThroughoutFrom (LimitsOutside beginning) before events replies
+      → ThroughoutFrom (EntersAsTold beginning) before events replies → AreSearched beginning before
       → ThroughoutFrom (Facts beginning) before events replies
-  facts_from before [] [] told enters probes limits = tt
-  facts_from before (event ∷ events) (reply ∷ replies) told enters probes limits = (
-    record { told = told.0; entered = enters.0; tells = probes.0; outside = limits.0 },
-    facts_from ((event, reply) ∷ before) events replies told.1 enters.1 probes.1 limits.1,
+  facts_from before [] [] told enters searched = tt
+  facts_from before (event ∷ events) (reply ∷ replies) told enters searched = (
+    record {
+      told = told.0;
+      entered = enters.0;
+      searched = searched;
+      tells = tells_one beginning before event reply told.0 searched;
+      outside = limits_one beginning before event reply told.0 searched;
+    },
+    facts_from ((event, reply) ∷ before) events replies told.1 enters.1
+        (searched_one beginning before event reply told.0 searched),
   )
-  facts_from before [] (reply ∷ replies) told enters probes limits = absurd told
-  facts_from before (event ∷ events) [] told enters probes limits = absurd told
+  facts_from before [] (reply ∷ replies) told enters searched = absurd told
+  facts_from before (event ∷ events) [] told enters searched = absurd told
 
   pub facts : (events : List (Event Q S M P)) (replies : List (Reply Q)) → Throughout (Told beginning) events replies
       → Throughout (Facts beginning) events replies
-  facts events replies told = facts_from [] events replies told (entries_told beginning events replies told)
-      (tells beginning events replies told) (limits beginning events replies told)
+  facts events replies told =
+      facts_from [] events replies told (entries_told beginning events replies told) (first_is beginning)
 
 -- ---- events whose answer says what they are
 

@@ -20,10 +20,10 @@ use Rattle.quic_recovery.specs.Search.{discovery_settings}
 use Rattle.quic_recovery.specs.Told.{Told}
 use Rattle.quic_recovery.proofs.FlightLaws.{IsFlightWithin, flight_within}
 use Rattle.quic_recovery.proofs.MadeLaws.{is_made, made_in}
-use Rattle.quic_recovery.proofs.NearLaws.{IsKnownOf, Kept, kept_after, kept_first, known_of, upper_is}
-use Rattle.quic_recovery.proofs.SearchLaws.{AreSearched, first_is, probes, searched_one}
-use Rattle.quic_recovery.proofs.SearchSaid.{ProbesInTurn, entered_so_far}
-use Rattle.quic_recovery.proofs.SearchSteps.{Facts, throughout_both, throughout_by}
+use Rattle.quic_recovery.proofs.NearLaws.{Kept, kept_by, kept_first, upper_is}
+use Rattle.quic_recovery.proofs.SearchLaws.{probes_one, searched_one}
+use Rattle.quic_recovery.proofs.SearchSaid.{entered_so_far}
+use Rattle.quic_recovery.proofs.SearchSteps.{Facts, facts, throughout_by}
 
 below_both : (size upper bound most : ℕ) → size ≤ upper → upper ≡ min bound most → (size ≤ most) × (size ≤ bound)
 below_both size upper bound most below is = (omega arith, omega arith)
@@ -36,7 +36,6 @@ module _ {F K Q S M P : Type 0} (beginning : Beginning F K Q S M P) where
   least = beginning.config.transport.min_mtu
 
   module _ (history : History Q S M P) (now number size : ℕ) (kept : Kept beginning history)
-      (after : AreSearched beginning ((PollMtu now, Ok (answer.Probe number size)) ∷ history))
       (known : Facts beginning history (PollMtu now) (Ok (answer.Probe number size))) where
     -- the probe that goes out is the one in flight
     between : (settings : MtuDiscoveryConfig) → discovery_settings beginning ≡ Some settings
@@ -46,6 +45,8 @@ module _ {F K Q S M P : Type 0} (beginning : Beginning F K Q S M P) where
         × (size ≤ settings.upper_bound))
     between settings is =
         let past = (pasts_of beginning ((PollMtu now, Ok (answer.Probe number size)) ∷ history)).current in
+        let after = searched_one beginning history (PollMtu now) (Ok (answer.Probe number size)) known.told
+        known.searched in
         subst (λ (made : Discovery). IsFlightWithin made settings
         (probed now number size ∷ entered_so_far beginning history))
         (is_made beginning history (PollMtu now) (Ok (answer.Probe number size)))
@@ -72,18 +73,13 @@ module _ {F K Q S M P : Type 0} (beginning : Beginning F K Q S M P) where
           both.1,
         )
 
-  abbrev AllKept : History Q S M P → Type 0
-  AllKept history = Kept beginning history × AreSearched beginning history
-
-  abbrev AllKnown : History Q S M P → Event Q S M P → Reply Q → Type 0
-  AllKnown history event reply = IsKnownOf beginning history event reply × ProbesInTurn beginning history event reply
-
-  sizes_one : (history : History Q S M P) (event : Event Q S M P) (reply : Reply Q) → AllKnown history event reply
-      → AllKept history → AllKept ((event, reply) ∷ history) → ProbesWithin beginning history event reply
+  sizes_one : (history : History Q S M P) (event : Event Q S M P) (reply : Reply Q)
+      → Facts beginning history event reply → Kept beginning history → Kept beginning ((event, reply) ∷ history)
+      → ProbesWithin beginning history event reply
   sizes_one history (PollMtu now) (Ok (answer.Probe number size)) known kept after =
-      let upper = upper_within history now number size kept.0 after.1 known.0.0 (discovery_settings beginning) refl
-      known.1 in
-      (upper.0, upper.1, above_in_use history now number size kept.0 after.1 known.0.0)
+      let turn = probes_one beginning history (PollMtu now) (Ok (answer.Probe number size)) known.told known.searched in
+      let upper = upper_within history now number size kept known (discovery_settings beginning) refl turn in
+      (upper.0, upper.1, above_in_use history now number size kept known)
   sizes_one history event reply known kept after = tt
 
   -- throughout a run
@@ -91,12 +87,5 @@ module _ {F K Q S M P : Type 0} (beginning : Beginning F K Q S M P) where
       → (events : List (Event Q S M P)) (replies : List (Reply Q))
       → Throughout (Told beginning) events replies → Throughout (ProbesWithin beginning) events replies
   sizes_told small events replies told =
-      throughout_by AllKnown (ProbesWithin beginning) AllKept
-      (λ history event reply known kept. (
-        kept_after beginning history event reply known.0 kept.0,
-        searched_one beginning history event reply known.0.0.told kept.1,
-      ))
-      sizes_one [] events replies
-      (throughout_both (IsKnownOf beginning) (ProbesInTurn beginning) [] events replies
-      (known_of beginning small events replies told) (probes beginning events replies told))
-      (kept_first beginning, first_is beginning)
+      throughout_by (Facts beginning) (ProbesWithin beginning) (Kept beginning) (kept_by beginning) sizes_one [] events
+      replies (facts beginning events replies told) (kept_first beginning)

@@ -21,10 +21,10 @@ use Rattle.quic_recovery.specs.Promises.Near.{next}
 use Rattle.quic_recovery.specs.Promises.Probes.{runs}
 use Rattle.quic_recovery.specs.Promises.Turns.{SearchesInTurn, is_probe, last_number}
 use Rattle.quic_recovery.specs.Told.{Told}
-use Rattle.quic_recovery.proofs.SearchSaid.{ProbesInTurn, entered_so_far, is_in_flight}
-use Rattle.quic_recovery.proofs.NearLaws.{IsKnownOf, Kept, kept_after, kept_first, known_of, runs_same}
-use Rattle.quic_recovery.proofs.SearchLaws.{probes}
-use Rattle.quic_recovery.proofs.SearchSteps.{Facts, Step, stepped, throughout_both, throughout_by}
+use Rattle.quic_recovery.proofs.SearchSaid.{entered_so_far, is_in_flight}
+use Rattle.quic_recovery.proofs.NearLaws.{Kept, kept_by, kept_first, runs_same}
+use Rattle.quic_recovery.proofs.SearchLaws.{probes_one}
+use Rattle.quic_recovery.proofs.SearchSteps.{Facts, Step, facts, stepped, throughout_by}
 
 -- ---- the number of the probe in flight
 
@@ -117,22 +117,22 @@ module _ {F K Q S M P : Type 0} (beginning : Beginning F K Q S M P) where
           ∙ inside.1,
     )
 
-    turns_one : (event : Event Q S M P) (reply : Reply Q)
-        → IsKnownOf beginning history event reply × ProbesInTurn beginning history event reply
+    turns_one : (event : Event Q S M P) (reply : Reply Q) → Facts beginning history event reply
         → SearchesInTurn beginning history event reply
     turns_one (PollMtu now) (Ok (answer.Probe number size)) known =
-        turn_of now number size (discovery_settings beginning) refl known.1
+        turn_of now number size (discovery_settings beginning) refl
+        (probes_one beginning history (PollMtu now) (Ok (answer.Probe number size)) known.told known.searched)
     turns_one (Acked there now number app_limited) (Ok given) known =
-        known.0.0.tells ∙ ap (λ probe. answer.Acked probe) (probe_same there number)
+        known.tells ∙ ap (λ probe. answer.Acked probe) (probe_same there number)
     turns_one (Lost there number) (Ok given) known =
-        known.0.0.tells ∙ ap (λ probe. answer.Lost probe) (probe_same there number)
+        known.tells ∙ ap (λ probe. answer.Lost probe) (probe_same there number)
     turns_one (PeerLimit size) (Ok given) known =
-        limit_taken size (runs history) given known.0.0.told.0 (runs_same history entries kept.few ∙ known.0.1.0)
-        known.0.0.told.1.1
+        limit_taken size (runs history) given known.told.0 (runs_same history entries kept.few ∙ known.outside)
+        known.told.1.1
     turns_one (PeerLimit size) (Err Searching) known =
-        limit_late size (runs history) known.0.0.told.0 (runs_same history entries kept.few ∙ known.0.1.0)
-    turns_one (PeerLimit size) (Err ZeroMtu) known = limit_of_none size (runs history) known.0.0.told
-    turns_one (PeerLimit size) (Err refusal) known = absurd known.0.0.told.1.1
+        limit_late size (runs history) known.told.0 (runs_same history entries kept.few ∙ known.outside)
+    turns_one (PeerLimit size) (Err ZeroMtu) known = limit_of_none size (runs history) known.told
+    turns_one (PeerLimit size) (Err refusal) known = absurd known.told.1.1
     turns_one event reply known = tt
 
   abbrev AllKept : History Q S M P → Type 0
@@ -143,15 +143,13 @@ module _ {F K Q S M P : Type 0} (beginning : Beginning F K Q S M P) where
       → (events : List (Event Q S M P)) (replies : List (Reply Q))
       → Throughout (Told beginning) events replies → Throughout (SearchesInTurn beginning) events replies
   turns_told small events replies told =
-      throughout_by (λ history event reply. IsKnownOf beginning history event reply
-      × ProbesInTurn beginning history event reply)
+      throughout_by (Facts beginning)
       (SearchesInTurn beginning) AllKept
       (λ history event reply known kept. (
-        kept_after beginning history event reply known.0 kept.0,
-        numbered_after history event reply known.0.0 kept.1,
+        kept_by beginning history event reply known kept.0,
+        numbered_after history event reply known kept.1,
       ))
       (λ history event reply known kept after. turns_one history kept.0 kept.1 event reply known)
       [] events replies
-      (throughout_both (IsKnownOf beginning) (ProbesInTurn beginning) [] events replies
-      (known_of beginning small events replies told) (probes beginning events replies told))
+      (facts beginning events replies told)
       (kept_first beginning, tt)
