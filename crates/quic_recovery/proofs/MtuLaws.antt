@@ -152,20 +152,29 @@ module _ {F K Q S M P : Type 0} (beginning : Beginning F K Q S M P) where
   abbrev IsNow : History Q S M P → Type 0
   IsNow history = in_state (pasts_of beginning history).current ≡ mtu_in_use beginning history
 
+  left_as : (before : History Q S M P) (event : Event Q S M P) (reply : Reply Q)
+      → mtu_before (pasts_of beginning ((event, reply) ∷ before)) ≡ mtu_before (pasts_of beginning before)
+      → IsLeft before
+      → ForSome (mtu_before (pasts_of beginning ((event, reply) ∷ before)))
+      (λ size. size ≡ mtu_in_use beginning (before_move before))
+  left_as before event reply same left =
+      subst (λ o. ForSome o (λ size. size ≡ mtu_in_use beginning (before_move before))) (sym same) left
+
   left_after : (history : History Q S M P) (event : Event Q S M P) (reply : Reply Q) → IsNow history → IsLeft history
       → IsLeft ((event, reply) ∷ history)
   left_after history (NewPath now remote true) (Ok given) is left = λ size found. sym (some_same found) ∙ is
   left_after history (NewPath now remote false) (Ok given) is left = λ size found. sym (some_same found) ∙ is
   left_after history DropPrevious (Ok given) is left = λ size found. absurd (cc)
   left_after history (NewPath now remote true) (Err refusal) is left =
-      subst (λ o. ForSome o (λ size. size ≡ mtu_in_use beginning (before_move history)))
-      (sym (stays_seen beginning mtu_before still still_on history (NewPath now remote true) (Err refusal))) left
+      left_as history (NewPath now remote true) (Err refusal)
+      (stays_seen beginning mtu_before still still_on history (NewPath now remote true) (Err refusal))
+      left
   left_after history (NewPath now remote false) (Err refusal) is left =
-      subst (λ o. ForSome o (λ size. size ≡ mtu_in_use beginning (before_move history)))
-      (sym (stays_seen beginning mtu_before still still_on history (NewPath now remote false) (Err refusal))) left
+      left_as history (NewPath now remote false) (Err refusal)
+      (stays_seen beginning mtu_before still still_on history (NewPath now remote false) (Err refusal))
+      left
   left_after history event reply is left =
-      subst (λ o. ForSome o (λ size. size ≡ mtu_in_use beginning (before_move history)))
-      (sym (stays_seen beginning mtu_before still still_on history event reply)) left
+      left_as history event reply (stays_seen beginning mtu_before still still_on history event reply) left
 
   -- ---- throughout a run
 

@@ -1,6 +1,6 @@
 -- By the history alone a search ends near the best size of an honest link, as its entries say: the clause `near` of
 -- `run`.
-use Rattle.std.proofs.Common.{ℕ, ◌≡◌, ◌+◌, ◌*◌, ◌<◌, ◌≤◌, ◌^◌, ◌||◌, min, max, Bool, true, false, if◌then◌else◌, List, [], ◌∷◌, Option, None, Some, Ok, Err, refl, sym, ap, ap₂, subst, ◌∙◌, is_some, arith}
+use Rattle.std.proofs.Common.{ℕ, ◌≡◌, ◌<◌, ◌≤◌, ◌^◌, ◌||◌, min, max, Bool, true, false, if◌then◌else◌, List, [], ◌∷◌, Option, None, Some, Ok, Err, refl, sym, ap, ap₂, subst, ◌∙◌, is_some, arith}
 use Rattle.std.specs.Prelude.{All}
 use Rattle.std.specs.Option.{ForSome}
 use Rattle.recovery_base.specs.declared.below.SpaceId.TheVariants as space
@@ -10,7 +10,6 @@ use Rattle.recovery_mtud.specs.declared.config.MtuDiscoveryConfig.{MtuDiscoveryC
 use Rattle.recovery_mtud.specs.Discovery.{Discovery, limit_or_greatest, within}
 use Rattle.recovery_mtud.specs.DiscoveryLog.{kept_limit}
 use Rattle.recovery_mtud.specs.MtuEntries.{MtuEntry, MtuProbe, unprobed, probe_in_flight, limit_in_use, min_mtu_in_use, mtu_in_use}
-use Rattle.recovery_mtud.specs.Search.{upper_from}
 use Rattle.recovery_mtud.specs.SearchRuns.{AreLimitsOutside, EndsNearBest, start_upper, acked_sizes, before_search, is_due, lost_sizes, next_activation, probed_sizes, search_of, search_runs}
 use Rattle.recovery_paths.specs.PathMaking.{discovery_with}
 use Rattle.recovery_events.specs.declared.event.Event.{Event}
@@ -190,36 +189,17 @@ module _ {F K Q S M P : Type 0} (beginning : Beginning F K Q S M P) (settings : 
     pub tied : TiedAt history
     start : StartsAt history
 
+  -- the MTU before a search stays so while it runs
+  start_after : (now before : Discovery) (history : History Q S M P) (happened : Event Q S M P × Reply Q)
+      (after entries : List MtuEntry) → few.TiedTo (happened ∷ history) after
+      → mtu true first least (happened ∷ history) ≡ mtu_in_use now after → Carries now before after entries
+      → start first least history ≡ mtu_in_use before (before_search entries)
+      → start first least (happened ∷ history) ≡ mtu_in_use now (before_search after)
+  start_after now before history happened after entries tied same carries started =
+      grind (arith, runs_same (happened ∷ history) after tied, before_idle after)
+
   module _ (history : History Q S M P) (before : few.Tied beginning history) (searched : Searched history)
       (least_is : least ≡ min_mtu_in_use (made_in beginning history) (entered_so_far beginning history)) where
-    start_after : (happened : Event Q S M P × Reply Q) → few.Tied beginning (happened ∷ history)
-        → mtu true first least (happened ∷ history)
-        ≡ mtu_in_use (made_in beginning (happened ∷ history)) (entered_so_far beginning (happened ∷ history))
-        → Carries (made_in beginning (happened ∷ history)) (made_in beginning history)
-        (entered_so_far beginning (happened ∷ history)) (entered_so_far beginning history)
-        → StartsAt (happened ∷ history)
-    start_after happened after mtu_is carries = go (search_runs after_it) refl
-      where
-        after_it : List MtuEntry
-        after_it = entered_so_far beginning (happened ∷ history)
-
-        made_then : Discovery
-        made_then = made_in beginning (happened ∷ history)
-
-        begins : Bool → ℕ
-        begins running = if running then start first least history else mtu true first least (happened ∷ history)
-
-        go : (running : Bool) → search_runs after_it ≡ running → StartsAt (happened ∷ history)
-        go true running =
-            ap begins (runs_same (happened ∷ history) after_it after ∙ running)
-            ∙ searched.start
-            ∙ ap₂ (λ (d : Discovery) (es : List MtuEntry). mtu_in_use d es) (sym (carries running).1)
-            (sym (carries running).0)
-        go false running =
-            ap begins (runs_same (happened ∷ history) after_it after ∙ running)
-            ∙ mtu_is
-            ∙ ap (mtu_in_use made_then) (sym (before_idle after_it running))
-
     searched_after : (event : Event Q S M P) (reply : Reply Q) → Facts beginning history event reply
         → few.Tied beginning ((event, reply) ∷ history) → Searched ((event, reply) ∷ history)
     searched_after event reply known after =
@@ -240,7 +220,7 @@ module _ {F K Q S M P : Type 0} (beginning : Beginning F K Q S M P) (settings : 
           ap (within first) same
               ∙ fresh_mtu limit beginning.config.transport settings (discovery_settings beginning) is,
         ) event reply)) in
-        record { tied = both.0; start = start_after (event, reply) after both.0.2 both.1 }
+        record { tied = both.0; start = start_after _ made history (event, reply) entries so_far after both.0.2 both.1 searched.start }
 
   searched_first : Searched []
   searched_first =
@@ -253,21 +233,15 @@ module _ {F K Q S M P : Type 0} (beginning : Beginning F K Q S M P) (settings : 
 
   -- ---- a search that ends
 
-  -- the least of the sizes is no larger for what the peer takes
-  same_upper : (bound mtu most : ℕ) → min (max bound (min mtu most)) most ≡ min (max bound mtu) most
-  same_upper bound mtu most = omega arith
-
   -- the upper bound as the search began
   pub upper_is : (history : History Q S M P) → Searched history
       → start_upper (made_in beginning history) settings (entered_so_far beginning history)
       ≡ min (max settings.upper_bound (start first least history)) (limit_or_greatest (limit history))
   upper_is history searched =
-      let made = made_in beginning history in
-      let entries = entered_so_far beginning history in
-      ap₂ (λ (mtu : ℕ) (most : Option ℕ). upper_from mtu (limit_or_greatest most) settings.upper_bound)
-      (sym searched.start)
-      (limit_before made entries searched.tied.6 ∙ searched.tied.1)
-      ∙ same_upper settings.upper_bound (start first least history) (limit_or_greatest (limit history))
+      let started = searched.start in
+      let limited = limit_before (made_in beginning history) (entered_so_far beginning history) searched.tied.6 in
+      let told = searched.tied.1 in
+      grind (arith, started, limited, told)
 
   none_flies : (flight : Option MtuProbe) → false ≡ is_some flight → flight ≡ None
   none_flies None e = refl
@@ -286,14 +260,12 @@ module _ {F K Q S M P : Type 0} (beginning : Beginning F K Q S M P) (settings : 
         start = subst (λ size. size ≤ link) searched.start starts;
         acked = subst (λ (sizes : List ℕ). All (λ size. size ≤ link) sizes) tied.4 acks;
         lost = subst (λ (sizes : List ℕ). All (λ size. link < size) sizes) tied.5 losses;
-      }) in (
-        subst (λ size. size ≤ link) (sym tied.2) found.carried,
-        subst (λ upper. min link upper < mtu true first least history + 2 * settings.minimum_change)
-            (upper_is history searched)
-            (subst (λ size. min link
-            (start_upper (made_in beginning history) settings entries) < size + 2 * settings.minimum_change)
-            (sym tied.2) found.near),
-      )
+      }) in
+      let upper = upper_is history searched in
+      let same = tied.2 in
+      let carried = found.carried in
+      let near = found.near in
+      (omega (arith, carried, same), omega (arith, near, upper, same))
 
 -- ---- throughout a run
 

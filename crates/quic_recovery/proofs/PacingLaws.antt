@@ -79,64 +79,48 @@ module _ {F K Q S M P : Type 0} (beginning : Beginning F K Q S M P) where
     at_calls before (Transmit now bytes false) reply told holds = tt
     at_calls before event reply told holds = tt
 
+  -- what follows at each event from that holds throughout a run
+  paced : (Holds : History Q S M P → Event Q S M P → Reply Q → Type 0)
+      → ((before : History Q S M P) (event : Event Q S M P) (reply : Reply Q) → Told beginning before event reply
+      → HavePassedThere before → Holds before event reply)
+      → (events : List (Event Q S M P)) (replies : List (Reply Q)) → Throughout (Told beginning) events replies
+      → Throughout Holds events replies
+  paced Holds each events replies told =
+      throughout_kept beginning HavePassedThere Holds passed_one each [] events replies told
+      (passed_at_first (settings_of beginning) (first_path beginning))
+
+  -- the pacer of the path in use, and its call
+  abbrev pacing : History Q S M P → PathPast K
+  pacing before = (pasts_of beginning before).current
+
+  abbrev call : History Q S M P → ℕ → ℕ → PacerCall
+  call before = pacer_call beginning.words (state_of (settings_of beginning) (pacing before))
+
   -- each call is answered by the balance
-  delays_one : (before : History Q S M P) (event : Event Q S M P) (reply : Reply Q) → Told beginning before event reply
-      → HavePassedThere before → DelaysByBalance beginning before event reply
-  delays_one before event reply told passed =
-      let past = (pasts_of beginning before).current in
-      at_calls IsByBalance before event reply told
-      (λ now bytes checked. delays_by (bucket_of past.making.pacer) past.pacing
-      (pacer_call beginning.words (state_of (settings_of beginning) past) now bytes) refl checked passed.0)
-
-  -- what was delayed passes soon
-  passes_one : (before : History Q S M P) (event : Event Q S M P) (reply : Reply Q) → Told beginning before event reply
-      → HavePassedThere before → PassesSoon beginning before event reply
-  passes_one before event reply told passed =
-      let past = (pasts_of beginning before).current in
-      at_calls (λ past. PassesBehind (bucket_of past.making.pacer) past.pacing) before event reply told
-      (λ now bytes. passes_behind (bucket_of past.making.pacer) past.pacing
-      (pacer_call beginning.words (state_of (settings_of beginning) past) now bytes))
-
-  -- and when it was named, where there is room
-  named_one : (before : History Q S M P) (event : Event Q S M P) (reply : Reply Q) → Told beginning before event reply
-      → HavePassedThere before → PassesWhenNamed beginning before event reply
-  named_one before event reply told passed =
-      let past = (pasts_of beginning before).current in
-      at_calls (λ past. PassesAtMoment (bucket_of past.making.pacer) past.pacing) before event reply told
-      (λ now bytes. passes_at_moment (bucket_of past.making.pacer) past.pacing
-      (pacer_call beginning.words (state_of (settings_of beginning) past) now bytes))
-
-  -- after an event each pacer keeps its rate
-  pace_one : (before : History Q S M P) (event : Event Q S M P) (reply : Reply Q) → Told beginning before event reply
-      → HavePassedThere before → KeepsPace beginning before event reply
-  pace_one before event reply told passed =
-      let after = passed_one before event reply told passed in (
-        keeps_pace
-            (pasts_of beginning ((event, reply) ∷ before)).current after.0,
-        λ past is. keeps_pace past (after.1 past is),
-      )
-
-  -- throughout a run
   pub delayed : (events : List (Event Q S M P)) (replies : List (Reply Q)) → Throughout (Told beginning) events replies
       → Throughout (DelaysByBalance beginning) events replies
-  delayed events replies told =
-      throughout_kept beginning HavePassedThere (DelaysByBalance beginning) passed_one delays_one [] events replies told
-      (passed_at_first (settings_of beginning) (first_path beginning))
+  delayed = paced (DelaysByBalance beginning) (λ before event reply told passed.
+      at_calls IsByBalance before event reply told (λ now bytes checked.
+      delays_by (bucket_of (pacing before).making.pacer) (pacing before).pacing (call before now bytes) refl checked
+      passed.0))
 
+  -- after an event each pacer keeps its rate
   pub rate : (events : List (Event Q S M P)) (replies : List (Reply Q)) → Throughout (Told beginning) events replies
       → Throughout (KeepsPace beginning) events replies
-  rate events replies told =
-      throughout_kept beginning HavePassedThere (KeepsPace beginning) passed_one pace_one [] events replies told
-      (passed_at_first (settings_of beginning) (first_path beginning))
+  rate = paced (KeepsPace beginning) (λ before event reply told passed.
+      let after = passed_one before event reply told passed in
+      (keeps_pace (pacing ((event, reply) ∷ before)) after.0, λ past is. keeps_pace past (after.1 past is)))
 
+  -- what was delayed passes soon
   pub soon : (events : List (Event Q S M P)) (replies : List (Reply Q)) → Throughout (Told beginning) events replies
       → Throughout (PassesSoon beginning) events replies
-  soon events replies told =
-      throughout_kept beginning HavePassedThere (PassesSoon beginning) passed_one passes_one [] events replies told
-      (passed_at_first (settings_of beginning) (first_path beginning))
+  soon = paced (PassesSoon beginning) (λ before event reply told passed.
+      at_calls (λ past. PassesBehind (bucket_of past.making.pacer) past.pacing) before event reply told (λ now bytes.
+      passes_behind (bucket_of (pacing before).making.pacer) (pacing before).pacing (call before now bytes)))
 
+  -- and when it was named, where there is room
   pub named : (events : List (Event Q S M P)) (replies : List (Reply Q)) → Throughout (Told beginning) events replies
       → Throughout (PassesWhenNamed beginning) events replies
-  named events replies told =
-      throughout_kept beginning HavePassedThere (PassesWhenNamed beginning) passed_one named_one [] events replies told
-      (passed_at_first (settings_of beginning) (first_path beginning))
+  named = paced (PassesWhenNamed beginning) (λ before event reply told passed.
+      at_calls (λ past. PassesAtMoment (bucket_of past.making.pacer) past.pacing) before event reply told (λ now bytes.
+      passes_at_moment (bucket_of (pacing before).making.pacer) (pacing before).pacing (call before now bytes)))

@@ -6,7 +6,7 @@ use Rattle.std.specs.Prelude.{option_map}
 use Rattle.std.specs.declared.net.socket_addr.SocketAddr.{SocketAddr}
 use Rattle.recovery_paths.specs.declared.live_paths.PathName.{PathName}
 use Rattle.recovery_paths.specs.declared.live_paths.PathName.TheVariants.{Current, Previous}
-use Rattle.recovery_paths.specs.PathLog.{OfPaths, PathEntry, PathsEntry, PathPast, each_path, path_of, pasts_by, past_with, on, tells, receives, is_validated, samples, searches, asks, transmits, passes, is_reset, moves, drops_previous, known_of}
+use Rattle.recovery_paths.specs.PathLog.{OfPaths, PathEntry, PathsEntry, PathPast, each_path, path_of, pasts_by, past_with, on, receives, moves, drops_previous, known_of}
 use Rattle.recovery_paths.specs.PathMaking.{PathMaking, PathSettings}
 use Rattle.recovery_events.specs.declared.event.Event.{Event}
 use Rattle.recovery_events.specs.declared.event.Event.TheVariants.{NewPath, DropPrevious}

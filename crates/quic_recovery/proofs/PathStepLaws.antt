@@ -1,6 +1,6 @@
 -- What an event does to the paths that live, and to the search on the one in use, is a step of them. The calls
 -- `poll_mtu` and `discard` rest on it.
-use Rattle.std.proofs.Common.{◌≡◌, ℕ, ◌≤◌, ◌^◌, ap, ap₂, ◌∙◌, refl, sym, subst, Bool, true, false, MatchBool, [], ◌∷◌, Option, None, Some, option_map, Ok, Err}
+use Rattle.std.proofs.Common.{◌≡◌, ℕ, ◌≤◌, ◌^◌, arith, ap, ap₂, ◌∙◌, refl, sym, subst, Bool, true, false, MatchBool, [], ◌∷◌, Option, None, Some, option_map, Ok, Err}
 use Rattle.recovery_base.specs.declared.below.SpaceId.{SpaceId}
 use Rattle.recovery_base.specs.declared.below.SpaceId.TheVariants.{Data}
 use Rattle.recovery_ledger.specs.declared.discarded.DiscardedSpaces.{DiscardedSpaces}
@@ -100,14 +100,7 @@ module _ (First Second Third Fourth One Other : Type 0) (none : ¬ Second) (alik
       ((¬ Second) × MatchBool third Third ((¬ Third) × MatchBool fourth Fourth ((¬ Fourth) × One))))
       → MatchBool first First
       ((¬ First) × MatchBool third Third ((¬ Third) × MatchBool fourth Fourth ((¬ Fourth) × Other)))
-  but_second true second third fourth is = is
-  but_second false true third fourth is = absurd (none is.1)
-  but_second false false true fourth is = (is.0, is.1.1)
-  but_second false false false true is = (is.0, is.1.1)
-  but_second false false false false is =
-      let third = is.1.1 in
-      let fourth = third.1 in
-      (is.0, (third.0, (fourth.0, alike fourth.1)))
+  but_second first second third fourth is = grind (arith, none, alike)
 
 -- want of memory refuses whatever is answered else
 refused_alike : {Q : Type 0} (Grows : Type 0) (One Other : Answer Q → Type 0) (refusal : Refusal)

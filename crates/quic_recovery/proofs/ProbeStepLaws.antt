@@ -1,6 +1,6 @@
 -- What probes, losses, queues and counts of ECN change leaves the balance of the paths. The calls for these rest on it.
-use Rattle.std.proofs.Common.{◌≡◌, ℕ, ◌≤◌, nat_lt, nat_le, Bool, true, false, ◌&&◌, cond, IsTrue, Option, None, Some, Result, Ok, Err, OnOk, OnErr, refl, sym, ap, subst, ◌∙◌}
-use Rattle.std.proofs.lemmas.Bool.{leb-true, le-leb}
+use Rattle.std.proofs.Common.{◌≡◌, ℕ, ◌≤◌, nat_le, Bool, false, ◌&&◌, IsTrue, Option, None, Some, Result, Ok, Err, OnOk, OnErr, refl, sym, ap, subst, arith}
+use Rattle.std.proofs.lemmas.Bool.Decides.{nat_tests}
 use Rattle.std.specs.Option.{IsSomeAnd}
 use Rattle.std.specs.declared.ops.RangeInclusive.{RangeInclusive}
 use Rattle.std.specs.Range.{range_inclusive_start, range_inclusive_end, range_inclusive_exhausted}
@@ -89,30 +89,12 @@ put_back {K} {Q} {S} {M} {P} q old event refusal space there same is_nothing tol
 
 -- ---- acknowledgements of skipped numbers
 
-both : (a b : Bool) → (a && b) ≡ true → (a ≡ true) × (b ≡ true)
-both true b is = (refl, is)
-both false b is = absurd (no is)
-  where
-    no : false ≡ true → ⊥
-    no e = cc
-
-lies_in : (low high n : ℕ) → IsTrue (nat_le low n && nat_le n high) → (low ≤ n) × (n ≤ high)
-lies_in low high n is = let tests =
-    both (nat_le low n) (nat_le n high) is in (leb-true low n tests.0, leb-true n high tests.1)
-
-lies_there : (low high n : ℕ) → (low ≤ n) × (n ≤ high) → IsTrue (nat_le low n && nat_le n high)
-lies_there low high n is = ap (λ (b : Bool). b && nat_le n high) (le-leb low n is.0) ∙ le-leb n high is.1
-
 module _ {K P M : Type 0} (known : Known K P M) (range : RangeInclusive ℕ) (low high : ℕ)
     (start : range_inclusive_start range ≡ low) (end : range_inclusive_end range ≡ high)
     (whole : range_inclusive_exhausted range ≡ false) where
   -- where the range is whole, it holds what lies between its ends
   holds_between : (n : ℕ) → range_holds range n ≡ (nat_le low n && nat_le n high)
-  holds_between n =
-      ap (λ (b : Bool). nat_le (range_inclusive_start range) n && cond b (nat_lt n (range_inclusive_end range))
-      (nat_le n (range_inclusive_end range))) whole
-      ∙ ap (λ (m : ℕ). nat_le m n && nat_le n (range_inclusive_end range)) start
-      ∙ ap (λ (m : ℕ). nat_le low n && nat_le n m) end
+  holds_between n = grind (arith, start, end, whole)
 
   pub skip_acked : (space : SpaceId) → AcksSkip space range known.numbers.skipped
       → IsSomeAnd (skipped_in known space) (λ s. (low ≤ s) × (s ≤ high))
@@ -121,15 +103,9 @@ module _ {K P M : Type 0} (known : Known K P M) (range : RangeInclusive ℕ) (lo
       go : (last : Option ℕ) → IsSomeAnd last (λ s. IsTrue (range_holds range s))
           → IsSomeAnd last (λ s. (low ≤ s) × (s ≤ high))
       go None is = is
-      go (Some s) is = lies_in low high s (sym (holds_between s) ∙ is)
-  skip_acked Initial acks = absurd (no_data acks.in_data)
-    where
-      no_data : Initial ≡ Data → ⊥
-      no_data e = cc
-  skip_acked Handshake acks = absurd (no_data acks.in_data)
-    where
-      no_data : Handshake ≡ Data → ⊥
-      no_data e = cc
+      go (Some s) is = grind (arith, nat_tests, holds_between s)
+  skip_acked Initial acks = let elsewhere = acks.in_data in absurd (cc)
+  skip_acked Handshake acks = let elsewhere = acks.in_data in absurd (cc)
 
   pub acks_skip : (space : SpaceId) → IsSomeAnd (skipped_in known space) (λ s. (low ≤ s) × (s ≤ high))
       → AcksSkip space range known.numbers.skipped
@@ -138,6 +114,6 @@ module _ {K P M : Type 0} (known : Known K P M) (range : RangeInclusive ℕ) (lo
       go : (last : Option ℕ) → IsSomeAnd last (λ s. (low ≤ s) × (s ≤ high))
           → IsSomeAnd last (λ s. IsTrue (range_holds range s))
       go None is = is
-      go (Some s) is = holds_between s ∙ lies_there low high s is
+      go (Some s) is = grind (arith, nat_tests, holds_between s)
   acks_skip Initial is = absurd is
   acks_skip Handshake is = absurd is

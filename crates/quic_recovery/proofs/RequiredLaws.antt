@@ -52,39 +52,19 @@ module _ (Missing : ℕ → Type 0) (decided : (n : ℕ) → Decided (Missing n)
       go (inl first) last =
           let below = first.1.1 in
           let least = first.1.3 in
-          let under : first.0 < low + 1 + suc count = omega (arith, below) in
           inl (
             first.0,
             (
               first.1.0,
-              under,
+              omega (arith, below),
               first.1.2,
-              λ m above inside missing. elim (cases_lt m (low + 1 + count)) [
-                | inl before ↦ least m above before missing
-                | inr behind ↦ omega (arith, below, behind)
-              ],
+              λ m above inside missing. grind
+                  (arith, below, least m above),
             ),
           )
       go (inr none) (inl last) =
-          inl (
-            low + 1 + count,
-            (
-              omega arith,
-              omega arith,
-              last,
-              λ m above inside missing. elim (cases_lt m (low + 1 + count)) [
-                | inl before ↦ absurd (none m above before missing)
-                | inr behind ↦ behind
-              ],
-            ),
-          )
-      go (inr none) (inr other) =
-          inr (λ m above inside missing. elim (cases_lt m (low + 1 + count)) [
-            | inl before ↦ none m above before missing
-            | inr behind ↦ (
-                let same : m ≡ low + 1 + count = omega (arith, inside, behind) in other (subst Missing same missing)
-                )
-          ])
+          inl (low + 1 + count, (omega arith, omega arith, last, λ m above inside missing. grind (arith, none m above)))
+      go (inr none) (inr other) = inr (λ m above inside missing. grind (arith, none m above))
 
   found : (high : ℕ) → Found high
   found high = elim (cases_lt low high) [

@@ -1,6 +1,7 @@
 -- Each packet of 1-RTT keys that is tracked has the size with which the history says that it went out. `HolesLaws` rest
 -- on it.
-use Rattle.std.proofs.Common.{ℕ, ◌≡◌, ◌+◌, ◌≤◌, ◌==◌, Bool, true, if◌then◌else◌, List, ◌∷◌, Option, None, Some, Ok, Err, refl, sym, ap, subst, ◌∙◌, arith, eq-eqb, ne_eqb}
+use Rattle.std.proofs.Common.{ℕ, ◌≡◌, ◌+◌, ◌≤◌, ◌==◌, true, if◌then◌else◌, List, ◌∷◌, Option, None, Some, Ok, Err, refl, sym, subst, arith}
+use Rattle.std.proofs.lemmas.Bool.Decides.{nat_tests}
 use Rattle.recovery_base.specs.declared.below.SpaceId.TheVariants.{Initial, Handshake, Data}
 use Rattle.recovery_ledger.specs.Packets.{Packet, Packets, sent_onto}
 use Rattle.recovery_ledger.specs.SpaceLog.{SpaceEntry}
@@ -39,10 +40,7 @@ module _ {P M : Type 0} (size : ℕ → ℕ) (limit number bytes : ℕ) (above :
       → AreSaid size_in (size_then size number bytes) (number + 1) (sent_onto last number packet packets)
   sized_sent last packets packet same sized =
       said_sent size_in size limit number above (size_then size number bytes)
-      (λ n below. sym (ap (λ (own : Bool). if own then bytes else size n)
-      (ne_eqb n number (λ is. omega (arith, is, below, above)))))
-      last packets packet
-      (same ∙ ap (λ (own : Bool). if own then bytes else size number) (sym (eq-eqb number number refl))) sized
+      (λ n below. grind (arith, nat_tests)) last packets packet (grind (arith, nat_tests)) sized
 
 -- ---- the log of the space of 1-RTT packets
 
