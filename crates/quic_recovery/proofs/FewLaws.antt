@@ -76,6 +76,6 @@ module _ {F K Q S M P : Type 0} (beginning : Beginning F K Q S M P) where
           → Facts beginning history event reply → Tied history → Tied ((event, reply) ∷ history)
           → ProbesFew beginning history event reply
       few history event reply known tied after = λ settings is change.
-          let few = (few_one beginning small history event reply known.told known.searched settings is change).0 in
+          let few = few_one beginning small history event reply known.told known.searched settings is change in
           subst (λ sizes. (length sizes ≤ 48) × (distinct_count nat_eq sizes ≤ 16)) (sym after.1)
           (few.probes, few.sizes)

@@ -1,6 +1,6 @@
 -- By the history alone reports of black holes need four bursts and come at four, as the entries of the search say: the
 -- clause `holes` of `run`.
-use Rattle.std.proofs.Common.{ℕ, ◌≡◌, ◌≤◌, length, true, false, if◌then◌else◌, List, [], ◌∷◌, ◌++◌, filter, Option, None, Some, Ok, Err, refl, sym, ap, ap₂, subst, ◌∙◌, arith}
+use Rattle.std.proofs.Common.{ℕ, ◌≡◌, true, false, if◌then◌else◌, List, [], ◌∷◌, Option, None, Some, Ok, Err, refl, ap, subst, ◌∙◌, arith}
 use Rattle.recovery_base.specs.declared.below.SpaceId.TheVariants as space
 use Rattle.recovery_config.specs.declared.config.TransportConfig.{TransportConfig}
 use Rattle.recovery_ledger.specs.Packets.{Packet}
@@ -45,8 +45,7 @@ least_in_use : (made : Discovery) (least : ℕ) (entries : List MtuEntry) → ma
     → ResetsTo least entries
     → min_mtu_in_use made entries ≡ least
 least_in_use made least [] is resets = is
-least_in_use made least (reset mtu min_mtu ∷ earlier) is resets = resets.0
-least_in_use made least (entry ∷ earlier) is resets = least_in_use made least earlier is resets
+least_in_use made least (entry ∷ earlier) is resets = grind (arith, least_in_use made least earlier is)
 
 -- ---- what is read off the history is what the entries say
 
@@ -145,24 +144,11 @@ module _ {F K Q S M P : Type 0} (beginning : Beginning F K Q S M P) where
       → Facts beginning history event reply × NeedsFourBursts beginning history event reply
       → Kept history → Kept ((event, reply) ∷ history) → ReportsAtFour least history event reply
   holes_one history (LossesDone now) reply known kept after =
-      let entries = entered_so_far beginning history in
       let is = least_known history kept in
-      let Needed : Reply Q → Type 0 = λ r. NeedsFourBursts beginning history (LossesDone now) r in
-      let all : List (List Loss) → List Loss → List (List Loss) = λ bursts run. if_any run ++ bursts in
-      let Stand : ℕ → List (List Loss) → Type 0 = λ size bursts. 4 ≤ length (filter (is_above size) bursts) in
-      let Force : ℕ → List ℕ → List (List Loss) → Type 0 =
-      λ size numbers bursts. 4 ≤ length (from_first (is_past numbers) (filter (is_above size) bursts)) in
-      let standing_same = ap₂ all kept.tied.1 kept.tied.0 in
-      let unanswered_same = ap₂ all kept.tied.2 kept.tied.0 in (
-        λ reports. subst (Stand least) (sym standing_same)
-            (subst (λ size. Stand size (all (entries_.standing entries) (entries_.open_run entries))) is
-            (subst Needed reports known.1)),
-        λ four. comes_one beginning history (LossesDone now) reply known.0.told
-            (subst (λ size. Force size (entries_.larger_acked size entries)
-            (all (entries_.unanswered size entries) (entries_.open_run entries))) (sym is)
-            (subst (λ numbers. Force least numbers
-            (all (entries_.unanswered least entries) (entries_.open_run entries))) kept.tied.3
-            (subst (Force least (larger_acked least history)) unanswered_same four))),
+      let tied = kept.tied in
+      let Needed : Reply Q → Type 0 = λ r. NeedsFourBursts beginning history (LossesDone now) r in (
+        λ reports. let needs = subst Needed reports known.1 in grind (arith, is, tied, needs),
+        λ four. comes_one beginning history (LossesDone now) reply known.0.told (grind (arith, is, tied)),
       )
   holes_one history event reply known kept after = tt
 

@@ -64,15 +64,12 @@ module _ {Q S M P : Type 0} (first least : ℕ) where
         step_tied event (Ok given) = λ none. tied
         step_tied event (Err refusal) = λ none. tied
 
-module _ {F : Type 0} (limit : Option ℕ) (config : TransportConfig F) where
-  fresh_limit : (by : Option MtuDiscoveryConfig) → by ≡ None → kept_limit (discovery_with limit config by) ≡ None
-  fresh_limit None is = refl
-  fresh_limit (Some settings) is = absurd (cc)
-
-  fresh_mtu : (by : Option MtuDiscoveryConfig) → by ≡ None
-      → initial_mtu_of config ≡ (discovery_with limit config by).mtu
-  fresh_mtu None is = refl
-  fresh_mtu (Some settings) is = absurd (cc)
+fresh_unsearched : {F : Type 0} (limit : Option ℕ) (config : TransportConfig F) (by : Option MtuDiscoveryConfig)
+    → by ≡ None
+    → (kept_limit (discovery_with limit config by) ≡ None)
+    × (initial_mtu_of config ≡ (discovery_with limit config by).mtu)
+fresh_unsearched limit config None is = (refl, refl)
+fresh_unsearched limit config (Some settings) is = absurd (cc)
 
 module _ {F K Q S M P : Type 0} (beginning : Beginning F K Q S M P) (is : discovery_settings beginning ≡ None) where
   abbrev first : ℕ
@@ -104,18 +101,14 @@ module _ {F K Q S M P : Type 0} (beginning : Beginning F K Q S M P) (is : discov
       subst Now (sym (is_made beginning history event reply))
       (stepped beginning history (λ number bytes. Unit {0}) (λ number packet found. tt {0})
       (After first least fresh made history event) event reply known
-      (step_tied first least fresh made history (entered_so_far beginning history) tied least_is (
-        fresh_limit limit beginning.config.transport (discovery_settings beginning) is,
-        fresh_mtu limit beginning.config.transport (discovery_settings beginning) is,
-      ) event reply)
+      (step_tied first least fresh made history (entered_so_far beginning history) tied least_is
+      (fresh_unsearched limit beginning.config.transport (discovery_settings beginning) is) event reply)
       (probes_none history event reply (probes_one beginning history event reply known.told known.searched)))
 
   pub unsearched_first : Unsearched []
-  unsearched_first = (
-    refl,
-    fresh_limit None beginning.config.transport (discovery_settings beginning) is,
-    fresh_mtu None beginning.config.transport (discovery_settings beginning) is,
-  )
+  unsearched_first =
+      let fresh = fresh_unsearched None beginning.config.transport (discovery_settings beginning) is in
+      (refl, fresh.0, fresh.1)
 
 -- ---- on both paths
 
@@ -209,7 +202,7 @@ module _ {F K Q S M P : Type 0} (beginning : Beginning F K Q S M P) where
       record {
         near = after;
         unsearched = unsearched;
-        now = (mtu_one beginning history event reply known.told known.searched).0
+        now = mtu_one beginning history event reply known.told known.searched
             ∙ sym (in_use_same ((event, reply) ∷ history) after unsearched);
         left = left_after history event reply kept.now kept.left;
       }

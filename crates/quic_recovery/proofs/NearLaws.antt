@@ -156,16 +156,12 @@ module _ {Q S M P : Type 0} (first least : ℕ) (settings : MtuDiscoveryConfig) 
 
 -- ---- a path that is fresh
 
-module _ {F : Type 0} (limit : Option ℕ) (config : TransportConfig F) (settings : MtuDiscoveryConfig) where
-  fresh_limit : (by : Option MtuDiscoveryConfig) → by ≡ Some settings
-      → kept_limit (discovery_with limit config by) ≡ Some (limit_or_greatest limit)
-  fresh_limit None is = absurd (cc)
-  fresh_limit (Some own) is = refl
-
-  fresh_mtu : (by : Option MtuDiscoveryConfig) → by ≡ Some settings
-      → within (initial_mtu_of config) limit ≡ (discovery_with limit config by).mtu
-  fresh_mtu None is = absurd (cc)
-  fresh_mtu (Some own) is = refl
+fresh_searched : {F : Type 0} (limit : Option ℕ) (config : TransportConfig F) (settings : MtuDiscoveryConfig)
+    (by : Option MtuDiscoveryConfig) → by ≡ Some settings
+    → (kept_limit (discovery_with limit config by) ≡ Some (limit_or_greatest limit))
+    × (within (initial_mtu_of config) limit ≡ (discovery_with limit config by).mtu)
+fresh_searched limit config settings None is = absurd (cc)
+fresh_searched limit config settings (Some own) is = (refl, refl)
 
 module _ {F K Q S M P : Type 0} (beginning : Beginning F K Q S M P) (settings : MtuDiscoveryConfig)
     (is : discovery_settings beginning ≡ Some settings) where
@@ -208,28 +204,26 @@ module _ {F K Q S M P : Type 0} (beginning : Beginning F K Q S M P) (settings : 
         let so_far = entered_so_far beginning history in
         let limit = last_limit (logs_of beginning history).limits in
         let fresh = (settings_of beginning).discovery limit in
-        let same = limit_known beginning history in
+        let Fresh : Option ℕ → Type 0 =
+        λ l. (kept_limit fresh ≡ Some (limit_or_greatest l)) × (within first l ≡ fresh.mtu) in
+        let fresh_is = subst Fresh (sym (limit_known beginning history))
+        (fresh_searched limit beginning.config.transport settings (discovery_settings beginning) is) in
         let Now : Discovery → Type 0 =
         λ d. TiedTo first least settings d ((event, reply) ∷ history) entries × Carries d made entries so_far in
         let both = subst Now (sym (is_made beginning history event reply))
         (stepped beginning history (λ number bytes. Unit {0}) (λ number packet found. tt {0})
         (After first least settings fresh made history so_far event) event reply known
-        (step_tied first least settings fresh made history so_far before searched.tied least_is (
-          fresh_limit limit beginning.config.transport settings (discovery_settings beginning) is
-              ∙ ap (λ (l : Option ℕ). Some (limit_or_greatest l)) (sym same),
-          ap (within first) same
-              ∙ fresh_mtu limit beginning.config.transport settings (discovery_settings beginning) is,
-        ) event reply)) in
-        record { tied = both.0; start = start_after _ made history (event, reply) entries so_far after both.0.2 both.1 searched.start }
+        (step_tied first least settings fresh made history so_far before searched.tied least_is fresh_is event reply))
+        in
+        record {
+          tied = both.0;
+          start = start_after _ made history (event, reply) entries so_far after both.0.2 both.1 searched.start;
+        }
 
   searched_first : Searched []
   searched_first =
-      let config = beginning.config.transport in
-      let same = fresh_mtu None config settings (discovery_settings beginning) is in
-      record {
-        tied = (tt, fresh_limit None config settings (discovery_settings beginning) is, same, refl, refl, refl, tt);
-        start = same;
-      }
+      let fresh = fresh_searched None beginning.config.transport settings (discovery_settings beginning) is in
+      record { tied = (tt, fresh.0, fresh.1, refl, refl, refl, tt); start = fresh.1 }
 
   -- ---- a search that ends
 

@@ -16,14 +16,10 @@ abbrev pub Decided : Type 0 → Type 0
 Decided A = A ⊎ (¬ A)
 
 both : {A B : Type 0} → Decided A → Decided B → Decided (A × B)
-both (inl a) (inl b) = inl (a, b)
-both (inl a) (inr none) = inr (λ h. none h.1)
-both (inr none) other = inr (λ h. none h.0)
+both first second = grind arith
 
 pub either : {A B : Type 0} → Decided A → Decided B → Decided (A ⊎ B)
-either (inl a) other = inl (inl a)
-either (inr none) (inl b) = inl (inr b)
-either (inr none) (inr other) = inr (λ h. elim h [ inl a ↦ none a | inr b ↦ other b ])
+either first second = grind arith
 
 less : (m n : ℕ) → Decided (m < n)
 less m n = elim (cases_lt m n) [ inl is ↦ inl is | inr is ↦ inr (λ h. omega (arith, is, h)) ]

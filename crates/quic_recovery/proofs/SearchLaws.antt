@@ -12,7 +12,7 @@ use Rattle.recovery_base.specs.declared.below.SpaceId.{SpaceId}
 use Rattle.recovery_mtud.specs.declared.config.MtuDiscoveryConfig.{MtuDiscoveryConfig}
 use Rattle.recovery_mtud.specs.Discovery.{is_data, poll_of}
 use Rattle.recovery_mtud.specs.DiscoveryLog.{polls}
-use Rattle.recovery_mtud.specs.MtuEntries.{MtuEntry, poll_entry, probed, unprobed}
+use Rattle.recovery_mtud.specs.MtuEntries.{MtuEntry, poll_entry, probed, unprobed, mtu_in_use}
 use Rattle.recovery_mtud.specs.SearchRuns.{EndsNearBest, ProbesInSearch, TakesFew}
 use Rattle.recovery_mtud.proofs.EntryLaws.{is_probe_by}
 use Rattle.recovery_mtud.proofs.SearchRunLaws.{search_takes_few, search_ends_near, probes_in_search, mtu_by, search_runs_by, limits_outside_after}
@@ -22,16 +22,15 @@ use Rattle.recovery_paths.specs.PathStates.{is_path_probe}
 use Rattle.recovery_paths.proofs.SearchedLaws.{IsSearchedBy, IsPathSearchedBy, first_searched, searched_over, searched_at_first}
 use Rattle.recovery_events.specs.declared.event.Event.{Event}
 use Rattle.recovery_events.specs.declared.event.Event.TheVariants.{Acked, Lost, PeerLimit, PollMtu}
-use Rattle.recovery_events.specs.declared.event.Answer.{Answer}
 use Rattle.recovery_events.specs.declared.event.Answer.TheVariants.{Probe, NoProbe}
 use Rattle.recovery_events.specs.declared.event.Answer.TheVariants as answer
 use Rattle.recovery_events.specs.declared.event.Refusal.TheVariants.{Searching}
 use Rattle.quic_recovery.specs.Entries.{entries_of, logs_of, pasts_of}
 use Rattle.quic_recovery.specs.History.{Beginning, History, QueueMeaning, Reply}
 use Rattle.quic_recovery.specs.Known.{Known, known_by, first_path, settings_of}
-use Rattle.quic_recovery.specs.Search.{discovery_settings}
+use Rattle.quic_recovery.specs.Search.{WhereSearched, discovery_settings}
 use Rattle.quic_recovery.specs.Told.{Told, MtuProbeReply}
-use Rattle.quic_recovery.proofs.SearchSaid.{EndsNear, LimitsOutside, ProbesInTurn, SearchesFew, TellsProbes, MtuByEntries, entries_on, is_in_flight}
+use Rattle.quic_recovery.proofs.SearchSaid.{EndsNear, LimitsOutside, ProbesInTurn, TellsProbes, entered_so_far, entries_on, is_in_flight}
 use Rattle.quic_recovery.proofs.AmplificationLaws.{is_allowed}
 
 not_true : (b : Bool) → (¬ (b ≡ true)) → b ≡ false
@@ -40,12 +39,6 @@ not_true false is_not = refl
 
 some_same : {A : Type 0} {a b : A} → Some a ≡ Some b → a ≡ b
 some_same e = cc
-
-no_probe_is_none : {A Q : Type 0} {number size : ℕ} → (let p : Answer Q = Probe number size in p ≡ NoProbe) → A
-no_probe_is_none e = cc
-
-none_is_no_probe : {A Q : Type 0} {number size : ℕ} → (let p : Answer Q = NoProbe in p ≡ Probe number size) → A
-none_is_no_probe e = cc
 
 -- an upper bound is a `u16`
 pub bound_in : (o : Option MtuDiscoveryConfig) (values : List Val) → Is (row (the_type the_row)) o values
@@ -64,7 +57,7 @@ module _ {K Q S M P : Type 0} (q : QueueMeaning Q S M P) (known : Known K P M) (
   -- a poll that gives none is not answered by a probe
   unanswered : {A : Type 0} (answer : Option ℕ) (number size : ℕ) → answer ≡ None
       → MtuProbeReply q known now answer (Ok (Probe number size)) → A
-  unanswered None number size none told = no_probe_is_none told
+  unanswered None number size none told = absurd (cc)
   unanswered (Some own) number size none told = absurd (cc)
 
 module _ {K Q S M P : Type 0} (q : QueueMeaning Q S M P) (known : Known K P M) (settings : MtuDiscoveryConfig)
@@ -73,7 +66,7 @@ module _ {K Q S M P : Type 0} (q : QueueMeaning Q S M P) (known : Known K P M) (
   probe_out : (answer : Option ℕ) (number size : ℕ) → MtuProbeReply q known now answer (Ok (Probe number size))
       → ProbesInSearch settings (poll_entry now next answer ∷ earlier)
       → ProbesInSearch settings (probed now number size ∷ earlier)
-  probe_out None number size told inside = no_probe_is_none told
+  probe_out None number size told inside = absurd (cc)
   probe_out (Some own) number size told inside = inside
 
   -- a poll that is answered by no probe gives none
@@ -81,7 +74,7 @@ module _ {K Q S M P : Type 0} (q : QueueMeaning Q S M P) (known : Known K P M) (
       → EndsNearBest made settings (poll_entry now next answer ∷ earlier)
       → EndsNearBest made settings (unprobed now ∷ earlier)
   none_out made None told near = near
-  none_out made (Some own) told near = none_is_no_probe told.1
+  none_out made (Some own) told near = let is = told.1 in absurd (cc)
 
 module _ {F K Q S M P : Type 0} (beginning : Beginning F K Q S M P) where
   -- a path is searched by the settings of the run
@@ -115,18 +108,13 @@ module _ {F K Q S M P : Type 0} (beginning : Beginning F K Q S M P) where
   -- the upper bound is a `u16`
   module _ (small : ForSome (discovery_settings beginning) (λ settings. settings.upper_bound < 2 ^ 16)) where
     pub few_one : (before : History Q S M P) (event : Event Q S M P) (reply : Reply Q)
-        → Told beginning before event reply
-        → AreSearched before → SearchesFew beginning before event reply
-    few_one before event reply told searched = λ settings is change. (
-        let after = searched_one before event reply told searched in
-        let few : (past : PathPast K) → IsPathSearchedBy (discovery_settings beginning) past
-        → TakesFew (entries_on past) = λ past by.
+        → Told beginning before event reply → AreSearched before
+        → WhereSearched beginning (λ settings. TakesFew (entered_so_far beginning ((event, reply) ∷ before)))
+    few_one before event reply told searched = λ settings is change.
+        let past = (pasts_of beginning ((event, reply) ∷ before)).current in
+        let by = (searched_one before event reply told searched).0 in
         search_takes_few past.making.discovery settings by.untold (by.settings_are ∙ is) change (small settings is)
-        past.searched in (
-          few (pasts_of beginning ((event, reply) ∷ before)).current after.0,
-          λ past lives. few past (after.1 past lives),
-        )
-        )
+        past.searched
 
     pub ends_one : (before : History Q S M P) (event : Event Q S M P) (reply : Reply Q)
         → Told beginning before event reply
@@ -199,11 +187,10 @@ module _ {F K Q S M P : Type 0} (beginning : Beginning F K Q S M P) where
       told.1.1 ∙ ap (λ probe. answer.Lost probe) (probe_same before searched space number)
   tells_one before event reply told searched = tt
 
+  -- after an event, the MTU in use is the one that the entries say
   pub mtu_one : (before : History Q S M P) (event : Event Q S M P) (reply : Reply Q) → Told beginning before event reply
-      → AreSearched before → MtuByEntries beginning before event reply
+      → AreSearched before → (let past = (pasts_of beginning ((event, reply) ∷ before)).current in
+      (state_of (settings_of beginning) past).discovery.mtu ≡ mtu_in_use past.making.discovery (entries_on past))
   mtu_one before event reply told searched =
-      let after = searched_one before event reply told searched in
-      let past = (pasts_of beginning ((event, reply) ∷ before)).current in (
-        mtu_by past.making.discovery after.0.untold past.searched,
-        λ past lives. mtu_by past.making.discovery (after.1 past lives).untold past.searched,
-      )
+      let past = (pasts_of beginning ((event, reply) ∷ before)).current in
+      mtu_by past.making.discovery (searched_one before event reply told searched).0.untold past.searched

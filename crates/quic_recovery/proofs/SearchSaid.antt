@@ -6,9 +6,9 @@ use Rattle.recovery_base.specs.declared.below.SpaceId.TheVariants.{Data}
 use Rattle.recovery_ledger.specs.Packets.{Packet, packet_at}
 use Rattle.recovery_mtud.specs.BurstRuns.{AreFourStanding, AreFourUnanswered}
 use Rattle.recovery_mtud.specs.Discovery.{is_data}
-use Rattle.recovery_mtud.specs.MtuEntries.{MtuEntry, probed, unprobed, limited, acked, probe_lost, lost, losses_over, reported, reset, entries_by, mtu_in_use, probe_in_flight, size_at}
-use Rattle.recovery_mtud.specs.SearchRuns.{EndsNearBest, ProbesInSearch, TakesFew, search_runs}
-use Rattle.recovery_paths.specs.PathLog.{OnEachPath, PathPast, state_of}
+use Rattle.recovery_mtud.specs.MtuEntries.{MtuEntry, probed, unprobed, limited, acked, probe_lost, lost, losses_over, reported, reset, entries_by, probe_in_flight, size_at}
+use Rattle.recovery_mtud.specs.SearchRuns.{EndsNearBest, ProbesInSearch, search_runs}
+use Rattle.recovery_paths.specs.PathLog.{PathPast}
 use Rattle.recovery_events.specs.declared.event.Event.{Event}
 use Rattle.recovery_events.specs.declared.event.Event.TheVariants.{Acked, Lost, PollMtu, PeerLimit, LossesDone, NewPath, ResetPath}
 use Rattle.recovery_events.specs.declared.event.Answer.{Answer}
@@ -58,13 +58,6 @@ module _ {F K Q S M P : Type 0} (beginning : Beginning F K Q S M P) where
       entries_on (pasts_of beginning ((event, Err refusal) ∷ history)).current ≡ entries_on
       (pasts_of beginning history).current
 
-  -- after an event, the MTU in use on each path that lives is the one that its entries say
-  abbrev pub MtuByEntries : History Q S M P → Event Q S M P → Reply Q → Type 0
-  MtuByEntries history event reply =
-      OnEachPath (λ past. (state_of (settings_of beginning) past).discovery.mtu ≡ mtu_in_use past.making.discovery
-      (entries_on past))
-      (pasts_of beginning ((event, reply) ∷ history))
-
   -- what the search on the path in use was told and answered before
   abbrev pub entered_so_far : History Q S M P → List MtuEntry
   entered_so_far history = entries_on (pasts_of beginning history).current
@@ -88,12 +81,6 @@ module _ {F K Q S M P : Type 0} (beginning : Beginning F K Q S M P) where
       given ≡ answer.Acked (is_in_flight history space number)
   TellsProbes history (Lost space number) (Ok given) = given ≡ answer.Lost (is_in_flight history space number)
   TellsProbes history event reply = Unit {0}
-
-  -- after an event, the search that runs on each path that lives has taken at most 16 sizes and 48 probes
-  abbrev pub SearchesFew : History Q S M P → Event Q S M P → Reply Q → Type 0
-  SearchesFew history event reply =
-      WhereSearched beginning (λ settings. OnEachPath (λ past. TakesFew (entries_on past))
-      (pasts_of beginning ((event, reply) ∷ history)))
 
   -- a poll that is answered by a probe comes where paths are searched; it finds a search that runs, or begins one that
   -- is due, and no probe in flight
