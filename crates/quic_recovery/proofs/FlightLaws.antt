@@ -14,7 +14,7 @@ use Rattle.recovery_mtud.specs.Discovery.{Discovery, limit_or_greatest}
 use Rattle.recovery_mtud.specs.DiscoveryLog.{MtuCall, polls, discovery_after, discovery_by}
 use Rattle.recovery_mtud.specs.MtuEntries.{IsUntold, search_settings, MtuEntry, poll_entry, entry_of, entries_by, MtuProbe, probe_in_flight, limit_in_use, mtu_in_use}
 use Rattle.recovery_mtud.specs.SearchRuns.{search_runs, before_search, start_upper}
-use Rattle.recovery_mtud.proofs.EntryLaws.{held, held_in, Holds, holds_by}
+use Rattle.recovery_mtud.proofs.EntryLaws.{held, Holds, holds_by}
 
 -- ---- what a search keeps
 
@@ -124,8 +124,7 @@ module _ (made : Discovery) (settings : MtuDiscoveryConfig) (new : IsUntold made
     (is : search_settings made ≡ Some settings) where
   told_first : (search : Option MtuSearch) → IfSome search (λ own. own.phase ≡ Initial)
       → option_map (λ own. own.settings) search ≡ Some settings → KeptIn made settings [] made.mtu search
-  told_first None initial is = absurd (cc)
-  told_first (Some search) initial is = grind arith
+  told_first search initial is = grind arith
 
   told_next : (call : MtuCall) (entries : List MtuEntry) (old : Discovery) (search : Option MtuSearch)
       → (let old' : Discovery = record old { search = search } in
@@ -150,26 +149,10 @@ IsBetween made settings entries mtu size =
     (size ≤ start_upper made settings entries)
     × (3 ≤ settings.minimum_change → (mtu < size) × (size ≤ settings.upper_bound))
 
-module _ (made : Discovery) (settings : MtuDiscoveryConfig) (entries : List MtuEntry) (mtu : ℕ) (probe : MtuProbe)
-  where
-    in_probing : (p : Probing) (flight : Option ℕ) → (let phase = Searching (record p { in_flight = flight }) in
-        held_in phase ≡ Some probe → Kept made settings entries mtu phase
-        → IsBetween made settings entries mtu probe.size)
-    in_probing p None flies kept = absurd (cc)
-    in_probing p (Some own) flies kept = grind arith
-
-    in_phase : (phase : Phase) → held_in phase ≡ Some probe → Kept made settings entries mtu phase
-        → IsBetween made settings entries mtu probe.size
-    in_phase (Searching p) = in_probing p p.in_flight
-    in_phase phase = λ flies kept. absurd (cc)
-
 in_search : (made : Discovery) (settings : MtuDiscoveryConfig) (entries : List MtuEntry) (mtu : ℕ) (probe : MtuProbe)
     (search : Option MtuSearch) → held search ≡ Some probe → KeptIn made settings entries mtu search
     → IsBetween made settings entries mtu probe.size
-in_search made settings entries mtu probe None flies kept = absurd kept
-in_search made settings entries mtu probe (Some search) flies kept =
-    subst (λ own. IsBetween made own entries mtu probe.size) kept.0
-    (in_phase made search.settings entries mtu probe search.phase flies kept.1)
+in_search made settings entries mtu probe search flies kept = grind arith
 
 abbrev pub IsFlightWithin : Discovery → MtuDiscoveryConfig → List MtuEntry → Type 0
 IsFlightWithin made settings entries = (probe : MtuProbe) → probe_in_flight entries ≡ Some probe

@@ -1,6 +1,6 @@
 -- Each pacer delays by its balance and keeps its rate, throughout a run: the clauses `delayed`, `rate`, `soon` and
 -- `named` of `run`.
-use Rattle.std.proofs.Common.{ℕ, Bool, true, false, cond, List, [], ◌∷◌, Option, None, Some, Ok, Err, refl, sym, subst}
+use Rattle.std.proofs.Common.{arith, ℕ, Bool, true, false, cond, List, [], ◌∷◌, Option, Ok, Err, refl, sym, subst}
 use Rattle.recovery_pacing.specs.PacerLog.{AreChecked, KeepsRate}
 use Rattle.recovery_pacing.specs.Pacing.{PacerCall}
 use Rattle.recovery_pacing.specs.NamedMoment.{PassesAtMoment}
@@ -53,16 +53,13 @@ module _ {F K Q S M P : Type 0} (beginning : Beginning F K Q S M P) where
     checks_by : (before : History Q S M P) (now bytes : ℕ) (given : Option ℕ)
         → OnCall beginning Holds before now bytes given
         → AtCalls beginning Holds before (PacerCheck now bytes) (Ok (delayed_or beginning.words Ready given))
-    checks_by before now bytes None by = by
-    checks_by before now bytes (Some until) by = by
+    checks_by before now bytes given by = grind arith
 
     transmits_by : (before : History Q S M P) (now bytes : ℕ) (blocked : Bool) (given : Option ℕ)
         → OnCall beginning Holds before now bytes given
         → AtCalls beginning Holds before (Transmit now bytes true)
         (Ok (cond blocked Blocked (delayed_or beginning.words Transmitted given)))
-    transmits_by before now bytes true given by = tt
-    transmits_by before now bytes false None by = by
-    transmits_by before now bytes false (Some until) by = by
+    transmits_by before now bytes blocked given by = grind arith
 
     at_calls : (before : History Q S M P) (event : Event Q S M P) (reply : Reply Q) → Told beginning before event reply
         → ((now bytes : ℕ) → OnCall beginning Holds before now bytes (delay_there before now bytes))

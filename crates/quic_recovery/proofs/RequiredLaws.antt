@@ -1,6 +1,6 @@
 -- Whether an ACK is required at once can be decided from the log of its space: a gap is sought between two numbers.
 -- `DutyLaws` rest on it.
-use Rattle.std.proofs.Common.{◌≡◌, ◌≤◌, ◌<◌, ◌+◌, ◌-◌, ℕ, zero, suc, Bool, true, false, List, [], ◌∷◌, Option, None, Some, ◌⊎◌, inl, inr, IsTrue, refl, subst, arith}
+use Rattle.std.proofs.Common.{◌≡◌, ◌≤◌, ◌<◌, ◌+◌, ◌-◌, ℕ, zero, suc, Bool, List, [], ◌∷◌, Option, None, Some, ◌⊎◌, inl, inr, IsTrue, subst, arith}
 use Rattle.std.proofs.lemmas.Bool.{cases_eq, cases_lt}
 use Rattle.recovery_acks.specs.Acks.{counted, number_or_zero, IsOutOfOrder, IsReported}
 use Rattle.recovery_base.specs.Numbers.{IsInWindow, IsLeastMissing, IsMissing}
@@ -22,14 +22,13 @@ pub either : {A B : Type 0} → Decided A → Decided B → Decided (A ⊎ B)
 either first second = grind arith
 
 less : (m n : ℕ) → Decided (m < n)
-less m n = elim (cases_lt m n) [ inl is ↦ inl is | inr is ↦ inr (λ h. omega (arith, is, h)) ]
+less m n = grind arith
 
 up_to : (m n : ℕ) → Decided (m ≤ n)
-up_to m n = elim (cases_lt n m) [ inl is ↦ inr (λ h. omega (arith, is, h)) | inr is ↦ inl is ]
+up_to m n = grind arith
 
 flag : (b : Bool) → Decided (IsTrue b)
-flag true = inl refl
-flag false = inr (λ h. cc)
+flag b = grind arith
 
 -- ---- the least missing number, by a search
 
@@ -77,15 +76,12 @@ module _ (Numbers : ℕ → Type 0) (greatest : HasGreatest Numbers) (came : (n 
   is_near : HasGreatest Numbers → (n : ℕ) → Decided (IsInWindow Numbers n)
   is_near (inl none) n = inl (λ m here. absurd (none m here))
   is_near (inr most) n = elim (cases_lt (n + 128) most.0) [
-    | inl far ↦ inr (λ near. let h : most.0 ≤ n + 128 = near most.0 most.1 in omega (arith, h, far))
-    | inr near ↦ inl (λ m here. let h : m ≤ most.0 = most.2 m here in omega (arith, h, near))
+    | inl far ↦ inr (λ near. grind (arith, far, near most.0 most.1))
+    | inr near ↦ inl (λ m here. grind (arith, near, most.2 m here))
   ]
 
   is_missing : (n : ℕ) → Decided (IsMissing Numbers n)
-  is_missing n = elim (came n) [
-    | inl here ↦ inr (λ missing. missing.0 here)
-    | inr none ↦ both (inl none) (is_near greatest n)
-  ]
+  is_missing n = grind (arith, came n, is_near greatest n)
 
   abbrev HasLeast : ℕ → ℕ → (ℕ → Type 0) → Type 0
   HasLeast low high P = (m : ℕ) × IsLeastMissing Numbers low high (Some m) × P m
@@ -97,10 +93,9 @@ module _ (Numbers : ℕ → Type 0) (greatest : HasGreatest Numbers) (came : (n 
       go (inl first) = elim (decided first.0) [
         | inl is ↦ inl (first.0, first.1, is)
         | inr other ↦ inr (λ h. (
-            let up : first.0 ≤ h.0 = first.1.3 h.0 h.1.0 h.1.1 h.1.2 in
-            let down : h.0 ≤ first.0 = h.1.3 first.0 first.1.0 first.1.1 first.1.2 in
-            let same : h.0 ≡ first.0 = omega (arith, up, down) in
-            other (subst P same h.2)
+            let up = first.1.3 h.0 h.1.0 h.1.1 h.1.2 in
+            let down = h.1.3 first.0 first.1.0 first.1.1 first.1.2 in
+            other (subst P (omega (arith, up, down)) h.2)
             ))
       ]
       go (inr none) = inr (λ h. none h.0 h.1.0 h.1.1 h.1.2)

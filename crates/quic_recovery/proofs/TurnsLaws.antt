@@ -1,16 +1,15 @@
 -- By the history alone the search for the MTU goes on in turn, as its entries say: the clause `turns` of `run`.
-use Rattle.std.proofs.Common.{ℕ, ◌≡◌, ◌<◌, ◌^◌, ◌==◌, ◌&&◌, ◌||◌, Bool, true, false, if◌then◌else◌, List, [], ◌∷◌, Option, None, Some, Ok, Err, refl, sym, ap, ap₂, ◌∙◌, is_some, arith}
+use Rattle.std.proofs.Common.{ℕ, ◌≡◌, ◌<◌, ◌^◌, ◌||◌, Bool, true, false, List, [], ◌∷◌, Option, None, Some, Ok, Err, refl, ap, ap₂, ◌∙◌, is_some, arith}
 use Rattle.std.specs.Prelude.{IsSomeAnd}
 use Rattle.std.specs.Option.{ForSome}
 use Rattle.std.proofs.lemmas.Bool.Decides.{nat_tests}
 use Rattle.recovery_base.specs.declared.below.SpaceId.{SpaceId}
 use Rattle.recovery_base.specs.declared.below.SpaceId.TheVariants as space
 use Rattle.recovery_mtud.specs.declared.config.MtuDiscoveryConfig.{MtuDiscoveryConfig}
-use Rattle.recovery_mtud.specs.MtuEntries.{MtuEntry, MtuProbe, probed, probe_in_flight, size_at}
+use Rattle.recovery_mtud.specs.MtuEntries.{MtuEntry, MtuProbe, probed, probe_in_flight}
 use Rattle.recovery_mtud.specs.SearchRuns.{ProbesInSearch, is_due}
 use Rattle.recovery_events.specs.declared.event.Event.{Event}
 use Rattle.recovery_events.specs.declared.event.Event.TheVariants.{PollMtu, Acked, Lost, LossesDone, PeerLimit, ResetPath, NewPath}
-use Rattle.recovery_events.specs.declared.event.Answer.{Answer}
 use Rattle.recovery_events.specs.declared.event.Answer.TheVariants as answer
 use Rattle.recovery_events.specs.declared.event.Refusal.TheVariants.{Searching, ZeroMtu}
 use Rattle.quic_recovery.specs.Known.{settings_of}
@@ -31,30 +30,6 @@ use Rattle.quic_recovery.proofs.SearchSteps.{Facts, Step, facts, stepped, throug
 abbrev IsLast : ℕ → Option MtuProbe → Type 0
 IsLast number None = Unit {0}
 IsLast number (Some probe) = number ≡ probe.number
-
--- a number is that of the probe in flight where one is and it is the last one
-size_is : (last number : ℕ) (flight : Option MtuProbe) → IsLast last flight
-    → is_some (size_at number flight) ≡ (is_some flight && number == last)
-size_is last number None is = refl
-size_is last number (Some probe) is = grind arith
-
--- ---- a limit of the peer
-
-module _ {Q : Type 0} where
-  abbrev limit_reply : Bool → Bool → Reply Q
-  limit_reply zero runs = if zero then Err ZeroMtu else if runs then Err Searching else Ok answer.Done
-
-  limit_taken : (size : ℕ) (runs : Bool) (given : Answer Q) → ¬ (size ≡ 0) → runs ≡ false → given ≡ answer.Done
-      → Ok given ≡ limit_reply (size == 0) runs
-  limit_taken size runs given some quiet done = grind (arith, nat_tests)
-
-  limit_late : (size : ℕ) (runs : Bool) → ¬ (size ≡ 0) → runs ≡ true → (let reply : Reply Q = Err Searching in reply)
-      ≡ limit_reply (size == 0) runs
-  limit_late size runs some busy = grind (arith, nat_tests)
-
-  limit_of_none : (size : ℕ) (runs : Bool) → size ≡ 0 → (let reply : Reply Q = Err ZeroMtu in reply)
-      ≡ limit_reply (size == 0) runs
-  limit_of_none size runs none = grind (arith, nat_tests)
 
 module _ {Q S M P : Type 0} where
   abbrev Numbered : History Q S M P → List MtuEntry → Type 0
@@ -98,9 +73,7 @@ module _ {F K Q S M P : Type 0} (beginning : Beginning F K Q S M P) where
         → is_in_flight beginning history there number ≡ is_probe there number history
     probe_same space.Initial number = refl
     probe_same space.Handshake number = refl
-    probe_same space.Data number =
-        size_is (last_number history) number (probe_in_flight entries) numbered
-        ∙ ap (λ some. some && number == last_number history) (sym kept.few.0)
+    probe_same space.Data number = let flying = kept.few.0 in grind (arith, numbered, flying)
 
     quiet : (flight : Option MtuProbe) → flight ≡ None → is_some flight ≡ false
     quiet flight none = ap is_some none
@@ -127,11 +100,15 @@ module _ {F K Q S M P : Type 0} (beginning : Beginning F K Q S M P) where
     turns_one (Lost there number) (Ok given) known =
         known.tells ∙ ap (λ probe. answer.Lost probe) (probe_same there number)
     turns_one (PeerLimit size) (Ok given) known =
-        limit_taken size (runs history) given known.told.0 (runs_same history entries kept.few ∙ known.outside)
-        known.told.1.1
+        let same = runs_same history entries kept.few ∙ known.outside in
+        let some = known.told.0 in
+        let done = known.told.1.1 in
+        grind (arith, nat_tests, same, some, done)
     turns_one (PeerLimit size) (Err Searching) known =
-        limit_late size (runs history) known.told.0 (runs_same history entries kept.few ∙ known.outside)
-    turns_one (PeerLimit size) (Err ZeroMtu) known = limit_of_none size (runs history) known.told
+        let same = runs_same history entries kept.few ∙ known.outside in
+        let some = known.told.0 in
+        grind (arith, nat_tests, same, some)
+    turns_one (PeerLimit size) (Err ZeroMtu) known = let none = known.told in grind (arith, nat_tests, none)
     turns_one (PeerLimit size) (Err refusal) known = absurd known.told.1.1
     turns_one event reply known = tt
 
