@@ -8,7 +8,7 @@ use Rattle.recovery_mtud.specs.DiscoveryLog.{discovery_by}
 use Rattle.recovery_mtud.specs.MtuEntries.{IsUntold}
 use Rattle.recovery_mtud.proofs.BurstRunLaws.{four_report, four_stand}
 use Rattle.recovery_mtud.proofs.EntryLaws.{discovery_made_untold, discovery_disabled_untold}
-use Rattle.recovery_paths.specs.PathMaking.{discovery_with, first_discovery}
+use Rattle.recovery_paths.specs.PathMaking.{discovery_with}
 use Rattle.recovery_paths.proofs.FateLaws.{apart_once}
 use Rattle.recovery_paths.proofs.UntoldLaws.{WasUntold, untold_by}
 use Rattle.recovery_events.specs.declared.event.Event.{Event}
@@ -35,18 +35,14 @@ discovery_untold : {F : Type 0} (limit : Option ℕ) (config : TransportConfig F
 discovery_untold limit config None = discovery_disabled_untold _ _
 discovery_untold limit config (Some settings) = discovery_made_untold _ _ limit settings
 
--- as the settings of paths make it
-first_untold : {F : Type 0} (allowed : Bool) (limit : Option ℕ) (config : TransportConfig F)
-    → IsUntold (first_discovery allowed limit config)
-first_untold allowed limit config = discovery_untold limit config (cond allowed config.mtu_discovery_config None)
-
 module _ {F K Q S M P : Type 0} (beginning : Beginning F K Q S M P) where
   -- at each moment
   untold_in : (history : History Q S M P) → WasUntold (pasts_of beginning history).current
   untold_in history =
       let config = beginning.config in
       let made : (limit : Option ℕ) → IsUntold ((settings_of beginning).discovery limit) =
-      λ limit. first_untold config.allow_mtud limit config.transport in
+      λ limit. discovery_untold limit config.transport
+      (cond config.allow_mtud config.transport.mtu_discovery_config None) in
       untold_by (settings_of beginning) made (first_path beginning) (made None) (logs_of beginning history).paths
 
   -- the answer to the end of losses is what its detection reports

@@ -60,8 +60,7 @@ module _ {Q S M C : Type 0} (P H : History Q S M C → Event Q S M C → Reply Q
       → H (history_from before events replies) event reply
   last_of before [] [] all more = more.0
   last_of before (e ∷ events) (r ∷ replies) all more = last_of ((e, r) ∷ before) events replies all.1 more.1
-  last_of before [] (r ∷ replies) all more = absurd all
-  last_of before (e ∷ events) [] all more = absurd all
+  last_of before events replies all more = absurd all
 
 module _ {F K Q S M P : Type 0} (beginning : Beginning F K Q S M P) where
   -- from every past by which it came here it goes on: each clause of whole runs, at the event that is put behind it

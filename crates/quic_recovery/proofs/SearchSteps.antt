@@ -28,8 +28,7 @@ module _ {Q S M P : Type 0} (A B : History Q S M P → Event Q S M P → Reply Q
   throughout_both before [] [] all others = tt
   throughout_both before (event ∷ events) (reply ∷ replies) all others =
       ((all.0, others.0), throughout_both ((event, reply) ∷ before) events replies all.1 others.1)
-  throughout_both before [] (reply ∷ replies) all others = absurd all
-  throughout_both before (event ∷ events) [] all others = absurd all
+  throughout_both before events replies all others = absurd all
 
 -- what is kept by each event of which that holds holds before and after each
 module _ {Q S M P : Type 0} (A Holds : History Q S M P → Event Q S M P → Reply Q → Type 0)
@@ -45,8 +44,7 @@ module _ {Q S M P : Type 0} (A Holds : History Q S M P → Event Q S M P → Rep
   throughout_by before (event ∷ events) (reply ∷ replies) all kept =
       let after = keeps before event reply all.0 kept in
       (holds before event reply all.0 kept after, throughout_by ((event, reply) ∷ before) events replies all.1 after)
-  throughout_by before [] (reply ∷ replies) all kept = absurd all
-  throughout_by before (event ∷ events) [] all kept = absurd all
+  throughout_by before events replies all kept = absurd all
 
 -- ---- what is known of an event and its reply
 
@@ -76,8 +74,7 @@ module _ {F K Q S M P : Type 0} (beginning : Beginning F K Q S M P) where
     facts_from ((event, reply) ∷ before) events replies told.1 enters.1
         (searched_one beginning before event reply told.0 searched),
   )
-  facts_from before [] (reply ∷ replies) told enters searched = absurd told
-  facts_from before (event ∷ events) [] told enters searched = absurd told
+  facts_from before events replies told enters searched = absurd told
 
   pub facts : (events : List (Event Q S M P)) (replies : List (Reply Q)) → Throughout (Told beginning) events replies
       → Throughout (Facts beginning) events replies

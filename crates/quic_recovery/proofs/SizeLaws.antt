@@ -11,7 +11,7 @@ use Rattle.recovery_skips.proofs.SkipLaws.{number_from_above}
 use Rattle.recovery_events.specs.declared.event.Event.{Event}
 use Rattle.recovery_events.specs.declared.event.Event.TheVariants.{Send, PollMtu}
 use Rattle.recovery_events.specs.declared.event.Answer.{Answer}
-use Rattle.recovery_events.specs.declared.event.Answer.TheVariants.{Probe, NoProbe}
+use Rattle.recovery_events.specs.declared.event.Answer.TheVariants.{Probe}
 use Rattle.recovery_events.specs.declared.event.Refusal.{Refusal}
 use Rattle.recovery_mtud.specs.Discovery.{poll_of}
 use Rattle.quic_recovery.specs.Entries.{Entries, answered, logs_of}
@@ -47,13 +47,6 @@ module _ {P M : Type 0} (size : ℕ → ℕ) (limit number bytes : ℕ) (above :
 abbrev pub IsSizedLog : {P M S : Type 0} → QueueWords P S → (ℕ → ℕ) → List (SpaceEntry P M) → Type 0
 IsSizedLog words size log = IsSaid size_in size (sent_by words log)
 
-same_probe_number : {Q : Type 0} (number size other bytes : ℕ)
-    → (let p : Answer Q = Probe number size in p ≡ Probe other bytes) → other ≡ number
-same_probe_number number size other bytes e = cc
-
-probe_is_not_none : {A Q : Type 0} (number size : ℕ) → (let p : Answer Q = Probe number size in p ≡ NoProbe) → A
-probe_is_not_none number size e = cc
-
 module _ {F K Q S M P : Type 0} (beginning : Beginning F K Q S M P) where
   abbrev pub Sized : History Q S M P → Type 0
   Sized history = IsSizedLog beginning.queue.words (size_of history) ((logs_of beginning history).spaces Data)
@@ -76,8 +69,8 @@ module _ {F K Q S M P : Type 0} (beginning : Beginning F K Q S M P) where
     -- the number of a probe that goes out
     probe_number : (now number size : ℕ) (due : Option ℕ)
         → MtuProbeReply beginning.queue known now due (Ok (Probe number size)) → known.numbers.next ≡ number
-    probe_number now number size None told = probe_is_not_none number size told
-    probe_number now number size (Some own) told = same_probe_number number size known.numbers.next own told.1
+    probe_number now number size None told = absurd (cc)
+    probe_number now number size (Some own) told = let same = told.1 in cc
 
     answer_sized : (event : Event Q S M P) (answer : Answer Q) → Told beginning history event (Ok answer)
         → After event answer
