@@ -1,11 +1,10 @@
 -- Tracked packets in their slots: what is kept of them when one is sent, taken or forgotten. The calls of `SentPackets`
 -- rest on it.
-use Rattle.std.proofs.Common.{◌≡◌, MatchOption, ℕ, zero, suc, ◌+◌, ◌-◌, ◌^◌, ◌<◌, ◌≤◌, min, max, Bool, true, false, not, cond, nat_lt, List, [], ◌∷◌, ◌++◌, length, drop, filter, Option, None, Some, refl, sym, ap, subst, ◌∙◌, arith, lt-ltb, le-ltb, ltb-true, ltb-false, length-append, IfSome, inl, inr, ◌⊎◌}
+use Rattle.std.proofs.lemmas.Bool.Decides.{nat_tests}
+use Rattle.std.proofs.Common.{◌≡◌, MatchOption, ℕ, zero, suc, ◌+◌, ◌-◌, ◌^◌, ◌<◌, ◌≤◌, min, max, true, false, not, nat_lt, List, [], ◌∷◌, ◌++◌, length, drop, filter, Option, None, Some, refl, sym, ap, subst, ◌∙◌, arith, ltb-true, length-append, IfSome, inl, inr, ◌⊎◌}
 use Rattle.std.proofs.lemmas.Bool.{cases_lt}
 use Rattle.std.specs.Prelude.{option_map}
 use Rattle.std.specs.Option.{is_some}
-use Rattle.std.specs.Ordering.{nat_cmp}
-use Rattle.std.specs.BTreeMap.{is_at}
 use Rattle.recovery_queue.specs.Queues.{QueueWords, IsVoid}
 use Rattle.recovery_slots.specs.declared.slots.Slot.{Slot}
 use Rattle.recovery_slots.specs.Slots.{filed, Replaces, IsSlotAt, Divides, entries_of, item_at, Finds, IsHeldAt, first_number, is_from, AreFrom, IsClosedUp}
@@ -24,12 +23,7 @@ module _ {P M : Type 0} where
       → AreAboveFrom last from packets → AreAboveFrom last from (without packets number)
   AreAboveFrom-without last from [] number found = tt
   AreAboveFrom-without last from (entry ∷ packets) number found =
-      go (is_at (nat_cmp number) entry.0) (AreAboveFrom-without last from packets number found.1)
-    where
-      go : (b : Bool) → AreAboveFrom last from (without packets number)
-          → AreAboveFrom last from (cond b packets (entry ∷ without packets number))
-      go true later = found.1
-      go false later = (found.0, later)
+      grind (arith, AreAboveFrom-without last from packets number)
 
   AreAboveFrom-push : (last : Option ℕ) (from : ℕ) (packets : Packets P M) (number : ℕ) (packet : Packet P M)
       → (is_above last number ≡ true → from ≤ number) → AreAboveFrom last from packets
@@ -42,26 +36,14 @@ module _ {P M : Type 0} where
       → AreAboveFrom last from packets → AreAboveFrom last from (replaced number (Some packet) packets)
   AreAboveFrom-replaced last from [] number packet found = tt
   AreAboveFrom-replaced last from (entry ∷ packets) number packet found =
-      go (is_at (nat_cmp number) entry.0) (AreAboveFrom-replaced last from packets number packet found.1)
-    where
-      go : (b : Bool) → AreAboveFrom last from (replaced number (Some packet) packets)
-          → AreAboveFrom last from
-          (cond b ((entry.0, packet) ∷ packets) (entry ∷ replaced number (Some packet) packets))
-      go true later = (found.0, found.1)
-      go false later = (found.0, later)
+      grind (arith, AreAboveFrom-replaced last from packets number packet)
 
   -- no packet is above the number that is greatest
   AreAboveFrom-last : (from : ℕ) (packets : Packets P M) (number : ℕ) → AllBelow packets number
       → AreAboveFrom (Some number) from packets
   AreAboveFrom-last from [] number below = tt
-  AreAboveFrom-last from (entry ∷ packets) number below = (
-    λ above. absurd
-        (not_above (le-ltb number entry.0 (let h : entry.0 < number = below.0 in omega (arith, h))) above),
-    AreAboveFrom-last from packets number below.1,
-  )
-    where
-      not_above : nat_lt number entry.0 ≡ false → nat_lt number entry.0 ≡ true → ⊥
-      not_above e f = cc
+  AreAboveFrom-last from (entry ∷ packets) number below =
+      grind (arith, nat_tests, AreAboveFrom-last from packets number)
 
   AreAboveFrom-more : (last : Option ℕ) (from more : ℕ) (packets : Packets P M)
       → ((n : ℕ) → is_above last n ≡ true → from ≤ n → more ≤ n) → AreAboveFrom last from packets
@@ -77,10 +59,7 @@ module _ {P M : Type 0} where
       → filter (is_from above) packets ≡ filter (λ entry. is_above last entry.0) packets
   above_is_from last from above [] same found = refl
   above_is_from last from above (entry ∷ packets) same found =
-      ap (λ (b : Bool). cond b (entry ∷ filter (is_from above) packets) (filter (is_from above) packets))
-      (same entry.0 found.0)
-      ∙ ap (λ (es : Packets P M). cond (is_above last entry.0) (entry ∷ es) es)
-      (above_is_from last from above packets same found.1)
+      grind (arith, same entry.0 found.0, above_is_from last from above packets same found.1)
 
   first_is_least : (packets : Packets P M) → first_number packets ≡ least_number packets
   first_is_least [] = refl
@@ -94,13 +73,7 @@ module _ {P M : Type 0} where
       ∙ first_is_least (filter (λ entry. is_above (Some last) entry.0) packets)
     where
       same : (n : ℕ) → (nat_lt last n ≡ true → from ≤ n) → not (nat_lt n (max (last + 1) from)) ≡ nat_lt last n
-      same n le = go (nat_lt last n) refl
-        where
-          go : (b : Bool) → nat_lt last n ≡ b → not (nat_lt n (max (last + 1) from)) ≡ b
-          go true above = let low : last < n = ltb-true last n above in let h : from ≤ n =
-              le above in ap not (le-ltb n (max (last + 1) from) (omega (arith, low, h)))
-          go false under = let high : n ≤ last =
-              ltb-false last n under in ap not (lt-ltb n (max (last + 1) from) (omega (arith, high)))
+      same n le = grind (arith, nat_tests)
 
   pub first_above_none : (packets : Packets P M) (from : ℕ) → AreAboveFrom None from packets
       → first_number (filter (is_from from) packets) ≡ least_number (filter (λ entry. is_above None entry.0) packets)
@@ -108,7 +81,7 @@ module _ {P M : Type 0} where
       ∙ first_is_least (filter (λ entry. is_above None entry.0) packets)
     where
       same : (n : ℕ) → (true ≡ true → from ≤ n) → not (nat_lt n from) ≡ true
-      same n le = let h : from ≤ n = le refl in ap not (le-ltb n from (omega (arith, h)))
+      same n le = grind (arith, nat_tests, le refl)
 
   -- the packets from a number on hold all that are above another
   least_above : (packets : Packets P M) (last : Option ℕ) (from above least : ℕ)
@@ -117,48 +90,28 @@ module _ {P M : Type 0} where
       → AreAboveFrom last least packets
   least_above [] last from above least le found lowest = tt
   least_above (entry ∷ packets) last from above least le found lowest =
-      go (nat_lt entry.0 above) refl lowest (least_above packets last from above least le found.1)
-    where
-      go : (b : Bool) → nat_lt entry.0 above ≡ b
-          → AreFrom least (cond (not b) (entry ∷ filter (is_from above) packets) (filter (is_from above) packets))
-          → (AreFrom least (filter (is_from above) packets) → AreAboveFrom last least packets)
-          → (is_above last entry.0 ≡ true → least ≤ entry.0) × AreAboveFrom last least packets
-      go true under low later = (
-        λ up. let h : entry.0 < above = ltb-true entry.0 above under in let k : above ≤ entry.0 =
-            le entry.0 found.0 up in absurd (omega (arith, h, k)),
-        later low,
-      )
-      go false over low later = (λ up. low.0, later low.1)
+      grind (arith, nat_tests, le entry.0 found.0, least_above packets last from above least le found.1)
 
   least_above_last : (packets : Packets P M) (last from least : ℕ) → AreAboveFrom (Some last) from packets
       → AreFrom least (filter (is_from (max (last + 1) from)) packets) → AreAboveFrom (Some last) least packets
   least_above_last packets last from least found lowest =
       least_above packets (Some last) from (max (last + 1) from) least
-      (λ n le up. let low : last < n = ltb-true last n up in let h : from ≤ n = le up in omega (arith, low, h)) found
+      (λ n le up. grind (arith, nat_tests)) found
       lowest
 
   least_above_none : (packets : Packets P M) (from least : ℕ) → AreAboveFrom None from packets
       → AreFrom least (filter (is_from from) packets) → AreAboveFrom None least packets
   least_above_none packets from least found lowest =
-      least_above packets None from from least (λ n le up. let h : from ≤ n = le up in omega (arith, h)) found lowest
+      least_above packets None from from least (λ n le up. le up) found lowest
 
   -- no number is above the greatest there is
   pub none_above : (packets : Packets P M) (last : ℕ) → AreBelow packets (2 ^ 64) → (last + 1 < 2 ^ 64 → ⊥)
       → None ≡ least_number (filter (λ entry. is_above (Some last) entry.0) packets)
   none_above packets last small high = sym (ap least_number (none packets (all_below packets (2 ^ 64) small)))
     where
-      within : (n : ℕ) → n < 2 ^ 64 → (last < n) ⊎ (n ≤ last) → n ≤ last
-      within n fits (inl less) = absurd (high (omega (arith, fits, less)))
-      within n fits (inr more) = more
-
       none : (es : Packets P M) → AllBelow es (2 ^ 64) → filter (λ entry. is_above (Some last) entry.0) es ≡ []
       none [] below = refl
-      none (entry ∷ es) below =
-          let h : entry.0 < 2 ^ 64 = below.0 in
-          ap (λ (b : Bool).
-          cond b (entry ∷ filter (λ e. is_above (Some last) e.0) es) (filter (λ e. is_above (Some last) e.0) es))
-          (le-ltb last entry.0 (within entry.0 h (cases_lt last entry.0)))
-          ∙ none es below.1
+      none (entry ∷ es) below = grind (arith, nat_tests, high, none es below.1)
 
   pub least_above_some : (packets : Packets P M) (last from : ℕ) (found : Option ℕ)
       → AreAboveFrom (Some last) from packets
@@ -179,13 +132,7 @@ module _ {P M S : Type 0} (words : QueueWords P S) where
   void_without : (from : ℕ) (packets : Packets P M) (number : ℕ) → AreVoidBelow words from packets
       → AreVoidBelow words from (without packets number)
   void_without from [] number void = tt
-  void_without from (entry ∷ packets) number void =
-      go (is_at (nat_cmp number) entry.0) (void_without from packets number void.1)
-    where
-      go : (b : Bool) → AreVoidBelow words from (without packets number)
-          → AreVoidBelow words from (cond b packets (entry ∷ without packets number))
-      go true later = void.1
-      go false later = (void.0, later)
+  void_without from (entry ∷ packets) number void = grind (arith, void_without from packets number)
 
   void_push : (from : ℕ) (packets : Packets P M) (number : ℕ) (packet : Packet P M) → from ≤ number
       → AreVoidBelow words from packets → AreVoidBelow words from (packets ++ (number, packet) ∷ [])
@@ -203,15 +150,7 @@ module _ {P M S : Type 0} (words : QueueWords P S) where
       → AreVoidBelow words from (replaced number (Some packet) packets)
   void_replaced from [] number packet new void = tt
   void_replaced from (entry ∷ packets) number packet new void =
-      go (is_at (nat_cmp number) entry.0) refl (void_replaced from packets number packet new void.1)
-    where
-      go : (b : Bool) → is_at (nat_cmp number) entry.0 ≡ b
-          → AreVoidBelow words from (replaced number (Some packet) packets)
-          → AreVoidBelow words from
-          (cond b ((entry.0, packet) ∷ packets) (entry ∷ replaced number (Some packet) packets))
-      go true at later =
-          (λ below. new (let h : entry.0 ≡ number = number_at number entry.0 at in omega (arith, h, below)), void.1)
-      go false at later = (void.0, later)
+      grind (arith, number_at number entry.0, void_replaced from packets number packet new)
 
   pub tracked_taken : (slots new : List (Slot (Packet P M))) (last : Option ℕ) (silent sized from filled : ℕ)
       → AreTracked words slots last silent sized from filled → (number : ℕ) (packet : Packet P M)
@@ -224,22 +163,19 @@ module _ {P M S : Type 0} (words : QueueWords P S) where
         AreCounted es last (silent - silent_count last (number, packet)) (sized - size_count packet)) (sym is)
         (counted_taken (entries_of slots) last silent sized tracked.counted number packet found);
     closed = closed;
-    found = subst (AreAboveFrom last from) (sym is)
+    found = rw is
         (AreAboveFrom-without last from (entries_of slots) number tracked.found);
-    small = subst (λ (es : Packets P M). AreBelow es (2 ^ 64)) (sym is)
+    small = rw is
         (are_below (without (entries_of slots) number) (2 ^ 64)
         (AllBelow-without (entries_of slots) number (2 ^ 64) (all_below (entries_of slots) (2 ^ 64) tracked.small)));
-    void = subst (AreVoidBelow words filled) (sym is) (void_without filled (entries_of slots) number tracked.void);
+    void = rw is (void_without filled (entries_of slots) number tracked.void);
   }
 
   -- a slot more for a packet more
   closed_pushed : (slots new : List (Slot (Packet P M))) (number : ℕ) (packet : Packet P M) → IsClosedUp slots
       → entries_of new ≡ entries_of slots ++ (number, packet) ∷ [] → length new ≤ length slots + 1 → IsClosedUp new
   closed_pushed slots new number packet closed is one =
-      let len : length (entries_of new) ≡ length (entries_of slots ++ (number, packet) ∷ []) =
-      ap (λ (es : Packets P M). length es) is in
-      let sum = length-append (entries_of slots) ((number, packet) ∷ []) in
-      omega (arith, closed, len, sum, one)
+      omega (arith, ap length is, length-append (entries_of slots) ((number, packet) ∷ []))
 
   small_pushed : (packets : Packets P M) (number : ℕ) (packet : Packet P M) → number < 2 ^ 64
       → AreBelow packets (2 ^ 64) → AreBelow packets number → AreBelow (packets ++ (number, packet) ∷ []) (2 ^ 64)
@@ -254,17 +190,17 @@ module _ {P M S : Type 0} (words : QueueWords P S) where
       (is : entries_of new ≡ entries_of slots ++ (number, packet) ∷ []) (one : length new ≤ length slots + 1) where
     pub tracked_eliciting : AreTracked words new (Some number) 0 (sized + size_count packet) from (min filled number)
     tracked_eliciting = record {
-      counted = subst (λ (es : Packets P M). AreCounted es (Some number) 0 (sized + size_count packet)) (sym is)
+      counted = rw is
           (counted_eliciting (entries_of slots) last silent sized tracked.counted number packet
           (all_below (entries_of slots) number below));
       closed = closed_pushed slots new number packet tracked.closed is one;
-      found = subst (AreAboveFrom (Some number) from) (sym is)
+      found = rw is
           (AreAboveFrom-push (Some number) from (entries_of slots) number packet
           (λ up. let h : number < number = ltb-true number number up in absurd (omega (arith, h)))
           (AreAboveFrom-last from (entries_of slots) number (all_below (entries_of slots) number below)));
-      small = subst (λ (es : Packets P M). AreBelow es (2 ^ 64)) (sym is)
+      small = rw is
           (small_pushed (entries_of slots) number packet fits tracked.small below);
-      void = subst (AreVoidBelow words (min filled number)) (sym is)
+      void = rw is
           (void_push (min filled number) (entries_of slots) number packet (omega arith)
           (void_less filled (min filled number) (entries_of slots) (omega arith) tracked.void));
     }
@@ -272,16 +208,16 @@ module _ {P M S : Type 0} (words : QueueWords P S) where
     pub tracked_silent : IsAboveLast last number → packet.ack_eliciting ≡ false → silent ≤ 1000
         → AreTracked words new last (silent + 1) (sized + size_count packet) (min from number) (min filled number)
     tracked_silent above is_silent room = record {
-      counted = subst (λ (es : Packets P M). AreCounted es last (silent + 1) (sized + size_count packet)) (sym is)
+      counted = rw is
           (counted_silent (entries_of slots) last silent sized tracked.counted number packet above is_silent room);
       closed = closed_pushed slots new number packet tracked.closed is one;
-      found = subst (AreAboveFrom last (min from number)) (sym is)
+      found = rw is
           (AreAboveFrom-push last (min from number) (entries_of slots) number packet (λ up. omega arith)
           (AreAboveFrom-more last from (min from number) (entries_of slots) (λ n up le. omega (arith, le))
           tracked.found));
-      small = subst (λ (es : Packets P M). AreBelow es (2 ^ 64)) (sym is)
+      small = rw is
           (small_pushed (entries_of slots) number packet fits tracked.small below);
-      void = subst (AreVoidBelow words (min filled number)) (sym is)
+      void = rw is
           (void_push (min filled number) (entries_of slots) number packet (omega arith)
           (void_less filled (min filled number) (entries_of slots) (omega arith) tracked.void));
     }
@@ -298,22 +234,21 @@ module _ {P M S : Type 0} (words : QueueWords P S) where
         ∙ ap (λ (es : Packets P M). without es least) is
         ∙ without-append (entries_of slots) ((number, packet) ∷ []) least gone found in
         record {
-          counted = subst (λ (es : Packets P M).
-              AreCounted es last silent (sized + size_count packet - size_count gone)) (sym whole)
+          counted = rw whole
               (counted_forgetting (entries_of slots) last silent sized tracked.counted number packet above is_silent
               least gone found up);
           closed = closed;
-          found = subst (AreAboveFrom last least) (sym whole)
+          found = rw whole
               (AreAboveFrom-push last least (without (entries_of slots) least) number packet
               (λ e. let h : least < number = below least gone found in omega (arith, h))
               (AreAboveFrom-without last least (entries_of slots) least lowest));
-          small = subst (λ (es : Packets P M). AreBelow es (2 ^ 64)) (sym whole)
+          small = rw whole
               (are_below (without (entries_of slots) least ++ (number, packet) ∷ []) (2 ^ 64)
               (AllBelow-more (without (entries_of slots) least ++ (number, packet) ∷ []) (number + 1) (2 ^ 64)
               (omega (arith, fits))
               (AllBelow-push (without (entries_of slots) least) number packet
               (AllBelow-without (entries_of slots) least number (all_below (entries_of slots) number below)))));
-          void = subst (AreVoidBelow words (min filled number)) (sym whole)
+          void = rw whole
               (void_push (min filled number) (without (entries_of slots) least) number packet (omega arith)
               (void_less filled (min filled number) (without (entries_of slots) least) (omega arith)
               (void_without filled (entries_of slots) least tracked.void)));
@@ -327,7 +262,7 @@ module _ {P M S : Type 0} (words : QueueWords P S) where
       → AreTracked words new last silent sized from lower
   tracked_carrying slots new last silent sized from filled lower tracked number packet contents found is len le
       nothing = record {
-        counted = subst (λ (es : Packets P M). AreCounted es last silent sized) (sym is)
+        counted = rw is
             (counted_carrying (entries_of slots) last silent sized tracked.counted number packet contents found);
         closed = (
             let closed = tracked.closed in
@@ -337,25 +272,20 @@ module _ {P M S : Type 0} (words : QueueWords P S) where
             let kept = length-replaced (entries_of slots) number (with_contents contents packet) in
             omega (arith, closed, same, kept, len)
             );
-        found = subst (AreAboveFrom last from) (sym is)
+        found = rw is
             (AreAboveFrom-replaced last from (entries_of slots) number (with_contents contents packet) tracked.found);
-        small = subst (λ (es : Packets P M). AreBelow es (2 ^ 64)) (sym is)
+        small = rw is
             (are_below (replaced number (Some (with_contents contents packet)) (entries_of slots)) (2 ^ 64)
             (AllBelow-replaced (entries_of slots) number (with_contents contents packet) (2 ^ 64)
             (all_below (entries_of slots) (2 ^ 64) tracked.small)));
-        void = subst (AreVoidBelow words lower) (sym is)
+        void = rw is
             (void_replaced lower (entries_of slots) number (with_contents contents packet) nothing
             (void_less filled lower (entries_of slots) le tracked.void));
       }
     where
       length-replaced : (es : Packets P M) (n : ℕ) (p : Packet P M) → length (replaced n (Some p) es) ≡ length es
       length-replaced [] n p = refl
-      length-replaced (entry ∷ es) n p = go (is_at (nat_cmp n) entry.0) (length-replaced es n p)
-        where
-          go : (b : Bool) → length (replaced n (Some p) es) ≡ length es
-              → length (cond b ((entry.0, p) ∷ es) (entry ∷ replaced n (Some p) es)) ≡ length (entry ∷ es)
-          go true later = refl
-          go false later = omega (arith, later)
+      length-replaced (entry ∷ es) n p = grind (arith, length-replaced es n p)
 
   -- ---- where they stand
 
@@ -373,9 +303,6 @@ module _ {P M S : Type 0} (words : QueueWords P S) where
     looks = finds.looks;
   }
     where
-      some_is_none : (packet : Packet P M) → Some packet ≡ None → ⊥
-      some_is_none packet e = cc
-
       go : (place : Option ℕ)
           → MatchOption place (item_at slots number ≡ None) (λ p. (item : Packet P M) × IsHeldAt slots number p item)
           → IfSome place (Divides slots number) → IfSome place (λ _. 0 < found.1)
@@ -386,7 +313,7 @@ module _ {P M S : Type 0} (words : QueueWords P S) where
           let within = slot_within slots p (record { number = number; item = Some held.0 })
           (slot_held slots number p held.0 held.1) in (
             record {
-              tracked = λ none. some_is_none held.0 (sym (item_held slots number p held.0 held.1) ∙ none);
+              tracked = λ none. cc (item_held slots number p held.0 held.1);
               within = within;
               before = filed_before slots number p divides;
               behind = filed_behind slots number p divides (omega (arith, within));
@@ -471,20 +398,9 @@ module _ {P M S : Type 0} (words : QueueWords P S) where
       go : (es : Packets P M) → AreVoidBelow words from es
           → filter (is_filled words streams) (filter (is_from from) es) ≡ filter (is_filled words streams) es
       go [] none = refl
-      go (entry ∷ es) all = here (nat_lt entry.0 from) refl (go es all.1)
-        where
-          here : (b : Bool) → nat_lt entry.0 from ≡ b → filter (is_filled words streams) (filter (is_from from) es)
-              ≡ filter (is_filled words streams) es
-              → filter (is_filled words streams)
-              (cond (not b) (entry ∷ filter (is_from from) es) (filter (is_from from) es))
-              ≡ filter (is_filled words streams) (entry ∷ es)
-          here true below later =
-              let nothing : words.is_empty entry.1.retransmits streams ≡ true =
-              all.0 (ltb-true entry.0 from below) streams in
-              later ∙ sym (ap (λ (b : Bool).
-              cond (not b) (entry ∷ filter (is_filled words streams) es) (filter (is_filled words streams) es))
-              nothing)
-          here false over later = ap (λ (ts : Packets P M). cond (is_filled words streams entry) (entry ∷ ts) ts) later
+      go (entry ∷ es) all =
+          let nothing : entry.0 < from → words.is_empty entry.1.retransmits streams ≡ true = λ low. all.0 low streams in
+          grind (arith, nat_tests, go es all.1)
 
 -- ---- a packet's contents are exchanged
 
@@ -502,8 +418,7 @@ pub exchanged : {P M : Type 0} (slots mid new : List (Slot (Packet P M))) (numbe
     → other ≡ with_contents contents packet → Exchanges slots number packet contents new
 exchanged {P} {M} slots mid new number place found packet other taken left contents finds at first some second is =
     let held = finds_some slots number place found finds at in
-    let same : held.0 ≡ packet =
-    some_packet held.0 packet (sym (taken_some slots mid number place held.0 taken held.1 first) ∙ some) in
+    let same : held.0 ≡ packet = cc (taken_some slots mid number place held.0 taken held.1 first) in
     record {
       found = item_held slots number place held.0 held.1 ∙ ap (λ (p : Packet P M). Some p) same;
       entries = changed_entries slots mid new number place held.0 other taken left held.1 first second
@@ -516,10 +431,7 @@ pub exchanged_some : {P M : Type 0} (slots mid : List (Slot (Packet P M))) (numb
     → Replaces slots place None taken mid → taken ≡ None → ⊥
 exchanged_some {P} {M} slots mid number place found taken finds at first none =
     let held = finds_some slots number place found finds at in
-    some_is_none held.0 (sym (taken_some slots mid number place held.0 taken held.1 first) ∙ none)
-  where
-    some_is_none : (p : Packet P M) → Some p ≡ None → ⊥
-    some_is_none p e = cc
+    cc (taken_some slots mid number place held.0 taken held.1 first)
 
 module _ {P M : Type 0} (slots new : List (Slot (Packet P M))) (last : Option ℕ) (old : Tracking P M) (number : ℕ)
     (packet : Packet P M) (contents : P) (done : Exchanges slots number packet contents new)
@@ -553,10 +465,7 @@ module _ {P M S : Type 0} (words : QueueWords P S) (streams : S) (slots : List (
   pub void_empty : (slot : Slot (Packet P M)) → IsSlotAt slots place slot → slot.item ≡ None
       → AreVoidBefore words slots place → AreVoidBefore words slots (place + 1)
   void_empty slot at none before =
-      void_next words slots place slot at (λ packet some. absurd (some_is_none packet (sym some ∙ none))) before
-    where
-      some_is_none : (p : Packet P M) → Some p ≡ None → ⊥
-      some_is_none p e = cc
+      void_next words slots place slot at (λ packet some. absurd (cc)) before
 
   module _ (number : ℕ) (packet : Packet P M)
       (at : IsSlotAt slots place (record { number = number; item = Some packet })) where
@@ -593,11 +502,6 @@ pub tracked_first : {P M S : Type 0} (words : QueueWords P S) (slots new : List 
     → entries_of slots ≡ (number, packet) ∷ entries_of new → IsClosedUp new
     → AreTracked words new last (silent - silent_count last (number, packet)) (sized - size_count packet) from filled
 tracked_first {P} {M} words slots new last silent sized from filled tracked number packet is closed =
-    let found : packet_at (entries_of slots) number ≡ Some packet =
-    ap (λ (es : Packets P M). packet_at es number) is
-    ∙ ap (λ (b : Bool). cond b (Some packet) (packet_at (entries_of new) number)) (at_itself number) in
-    let taken : entries_of new ≡ without (entries_of slots) number =
-    sym (ap (λ (es : Packets P M). without es number) is
-    ∙ ap (λ (b : Bool). cond b (entries_of new) ((number, packet) ∷ without (entries_of new) number))
-    (at_itself number)) in
+    let found : packet_at (entries_of slots) number ≡ Some packet = rw is (grind (arith, at_itself number)) in
+    let taken : entries_of new ≡ without (entries_of slots) number = rw is (grind (arith, at_itself number)) in
     tracked_taken words slots new last silent sized from filled tracked number packet found taken closed
