@@ -1,65 +1,30 @@
 -- The packets among those that are tracked, when one is sent, taken or has other contents. `CoherentLaws` and
 -- `GenerationLaws` rest on it.
-use Rattle.std.proofs.Common.{◌≡◌, ℕ, ◌⊎◌, inl, inr, Bool, true, false, cond, [], ◌∷◌, ◌++◌, Option, None, Some, refl, subst}
+use Rattle.std.proofs.Common.{arith, ◌≡◌, ℕ, ◌⊎◌, inl, inr, [], ◌∷◌, ◌++◌, Option, None, Some, refl, subst}
 use Rattle.std.specs.Prelude.{option_map}
-use Rattle.std.specs.Ordering.{nat_cmp}
-use Rattle.std.specs.BTreeMap.{is_at}
 use Rattle.recovery_ledger.specs.Packets.{Packet, Packets, packet_at, without, without_some, with_contents, replaced, carrying, sent_onto, forgotten_number, IsAmong, AreAcknowledging, IsTooLarge}
 
 module _ {P M : Type 0} where
   pub among_found : (packets : Packets P M) (number : ℕ) (packet : Packet P M) → packet_at packets number ≡ Some packet
       → IsAmong packets packet
-  among_found [] number packet found = none packet found
-    where
-      none : (p : Packet P M) → None ≡ Some p → ⊥
-      none p e = cc
-  among_found (entry ∷ packets) number packet found =
-      go (is_at (nat_cmp number) entry.0) found (among_found packets number packet)
-    where
-      some : (p q : Packet P M) → Some p ≡ Some q → p ≡ q
-      some p q e = cc
-
-      go : (b : Bool) → cond b (Some entry.1) (packet_at packets number) ≡ Some packet
-          → (packet_at packets number ≡ Some packet → IsAmong packets packet)
-          → (entry.1 ≡ packet) ⊎ IsAmong packets packet
-      go true e later = inl (some entry.1 packet e)
-      go false e later = inr (later e)
+  among_found [] number packet found = absurd (cc)
+  among_found (entry ∷ packets) number packet found = grind (arith, among_found packets number packet)
 
   among_without : (packets : Packets P M) (number : ℕ) (packet : Packet P M) → IsAmong (without packets number) packet
       → IsAmong packets packet
   among_without [] number packet among = among
-  among_without (entry ∷ packets) number packet among =
-      go (is_at (nat_cmp number) entry.0) among (among_without packets number packet)
-    where
-      go : (b : Bool) → IsAmong (cond b packets (entry ∷ without packets number)) packet
-          → (IsAmong (without packets number) packet → IsAmong packets packet)
-          → (entry.1 ≡ packet) ⊎ IsAmong packets packet
-      go true among later = inr among
-      go false (inl same) later = inl same
-      go false (inr among) later = inr (later among)
+  among_without (entry ∷ packets) number packet among = grind (arith, among_without packets number packet)
 
   among_push : (packets : Packets P M) (number : ℕ) (more packet : Packet P M)
       → IsAmong (packets ++ (number, more) ∷ []) packet → IsAmong packets packet ⊎ (more ≡ packet)
-  among_push [] number more packet (inl same) = inr same
-  among_push [] number more packet (inr among) = absurd among
-  among_push (entry ∷ packets) number more packet (inl same) = inl (inl same)
-  among_push (entry ∷ packets) number more packet (inr among) = elim (among_push packets number more packet among)
-      [ inl there ↦ inl (inr there) | inr same ↦ inr same ]
+  among_push [] number more packet among = grind arith
+  among_push (entry ∷ packets) number more packet among = grind (arith, among_push packets number more packet)
 
   among_replaced : (packets : Packets P M) (number : ℕ) (other packet : Packet P M)
       → IsAmong (replaced number (Some other) packets) packet → IsAmong packets packet ⊎ (other ≡ packet)
   among_replaced [] number other packet among = absurd among
   among_replaced (entry ∷ packets) number other packet among =
-      go (is_at (nat_cmp number) entry.0) among (among_replaced packets number other packet)
-    where
-      go : (b : Bool)
-          → IsAmong (cond b ((entry.0, other) ∷ packets) (entry ∷ replaced number (Some other) packets)) packet
-          → (IsAmong (replaced number (Some other) packets) packet → IsAmong packets packet ⊎ (other ≡ packet))
-          → ((entry.1 ≡ packet) ⊎ IsAmong packets packet) ⊎ (other ≡ packet)
-      go true (inl same) later = inr same
-      go true (inr among) later = inl (inr among)
-      go false (inl same) later = inl (inl same)
-      go false (inr among) later = elim (later among) [ inl there ↦ inl (inr there) | inr same ↦ inr same ]
+      grind (arith, among_replaced packets number other packet)
 
 -- ---- what holds of every packet
 

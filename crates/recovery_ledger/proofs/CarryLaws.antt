@@ -1,11 +1,8 @@
 -- A tracked packet whose contents are exchanged. `queue_lost` and `lose` rest on it.
-use Rattle.std.proofs.Common.{◌≡◌, ℕ, Bool, true, false, cond, [], ◌∷◌, Option, None, Some, refl, sym, ap, subst, ◌∙◌}
+use Rattle.std.proofs.Common.{arith, ◌≡◌, ℕ, [], ◌∷◌, Option, None, Some, refl, sym, ap, subst, ◌∙◌}
 use Rattle.std.specs.Prelude.{IfNone, option_map, sum_by}
-use Rattle.std.specs.Ordering.{nat_cmp}
-use Rattle.std.specs.BTreeMap.{is_at}
 use Rattle.recovery_queue.specs.Queues.{QueueWords}
-use Rattle.recovery_ledger.specs.Packets.{Packet, Packets, Tracking, packet_at, without, with_contents, replaced, carrying, contents_or, after_carrying, after_taking}
-use Rattle.recovery_ledger.specs.Queued.{joined_with}
+use Rattle.recovery_ledger.specs.Packets.{Packet, Packets, Tracking, packet_at, without, with_contents, replaced, carrying, contents_or, after_carrying}
 use Rattle.recovery_ledger.specs.Spaces.{Space, packets_of, tracking_of, space_moves, space_loses, space_takes}
 use Rattle.recovery_ledger.proofs.PacketLaws.{some_packet, none_found, sum-replaced, without-absent}
 
@@ -14,67 +11,24 @@ module _ {P M : Type 0} where
   replaced_same : (packets : Packets P M) (number : ℕ) (packet : Packet P M) → packet_at packets number ≡ Some packet
       → replaced number (Some packet) packets ≡ packets
   replaced_same [] number packet found = refl
-  replaced_same (entry ∷ packets) number packet found =
-      go (is_at (nat_cmp number) entry.0) found (replaced_same packets number packet)
-    where
-      go : (b : Bool) → cond b (Some entry.1) (packet_at packets number) ≡ Some packet
-          → (packet_at packets number ≡ Some packet → replaced number (Some packet) packets ≡ packets)
-          → cond b ((entry.0, packet) ∷ packets) (entry ∷ replaced number (Some packet) packets) ≡ entry ∷ packets
-      go true e later = ap (λ (p : Packet P M). let es : Packets P M = (entry.0, p) ∷ packets in es)
-          (sym (some_packet entry.1 packet e))
-      go false e later = ap (λ (es : Packets P M). entry ∷ es) (later e)
+  replaced_same (entry ∷ packets) number packet found = grind (arith, replaced_same packets number packet)
 
   -- the packet put last stays
   replaced_again : (packets : Packets P M) (number : ℕ) (first last : Packet P M)
       → replaced number (Some last) (replaced number (Some first) packets) ≡ replaced number (Some last) packets
   replaced_again [] number first last = refl
-  replaced_again (entry ∷ packets) number first last =
-      go (is_at (nat_cmp number) entry.0) refl (replaced_again packets number first last)
-    where
-      go : (b : Bool) → is_at (nat_cmp number) entry.0 ≡ b
-          → replaced number (Some last) (replaced number (Some first) packets) ≡ replaced number (Some last) packets
-          → replaced number (Some last) (cond b ((entry.0, first) ∷ packets)
-          (entry ∷ replaced number (Some first) packets)) ≡ cond b ((entry.0, last) ∷ packets)
-          (entry ∷ replaced number (Some last) packets)
-      go true at later = ap
-          (λ (b : Bool). cond b ((entry.0, last) ∷ packets) ((entry.0, first) ∷ replaced number (Some last) packets)) at
-      go false at later =
-          ap (λ (b : Bool). cond b ((entry.0, last) ∷ replaced number (Some first) packets)
-          (entry ∷ replaced number (Some last) (replaced number (Some first) packets))) at
-          ∙ ap (λ (es : Packets P M). entry ∷ es) later
+  replaced_again (entry ∷ packets) number first last = grind (arith, replaced_again packets number first last)
 
   replaced_found : (packets : Packets P M) (number : ℕ) (packet other : Packet P M)
       → packet_at packets number ≡ Some packet → packet_at (replaced number (Some other) packets) number ≡ Some other
   replaced_found [] number packet other found = none_found packet found
   replaced_found (entry ∷ packets) number packet other found =
-      go (is_at (nat_cmp number) entry.0) refl found (replaced_found packets number packet other)
-    where
-      go : (b : Bool) → is_at (nat_cmp number) entry.0 ≡ b
-          → cond b (Some entry.1) (packet_at packets number) ≡ Some packet
-          → (packet_at packets number ≡ Some packet → packet_at (replaced number (Some other) packets) number
-          ≡ Some other)
-          → packet_at (cond b ((entry.0, other) ∷ packets) (entry ∷ replaced number (Some other) packets)) number
-          ≡ Some other
-      go true at e later = ap (λ (b : Bool). cond b (Some other) (packet_at packets number)) at
-      go false at e later =
-          ap (λ (b : Bool). cond b (Some entry.1) (packet_at (replaced number (Some other) packets) number)) at
-          ∙ later e
+      grind (arith, replaced_found packets number packet other)
 
   replaced_gone : (packets : Packets P M) (number : ℕ) (packet : Packet P M)
       → without (replaced number (Some packet) packets) number ≡ without packets number
   replaced_gone [] number packet = refl
-  replaced_gone (entry ∷ packets) number packet =
-      go (is_at (nat_cmp number) entry.0) refl (replaced_gone packets number packet)
-    where
-      go : (b : Bool) → is_at (nat_cmp number) entry.0 ≡ b
-          → without (replaced number (Some packet) packets) number ≡ without packets number
-          → without (cond b ((entry.0, packet) ∷ packets) (entry ∷ replaced number (Some packet) packets)) number
-          ≡ cond b packets (entry ∷ without packets number)
-      go true at later = ap (λ (b : Bool). cond b packets ((entry.0, packet) ∷ without packets number)) at
-      go false at later =
-          ap (λ (b : Bool). cond b (replaced number (Some packet) packets)
-          (entry ∷ without (replaced number (Some packet) packets) number)) at
-          ∙ ap (λ (es : Packets P M). entry ∷ es) later
+  replaced_gone (entry ∷ packets) number packet = grind (arith, replaced_gone packets number packet)
 
   module _ (packets : Packets P M) (number : ℕ) where
     -- the packet of the number has the other contents
@@ -91,13 +45,7 @@ module _ {P M : Type 0} where
 
     -- without the packet of the number nothing has changed
     pub carrying_gone : (contents : P) → without (carrying number contents packets) number ≡ without packets number
-    carrying_gone contents = go (packet_at packets number)
-      where
-        go : (found : Option (Packet P M))
-            → without (replaced number (option_map (with_contents contents) found) packets) number ≡ without packets
-            number
-        go None = refl
-        go (Some packet) = replaced_gone packets number (with_contents contents packet)
+    carrying_gone contents = grind (arith, replaced_gone packets number)
 
     -- contents that are put back
     pub carrying_back : (contents other : P)
@@ -155,21 +103,7 @@ module _ {P M S : Type 0} (words : QueueWords P S) where
   pub lost_absent : (number : ℕ) (space : Space P M)
       → option_map (with_contents words.empty) (packet_at (packets_of space) number) ≡ None
       → space_loses words number space ≡ space
-  lost_absent number space absent = go (packet_at (packets_of space) number) refl absent
-    where
-      some_is_none : (p : Packet P M) → Some p ≡ None → ⊥
-      some_is_none p e = cc
-
-      go : (found : Option (Packet P M)) → packet_at (packets_of space) number ≡ found
-          → option_map (with_contents words.empty) found ≡ None
-          → (let s : Space P M = record space {
-            sent_packets = after_taking number (tracking_of space);
-            pending = joined_with words space.pending found;
-          } in s) ≡ space
-      go None is e = ap (λ (es : Packets P M). let s : Space P M = record space
-          { sent_packets = record (tracking_of space) { packets = es } } in s)
-          (without-absent (packets_of space) number is)
-      go (Some packet) is e = absurd (some_is_none (with_contents words.empty packet) e)
+  lost_absent number space absent = grind (arith, without-absent (packets_of space) number)
 
   -- and nothing changes then
   pub lost_none : (number : ℕ) (old : Space P M) (lost : Option (Packet P M)) (new : Space P M)

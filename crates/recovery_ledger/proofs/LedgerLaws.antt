@@ -1,6 +1,7 @@
 -- The counters of each path stay the sums over the tracked packets of its generation. `BalanceLaws` of the paths rest
 -- on it.
-use Rattle.std.proofs.Common.{◌≡◌, ◌≢◌, ℕ, ◌+◌, ◌≤◌, ◌<◌, ◌==◌, inl, inr, Bool, true, false, cond, ◌&&◌, [], ◌∷◌, Option, None, Some, refl, sym, ap, ap₂, subst, ◌∙◌, arith, eq-eqb, ne_eqb}
+use Rattle.std.proofs.lemmas.Bool.Decides.{nat_tests}
+use Rattle.std.proofs.Common.{◌≡◌, ◌≢◌, ℕ, ◌+◌, ◌≤◌, ◌<◌, inl, inr, Bool, [], ◌∷◌, Option, None, Some, refl, sym, ap, ap₂, subst, ◌∙◌, arith}
 use Rattle.std.specs.Prelude.{sum_by, option_map}
 use Rattle.std.proofs.lemmas.List.Sums.{sum_by_push, sum_by-cons}
 use Rattle.std.proofs.lemmas.Option.{none-some}
@@ -9,11 +10,11 @@ use Rattle.recovery_base.specs.declared.below.SpaceId.TheVariants.{Initial, Hand
 use Rattle.recovery_queue.specs.Queues.{QueueWords}
 use Rattle.recovery_ledger.specs.declared.paths.InFlight.{InFlight}
 use Rattle.recovery_ledger.specs.declared.paths.PathLedger.{PathLedger}
-use Rattle.recovery_ledger.specs.InFlight.{size_in, eliciting_in, over_spaces, in_flight, eliciting_one, with_packet, without_packet, IsCounted, IsCountedIn, SumsLeave}
+use Rattle.recovery_ledger.specs.InFlight.{size_in, eliciting_in, over_spaces, in_flight, eliciting_one, with_packet, IsCounted, IsCountedIn, SumsLeave}
 use Rattle.recovery_ledger.specs.Ledger.{tracked_by, IsBalancedOn, AreUpTo}
 use Rattle.recovery_ledger.specs.Packets.{Packet, Packets, Tracking, no_packets, packet_at, without, with_contents, carrying, without_some, forgotten_number, forgotten_entry, sent_onto, entry_at, numbered, IsAmong, after_sending}
 use Rattle.recovery_ledger.specs.Paths.{generation_of, counters_of, with_counters, counters_left, after_leaving, after_forgetting, path_after_sending, IsCountedOn}
-use Rattle.recovery_ledger.specs.Probes.{ProbeFound, pending_stands, moves, nothing_found}
+use Rattle.recovery_ledger.specs.Probes.{ProbeFound, moves}
 use Rattle.recovery_ledger.specs.Spaces.{Space, Spaces, space_of, with_space, tracking_of, packets_of, one_probe_more, space_probes}
 use Rattle.recovery_ledger.proofs.CarryLaws.{sum-carrying, lost_holds}
 use Rattle.recovery_ledger.proofs.PacketLaws.{sum-without, found-le-sum, without-absent}
@@ -32,25 +33,10 @@ module _ {P M : Type 0} where
     pub leaves : ((counters_left path packet).bytes + size_in (generation_of path) (number, packet)
         ≡ (counters_of path).bytes) × ((counters_left path packet).ack_eliciting + eliciting_in (generation_of path)
         (number, packet) ≡ (counters_of path).ack_eliciting)
-    leaves = go (packet.path_generation == generation_of path) enough eliciting
-      where
-        go : (b : Bool) → cond b packet.size 0 ≤ (counters_of path).bytes
-            → cond (b && packet.ack_eliciting) 1 0 ≤ (counters_of path).ack_eliciting
-            → ((cond b (without_packet (counters_of path) packet) (counters_of path)).bytes + cond b packet.size 0
-            ≡ (counters_of path).bytes)
-            × ((cond b (without_packet (counters_of path) packet) (counters_of path)).ack_eliciting + cond
-            (b && packet.ack_eliciting) 1 0 ≡ (counters_of path).ack_eliciting)
-        go true h k = (omega (arith, h), omega (arith, k))
-        go false h k = (omega arith, omega arith)
+    leaves = grind arith
 
     pub own_counted : packet.path_generation ≡ generation_of path → IsCounted (counters_of path) packet
-    own_counted own =
-        let same : (packet.path_generation == generation_of path) ≡ true =
-        eq-eqb packet.path_generation (generation_of path) own in
-        let size : size_in (generation_of path) (number, packet) ≡ packet.size = ap (λ b. cond b packet.size 0) same in
-        let one : eliciting_in (generation_of path) (number, packet) ≡ eliciting_one packet =
-        ap (λ b. cond (b && packet.ack_eliciting) 1 0) same in
-        (omega (arith, size, enough), omega (arith, one, eliciting))
+    own_counted own = grind (arith, nat_tests)
 
   -- ---- one space among three
 
@@ -83,21 +69,18 @@ module _ {P M : Type 0} where
     space_counted space =
         let sizes = part-le (size_in (generation_of path)) spaces space in
         let elicitings = part-le (eliciting_in (generation_of path)) spaces space in
-        let bytes = counters_bytes in
-        let count = counters_count in
-        (omega (arith, sizes, bytes), omega (arith, elicitings, count))
+        (omega (arith, sizes, counters_bytes), omega (arith, elicitings, counters_count))
 
     packet_enough : (space : SpaceId) (number : ℕ) (packet : Packet P M)
         → packet_at (tracked_by spaces space) number ≡ Some packet
         → (size_in (generation_of path) (number, packet) ≤ (counters_of path).bytes)
         × (eliciting_in (generation_of path) (number, packet) ≤ (counters_of path).ack_eliciting)
     packet_enough space number packet found =
-        let all = space_counted space in
-        let size = found-le-sum (size_in (generation_of path)) (tracked_by spaces space) number packet found in
-        let one = found-le-sum (eliciting_in (generation_of path)) (tracked_by spaces space) number packet found in
-        let h = all.0 in
-        let k = all.1 in
-        (omega (arith, size, h), omega (arith, one, k))
+        let all = space_counted space in (
+          omega (arith, all.0, found-le-sum (size_in (generation_of path)) (tracked_by spaces space) number packet found),
+          omega
+              (arith, all.1, found-le-sum (eliciting_in (generation_of path)) (tracked_by spaces space) number packet found),
+        )
 
     -- a tracked packet is among those counted, where it is the path's
     pub packet_counted : (space : SpaceId) (number : ℕ) (packet : Packet P M)
@@ -119,11 +102,9 @@ module _ {P M : Type 0} where
         let Holds : ℕ → Type 0 = λ g. counters_of new ≡ in_flight g (tracked_by (with_space spaces space here)) in
         let all_sizes = sums_replaced (size_in (generation_of path)) spaces space here a b sizes in
         let all_elicitings = sums_replaced (eliciting_in (generation_of path)) spaces space here c d elicitings in
-        let old_bytes = counters_bytes in
-        let old_count = counters_count in
         subst Holds (sym same) (same_counters (counters_of new)
         (in_flight (generation_of path) (tracked_by (with_space spaces space here)))
-        (omega (arith, all_sizes, old_bytes, bytes)) (omega (arith, all_elicitings, old_count, count)))
+        (omega (arith, all_sizes, counters_bytes)) (omega (arith, all_elicitings, counters_count)))
 
     -- no sum over a space changes
     balanced_alike : (space : SpaceId) (here : Space P M)
@@ -158,12 +139,10 @@ module _ {P M : Type 0} where
         → (words : QueueWords P S) (space : SpaceId) (immediate : Bool) (found : ProbeFound)
         → IsBalancedOn (with_space spaces space (space_probes words immediate found
         (one_probe_more (space_of space spaces)))) path
-    balanced_probed words space immediate pending_stands = balanced_kept space
-        (space_probes words immediate pending_stands (one_probe_more (space_of space spaces))) refl
-    balanced_probed words space immediate nothing_found = balanced_kept space
-        (space_probes words immediate nothing_found (one_probe_more (space_of space spaces))) refl
     balanced_probed words space immediate (moves number) = balanced_carrying space
         (space_probes words immediate (moves number) (one_probe_more (space_of space spaces))) number words.empty refl
+    balanced_probed words space immediate found =
+        balanced_kept space (space_probes words immediate found (one_probe_more (space_of space spaces))) refl
 
     -- a tracked packet leaves
     pub balanced_taken : (space : SpaceId) (here : Space P M) (number : ℕ) (packet : Packet P M)
@@ -173,17 +152,11 @@ module _ {P M : Type 0} where
     balanced_taken space here number packet found packets =
         let enough = packet_enough space number packet found in
         let left = leaves path number packet enough.0 enough.1 in
-        let bytes = left.0 in
-        let count = left.1 in
-        let sizes = sum-without (size_in (generation_of path)) (tracked_by spaces space) number packet found in
-        let elicitings = sum-without (eliciting_in (generation_of path)) (tracked_by spaces space) number packet
-        found in
-        let here_sizes = ap (λ (es : Packets P M). sum_by (size_in (generation_of path)) es) packets in
-        let here_elicitings = ap (λ (es : Packets P M). sum_by (eliciting_in (generation_of path)) es) packets in
         balanced_by space here (after_leaving path packet) (size_in (generation_of path) (number, packet)) 0
         (eliciting_in (generation_of path) (number, packet)) 0 refl
-        (omega (arith, sizes, here_sizes)) (omega (arith, elicitings, here_elicitings)) (omega (arith, bytes))
-        (omega (arith, count))
+        (grind (arith, sum-without (size_in (generation_of path)) (tracked_by spaces space) number packet found))
+        (grind (arith, sum-without (eliciting_in (generation_of path)) (tracked_by spaces space) number packet found))
+        (omega (arith, left.0)) (omega (arith, left.1))
 
     -- a packet that is lost, as it is handed back, is among those counted, where it is the path's
     pub lost_counted : (space : SpaceId) (number : ℕ) (contents : P) (packet : Packet P M)
@@ -209,13 +182,9 @@ module _ {P M : Type 0} where
         → SumsLeave (counters_of path) (generation_of path) (tracked_by spaces space) (counters_of new)
         → IsBalancedOn (with_space spaces space here) new
     balanced_emptied space here new same packets leave =
-        let here_sizes = ap (λ (es : Packets P M). sum_by (size_in (generation_of path)) es) packets in
-        let here_elicitings = ap (λ (es : Packets P M). sum_by (eliciting_in (generation_of path)) es) packets in
-        let bytes = leave.0 in
-        let count = leave.1 in
         balanced_by space here new (sum_by (size_in (generation_of path)) (tracked_by spaces space)) 0
-        (sum_by (eliciting_in (generation_of path)) (tracked_by spaces space)) 0 same
-        (omega (arith, here_sizes)) (omega (arith, here_elicitings)) (omega (arith, bytes)) (omega (arith, count))
+        (sum_by (eliciting_in (generation_of path)) (tracked_by spaces space)) 0 same (rw packets (omega arith))
+        (rw packets (omega arith)) (omega (arith, leave.0)) (omega (arith, leave.1))
 
   -- ---- a space that is emptied packet by packet
 
@@ -230,18 +199,14 @@ module _ {P M : Type 0} where
   first_leaves path entry rest counted =
       let sizes = sum_by-cons (size_in (generation_of path)) entry rest in
       let elicitings = sum_by-cons (eliciting_in (generation_of path)) entry rest in
-      let h = counted.0 in
-      let k = counted.1 in
-      let size : size_in (generation_of path) entry ≤ (counters_of path).bytes = omega (arith, h, sizes) in
+      let size : size_in (generation_of path) entry ≤ (counters_of path).bytes = omega (arith, counted.0, sizes) in
       let one : eliciting_in (generation_of path) entry ≤ (counters_of path).ack_eliciting =
-      omega (arith, k, elicitings) in
-      let left = leaves path entry.0 entry.1 size one in
-      let bytes = left.0 in
-      let count = left.1 in (
+      omega (arith, counted.1, elicitings) in
+      let left = leaves path entry.0 entry.1 size one in (
         own_counted path entry.0 entry.1 size one,
-        (omega (arith, h, sizes, bytes), omega (arith, k, elicitings, count)),
-        bytes,
-        count,
+        (omega (arith, counted.0, sizes, left.0), omega (arith, counted.1, elicitings, left.1)),
+        left.0,
+        left.1,
       )
 
   -- ---- a packet that is sent
@@ -254,13 +219,8 @@ module _ {P M : Type 0} where
   sum-without_some : (f : ℕ × Packet P M → ℕ) (packets : Packets P M) (forgotten : Option ℕ)
       → sum_by f (without_some packets forgotten) + gone f (entry_at packets forgotten) ≡ sum_by f packets
   sum-without_some f packets None = omega arith
-  sum-without_some f packets (Some number) = go (packet_at packets number) refl
-    where
-      go : (found : Option (Packet P M)) → packet_at packets number ≡ found
-          → sum_by f (without packets number) + gone f (numbered number found) ≡ sum_by f packets
-      go None absent = let same =
-          ap (λ (es : Packets P M). sum_by f es) (without-absent packets number absent) in omega (arith, same)
-      go (Some packet) found = sum-without f packets number packet found
+  sum-without_some f packets (Some number) =
+      grind (arith, sum-without f packets number, without-absent packets number)
 
   pub sum-sent_onto : (f : ℕ × Packet P M → ℕ) (last : Option ℕ) (number : ℕ) (packet : Packet P M)
       (packets : Packets P M)
@@ -268,8 +228,7 @@ module _ {P M : Type 0} where
       (entry_at packets (forgotten_number last packet packets)) ≡ sum_by f packets + f (number, packet)
   sum-sent_onto f last number packet packets =
       let push = sum_by_push f (without_some packets (forgotten_number last packet packets)) (number, packet) in
-      let left = sum-without_some f packets (forgotten_number last packet packets) in
-      omega (arith, push, left)
+      omega (arith, push, sum-without_some f packets (forgotten_number last packet packets))
 
   module _ (path : PathLedger) (packet : Packet P M) where
     -- what the counters are when one packet was perhaps forgotten
@@ -286,27 +245,19 @@ module _ {P M : Type 0} where
     forgotten_leaves counters None bytes count enough = (omega arith, omega arith, refl)
     forgotten_leaves counters (Some entry) bytes count enough =
         let counted = enough entry refl in
-        let h = counted.0 in
-        let k = counted.1 in
-        let left = leaves (with_counters counters path) entry.0 entry.1 (omega (arith, h, bytes))
-        (omega (arith, k, count)) in
+        let left = leaves (with_counters counters path) entry.0 entry.1 (omega (arith, counted.0, bytes))
+        (omega (arith, counted.1, count)) in
         (left.0, left.1, refl)
 
     -- a packet of the path adds its part, and one of another path nothing
     own_adds : (number : ℕ) → packet.path_generation ≡ generation_of path
         → (size_in (generation_of path) (number, packet) ≡ packet.size)
         × (eliciting_in (generation_of path) (number, packet) ≡ eliciting_one packet)
-    own_adds number own =
-        let same : (packet.path_generation == generation_of path) ≡ true =
-        eq-eqb packet.path_generation (generation_of path) own in
-        (ap (λ b. cond b packet.size 0) same, ap (λ b. cond (b && packet.ack_eliciting) 1 0) same)
+    own_adds number own = grind (arith, nat_tests)
 
     other_adds : (number : ℕ) → packet.path_generation ≢ generation_of path
         → (size_in (generation_of path) (number, packet) ≡ 0) × (eliciting_in (generation_of path) (number, packet) ≡ 0)
-    other_adds number other =
-        let same : (packet.path_generation == generation_of path) ≡ false =
-        ne_eqb packet.path_generation (generation_of path) other in
-        (ap (λ b. cond b packet.size 0) same, ap (λ b. cond (b && packet.ack_eliciting) 1 0) same)
+    other_adds number other = grind (arith, nat_tests)
 
   module _ (spaces : Spaces P M) (path : PathLedger) (balanced : IsBalancedOn spaces path) (space : SpaceId) where
     entry_enough : (forgotten : Option ℕ) (entry : ℕ × Packet P M)
@@ -354,40 +305,29 @@ module _ {P M : Type 0} where
             ap (λ (t : Tracking P M). t.packets) tracking in
             let left = forgotten_leaves path packet counters forgotten (omega (arith, more)) (omega (arith, more_count))
             (λ entry e. entry_enough (forgotten_number last packet (tracked_by spaces space)) entry (sym is ∙ e)) in
-            let bytes = left.0 in
-            let count = left.1 in
             let sizes = sum-sent_onto (size_in (generation_of path)) last number packet (tracked_by spaces space) in
             let elicitings = sum-sent_onto (eliciting_in (generation_of path)) last number packet
             (tracked_by spaces space) in
-            let here_sizes = ap (λ (es : Packets P M). sum_by (size_in (generation_of path)) es) packets in
-            let here_elicitings = ap (λ (es : Packets P M). sum_by (eliciting_in (generation_of path)) es) packets in
-            let gone_sizes = ap (gone (size_in (generation_of path))) is in
-            let gone_elicitings = ap (gone (eliciting_in (generation_of path))) is in
             balanced_by spaces path balanced space here (after_forgetting (with_counters counters path) forgotten)
             (gone (size_in (generation_of path)) forgotten) (size_in (generation_of path) (number, packet))
             (gone (eliciting_in (generation_of path)) forgotten)
             (eliciting_in (generation_of path) (number, packet))
-            left.2 (omega (arith, sizes, here_sizes, gone_sizes))
-            (omega (arith, elicitings, here_elicitings, gone_elicitings)) (omega (arith, bytes, more))
-            (omega (arith, count, more_count))
+            left.2 (rw (packets, is) (omega (arith, sizes))) (rw (packets, is) (omega (arith, elicitings)))
+            (omega (arith, left.0, more)) (omega (arith, left.1, more_count))
 
         -- a packet is sent on the path
         pub balanced_sent : packet.path_generation ≡ generation_of path
             → IsBalancedOn (with_space spaces space here) (path_after_sending path packet forgotten)
         balanced_sent own =
             let adds = own_adds path packet number own in
-            let size = adds.0 in
-            let one = adds.1 in
-            sent_by_sums (with_packet (counters_of path) packet) (omega (arith, size)) (omega (arith, one))
+            sent_by_sums (with_packet (counters_of path) packet) (omega (arith, adds.0)) (omega (arith, adds.1))
 
         -- a packet is sent on another path
         pub balanced_sent_elsewhere : packet.path_generation ≢ generation_of path
             → IsBalancedOn (with_space spaces space here) (after_forgetting path forgotten)
         balanced_sent_elsewhere other =
             let adds = other_adds path packet number other in
-            let size = adds.0 in
-            let one = adds.1 in
-            sent_by_sums (counters_of path) (omega (arith, size)) (omega (arith, one))
+            sent_by_sums (counters_of path) (omega (arith, adds.0)) (omega (arith, adds.1))
 
   pub generation_after_forgetting : (path : PathLedger) (forgotten : Option (ℕ × Packet P M))
       → generation_of (after_forgetting path forgotten) ≡ generation_of path
@@ -405,10 +345,8 @@ module _ {P M : Type 0} where
       → ((n : ℕ) (packet : Packet P M) → IsAmong packets packet → f (n, packet) ≡ 0) → sum_by f packets ≡ 0
   none_below f [] none = refl
   none_below f (entry ∷ packets) none =
-      let cons = sum_by-cons f entry packets in
-      let first : f entry ≡ 0 = none entry.0 entry.1 (inl refl) in
       let later = none_below f packets (λ n packet among. none n packet (inr among)) in
-      omega (arith, cons, first, later)
+      omega (arith, sum_by-cons f entry packets, none entry.0 entry.1 (inl refl), later)
 
   -- no packet of its generation is tracked yet
   none_balanced : (spaces : Spaces P M) (path : PathLedger)
