@@ -1,5 +1,5 @@
 -- Packet spaces, one entry at a time. The driver's `LeftLaws` rest on it.
-use Rattle.std.proofs.Common.{◌≡◌, ℕ, ◌+◌, ◌-◌, ◌^◌, ◌≤◌, min, max, ◌↔◌, Bool, true, false, cond, if◌then◌else◌, Option, None, Some, List, [], ◌∷◌, refl, sym, ap, subst, ◌∙◌, arith}
+use Rattle.std.proofs.Common.{◌≡◌, ℕ, ◌+◌, ◌-◌, ◌^◌, ◌≤◌, min, max, ◌↔◌, Bool, true, false, cond, if◌then◌else◌, Option, None, Some, List, [], ◌∷◌, refl, sym, ap, ◌∙◌, arith}
 use Rattle.std.proofs.lemmas.Option.{none-some}
 use Rattle.recovery_base.specs.declared.dedup.Dedup.{Dedup}
 use Rattle.recovery_base.specs.Numbers.{Recent, With}
@@ -8,16 +8,15 @@ use Rattle.recovery_base.proofs.WindowLaws.{left_with, iff_trans}
 use Rattle.recovery_base.specs.Ranges.{InRanges}
 use Rattle.recovery_acks.specs.Acks.{Acks, new_acks}
 use Rattle.recovery_queue.specs.Queues.{QueueWords}
-use Rattle.recovery_ledger.specs.Acks.{acks_by}
 use Rattle.recovery_ledger.specs.Kept.{Acknowledged, Kept, kept_by, one_more, acknowledged_with, largest_acknowledged}
 use Rattle.recovery_ledger.specs.Packets.{Packet, Tracking, no_packets, packet_at, is_above, without}
-use Rattle.recovery_ledger.specs.Probes.{ProbeFound, pending_stands, moves, nothing_found}
+use Rattle.recovery_ledger.specs.Probes.{ProbeFound, moves}
 use Rattle.recovery_ledger.specs.Queued.{Queued, marks_with, joined_with, queued_by}
 use Rattle.recovery_ledger.specs.Received.{CameIn}
 use Rattle.recovery_ledger.specs.SpaceLog.{SpaceEntry, heard, heard_again, sends, acknowledged, loses, probes, takes_pending, feeds_back, emptied, ack_goes, ack_is_late, asked}
 use Rattle.recovery_base.specs.declared.below.SpaceId.{SpaceId}
 use Rattle.recovery_base.specs.declared.below.SpaceId.TheVariants.{Initial, Handshake, Data}
-use Rattle.recovery_ledger.specs.Spaces.{Spaces, space_of, Space, tracking_of, queued_of, one_probe_more, space_probes, kept_of, acks_of, with_acks, sent_of, after_acknowledging, space_takes, next_number_of, SpaceStep, AcksLeft, SpaceLeft}
+use Rattle.recovery_ledger.specs.Spaces.{Spaces, space_of, Space, tracking_of, queued_of, one_probe_more, space_probes, kept_of, acks_of, with_acks, sent_of, after_acknowledging, space_takes, next_number_of, SpaceStep, SpaceLeft}
 use Rattle.recovery_ledger.specs.Tracked.{Sent, sent_by, sent_more, sent_moved}
 use Rattle.recovery_ledger.proofs.HeardLaws.{heard_law, acknowledged_law, ack_goes_law, ack_is_late_law, asked_law}
 use Rattle.recovery_ledger.proofs.ReceivedLaws.{fails, came_greatest}
@@ -111,24 +110,22 @@ module _ {P M S : Type 0} (words : QueueWords P S) where
     acks = heard_law words log (acks_of old) left.acks (Has old.dedup) left.numbers now number ack_eliciting
         (acks_of new) step.hears;
     greatest = ap (λ (s : Space P M). s.rx_packet) step.others ∙ ap (λ (g : ℕ). max g number) left.greatest;
-    sent = ap sent_of step.others ∙ left.sent;
-    kept = ap kept_of step.others ∙ left.kept;
-    queued = ap queued_of step.others ∙ left.queued;
+    sent = rw step.others left.sent;
+    kept = rw step.others left.kept;
+    queued = rw step.others left.queued;
   }
   space_law start (heard_again number) log old new left step = record {
     numbers = numbers_law log old.dedup new.dedup number left.numbers step.0;
-    acks = let Holds : Acks → Type 0 =
-        AcksLeft (acks_by words (heard_again number ∷ log)) in subst Holds (sym (ap acks_of step.1)) left.acks;
-    greatest = ap (λ (s : Space P M). s.rx_packet) step.1 ∙ left.greatest;
-    sent = ap sent_of step.1 ∙ left.sent;
-    kept = ap kept_of step.1 ∙ left.kept;
-    queued = ap queued_of step.1 ∙ left.queued;
+    acks = rw step.1 left.acks;
+    greatest = rw step.1 left.greatest;
+    sent = rw step.1 left.sent;
+    kept = rw step.1 left.kept;
+    queued = rw step.1 left.queued;
   }
   space_law start (sends number packet) log old new left step =
-      let Holds : Space P M → Type 0 = SpaceLeft words start (sends number packet ∷ log) in
       let next : next_number_of old ≡ (sent_by words log).next = ap (λ (s : Sent P M). s.next) left.sent in
       let above : next_number_of old ≤ number = step.0 in
-      subst Holds (sym step.1) (record {
+      rw step.1 (record {
         numbers = left.numbers;
         acks = left.acks;
         greatest = left.greatest;
@@ -140,22 +137,20 @@ module _ {P M S : Type 0} (words : QueueWords P S) where
         queued = left.queued;
       })
   space_law start (acknowledged number) log old new left step = record {
-    numbers = let Holds : Dedup → Type 0 = λ d. (n : ℕ) → Has d n ↔ Recent (CameIn log) n in subst Holds
-        (sym (ap (λ (s : Space P M). s.dedup) step.others)) left.numbers;
+    numbers = rw step.others left.numbers;
     acks = acknowledged_law words log (acks_of old) left.acks number (acks_of new) step.packet
         (sym (ap (λ (s : Sent P M). packet_at s.tracked number) left.sent) ∙ step.found) step.subtracts;
-    greatest = ap (λ (s : Space P M). s.rx_packet) step.others ∙ left.greatest;
+    greatest = rw step.others left.greatest;
     sent = ap sent_of step.others ∙ ap (taken number) left.sent;
     kept =
         ap kept_of step.others ∙ kept_acknowledged step.packet number old (acks_of new)
         ∙ ap (λ (k : Kept). record k { largest = acknowledged_with (Some step.packet) number k.largest }) left.kept
         ∙ kept_acks start log number step.packet (sym (ap (λ (s : Sent P M). packet_at s.tracked number) left.sent)
         ∙ step.found);
-    queued = ap queued_of step.others ∙ left.queued;
+    queued = rw step.others left.queued;
   }
   space_law start (loses number) log old new left step =
-      let Holds : Space P M → Type 0 = SpaceLeft words start (loses number ∷ log) in
-      subst Holds (sym step) (record {
+      rw step (record {
         numbers = left.numbers;
         acks = left.acks;
         greatest = left.greatest;
@@ -164,28 +159,11 @@ module _ {P M S : Type 0} (words : QueueWords P S) where
         queued = with_pending _ old (queued_by words log) left.queued _ (same_joined start log old left number);
       })
   space_law start (probes immediate found) log old new left step =
-      let Holds : Space P M → Type 0 = SpaceLeft words start (probes immediate found ∷ log) in
-      subst Holds (sym step) (probes_law found)
+      rw step (probes_law found)
     where
       probes_law : (found : ProbeFound)
           → SpaceLeft words start (probes immediate found ∷ log)
           (space_probes words immediate found (one_probe_more old))
-      probes_law pending_stands = record {
-        numbers = left.numbers;
-        acks = left.acks;
-        greatest = left.greatest;
-        sent = left.sent;
-        kept = ap probed left.kept;
-        queued = ap (marked immediate pending_stands) left.queued;
-      }
-      probes_law nothing_found = record {
-        numbers = left.numbers;
-        acks = left.acks;
-        greatest = left.greatest;
-        sent = left.sent;
-        kept = ap probed left.kept;
-        queued = ap (marked immediate nothing_found) left.queued;
-      }
       probes_law (moves number) = record {
         numbers = left.numbers;
         acks = left.acks;
@@ -195,9 +173,16 @@ module _ {P M S : Type 0} (words : QueueWords P S) where
         queued = ap (marked immediate (moves number))
             (with_pending _ old (queued_by words log) left.queued _ (same_joined start log old left number));
       }
+      probes_law found = record {
+        numbers = left.numbers;
+        acks = left.acks;
+        greatest = left.greatest;
+        sent = left.sent;
+        kept = ap probed left.kept;
+        queued = ap (marked immediate found) left.queued;
+      }
   space_law start takes_pending log old new left step =
-      let Holds : Space P M → Type 0 = SpaceLeft words start (takes_pending ∷ log) in
-      subst Holds (sym step) (record {
+      rw step (record {
         numbers = left.numbers;
         acks = left.acks;
         greatest = left.greatest;
@@ -207,8 +192,7 @@ module _ {P M S : Type 0} (words : QueueWords P S) where
             { pending = words.empty } in k) left.queued;
       })
   space_law start (feeds_back counts) log old new left step =
-      let Holds : Space P M → Type 0 = SpaceLeft words start (feeds_back counts ∷ log) in
-      subst Holds (sym step) (record {
+      rw step (record {
         numbers = left.numbers;
         acks = left.acks;
         greatest = left.greatest;
@@ -218,8 +202,7 @@ module _ {P M S : Type 0} (words : QueueWords P S) where
             { ecn = counts } in k) left.queued;
       })
   space_law start emptied log old new left step =
-      let Holds : Space P M → Type 0 = SpaceLeft words start (emptied ∷ log) in
-      subst Holds (sym step) (record {
+      rw step (record {
         numbers = left.numbers;
         acks = left.acks;
         greatest = left.greatest;
@@ -228,8 +211,7 @@ module _ {P M S : Type 0} (words : QueueWords P S) where
         queued = ap (λ (q : Queued P). let k : Queued P = record q { pending = words.empty } in k) left.queued;
       })
   space_law start ack_goes log old new left step =
-      let Holds : Space P M → Type 0 = SpaceLeft words start (ack_goes ∷ log) in
-      subst Holds (sym step) (record {
+      rw step (record {
         numbers = left.numbers;
         acks = ack_goes_law words log (acks_of old) left.acks;
         greatest = left.greatest;
@@ -238,8 +220,7 @@ module _ {P M S : Type 0} (words : QueueWords P S) where
         queued = left.queued;
       })
   space_law start ack_is_late log old new left step =
-      let Holds : Space P M → Type 0 = SpaceLeft words start (ack_is_late ∷ log) in
-      subst Holds (sym step) (record {
+      rw step (record {
         numbers = left.numbers;
         acks = ack_is_late_law words log (acks_of old) left.acks;
         greatest = left.greatest;
@@ -248,8 +229,7 @@ module _ {P M S : Type 0} (words : QueueWords P S) where
         queued = left.queued;
       })
   space_law start (asked frame) log old new left step =
-      let Holds : Space P M → Type 0 = SpaceLeft words start (asked frame ∷ log) in
-      subst Holds (sym step) (record {
+      rw step (record {
         numbers = left.numbers;
         acks = asked_law words log (acks_of old) left.acks frame;
         greatest = left.greatest;
@@ -265,7 +245,7 @@ module _ {P M S : Type 0} (words : QueueWords P S) where
   unfolding InRanges
   fresh_space start fresh none no_acks no_tracking zero none_received none_kept none_queued = record {
     numbers = λ n. (λ here. absurd (none n here), λ here. absurd here.0);
-    acks = let Holds : Acks → Type 0 = AcksLeft (acks_by {M = M} words []) in subst Holds (sym no_acks)
+    acks = rw no_acks
         (record {
           pending = λ n. (λ here. here, λ here. here);
           required = (λ h. absurd (fails false refl h), λ h. absurd h);

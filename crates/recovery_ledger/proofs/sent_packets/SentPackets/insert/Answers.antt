@@ -1,7 +1,6 @@
-use Rattle.std.proofs.Common.{◌≡◌, ℕ, Bool, ◌≤◌, List, [], ◌∷◌, ◌++◌, length, Option, None, Some, true, false, sym, ap, subst, ◌∙◌, arith}
-use Rattle.recovery_slots.specs.declared.slots.Slot.{Slot}
+use Rattle.std.proofs.Common.{◌≡◌, ℕ, Bool, [], ◌∷◌, ◌++◌, Option, None, Some, true, false, sym, ap, ◌∙◌, arith}
 use Rattle.recovery_slots.specs.Slots.{entries_of}
-use Rattle.recovery_ledger.specs.Packets.{Packet, Packets, Tracking, IsAboveLast, packet_at, without, AreBelow, silent_above, is_above, forgotten_silent, forgotten_number, after_sending, entry_at, numbered}
+use Rattle.recovery_ledger.specs.Packets.{Packet, Packets, Tracking, IsAboveLast, packet_at, without, AreBelow, is_above, forgotten_silent, forgotten_number, after_sending, entry_at, numbered}
 use Rattle.recovery_ledger.specs.Counts.{AreCounted, AreAboveFrom, size_count}
 use Rattle.recovery_ledger.proofs.PacketLaws.{without-append, packet_at-append}
 use Rattle.recovery_ledger.proofs.CountLaws.{counted_enough, silent_bound, silent_few, sized_fits, forgotten_found, forgotten_of_silent, sent_eliciting, sent_silent}
@@ -17,19 +16,19 @@ flag_of {P} {M} view is = sym (ap (λ (p : Packet P M). p.ack_eliciting) view) �
 below_inside : {P M : Type 0} → (entries : Packets P M) (last : Option ℕ) (old : Tracking P M) (number : ℕ)
     → record { packets = entries; last_eliciting = last } ≡ old → AreBelow old.packets number → AreBelow entries number
 below_inside {P} {M} entries last old number view below =
-    subst (λ (t : Tracking P M). AreBelow t.packets number) (sym view) below
+    rw (← view) at below
 
 above_inside : {P M : Type 0} → (entries : Packets P M) (last : Option ℕ) (old : Tracking P M) (number : ℕ)
     → record { packets = entries; last_eliciting = last } ≡ old → IsAboveLast old.last_eliciting number
     → IsAboveLast last number
 above_inside {P} {M} entries last old number view above =
-    subst (λ (t : Tracking P M). IsAboveLast t.last_eliciting number) (sym view) above
+    rw (← view) at above
 
 from_inside : {P M : Type 0} → (entries : Packets P M) (last : Option ℕ) (old : Tracking P M) (least : ℕ)
     → record { packets = entries; last_eliciting = last } ≡ old → AreAboveFrom old.last_eliciting least old.packets
     → AreAboveFrom last least entries
 from_inside {P} {M} entries last old least view from =
-    subst (λ (t : Tracking P M). AreAboveFrom t.last_eliciting least t.packets) (sym view) from
+    rw (← view) at from
 
 -- what is forgotten, of the fields
 forgotten_inside : {P M : Type 0} → (entries : Packets P M) (last : Option ℕ) (old : Tracking P M) (packet : Packet P M)
@@ -47,11 +46,9 @@ overflow_add-self g c =
 pub invariant_of-self-then-is_eliciting : goal.invariant_of-self-then-is_eliciting
 invariant_of-self-then-is_eliciting g c =
     rw (c.size_count-count.ensures, c.min-self-inside.ensures)
-    (tracked_eliciting g.Q.RetransmitQueue.words c.self.inside.packets c.push.new.self c.self.inside.last_eliciting
-    c.self.inside.silent c.self.inside.sized c.self.inside.silent_from c.self.inside.filled_from c.self.invariant
+    (tracked_eliciting _ _ c.push.new.self _ _ _ _ _ c.self.invariant
     c.args.number c.args.packet c.ranges.number.fits
-    (below_inside (entries_of c.self.inside.packets) c.self.inside.last_eliciting c.args.self.now c.args.number
-    c.self.view_is c.requires.above) c.in_ok-push.ensures.ok c.in_ok-push.ensures.one_more)
+    (below_inside _ _ _ _ c.self.view_is c.requires.above) c.in_ok-push.ensures.ok c.in_ok-push.ensures.one_more)
 
 pub returns-then-is_eliciting-clause-ok : goal.returns-then-is_eliciting-clause-ok
 returns-then-is_eliciting-clause-ok g c =
@@ -67,23 +64,18 @@ returns-then-is_eliciting-clause-bound g c = silent_bound _ _ _ _ (invariant_of-
 pub invariant_of-self-in_default : goal.invariant_of-self-in_default
 invariant_of-self-in_default g c =
     let is_silent = flag_of c.packet.view_is c.if-is_eliciting.false in
-    let none = forgotten_inside (entries_of c.self.inside.packets) c.self.inside.last_eliciting c.args.self.now
-    c.args.packet None c.self.view_is is_silent c.in_default.ensures.number in
+    let none = forgotten_inside _ _ _ c.args.packet _ c.self.view_is is_silent c.in_default.ensures.number in
     rw (c.size_count-count.ensures, c.min-self-inside.ensures, c.min-self-inside-in_default.ensures)
-    (tracked_silent g.Q.RetransmitQueue.words c.self.inside.packets c.push.new.self c.self.inside.last_eliciting
-    c.self.inside.silent c.self.inside.sized c.self.inside.silent_from c.self.inside.filled_from c.self.invariant
+    (tracked_silent _ _ c.push.new.self _ _ _ _ _ c.self.invariant
     c.args.number c.args.packet c.ranges.number.fits
-    (below_inside (entries_of c.self.inside.packets) c.self.inside.last_eliciting c.args.self.now c.args.number
-    c.self.view_is c.requires.above) c.in_ok-push.ensures.ok c.in_ok-push.ensures.one_more
-    (above_inside (entries_of c.self.inside.packets) c.self.inside.last_eliciting c.args.self.now c.args.number
-    c.self.view_is c.requires.above_last) is_silent
+    (below_inside _ _ _ _ c.self.view_is c.requires.above) c.in_ok-push.ensures.ok c.in_ok-push.ensures.one_more
+    (above_inside _ _ _ _ c.self.view_is c.requires.above_last) is_silent
     (silent_few _ _ _ _ c.self.invariant.counted none))
 
 pub returns-in_default-clause-ok : goal.returns-in_default-clause-ok
 returns-in_default-clause-ok g c =
     let is_silent = flag_of c.packet.view_is c.if-is_eliciting.false in
-    let none = forgotten_inside (entries_of c.self.inside.packets) c.self.inside.last_eliciting c.args.self.now
-    c.args.packet None c.self.view_is is_silent c.in_default.ensures.number in
+    let none = forgotten_inside _ _ _ c.args.packet _ c.self.view_is is_silent c.in_default.ensures.number in
     ap (λ (es : Packets _ _). let t : Tracking _ _ = record {
       packets = es;
       last_eliciting = c.self.inside.last_eliciting;
@@ -123,8 +115,7 @@ none_found {P} {M} packet found p q = cc
 
 pub unreachable-requires : goal.unreachable-requires
 unreachable-requires g c =
-    let some = forgotten_inside (entries_of c.self.inside.packets) c.self.inside.last_eliciting c.args.self.now
-    c.args.packet (Some c.in-Some.least) c.self.view_is (flag_of c.packet.view_is c.if-is_eliciting.false)
+    let some = forgotten_inside _ _ _ c.args.packet _ c.self.view_is (flag_of c.packet.view_is c.if-is_eliciting.false)
     c.in-Some.ensures.number in
     let found = found_after _ _ _ _ _ c.self.invariant.counted c.args.number c.args.packet c.in-Some.least
     c.in_ok-push.ensures.ok some in
@@ -132,8 +123,7 @@ unreachable-requires g c =
 
 pub overflow_sub-self : goal.overflow_sub-self
 overflow_sub-self g c =
-    let some = forgotten_inside (entries_of c.self.inside.packets) c.self.inside.last_eliciting c.args.self.now
-    c.args.packet (Some c.in-Some.least) c.self.view_is (flag_of c.packet.view_is c.if-is_eliciting.false)
+    let some = forgotten_inside _ _ _ c.args.packet _ c.self.view_is (flag_of c.packet.view_is c.if-is_eliciting.false)
     c.in-Some.ensures.number in
     let found = found_after _ _ _ _ _ c.self.invariant.counted c.args.number c.args.packet c.in-Some.least
     c.in_ok-push.ensures.ok some in
@@ -145,26 +135,20 @@ overflow_sub-self g c =
 pub invariant_of-self-2 : goal.invariant_of-self-2
 invariant_of-self-2 g c =
     let is_silent = flag_of c.packet.view_is c.if-is_eliciting.false in
-    let some = forgotten_inside (entries_of c.self.inside.packets) c.self.inside.last_eliciting c.args.self.now
-    c.args.packet (Some c.in-Some.least) c.self.view_is is_silent c.in-Some.ensures.number in
+    let some = forgotten_inside _ _ _ c.args.packet _ c.self.view_is is_silent c.in-Some.ensures.number in
     let found = found_after _ _ _ _ _ c.self.invariant.counted c.args.number c.args.packet c.in-Some.least
     c.in_ok-push.ensures.ok some in
     let same = one_found found.0 c.in-Some-take.gone _ (c.take.ensures.value ∙ found.2) c.in-Some-take.is in
     rw (c.size_count-count.ensures, c.min-self-inside.ensures, c.size_count.ensures, ← same)
-    (tracked_forgetting g.Q.RetransmitQueue.words c.self.inside.packets c.push.new.self c.self.inside.last_eliciting
-    c.self.inside.silent c.self.inside.sized c.self.inside.silent_from c.self.inside.filled_from c.self.invariant
+    (tracked_forgetting _ _ c.push.new.self _ _ _ _ _ c.self.invariant
     c.args.number c.args.packet c.ranges.number.fits
-    (below_inside (entries_of c.self.inside.packets) c.self.inside.last_eliciting c.args.self.now c.args.number
-    c.self.view_is c.requires.above) c.in_ok-push.ensures.ok c.in_ok-push.ensures.one_more
-    c.take.new.self (above_inside (entries_of c.self.inside.packets) c.self.inside.last_eliciting c.args.self.now
-    c.args.number c.self.view_is c.requires.above_last) is_silent c.in-Some.least found.0 found.1 found.3
-    (from_inside (entries_of c.self.inside.packets) c.self.inside.last_eliciting c.args.self.now c.in-Some.least
-    c.self.view_is c.in-Some.ensures.least) c.take.ensures.entries c.in-Some-take.ensures.bound)
+    (below_inside _ _ _ _ c.self.view_is c.requires.above) c.in_ok-push.ensures.ok c.in_ok-push.ensures.one_more
+    c.take.new.self (above_inside _ _ _ _ c.self.view_is c.requires.above_last) is_silent c.in-Some.least found.0 found.1 found.3
+    (from_inside _ _ _ _ c.self.view_is c.in-Some.ensures.least) c.take.ensures.entries c.in-Some-take.ensures.bound)
 
 pub returns-clause-ok : goal.returns-clause-ok
 returns-clause-ok g c =
-    let some = forgotten_inside (entries_of c.self.inside.packets) c.self.inside.last_eliciting c.args.self.now
-    c.args.packet (Some c.in-Some.least) c.self.view_is (flag_of c.packet.view_is c.if-is_eliciting.false)
+    let some = forgotten_inside _ _ _ c.args.packet _ c.self.view_is (flag_of c.packet.view_is c.if-is_eliciting.false)
     c.in-Some.ensures.number in
     let found = found_after _ _ _ _ _ c.self.invariant.counted c.args.number c.args.packet c.in-Some.least
     c.in_ok-push.ensures.ok some in
@@ -181,8 +165,7 @@ returns-clause-ok g c =
 
 pub returns-clause-forgotten : goal.returns-clause-forgotten
 returns-clause-forgotten g c =
-    let some = forgotten_inside (entries_of c.self.inside.packets) c.self.inside.last_eliciting c.args.self.now
-    c.args.packet (Some c.in-Some.least) c.self.view_is (flag_of c.packet.view_is c.if-is_eliciting.false)
+    let some = forgotten_inside _ _ _ c.args.packet _ c.self.view_is (flag_of c.packet.view_is c.if-is_eliciting.false)
     c.in-Some.ensures.number in
     let found = found_after _ _ _ _ _ c.self.invariant.counted c.args.number c.args.packet c.in-Some.least
     c.in_ok-push.ensures.ok some in
@@ -196,5 +179,4 @@ returns-clause-bound g c = silent_bound _ _ _ _ (invariant_of-self-2 g c).counte
 
 pub returns-in_err-push-clause-bound : goal.returns-in_err-push-clause-bound
 returns-in_err-push-clause-bound g c =
-    subst (λ (ss : List (Slot (Packet _ _))). length (silent_above c.self.inside.last_eliciting (entries_of ss)) ≤ 1001)
-    (sym c.in_err-push.ensures.err) (silent_bound _ _ _ _ c.self.invariant.counted)
+    rw c.in_err-push.ensures.err (silent_bound _ _ _ _ c.self.invariant.counted)
