@@ -29,28 +29,18 @@ module _ {P M : Type 0} (then : PathLedger) (all : Packets P M) where
       → IsCountedOn path entry.1 × Leaving then all (after_leaving path entry.1) rest
   leaving_first path entry rest leaving =
       let first = first_leaves path entry rest leaving.counted in
-      let left = first.2 in
-      let left_count = first.3 in
-      let same : generation_of path ≡ generation_of then = leaving.generation in
-      let size = ap (λ (g : ℕ). size_in g entry) same in
-      let one = ap (λ (g : ℕ). eliciting_in g entry) same in
-      let bytes = leaving.bytes in
-      let count = leaving.count in
       let sizes = sum_by-cons (size_in (generation_of then)) entry rest in
       let elicitings = sum_by-cons (eliciting_in (generation_of then)) entry rest in (
         first.0,
         record {
-          generation = same;
+          generation = leaving.generation;
           counted = first.1;
-          bytes = omega (arith, bytes, sizes, left, size);
-          count = omega (arith, count, elicitings, left_count, one);
+          bytes = omega (arith, sizes, first.2, ap (λ (g : ℕ). size_in g entry) leaving.generation);
+          count = omega (arith, elicitings, first.3, ap (λ (g : ℕ). eliciting_in g entry) leaving.generation);
         },
       )
 
   -- all have left
   pub leaving_all : (path : PathLedger) → Leaving then all path []
       → SumsLeave (counters_of then) (generation_of then) all (counters_of path)
-  leaving_all path leaving =
-      let bytes = leaving.bytes in
-      let count = leaving.count in
-      (omega (arith, bytes), omega (arith, count))
+  leaving_all path leaving = (omega arith, omega arith)

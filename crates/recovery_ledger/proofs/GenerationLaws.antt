@@ -5,7 +5,7 @@ use Rattle.recovery_base.specs.declared.below.SpaceId.TheVariants.{Initial, Hand
 use Rattle.recovery_queue.specs.Queues.{QueueWords}
 use Rattle.recovery_ledger.specs.Ledger.{IsUpTo, AreUpTo}
 use Rattle.recovery_ledger.specs.Packets.{Packet, Packets, Tracking, no_packets, IsAmong, without, carrying, sent_onto}
-use Rattle.recovery_ledger.specs.Probes.{ProbeFound, pending_stands, moves, nothing_found}
+use Rattle.recovery_ledger.specs.Probes.{ProbeFound, moves}
 use Rattle.recovery_ledger.specs.Spaces.{Space, Spaces, space_of, with_space, tracking_of, packets_of, one_probe_more, space_probes}
 use Rattle.recovery_ledger.proofs.AmongLaws.{all_without, all_sent, all_carrying}
 
@@ -34,8 +34,7 @@ module _ {P M : Type 0} (generation : ℕ) where
   -- a newer path
   pub up_to_more : (newer : ℕ) (spaces : Spaces P M) → generation ≤ newer → AreUpTo generation spaces
       → AreUpTo newer spaces
-  up_to_more newer spaces le all space packet among = let h : packet.path_generation ≤ generation =
-      all space packet among in omega (arith, h, le)
+  up_to_more newer spaces le all space packet among = omega (arith, all space packet among)
 
   pub up_to_none : IsUpTo {P = P} {M = M} generation []
   up_to_none packet among = absurd among
@@ -56,6 +55,5 @@ module _ {P M : Type 0} (generation : ℕ) where
   pub up_to_probed : {S : Type 0} → (words : QueueWords P S) (immediate : Bool) (found : ProbeFound) (old : Space P M)
       → IsUpTo generation (packets_of old)
       → IsUpTo generation (packets_of (space_probes words immediate found (one_probe_more old)))
-  up_to_probed words immediate pending_stands old all = all
-  up_to_probed words immediate nothing_found old all = all
   up_to_probed words immediate (moves number) old all = up_to_carrying (packets_of old) number words.empty all
+  up_to_probed words immediate found old all = all

@@ -18,7 +18,6 @@ overflow_sub-self-2 g c =
 pub invariant_of-self-2 : goal.invariant_of-self-2
 invariant_of-self-2 g c =
     rw (c.silent_count.ensures, c.size_count.ensures)
-    (tracked_taken g.Q.RetransmitQueue.words c.self.inside.packets c.take.new.self c.self.inside.last_eliciting
-    c.self.inside.silent c.self.inside.sized c.self.inside.silent_from c.self.inside.filled_from c.self.invariant
+    (tracked_taken _ _ c.take.new.self _ _ _ _ _ c.self.invariant
     c.args.number c.in_ok-packet.packet
     (sym c.take.ensures.value ∙ c.in_ok-packet.was) c.take.ensures.entries c.in_ok-packet.ensures.bound)

@@ -22,27 +22,22 @@ unreachable-requires g c =
 
 pub invariant_of-self : goal.invariant_of-self
 invariant_of-self g c =
-    let inside = c.self.inside in
     let all = done g c in
-    tracked_carrying g.Q.RetransmitQueue.words inside.packets c.replace-2.new.self inside.last_eliciting inside.silent
-    inside.sized inside.silent_from inside.filled_from c.filled_with-self-inside.result c.self.invariant c.args.number
+    tracked_carrying _ _ c.replace-2.new.self _ _ _ _ _ c.filled_with-self-inside.result c.self.invariant c.args.number
     c.in-Some-replace.packet (g.Q.RetransmitQueue.contents c.args.queue.now) all.found all.entries all.kept
     c.filled_with-self-inside.ensures.below c.filled_with-self-inside.ensures.void
 
 pub returns-clause-found : goal.returns-clause-found
 returns-clause-found g c =
-    carried_found c.self.inside.packets c.replace-2.new.self c.self.inside.last_eliciting c.args.self.now
-    c.args.number c.in-Some-replace.packet (g.Q.RetransmitQueue.contents c.args.queue.now) (done g c) c.self.view_is
+    carried_found _ _ _ _ _ _ _ (done g c) c.self.view_is
 
 pub returns-clause-after : goal.returns-clause-after
 returns-clause-after g c =
-    carried c.self.inside.packets c.replace-2.new.self c.self.inside.last_eliciting c.args.self.now c.args.number
-    c.in-Some-replace.packet (g.Q.RetransmitQueue.contents c.args.queue.now) (done g c) c.self.view_is
+    carried _ _ _ _ _ _ _ (done g c) c.self.view_is
 
 pub returns-clause-queue : goal.returns-clause-queue
 returns-clause-queue g c =
     let contents = g.Q.RetransmitQueue.contents in
     ap contents c.swap.ensures.y_after ∙ ap (λ (p : Packet _ _). p.retransmits) c.packet.view_is
-    ∙ carried_queue c.self.inside.packets c.replace-2.new.self c.self.inside.last_eliciting c.args.self.now
-    c.args.number c.in-Some-replace.packet (contents c.args.queue.now) (done g c) c.self.view_is
+    ∙ carried_queue _ _ _ _ _ _ _ (done g c) c.self.view_is
     (contents c.args.queue.now)
