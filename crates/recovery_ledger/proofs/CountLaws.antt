@@ -26,7 +26,8 @@ module _ {P M : Type 0} where
       counted_eliciting number packet below = grind (
         arith,
         sum_by_push,
-        none_counted (silent_count (Some number)) packets number (λ n p h. not_silent_above number n p (omega arith)) below,
+        none_counted (silent_count (Some number)) packets number
+            (λ n p h. not_silent_above number n p (omega arith)) below,
         none_counted (eliciting_count (Some number)) packets number
             (λ n p h. not_eliciting_above number n p (omega arith)) below,
         not_silent_above number number packet (omega arith),

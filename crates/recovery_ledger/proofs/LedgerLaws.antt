@@ -76,11 +76,10 @@ module _ {P M : Type 0} where
         → (size_in (generation_of path) (number, packet) ≤ (counters_of path).bytes)
         × (eliciting_in (generation_of path) (number, packet) ≤ (counters_of path).ack_eliciting)
     packet_enough space number packet found =
-        let all = space_counted space in (
-          omega (arith, all.0, found-le-sum (size_in (generation_of path)) (tracked_by spaces space) number packet found),
-          omega
-              (arith, all.1, found-le-sum (eliciting_in (generation_of path)) (tracked_by spaces space) number packet found),
-        )
+        let all = space_counted space in
+        let size = found-le-sum (size_in (generation_of path)) (tracked_by spaces space) number packet found in
+        let one = found-le-sum (eliciting_in (generation_of path)) (tracked_by spaces space) number packet found in
+        (omega (arith, all.0, size), omega (arith, all.1, one))
 
     -- a tracked packet is among those counted, where it is the path's
     pub packet_counted : (space : SpaceId) (number : ℕ) (packet : Packet P M)

@@ -101,7 +101,8 @@ module _ {P M : Type 0} where
       → sum_by f packets ≡ 0
   none_counted f [] limit none below = refl
   none_counted f (entry ∷ packets) limit none below =
-      omega (arith, sum_by-cons f entry packets, none entry.0 entry.1 below.0, none_counted f packets limit none below.1)
+      let later = none_counted f packets limit none below.1 in
+      omega (arith, sum_by-cons f entry packets, none entry.0 entry.1 below.0, later)
 
   pub sizes-le-length : (packets : Packets P M) → sum_by (λ entry. size_count entry.1) packets ≤ length packets
   sizes-le-length [] = omega arith
@@ -120,12 +121,14 @@ module _ {P M : Type 0} where
   pub sized_from_count : (packets : Packets P M) → sum_by (λ entry. size_count entry.1) packets ≢ 0 → HasSize packets
   sized_from_count [] some = absurd (some refl)
   sized_from_count (entry ∷ packets) some =
-      grind (arith, nat_tests, sum_by-cons (λ (p : ℕ × Packet P M). size_count p.1) entry packets, sized_from_count packets)
+      let cons = sum_by-cons (λ (p : ℕ × Packet P M). size_count p.1) entry packets in
+      grind (arith, nat_tests, cons, sized_from_count packets)
 
   pub count_from_sized : (packets : Packets P M) → HasSize packets → sum_by (λ entry. size_count entry.1) packets ≢ 0
   count_from_sized [] sized none = sized
   count_from_sized (entry ∷ packets) sized none =
-      grind (arith, nat_tests, sum_by-cons (λ (p : ℕ × Packet P M). size_count p.1) entry packets, count_from_sized packets)
+      let cons = sum_by-cons (λ (p : ℕ × Packet P M). size_count p.1) entry packets in
+      grind (arith, nat_tests, cons, count_from_sized packets)
 
   -- ---- silent packets
 
@@ -167,7 +170,8 @@ module _ {P M : Type 0} where
       → least_number (filter (λ entry. is_above last entry.0) packets) ≡ Some number
       → (packet : Packet P M) × (packet_at packets number ≡ Some packet) × (is_above last number ≡ true)
   first_above_found last packets number e =
-      let found = first_found (λ entry. is_above last entry.0) packets number e in (found.0, found.1, grind (arith, first_passes last packets number))
+      let found = first_found (λ entry. is_above last entry.0) packets number e in
+      (found.0, found.1, grind (arith, first_passes last packets number))
 
   -- a packet above the last eliciting number elicits none itself
   pub silent_found : (last : Option ℕ) (packets : Packets P M) (number : ℕ) (packet : Packet P M)

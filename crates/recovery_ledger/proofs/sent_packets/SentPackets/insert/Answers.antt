@@ -143,7 +143,8 @@ invariant_of-self-2 g c =
     (tracked_forgetting _ _ c.push.new.self _ _ _ _ _ c.self.invariant
     c.args.number c.args.packet c.ranges.number.fits
     (below_inside _ _ _ _ c.self.view_is c.requires.above) c.in_ok-push.ensures.ok c.in_ok-push.ensures.one_more
-    c.take.new.self (above_inside _ _ _ _ c.self.view_is c.requires.above_last) is_silent c.in-Some.least found.0 found.1 found.3
+    c.take.new.self (above_inside _ _ _ _ c.self.view_is c.requires.above_last) is_silent c.in-Some.least found.0
+    found.1 found.3
     (from_inside _ _ _ _ c.self.view_is c.in-Some.ensures.least) c.take.ensures.entries c.in-Some-take.ensures.bound)
 
 pub returns-clause-ok : goal.returns-clause-ok
