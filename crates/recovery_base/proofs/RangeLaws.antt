@@ -1,397 +1,239 @@
 -- Ranges that lie apart, and the numbers in them. All calls of the set of ranges rest on it, and `RunLaws` of what is
 -- to be acknowledged.
-use Rattle.std.proofs.Common.{◌≡◌, ℕ, suc, zero, ◌+◌, ◌<◌, ◌≤◌, inl, inr, ◌⊎◌, ◌↔◌, List, [], ◌∷◌, ◌++◌, length, take, drop, set, get_or, sym, ◌∙◌, ap, subst, arith, append_assoc, drop-cons, add-one}
+use Rattle.std.proofs.Common.{◌≡◌, ℕ, suc, zero, ◌+◌, ◌<◌, ◌≤◌, inl, inr, ◌⊎◌, ◌↔◌, List, [], ◌∷◌, ◌++◌, length, take, drop, set, get_or, sym, ◌∙◌, ap, subst, arith, drop-cons, add-one, refl}
+use Rattle.std.proofs.lemmas.Bool.Decides.{nat_tests}
 use Rattle.std.specs.declared.ops.Range.{Range}
 use Rattle.std.specs.List.{insert, remove}
-use Rattle.std.proofs.lemmas.Bool.{eqb-true, eqb-false}
-use Rattle.std.proofs.lemmas.List.{append-nil, length-append, take-append-drop, take_all, set_split, set_at, length-take-le, drop_all, get_or_default}
-use Rattle.std.proofs.Math.Seq.{take-suc}
+use Rattle.std.proofs.lemmas.List.{drop_all, get_or_default}
 use Rattle.std.specs.Prelude.{ltb}
 use Rattle.std.specs.List.Sorted.{IsNonDecreasingBy, IsPartitionedBy, IsPartitionPoint}
 use Rattle.std.proofs.lemmas.List.Sorted.{IsPartitionedBy-ltb}
-use Rattle.std.proofs.lemmas.Bool.{ltb-true, ltb-false}
-use Rattle.recovery_base.specs.Numbers.{With}
+use Rattle.std.proofs.lemmas.Option.{get_or_from_slice_get, slice_get-get_or}
 use Rattle.recovery_base.specs.Ranges.{InRanges, AreApart, InsertsOne, floor_above, EndsFrom, IsPlace, span}
 use Rattle.std.specs.Prelude.{◌==◌, ◌-◌, MatchBool, Bool, true, false, Some, None, slice_get}
-use Rattle.std.proofs.lemmas.Option.{get_or_from_slice_get, slice_get-get_or}
 
 abbrev pub Ranges : Type 0
 Ranges = List (Range ℕ)
 
-pub apart_none : (low : ℕ) → AreApart low []
-unfolding AreApart
-apart_none low = tt
-
-pub none_in_none : (n : ℕ) → ¬ InRanges [] n
-unfolding InRanges
-none_in_none n here = here
-
 pub apart_lower : (low other : ℕ) (ranges : Ranges) → other ≤ low → AreApart low ranges → AreApart other ranges
 unfolding AreApart
 apart_lower low other [] less apart = tt
-apart_lower low other (range ∷ others) less apart =
-    (let h : low ≤ range.start = apart.0 in omega arith, apart.1, apart.2)
+apart_lower low other (range ∷ others) less apart = grind (arith, apart)
 
 pub apart_rest : (low : ℕ) (range : Range ℕ) (others : Ranges) → AreApart low (range ∷ others) → AreApart low others
 unfolding AreApart
-apart_rest low range others apart = apart_lower (range.end + 1) low others
-    (let a : low ≤ range.start = apart.0 in let b : range.start < range.end = apart.1 in omega arith) apart.2
-
--- ranges before others
-
-pub apart_left : (low : ℕ) (before after : Ranges) → AreApart low (before ++ after) → AreApart low before
-unfolding AreApart
-apart_left low [] after apart = tt
-apart_left low (range ∷ before) after apart = (apart.0, apart.1, apart_left (range.end + 1) before after apart.2)
-
-pub apart_right : (low : ℕ) (before after : Ranges) → AreApart low (before ++ after)
-    → AreApart (floor_above low before) after
-unfolding AreApart floor_above
-apart_right low [] after apart = apart
-apart_right low (range ∷ before) after apart = apart_right (range.end + 1) before after apart.2
-
-pub apart_joined : (low : ℕ) (before after : Ranges) → AreApart low before → AreApart (floor_above low before) after
-    → AreApart low (before ++ after)
-unfolding AreApart floor_above
-apart_joined low [] after first second = second
-apart_joined low (range ∷ before) after first second =
-    (first.0, first.1, apart_joined (range.end + 1) before after first.2 second)
-
-pub in_joined : (before after : Ranges) (n : ℕ) → InRanges (before ++ after) n → InRanges before n ⊎ InRanges after n
-unfolding InRanges
-in_joined [] after n here = inr here
-in_joined (range ∷ before) after n here = grind (arith, here, in_joined before after n)
-
-pub in_left : (before after : Ranges) (n : ℕ) → InRanges before n → InRanges (before ++ after) n
-unfolding InRanges
-in_left [] after n here = absurd here
-in_left (range ∷ before) after n here = grind (arith, here, in_left before after n)
-
-pub in_right : (before after : Ranges) (n : ℕ) → InRanges after n → InRanges (before ++ after) n
-unfolding InRanges
-in_right [] after n here = here
-in_right (range ∷ before) after n here = inr (in_right before after n here)
-
-pub in_both : (before after : Ranges) (n : ℕ) → InRanges (before ++ after) n ↔ (InRanges before n ⊎ InRanges after n)
-in_both before after n =
-    let left = in_left before after n in
-    let right = in_right before after n in (in_joined before after n, λ here. grind (arith, here, left, right))
+apart_rest low range others apart = grind (arith, apart, apart_lower (range.end + 1) low others)
 
 pub in_above : (low : ℕ) (ranges : Ranges) (n : ℕ) → AreApart low ranges → InRanges ranges n → low ≤ n
 unfolding InRanges AreApart
 in_above low [] n apart here = absurd here
 in_above low (range ∷ others) n apart here = grind (arith, apart, here, in_above (range.end + 1) others n)
 
-pub floor_grows : (low : ℕ) (ranges : Ranges) → AreApart low ranges → low ≤ floor_above low ranges
+-- what stands from a place on
+pub from_there : (low at : ℕ) (ranges : Ranges) → AreApart low ranges
+    → (low ≤ floor_above low (take at ranges)) × AreApart (floor_above low (take at ranges)) (drop at ranges)
 unfolding AreApart floor_above
-floor_grows low [] apart = omega arith
-floor_grows low (range ∷ others) apart = grind (arith, apart, floor_grows (range.end + 1) others)
+from_there low zero ranges apart = (omega arith, apart)
+from_there low (suc at) [] apart = (omega arith, tt)
+from_there low (suc at) (range ∷ others) apart = grind (arith, apart, from_there (range.end + 1) at others)
 
-pub in_below : (low : ℕ) (ranges : Ranges) (n : ℕ) → AreApart low ranges → InRanges ranges n
-    → n < floor_above low ranges
+-- a number from `bound` on lies in what is left of the ranges
+pub from_place : (bound n low at : ℕ) (ranges : Ranges) → AreApart low ranges → floor_above low (take at ranges) ≤ bound
+    → bound ≤ n + 1 → InRanges ranges n ↔ InRanges (drop at ranges) n
 unfolding InRanges AreApart floor_above
-in_below low [] n apart here = absurd here
-in_below low (range ∷ others) n apart here =
-    grind (arith, apart, here, in_below (range.end + 1) others n, floor_grows (range.end + 1) others)
+from_place bound n low zero ranges apart below above = (λ here. here, λ here. here)
+from_place bound n low (suc at) [] apart below above = (λ here. here, λ here. here)
+from_place bound n low (suc at) (range ∷ others) apart below above = grind (
+  arith,
+  apart,
+  from_place bound n (range.end + 1) at others apart.2 below above,
+  from_there (range.end + 1) at others,
+)
 
--- the first of some ranges begins above x
-abbrev pub BeginsAbove : ℕ → Ranges → Type 0
-BeginsAbove x [] = Unit {0}
-BeginsAbove x (range ∷ others) = x < range.start
+-- what comes and what goes where ranges change, of which `n` may be
+module _ (n bound more : ℕ) (Comes Goes : Type 0) (from : Goes → bound ≤ n + 1) where
+  abbrev pub Changes : ℕ → Ranges → Ranges → Type 0
+  Changes low old new = (InRanges new n ↔ Comes ⊎ (InRanges old n × ¬ Goes)) × AreApart low new
+      × (length new ≤ length old + more)
 
-apart_raised : (low x : ℕ) (ranges : Ranges) → BeginsAbove x ranges → AreApart low ranges → AreApart (x + 1) ranges
-unfolding AreApart
-apart_raised low x [] above apart = tt
-apart_raised low x (range ∷ others) above apart = (let h : x < range.start = above in omega arith, apart.1, apart.2)
+  pub changed : (edit : ℕ → Ranges → Ranges) → ((at : ℕ) (range : Range ℕ) (others : Ranges)
+      → range.start < range.end → range.end < bound → edit (suc at) (range ∷ others) ≡ range ∷ edit at others)
+      → (low at : ℕ) (ranges : Ranges) → AreApart low ranges → floor_above low (take at ranges) ≤ bound
+      → at ≤ length ranges
+      → Changes (floor_above low (take at ranges)) (drop at ranges) (edit 0 (drop at ranges))
+      → Changes low ranges (edit at ranges)
+  unfolding InRanges AreApart floor_above
+  changed edit passes low zero ranges apart below within change = change
+  changed edit passes low (suc at) [] apart below within change = absurd (omega arith)
+  changed edit passes low (suc at) (range ∷ others) apart below within change =
+      let grows = from_there (range.end + 1) at others apart.2 in rw (passes at range others apart.1 (omega arith))
+      (grind (arith, apart, from, grows, changed edit passes (range.end + 1) at others apart.2 below (omega arith)
+      change))
+
+-- what is left of the ranges from one of them on
+pub drop_at : {seen ranges : Ranges} (at : ℕ) (range : Range ℕ) → seen ≡ ranges → at ≤ length seen
+    → ¬ (at ≡ length seen) → range ≡ get_or ranges at range → drop at ranges ≡ range ∷ drop (suc at) ranges
+drop_at {seen} {ranges} at range same bound inside is =
+    let e : length seen ≡ length ranges = ap length same in
+    drop-cons ranges at range (omega arith) ∙ ap (λ (r : Range ℕ). r ∷ drop (suc at) ranges) (sym is)
+
+-- two reads at one place
+pub same_read : {seen ranges : Ranges} {at : ℕ} {first second : Range ℕ} → seen ≡ ranges → at ≤ length seen
+    → ¬ (at ≡ length seen) → first ≡ get_or ranges at first → second ≡ get_or ranges at second → first ≡ second
+same_read {seen} {ranges} {at} {first} {second} same bound inside is also =
+    let e : length seen ≡ length ranges = ap length same in
+    is ∙ get_or_default ranges at first second (omega arith) ∙ sym also
 
 -- ---- one number more
 
--- some ranges stand for others with the number
-replaced : (before old new after : Ranges) (x : ℕ) → AreApart 0 (before ++ (old ++ after))
-    → AreApart (floor_above 0 before) (new ++ after) → ((n : ℕ) → InRanges new n ↔ With x (InRanges old) n)
-    → length new ≤ length old + 1 → (¬ InRanges (before ++ (old ++ after)) x)
-    → InsertsOne (before ++ (old ++ after)) x true (before ++ (new ++ after))
-replaced before old new after x apart fits numbers few absent = record {
-  answer = absent;
-  numbers = λ n.
-      let is = numbers n in
-      let now = in_both before (new ++ after) n in
-      let then = in_both before (old ++ after) n in
-      let news = in_both new after n in
-      let olds = in_both old after n in
-      (λ here. grind (arith, here, is, now, then, news, olds), λ here. grind (arith, here, is, now, then, news, olds));
-  apart = apart_joined 0 before (new ++ after) (apart_left 0 before (old ++ after) apart) fits;
-  count = simp length-append (omega arith);
-}
+module _ {seen ranges : Ranges} {x at : ℕ} (apart : AreApart 0 ranges) (same : seen ≡ ranges)
+    (place : IsPlace seen x at)
+  where
+    here : IsPlace ranges x at
+    here = rw same at place
 
-absent_from : (before after : Ranges) (x : ℕ) → floor_above 0 before ≤ x → AreApart 0 (before ++ after)
-    → ¬ InRanges after x → ¬ InRanges (before ++ after) x
-absent_from before after x low apart absent here = elim (in_joined before after x here) [
-  | inl h ↦ let b : x < floor_above 0 before = in_below 0 before x (apart_left 0 before after apart) h in omega arith
-  | inr h ↦ absent h
-]
+    low : ℕ
+    low = floor_above 0 (take at ranges)
 
-absent_above : (low : ℕ) (ranges : Ranges) (x : ℕ) → x < low → AreApart low ranges → ¬ InRanges ranges x
-absent_above low ranges x less apart here = let h : low ≤ x = in_above low ranges x apart here in omega arith
+    -- what an insertion has to do from the place on
+    abbrev Local : Bool → Ranges → Ranges → Type 0
+    Local some old new = low ≤ x → AreApart low old → EndsFrom x old → (n : ℕ) → (some ≡ true → ¬ InRanges old x)
+        × (some ≡ false → InRanges old x) × Changes n x 1 (n ≡ x) ⊥ (λ goes. absurd goes) low old new
 
-module _ (before : Ranges) (x : ℕ) (low : floor_above 0 before ≤ x) where
-  pub adds_alone : (after : Ranges) → AreApart 0 (before ++ after) → BeginsAbove (x + 1) after
-      → InsertsOne (before ++ after) x true (before ++ (span x (x + 1) ∷ after))
-  unfolding AreApart InRanges
-  adds_alone after apart above = replaced before [] (span x (x + 1) ∷ []) after x apart
-      (low, omega arith, apart_raised (floor_above 0 before) (x + 1) after above (apart_right 0 before after apart))
-      (λ n. (λ here. grind (arith, here), λ here. grind (arith, here))) (omega arith)
-      (absent_from before after x low apart
-      (absent_above (x + 1 + 1) after x (omega arith) (apart_raised (floor_above 0 before) (x + 1) after above
-      (apart_right 0 before after apart))))
-
-  pub adds_below : (range : Range ℕ) (after : Ranges) → AreApart 0 (before ++ (range ∷ after)) → x + 1 ≡ range.start
-      → InsertsOne (before ++ (range ∷ after)) x true (before ++ (span x range.end ∷ after))
-  unfolding AreApart InRanges
-  adds_below range after apart touches = replaced before (range ∷ []) (span x range.end ∷ []) after x apart
-      (low, (let h : range.start < range.end = right.1 in omega arith), right.2)
-      (λ n.
-      let filled = right.1 in
-      (λ here. grind (arith, here, touches), λ here. grind (arith, here, touches, filled)))
-      (omega arith) (absent_from before (range ∷ after) x low apart
-      (absent_above (x + 1) (range ∷ after) x (omega arith) (omega arith, right.1, right.2)))
-    where
-      right : AreApart (floor_above 0 before) (range ∷ after)
-      right = apart_right 0 before (range ∷ after) apart
-
-  pub adds_above : (range : Range ℕ) (after : Ranges) → AreApart 0 (before ++ (range ∷ after)) → range.end ≡ x
-      → BeginsAbove (x + 1) after
-      → InsertsOne (before ++ (range ∷ after)) x true (before ++ (span range.start (x + 1) ∷ after))
-  unfolding AreApart InRanges
-  adds_above range after apart touches above = replaced before (range ∷ []) (span range.start (x + 1) ∷ []) after x
-      apart (
-        right.0,
-        (let h : range.start < range.end = right.1 in omega arith),
-        apart_raised (range.end + 1) (x + 1) after above right.2,
-      )
-      (λ n.
-      let filled = right.1 in
-      (λ here. grind (arith, here, touches), λ here. grind (arith, here, touches, filled)))
-      (omega arith)
-      (absent_from before (range ∷ after) x low apart absent)
-    where
-      right : AreApart (floor_above 0 before) (range ∷ after)
-      right = apart_right 0 before (range ∷ after) apart
-
-      absent : ¬ InRanges (range ∷ after) x
-      absent here =
-          let behind = absent_above (range.end + 1) after x (omega arith) right.2 in
-          grind (arith, here, touches, behind)
-
-  pub adds_joining : (range next : Range ℕ) (after : Ranges) → AreApart 0 (before ++ (range ∷ next ∷ after))
-      → range.end ≡ x → next.start ≡ x + 1
-      → InsertsOne (before ++ (range ∷ next ∷ after)) x true (before ++ (span range.start next.end ∷ after))
-  unfolding AreApart InRanges
-  adds_joining range next after apart touches follows = replaced before (range ∷ next ∷ [])
-      (span range.start next.end ∷ []) after x apart (
-        right.0,
-        (let h : range.start < range.end = right.1 in let k : next.start < next.end = right.2.1 in omega arith),
-        right.2.2,
-      )
-      (λ n.
-      let filled = right.1 in
-      let follows_it = right.2.1 in (
-        λ here. grind (arith, here, touches, follows),
-        λ here. grind (arith, here, touches, follows, filled, follows_it),
-      ))
-      (omega arith) (absent_from before (range ∷ next ∷ after) x low apart absent)
-    where
-      right : AreApart (floor_above 0 before) (range ∷ next ∷ after)
-      right = apart_right 0 before (range ∷ next ∷ after) apart
-
-      absent : ¬ InRanges (range ∷ next ∷ after) x
-      absent here =
-          let behind = absent_above (range.end + 1) (next ∷ after) x (omega arith) right.2 in
-          grind (arith, here, touches, behind)
-
-  pub known : (range : Range ℕ) (after : Ranges) → AreApart 0 (before ++ (range ∷ after)) → range.start ≤ x
-      → x < range.end → InsertsOne (before ++ (range ∷ after)) x false (before ++ (range ∷ after))
-  unfolding AreApart InRanges
-  known range after apart from to = record {
-    answer = here;
-    numbers = λ n. (
-      λ there. inr there,
-      λ with_x. elim with_x
-          [ inl same ↦ subst (λ k. InRanges (before ++ (range ∷ after)) k) (sym same) here | inr there ↦ there ],
-    );
-    apart = apart;
-    count = omega arith;
-  }
-    where
-      here : InRanges (before ++ (range ∷ after)) x
-      here = in_right before (range ∷ after) x (inl (from, to))
-
--- ---- by places
-
-module _ (ranges : Ranges) (x at : ℕ) (apart : AreApart 0 ranges) (place : IsPlace ranges x at) where
-  pub inserts_last : at ≡ length ranges → InsertsOne ranges x true (ranges ++ span x (x + 1) ∷ [])
-  inserts_last last =
-      let all : take at ranges ≡ ranges = take_all at ranges (omega arith) in
-      let none : ranges ++ [] ≡ ranges = append-nil ranges in
-      let low : floor_above 0 ranges ≤ x = subst (λ (rs : Ranges). floor_above 0 rs ≤ x) all place.below in
-      subst (λ (rs : Ranges). InsertsOne rs x true (ranges ++ span x (x + 1) ∷ [])) none
-      (adds_alone ranges x low [] (subst (λ (rs : Ranges). AreApart 0 rs) (sym none) apart) tt)
-
-  module _ (range : Range ℕ) (within : at < length ranges) (is : range ≡ get_or ranges at range) where
-    before : Ranges
-    before = take at ranges
-
-    after : Ranges
-    after = drop (suc at) ranges
-
-    split : before ++ (range ∷ after) ≡ ranges
-    unfolding before after
-    split = ap (λ (r : Range ℕ). take at ranges ++ (r ∷ drop (suc at) ranges)) is
-        ∙ ap (λ (rs : Ranges). take at ranges ++ rs) (sym (drop-cons ranges at range within))
-        ∙ take-append-drop at ranges
-
-    apart_split : AreApart 0 (before ++ (range ∷ after))
-    apart_split = subst (λ (rs : Ranges). AreApart 0 rs) (sym split) apart
-
-    written : (new : Range ℕ) → before ++ (new ∷ after) ≡ set ranges at new
-    unfolding before after
-    written new = sym (set_split ranges at new within)
-
-    moved : (some : Bool) (new : Range ℕ) → InsertsOne (before ++ (range ∷ after)) x some (before ++ (new ∷ after))
-        → InsertsOne ranges x some (set ranges at new)
-    moved some new inserted = subst (λ (rs : Ranges). InsertsOne ranges x some rs) (written new)
-        (subst (λ (rs : Ranges). InsertsOne rs x some (before ++ (new ∷ after))) split inserted)
-
-    low : floor_above 0 before ≤ x
-    unfolding before
-    low = place.below
-
-    pub inserts_known : range.start ≤ x → x < range.end → InsertsOne ranges x false ranges
-    inserts_known from to =
-        subst (λ (rs : Ranges). InsertsOne rs x false rs) split (known before x low range after apart_split from to)
-
-    pub inserts_between : x + 1 < range.start → InsertsOne ranges x true (insert ranges at (span x (x + 1)))
-    unfolding before
-    inserts_between above = subst (λ (rs : Ranges). InsertsOne rs x true (insert ranges at (span x (x + 1))))
-        (take-append-drop at ranges) (adds_alone (take at ranges) x low (drop at ranges)
-        (subst (λ (rs : Ranges). AreApart 0 rs) (sym (take-append-drop at ranges)) apart) begins)
+    inserted : (some : Bool) (edit : ℕ → Ranges → Ranges) → ((at : ℕ) (range : Range ℕ) (others : Ranges)
+        → edit (suc at) (range ∷ others) ≡ range ∷ edit at others) → (old : Ranges) → drop at ranges ≡ old
+        → Local some old (edit 0 old) → InsertsOne ranges x some (edit at ranges)
+    unfolding low
+    inserted some edit passes old is local = record {
+      answer = answer some (told 0).0 (told 0).1;
+      numbers = λ n. grind (arith, all n);
+      apart = (all 0).1;
+      count = (all 0).2;
+    }
       where
-        begins : BeginsAbove (x + 1) (drop at ranges)
-        begins = subst (λ (rs : Ranges). BeginsAbove (x + 1) rs)
-            (ap (λ (r : Range ℕ). r ∷ drop (suc at) ranges) is ∙ sym (drop-cons ranges at range within)) above
+        told : (n : ℕ) → (some ≡ true → ¬ InRanges (drop at ranges) x) × (some ≡ false → InRanges (drop at ranges) x)
+            × Changes n x 1 (n ≡ x) ⊥ (λ goes. absurd goes) low (drop at ranges) (edit 0 (drop at ranges))
+        told = (subst (λ (rs : Ranges). Local some rs (edit 0 rs)) (sym is) local) here.below
+            (from_there 0 at ranges apart).1 here.above
 
-    pub inserts_below : x + 1 ≡ range.start → InsertsOne ranges x true (set ranges at (span x range.end))
-    inserts_below touches = moved true (span x range.end) (adds_below before x low range after apart_split touches)
+        all : (n : ℕ) → Changes n x 1 (n ≡ x) ⊥ (λ goes. absurd goes) 0 ranges (edit at ranges)
+        all n = changed n x 1 (n ≡ x) ⊥ (λ goes. absurd goes) edit (λ i range others _ _. passes i range others) 0 at
+            ranges apart here.below here.bound (told n).2
 
-    pub inserts_above : range.end ≡ x → BeginsAbove (x + 1) (drop (suc at) ranges)
-        → InsertsOne ranges x true (set ranges at (span range.start (x + 1)))
-    unfolding after
-    inserts_above touches above =
-        moved true (span range.start (x + 1)) (adds_above before x low range after apart_split touches above)
+        answer : (some : Bool) → (some ≡ true → ¬ InRanges (drop at ranges) x)
+            → (some ≡ false → InRanges (drop at ranges) x) → MatchBool some (¬ InRanges ranges x) (InRanges ranges x)
+        answer true none one = λ there. none refl ((from_place x x 0 at ranges apart here.below (omega arith)).0 there)
+        answer false none one = (from_place x x 0 at ranges apart here.below (omega arith)).1 (one refl)
 
-    -- the place tells that x ends the range where it lies past its start and not below its end
-    pub ends_at : range.end ≤ x → range.end ≡ x
-    ends_at past = let h : x ≤ range.end = subst (λ (rs : Ranges). EndsFrom x rs)
-        (sym (ap (λ (r : Range ℕ). r ∷ drop (suc at) ranges) is ∙ sym (drop-cons ranges at range within)))
-        place.above in omega arith
+    pub inserts_last : at ≡ length seen → InsertsOne ranges x true (ranges ++ span x (x + 1) ∷ [])
+    unfolding InRanges AreApart
+    inserts_last last = inserted true (λ i rs. rs ++ span x (x + 1) ∷ []) (λ i range others. refl) []
+        (drop_all at ranges (let e : length seen ≡ length ranges = ap length same in omega arith))
+        (λ below apart ends n. grind (arith, below))
 
-    pub inserts_joining : (next : Range ℕ) → at + 1 < length ranges → next ≡ get_or ranges (at + 1) next → range.end ≡ x
-        → next.start ≡ x + 1 → InsertsOne ranges x true (set (remove ranges (at + 1)) at (span range.start next.end))
-    unfolding before after
-    inserts_joining next within' is' touches follows =
-        subst (λ (rs : Ranges). InsertsOne ranges x true rs) (sym made)
-        (subst (λ (rs : Ranges). InsertsOne rs x true (before
-        ++ (span range.start next.end ∷ (drop (suc (suc at)) ranges)))) whole
-        (adds_joining before x low range next (drop (suc (suc at)) ranges)
-        (subst (λ (rs : Ranges). AreApart 0 rs) (sym whole) apart) touches follows))
-      where
-        inside : suc at < length ranges
-        inside = omega arith
+    -- `range` and `other` are two reads of the range at the place
+    module _ {range other : Range ℕ} (inside : ¬ (at ≡ length seen)) (is : range ≡ get_or ranges at range)
+        (also : other ≡ get_or ranges at other) where
+      after : Ranges
+      after = drop (suc at) ranges
 
-        is_suc : next ≡ get_or ranges (suc at) next
-        is_suc = is' ∙ ap (λ i. get_or ranges i next) (add-one at)
+      rest : drop at ranges ≡ range ∷ after
+      unfolding after
+      rest = drop_at at range same place.bound inside is
 
-        tail_is : next ∷ drop (suc (suc at)) ranges ≡ drop (suc at) ranges
-        tail_is = ap (λ (r : Range ℕ). r ∷ drop (suc (suc at)) ranges) is_suc
-            ∙ sym (drop-cons ranges (suc at) next inside)
+      as_other : range ≡ other
+      as_other = same_read same place.bound inside is also
 
-        whole : before ++ (range ∷ next ∷ (drop (suc (suc at)) ranges)) ≡ ranges
-        whole = ap (λ (rs : Ranges). before ++ (range ∷ rs)) tail_is ∙ split
+      pub inserts_known : range.start ≤ x → x < other.end → InsertsOne ranges x false ranges
+      unfolding InRanges AreApart
+      inserts_known from to = inserted false (λ i rs. rs) (λ i range others. refl) (range ∷ after) rest
+          (λ below apart ends n. grind (arith, apart, from, to, as_other))
 
-        front : take (at + 1) ranges ≡ before ++ (range ∷ [])
-        front = ap (λ i. take i ranges) (add-one at) ∙ take-suc ranges at range within
-            ∙ ap (λ (r : Range ℕ). take at ranges ++ (r ∷ [])) (sym is)
+      pub inserts_between : x + 1 < range.start → InsertsOne ranges x true (insert ranges at (span x (x + 1)))
+      unfolding InRanges AreApart
+      inserts_between above = inserted true (λ i rs. insert rs i (span x (x + 1))) (λ i range others. refl)
+          (range ∷ after) rest
+          (λ below apart ends n. grind (arith, below, apart, above, in_above (range.end + 1) after x))
 
-        left : remove ranges (at + 1) ≡ before ++ (range ∷ (drop (suc (suc at)) ranges))
-        left = ap (λ (rs : Ranges). rs ++ drop (suc (at + 1)) ranges) front
-            ∙ append_assoc before (range ∷ []) (drop (suc (at + 1)) ranges)
-            ∙ ap (λ i. before ++ (range ∷ drop (suc i) ranges)) (add-one at)
+      pub inserts_below : x + 1 ≡ other.start → InsertsOne ranges x true (set ranges at (span x range.end))
+      unfolding InRanges AreApart
+      inserts_below touches = inserted true (λ i rs. set rs i (span x range.end)) (λ i range others. refl)
+          (range ∷ after) rest
+          (λ below apart ends n. grind (arith, below, apart, touches, as_other, in_above (range.end + 1) after x))
 
-        made : set (remove ranges (at + 1)) at (span range.start next.end) ≡ before
-            ++ (span range.start next.end ∷ (drop (suc (suc at)) ranges))
-        made = ap (λ (rs : Ranges). set rs at (span range.start next.end)) left
-            ∙ set_at before range (drop (suc (suc at)) ranges) (span range.start next.end) at
-            (length-take-le at ranges (omega arith))
+      module _ (past : other.end ≤ x) where
+        rest_two : (next : Range ℕ) → at + 1 < length seen → next ≡ get_or ranges (at + 1) next
+            → drop at ranges ≡ range ∷ next ∷ drop (suc (suc at)) ranges
+        unfolding after
+        rest_two next within is' = let e : length seen ≡ length ranges = ap length same in
+            rest ∙ ap (λ (rs : Ranges). range ∷ rs) (drop_at (suc at) next same (omega arith) (omega arith)
+            (is' ∙ ap (λ i. get_or ranges i next) (add-one at)))
 
-    pub none_begins : length ranges ≤ at + 1 → BeginsAbove (x + 1) (drop (suc at) ranges)
-    none_begins past = subst (λ (rs : Ranges). BeginsAbove (x + 1) rs) (sym (drop_all (suc at) ranges (omega arith))) tt
+        -- no range joins it from above
+        pub inserts_above : (length seen ≤ at + 1) ⊎ ((next : Range ℕ) × (at + 1 < length seen)
+            × (next ≡ get_or ranges (at + 1) next) × (¬ (next.start ≡ x + 1)))
+            → InsertsOne ranges x true (set ranges at (span range.start (x + 1)))
+        unfolding InRanges AreApart after
+        inserts_above (inl last) = let e : length seen ≡ length ranges = ap length same in
+            inserted true (λ i rs. set rs i (span range.start (x + 1))) (λ i range others. refl) (range ∷ [])
+            (rest ∙ ap (λ (rs : Ranges). range ∷ rs) (drop_all (suc at) ranges (omega arith)))
+            (λ below apart ends n. grind (arith, below, apart, past, as_other))
+        inserts_above (inr next) = let alone = next.3 in
+            inserted true (λ i rs. set rs i (span range.start (x + 1))) (λ i range others. refl)
+            (range ∷ next.0 ∷ drop (suc (suc at)) ranges) (rest_two next.0 next.1 next.2)
+            (λ below apart ends n. grind (
+              arith,
+              below,
+              apart,
+              past,
+              as_other,
+              alone,
+              in_above (next.0.end + 1) (drop (suc (suc at)) ranges) x,
+            ))
 
-    pub next_begins : (next : Range ℕ) → at + 1 < length ranges → next ≡ get_or ranges (at + 1) next → range.end ≡ x
-        → ¬ (next.start ≡ x + 1) → BeginsAbove (x + 1) (drop (suc at) ranges)
-    unfolding after AreApart
-    next_begins next within' is' touches other = subst (λ (rs : Ranges). BeginsAbove (x + 1) rs) tail_is past
-      where
-        is_suc : next ≡ get_or ranges (suc at) next
-        is_suc = is' ∙ ap (λ i. get_or ranges i next) (add-one at)
-
-        tail_is : next ∷ drop (suc (suc at)) ranges ≡ drop (suc at) ranges
-        tail_is = ap (λ (r : Range ℕ). r ∷ drop (suc (suc at)) ranges) is_suc
-            ∙ sym (drop-cons ranges (suc at) next (omega arith))
-
-        behind : AreApart (range.end + 1) (next ∷ drop (suc (suc at)) ranges)
-        behind = subst (λ (rs : Ranges). AreApart (range.end + 1) rs) (sym tail_is)
-            (apart_right 0 before (range ∷ after) apart_split).2
-
-        past : x + 1 < next.start
-        past = let h : range.end + 1 ≤ next.start = behind.0 in omega (arith, other)
+        pub inserts_joining : (next : Range ℕ) → at + 1 < length seen → next ≡ get_or ranges (at + 1) next
+            → next.start ≡ x + 1 → InsertsOne ranges x true (set (remove ranges (at + 1)) at
+            (span range.start next.end))
+        unfolding InRanges AreApart
+        inserts_joining next within is' follows =
+            inserted true (λ i rs. set (remove rs (i + 1)) i (span range.start next.end))
+            (λ i range others. let e : suc i + 1 ≡ suc (i + 1) = omega arith in rw e refl)
+            (range ∷ next ∷ drop (suc (suc at)) ranges) (rest_two next within is')
+            (λ below apart ends n. grind (
+              arith,
+              below,
+              apart,
+              past,
+              as_other,
+              follows,
+              in_above (next.end + 1) (drop (suc (suc at)) ranges) x,
+            ))
 
 -- ---- the place of a number
 
-ends_below : (low x : ℕ) (ranges : Ranges) (i : ℕ) → low ≤ x → i ≤ length ranges
-    → ((k : ℕ) (d : Range ℕ) → k < i → (get_or ranges k d).end < x) → floor_above low (take i ranges) ≤ x
-unfolding floor_above
-ends_below low x ranges zero less within below = less
-ends_below low x [] (suc i) less within below = less
-ends_below low x (range ∷ others) (suc i) less within below = ends_below (range.end + 1) x others i
-    (let h : range.end < x = below 0 range (omega arith) in omega arith) (omega arith)
-    (λ k d here. below (suc k) d (omega arith))
+-- the range at a place
+at_range : (low i : ℕ) (ranges : Ranges) (d : Range ℕ) → AreApart low ranges → i < length ranges
+    → (floor_above low (take i ranges) ≤ (get_or ranges i d).start)
+    × ((get_or ranges i d).start < (get_or ranges i d).end)
+    × (floor_above low (take (suc i) ranges) ≡ (get_or ranges i d).end + 1)
+unfolding AreApart floor_above
+at_range low i [] d apart within = absurd (omega arith)
+at_range low zero (range ∷ others) d apart within = (apart.0, apart.1, refl)
+at_range low (suc i) (range ∷ others) d apart within = at_range (range.end + 1) i others d apart.2 (omega arith)
 
-ends_from : (x : ℕ) (ranges : Ranges) (i : ℕ)
-    → ((k : ℕ) (d : Range ℕ) → i ≤ k → k < length ranges → x ≤ (get_or ranges k d).end) → EndsFrom x (drop i ranges)
-ends_from x [] zero above = tt
-ends_from x (range ∷ others) zero above = above 0 range (omega arith) (omega arith)
-ends_from x [] (suc i) above = tt
-ends_from x (range ∷ others) (suc i) above =
-    ends_from x others i (λ k d from within. above (suc k) d (omega arith) (omega arith))
-
-in_order : (low : ℕ) (ranges : Ranges) → AreApart low ranges → (j : ℕ) (d : Range ℕ) → j < length ranges
-    → low < (get_or ranges j d).end
-unfolding AreApart
-in_order low [] apart j d within = absurd (omega arith)
-in_order low (range ∷ others) apart zero d within = let a : low ≤ range.start =
-    apart.0 in let b : range.start < range.end = apart.1 in omega arith
-in_order low (range ∷ others) apart (suc j) d within =
-    let a : low ≤ range.start = apart.0 in
-    let b : range.start < range.end = apart.1 in
-    let c : range.end + 1 < (get_or others j d).end = in_order (range.end + 1) others apart.2 j d (omega arith) in
-    omega arith
+ends_from : (x i : ℕ) (ranges : Ranges) (d : Range ℕ) → (i < length ranges → x ≤ (get_or ranges i d).end)
+    → EndsFrom x (drop i ranges)
+ends_from x zero [] d above = tt
+ends_from x (suc i) [] d above = tt
+ends_from x zero (range ∷ others) d above = above (omega arith)
+ends_from x (suc i) (range ∷ others) d above = ends_from x i others d (λ within. above (omega arith))
 
 ends_rise : (low : ℕ) (ranges : Ranges) → AreApart low ranges → IsNonDecreasingBy (λ (r : Range ℕ). r.end) ranges
 unfolding AreApart
 ends_rise low [] apart i j d less within = absurd (omega arith)
 ends_rise low (range ∷ others) apart zero zero d less within = omega arith
-ends_rise low (range ∷ others) apart zero (suc j) d less within = let h : range.end + 1 < (get_or others j d).end =
-    in_order (range.end + 1) others apart.2 j d (omega arith) in omega arith
+ends_rise low (range ∷ others) apart zero (suc j) d less within =
+    grind (arith, apart, from_there (range.end + 1) j others, at_range (range.end + 1) j others d apart.2)
 ends_rise low (range ∷ others) apart (suc i) zero d less within = absurd (omega arith)
 ends_rise low (range ∷ others) apart (suc i) (suc j) d less within =
     ends_rise (range.end + 1) others apart.2 i j d (omega arith) (omega arith)
@@ -399,89 +241,68 @@ ends_rise low (range ∷ others) apart (suc i) (suc j) d less within =
 pub ends_parted : (ranges : Ranges) (x : ℕ) → AreApart 0 ranges → IsPartitionedBy (λ (r : Range ℕ). ltb r.end x) ranges
 ends_parted ranges x apart = IsPartitionedBy-ltb (λ (r : Range ℕ). r.end) ranges x (ends_rise 0 ranges apart)
 
-pub place_is : (ranges : Ranges) (x at : ℕ) → at ≤ length ranges
+pub place_is : (ranges : Ranges) (x at : ℕ) → AreApart 0 ranges → at ≤ length ranges
     → IsPartitionPoint (λ (r : Range ℕ). ltb r.end x ≡ true) (λ (r : Range ℕ). ltb r.end x ≡ false) ranges at
     → IsPlace ranges x at
-place_is ranges x at within parts = record {
-  bound = within;
-  below = ends_below 0 x ranges at (omega arith) within
-      (λ k d here. ltb-true (get_or ranges k d).end x (parts.0 k d (omega arith) here));
-  above = ends_from x ranges at (λ k d from inside. ltb-false (get_or ranges k d).end x (parts.1 k d from inside));
-}
-
-starts_from : (low : ℕ) (ranges : Ranges) → AreApart low ranges → (j : ℕ) (d : Range ℕ) → j < length ranges
-    → low ≤ (get_or ranges j d).start
-unfolding AreApart
-starts_from low [] apart j d within = absurd (omega arith)
-starts_from low (range ∷ others) apart zero d within = apart.0
-starts_from low (range ∷ others) apart (suc j) d within =
-    let a : low ≤ range.start = apart.0 in
-    let b : range.start < range.end = apart.1 in
-    let c : range.end + 1 ≤ (get_or others j d).start = starts_from (range.end + 1) others apart.2 j d (omega arith) in
-    omega arith
-
--- a range ends before a later one begins
-ends_before : (low : ℕ) (ranges : Ranges) → AreApart low ranges → (i j : ℕ) (d : Range ℕ) → i < j → j < length ranges
-    → (get_or ranges i d).end < (get_or ranges j d).start
-unfolding AreApart
-ends_before low [] apart i j d less within = absurd (omega arith)
-ends_before low (range ∷ others) apart i zero d less within = absurd (omega arith)
-ends_before low (range ∷ others) apart zero (suc j) d less within = let h : range.end + 1 ≤ (get_or others j d).start =
-    starts_from (range.end + 1) others apart.2 j d (omega arith) in omega arith
-ends_before low (range ∷ others) apart (suc i) (suc j) d less within =
-    ends_before (range.end + 1) others apart.2 i j d (omega arith) (omega arith)
-
--- where there is no range, the place is the first
-pub place_of_none : (ranges : Ranges) (x : ℕ) → slice_get ranges (length ranges - 1) ≡ None → IsPlace ranges x 0
 unfolding floor_above
-place_of_none ranges x none =
-    record {
-      bound = omega arith;
-      below = omega arith;
-      above = ends_from x ranges 0 (λ k d from within. absurd (present k d within));
-    }
+place_is ranges x at apart within parts = record {
+  bound = within;
+  below = below at within parts.0;
+  above = ends_from x at ranges (span 0 0)
+      (λ inside. grind (arith, nat_tests, parts.1 at (span 0 0) (omega arith) inside));
+}
   where
-    present : (k : ℕ) (d : Range ℕ) → k < length ranges → ⊥
-    present k d within = let h : slice_get ranges (length ranges - 1)
-        ≡ Some (get_or ranges (length ranges - 1) d) = slice_get-get_or ranges (length ranges - 1) d (omega arith) in cc
+    below : (i : ℕ) → i ≤ length ranges → ((k : ℕ) (d : Range ℕ) → 0 ≤ k → k < i → ltb (get_or ranges k d).end x ≡ true)
+        → floor_above 0 (take i ranges) ≤ x
+    below zero within parts = omega arith
+    below (suc i) within parts = grind (
+      arith,
+      nat_tests,
+      at_range 0 i ranges (span 0 0) apart,
+      parts i (span 0 0) (omega arith) (omega arith),
+    )
 
--- where the last range ends below x, the place is behind it
-pub place_behind : (ranges : Ranges) (x : ℕ) (last : Range ℕ) → AreApart 0 ranges
-    → slice_get ranges (length ranges - 1) ≡ Some last → last.end < x → IsPlace ranges x (length ranges)
-place_behind ranges x last apart is above = record {
-  bound = omega arith;
-  below = ends_below 0 x ranges (length ranges) (omega arith) (omega arith) (λ k d here.
-      let e : (get_or ranges (length ranges - 1) d).end ≡ last.end =
-      ap (λ (r : Range ℕ). r.end) (get_or_from_slice_get ranges (length ranges - 1) last d is) in
-      let h : (get_or ranges k d).end ≤ (get_or ranges (length ranges - 1) d).end = ends_rise 0 ranges apart k
-      (length ranges - 1) d (omega arith) (omega arith) in
-      omega arith);
-  above = subst (λ (rs : Ranges). EndsFrom x rs) (sym (drop_all (length ranges) ranges (omega arith))) tt;
-}
+some_last : (ranges : Ranges) (last : Range ℕ) → slice_get ranges (length ranges - 1) ≡ Some last → 0 < length ranges
+some_last [] last is = absurd cc
+some_last (range ∷ others) last is = omega arith
 
--- where x lies in the last range or at its end, the place is that one
-pub place_in_last : (ranges : Ranges) (x : ℕ) (last : Range ℕ) → AreApart 0 ranges
-    → slice_get ranges (length ranges - 1) ≡ Some last → last.start ≤ x → x ≤ last.end
-    → IsPlace ranges x (length ranges - 1)
-place_in_last ranges x last apart is from to = record {
-  bound = omega arith;
-  below = ends_below 0 x ranges (length ranges - 1) (omega arith) (omega arith) (λ k d here.
-      let e : (get_or ranges (length ranges - 1) d).start ≡ last.start = ap (λ (r : Range ℕ). r.start)
-      (get_or_from_slice_get ranges (length ranges - 1) last d is) in
-      let h : (get_or ranges k d).end < (get_or ranges (length ranges - 1) d).start =
-      ends_before 0 ranges apart k (length ranges - 1) d here (omega arith) in
-      omega arith);
-  above = ends_from x ranges (length ranges - 1) (λ k d past within.
-      let at : k ≡ length ranges - 1 = omega arith in
-      let e : (get_or ranges k d).end ≡ last.end = ap (λ i. (get_or ranges i d).end) at
-      ∙ ap (λ (r : Range ℕ). r.end) (get_or_from_slice_get ranges (length ranges - 1) last d is) in
-      omega arith);
-}
+-- what the last range tells of the place
+module _ (ranges : Ranges) (x : ℕ) where
+  -- where there is none, the place is the first
+  pub place_of_none : slice_get ranges (length ranges - 1) ≡ None → IsPlace ranges x 0
+  unfolding floor_above
+  place_of_none none = record {
+    bound = omega arith;
+    below = omega arith;
+    above = ends_from x 0 ranges (span 0 0) (λ within. let h : slice_get ranges (length ranges - 1)
+        ≡ Some (get_or ranges (length ranges - 1) (span 0 0)) = slice_get-get_or ranges (length ranges - 1)
+        (span 0 0) (omega arith) in absurd cc);
+  }
 
--- two reads at one place
-pub same_read : (ranges : Ranges) (at : ℕ) (first second : Range ℕ) → at < length ranges
-    → first ≡ get_or ranges at first → second ≡ get_or ranges at second → first ≡ second
-same_read ranges at first second within a b = a ∙ get_or_default ranges at first second within ∙ sym b
+  module _ (last : Range ℕ) (apart : AreApart 0 ranges) (is : slice_get ranges (length ranges - 1) ≡ Some last) where
+    last_at : (floor_above 0 (take (length ranges - 1) ranges) ≤ last.start)
+        × (last.start < last.end)
+        × (floor_above 0 (take (suc (length ranges - 1)) ranges) ≡ last.end + 1)
+    last_at = rw (get_or_from_slice_get ranges (length ranges - 1) last last is) at
+        (at_range 0 (length ranges - 1) ranges last apart (omega (arith, some_last ranges last is)))
+
+    -- where it ends below x, the place is behind it
+    pub place_behind : last.end < x → IsPlace ranges x (length ranges)
+    place_behind above = record {
+      bound = omega arith;
+      below = let e : suc (length ranges - 1) ≡ length ranges = omega (arith, some_last ranges last is) in
+          let at : floor_above 0 (take (length ranges) ranges) ≡ last.end + 1 = rw e at last_at.2 in omega arith;
+      above = rw (drop_all (length ranges) ranges (omega arith)) tt;
+    }
+
+    -- where x lies in it or at its end, the place is that one
+    pub place_in_last : last.start ≤ x → x ≤ last.end → IsPlace ranges x (length ranges - 1)
+    place_in_last from to = record {
+      bound = omega arith;
+      below = omega (arith, last_at);
+      above = ends_from x (length ranges - 1) ranges last (λ within. rw
+          (get_or_from_slice_get ranges (length ranges - 1) last last is) to);
+    }
 
 -- the ranges behind the first
 pub apart_dropped : (ranges : Ranges) → AreApart 0 ranges → AreApart 0 (drop 1 ranges)
@@ -493,7 +314,6 @@ pub is_empty_told : (ranges : Ranges) (low count : ℕ) → AreApart low ranges 
     → empty ≡ (count == 0) → MatchBool empty ((n : ℕ) → ¬ InRanges ranges n) ((n : ℕ) × InRanges ranges n)
 unfolding AreApart InRanges
 is_empty_told [] low count apart size true is = λ n here. here
-is_empty_told [] low count apart size false is = absurd (eqb-false count 0 (sym is) (sym size))
-is_empty_told (range ∷ others) low count apart size true is = let h : count ≡ 0 =
-    eqb-true count 0 (sym is) in absurd (omega arith)
+is_empty_told [] low count apart size false is = grind (arith, nat_tests, is, size)
+is_empty_told (range ∷ others) low count apart size true is = grind (arith, nat_tests, is, size)
 is_empty_told (range ∷ others) low count apart size false is = (range.start, inl (omega arith, apart.1))

@@ -6,7 +6,7 @@ use Rattle.recovery_base.proofs.RangeLaws.{place_is, ends_parted, place_of_none,
 use Rattle.recovery_base.proofs.below.ranges.place.Goals as goal
 
 pub returns : goal.returns
-returns c = place_is c.args.ranges.now c.args.x c.partition_point.result c.partition_point.ensures.bound
+returns c = place_is c.args.ranges.now c.args.x c.partition_point.result c.requires c.partition_point.ensures.bound
     (IsPartitionPoint-from_clause (λ (r : Range ℕ). nat_lt r.end c.args.x) c.args.ranges.now c.partition_point.result
     c.partition_point.ensures.partitioned (ends_parted c.args.ranges.now c.args.x c.requires)
     (λ a r f' called. search rules))
@@ -17,7 +17,8 @@ returns-in_default c =
 
 pub returns-then-last-x : goal.returns-then-last-x
 returns-then-last-x c =
-    place_behind c.args.ranges.now c.args.x c.in-Some.last.now c.requires (sym c.in-Some.ensures.value) c.if-last-x.true
+    place_behind c.args.ranges.now c.args.x c.in-Some.last.now c.requires (sym c.in-Some.ensures.value)
+    c.if-last-x.true
 
 pub returns-then-last-x-2 : goal.returns-then-last-x-2
 returns-then-last-x-2 c = place_in_last c.args.ranges.now c.args.x c.in-Some.last.now c.requires
