@@ -27,8 +27,16 @@ module _ (n start end : ℕ) where
       → Cut 0 low (range ∷ others) (cond some (clipped start end range ∷ left) left)
   unfolding InRanges AreApart
   cut_one low range others left some short apart cut true is =
-      grind (arith, nat_tests, apart, short, is, cut, apart_lower (range.end + 1) ((clipped start end range).end + 1)
-          left)
+      grind (
+        arith,
+        nat_tests,
+        apart,
+        short,
+        is,
+        cut,
+        apart_lower (range.end + 1) ((clipped start end range).end + 1)
+            left,
+      )
   cut_one low range others left some short apart cut false is =
       grind (arith, nat_tests, apart, short, is, cut, apart_lower (range.end + 1) low left)
 

@@ -67,8 +67,14 @@ module _ (n bound more : ℕ) (Comes Goes : Type 0) (from : Goes → bound ≤ n
   changed edit passes low (suc at) [] apart below within change = absurd (omega arith)
   changed edit passes low (suc at) (range ∷ others) apart below within change =
       let grows = from_there (range.end + 1) at others apart.2 in rw (passes at range others apart.1 (omega arith))
-      (grind (arith, apart, from, grows, changed edit passes (range.end + 1) at others apart.2 below (omega arith)
-      change))
+      (grind (
+        arith,
+        apart,
+        from,
+        grows,
+        changed edit passes (range.end + 1) at others apart.2 below (omega arith)
+            change,
+      ))
 
 -- what is left of the ranges from one of them on
 pub drop_at : {seen ranges : Ranges} (at : ℕ) (range : Range ℕ) → seen ≡ ranges → at ≤ length seen
