@@ -53,7 +53,7 @@ pub stays_known : (Places Places' : ℕ → Type 0) (next next' number : ℕ) �
     ¬ IsNew (IsKnown Places next) n → ¬ IsNew (IsKnown Places' next') n
 stays_known Places Places' next next' number on below numbers n known new =
     let window : next' ≤ n + 129 → IsInWindow (With number (IsKnown Places next)) n = λ close m here. grind
-        (arith, here) in
+    (arith, here) in
     known (grind (arith, new_bounds Places' next' n new, (numbers n).1, window))
 
 -- ---- a number above all others

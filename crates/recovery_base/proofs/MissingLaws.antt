@@ -37,8 +37,11 @@ module _ (Numbers Known : ℕ → Type 0) (has_greatest : HasGreatest Numbers) (
     pub least_missing_back : (n low high : ℕ) (found : Option ℕ) → IsLeastMissing (With n Numbers) low high found
         → IsLeastMissing (With n Known) low high found
     least_missing_back n =
-        least_missing_by (With n Numbers) (With n Known) (λ m. grind (arith, missing_with Numbers Known has_greatest
-            left n m))
+        least_missing_by (With n Numbers) (With n Known) (λ m. grind (
+          arith,
+          missing_with Numbers Known has_greatest
+              left n m,
+        ))
 
 -- ---- numbers that were reached
 

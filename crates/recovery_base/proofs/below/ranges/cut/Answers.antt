@@ -1,11 +1,10 @@
-use Rattle.std.proofs.Common.{◌≡◌, ℕ, vec_len, ◌<◌, ◌≤◌, nat_lt, ◌++◌, map, take, drop, get_or, length, refl, ap, ◌∙◌, arith, rules}
+use Rattle.std.proofs.Common.{◌≡◌, ℕ, vec_len, ◌<◌, nat_lt, ◌++◌, map, take, drop, get_or, length, refl, ap, ◌∙◌, arith, rules}
 use Rattle.std.specs.declared.ops.Range.{Range}
 use Rattle.std.specs.List.{filter}
 use Rattle.std.proofs.lemmas.Fn.{filter_same}
 use Rattle.std.proofs.lemmas.List.{take_all, drop_all, append-nil, get_or_default}
 use Rattle.std.proofs.lemmas.List.Edits.{map_over_more}
 use Rattle.recovery_base.specs.Ranges.{clipped, is_some_range, span}
-use Rattle.recovery_base.proofs.RangeLaws.{Ranges}
 use Rattle.recovery_base.proofs.below.ranges.cut.Goals as goal
 
 pub loop-range-init : goal.loop-range-init
@@ -25,22 +24,15 @@ loop-range-preserved c =
 pub returns : goal.returns
 returns c =
     let items = c.args.ranges.now.items in
-    let cut = clipped c.args.start c.args.end in
-    let seen = c.deref_mut-range-items.result.now in
-    let past : length seen ≤ c.loop-range.range-index = c.loop-range-test.false in
     let now = c.loop-range.range-items in
-    let same : length now ≡ length seen = c.loop-range.auto.range-items in
-    let length_is : length seen ≡ vec_len c.args.ranges.now = c.deref_mut-range-items.ensures.len in
+    let at = c.loop-range.range-index in
+    let seen = c.deref_mut-range-items.result.now in
     let size : length seen ≡ length items = ap length c.deref_mut-range-items.ensures.value in
-    let kept = filter_same _ (λ (r : Range ℕ). nat_lt r.start r.end) _ (λ x b f h. search rules) _ _
-    c.retain.ensures.filtered in
-    let whole : take (vec_len c.args.ranges.now) (now ++ drop (length now) items)
-    ≡ now = ap (λ (rs : Ranges). take (vec_len c.args.ranges.now) (now ++ rs))
-    (drop_all (length now) items (omega arith)) ∙ ap (λ (rs : Ranges). take (vec_len c.args.ranges.now) rs)
-    (append-nil now) ∙ take_all (vec_len c.args.ranges.now) now (omega arith) in
-    let all : now ≡ map cut seen = c.loop-range.invariant ∙ ap
-    (λ (rs : Ranges). map cut (take c.loop-range.range-index seen) ++ rs)
-    (drop_all c.loop-range.range-index seen past) ∙ append-nil (map cut (take c.loop-range.range-index seen))
-    ∙ ap (λ (rs : Ranges). map cut rs) (take_all c.loop-range.range-index seen past) in
-    kept ∙ ap (λ (rs : Ranges). filter is_some_range rs) (whole ∙ all
-    ∙ ap (λ (rs : Ranges). map cut rs) c.deref_mut-range-items.ensures.value)
+    let whole : take (vec_len c.args.ranges.now) (now ++ drop (length now) items) ≡ now =
+    rw (drop_all (length now) items (omega arith)) (rw (append-nil now) (take_all (vec_len c.args.ranges.now) now
+        (omega arith))) in
+    let all = rw (append-nil (map (clipped c.args.start c.args.end) (take at seen))) at
+    (rw (drop_all at seen (omega arith)) at c.loop-range.invariant) in
+    filter_same _ (λ (r : Range ℕ). nat_lt r.start r.end) _ (λ x b f h. search rules) _ _ c.retain.ensures.filtered
+    ∙ ap (filter is_some_range) (whole ∙ rw (take_all at seen (omega arith)) at all
+    ∙ ap (map (clipped c.args.start c.args.end)) c.deref_mut-range-items.ensures.value)
