@@ -1,5 +1,5 @@
 -- Lists of numbers that rise. All that is said of the ids of this end rests on it.
-use Rattle.std.proofs.Common.{◌≡◌, ℕ, zero, suc, ◌+◌, ◌<◌, ◌≤◌, ◌==◌, ◌&&◌, ◌||◌, nat_lt, nat_le, nat_eq, not, cond, Bool, true, false, List, [], ◌∷◌, ◌++◌, filter, refl, ap, sym, ◌∙◌, arith}
+use Rattle.std.proofs.Common.{◌≡◌, ℕ, zero, suc, ◌+◌, ◌<◌, ◌≤◌, ◌==◌, ◌&&◌, nat_lt, nat_le, not, Bool, false, List, [], ◌∷◌, ◌++◌, filter, refl, arith}
 use Rattle.std.specs.List.{list_any, range_with_len}
 use Rattle.std.proofs.lemmas.Bool.Decides.{nat_tests}
 use Rattle.recovery_ids.specs.LocalIds.{Rise}
@@ -10,22 +10,20 @@ Rise-bound low high (n ∷ ns) rise = omega (arith, rise.0, Rise-bound (n + 1) h
 
 pub Rise-wider : (low high lower higher : ℕ) (ns : List ℕ) → Rise low high ns → lower ≤ low → high ≤ higher
     → Rise lower higher ns
-Rise-wider low high lower higher [] rise below above = let bound : low ≤ high = rise in omega arith
-Rise-wider low high lower higher (n ∷ ns) rise below above =
-    let first = rise.0 in
-    (omega arith, Rise-wider (n + 1) high (n + 1) higher ns rise.1 (omega arith) above)
+Rise-wider low high lower higher [] rise below above = grind (arith, rise)
+Rise-wider low high lower higher (n ∷ ns) rise below above = grind (arith, rise, Rise-wider (n + 1) high (n + 1) higher
+    ns)
 
 -- a run with one number more at its end
 pub range_more : (first count next : ℕ) → first + count ≡ next
     → range_with_len first (suc count) ≡ range_with_len first count ++ next ∷ []
-range_more first zero next ends = let same : first ≡ next = omega arith in rw same refl
-range_more first (suc count) next ends = ap (λ rest. first ∷ rest) (range_more (first + 1) count next (omega arith))
+range_more first zero next ends = grind (arith, ends)
+range_more first (suc count) next ends = grind (arith, range_more (first + 1) count next)
 
 range_rises : (low first count high : ℕ) → low ≤ first → first + count ≡ high
     → Rise low high (range_with_len first count)
 range_rises low first zero high below ends = omega arith
-range_rises low first (suc count) high below ends =
-    (below, range_rises (first + 1) (first + 1) count high (omega arith) (omega arith))
+range_rises low first (suc count) high below ends = grind (arith, range_rises (first + 1) (first + 1) count high)
 
 -- more numbers from the end on
 pub Rise-append : (low first count high : ℕ) (ns : List ℕ) → Rise low first ns → first + count ≡ high
@@ -33,69 +31,46 @@ pub Rise-append : (low first count high : ℕ) (ns : List ℕ) → Rise low firs
 Rise-append low first count high [] rise ends = range_rises low first count high rise ends
 Rise-append low first count high (n ∷ ns) rise ends = (rise.0, Rise-append (n + 1) first count high ns rise.1 ends)
 
-filter_rises : (keep : Bool) (test : ℕ → Bool) (low high n : ℕ) (ns : List ℕ) → low ≤ n
-    → Rise (n + 1) high (filter test ns) → Rise low high (cond keep (n ∷ filter test ns) (filter test ns))
-filter_rises true test low high n ns below rise = (below, rise)
-filter_rises false test low high n ns below rise =
-    Rise-wider (n + 1) high low high (filter test ns) rise (omega arith) (omega arith)
-
 pub Rise-filter : (test : ℕ → Bool) (low high : ℕ) (ns : List ℕ) → Rise low high ns → Rise low high (filter test ns)
 Rise-filter test low high [] rise = rise
-Rise-filter test low high (n ∷ ns) rise =
-    filter_rises (test n) test low high n ns rise.0 (Rise-filter test (n + 1) high ns rise.1)
+Rise-filter test low high (n ∷ ns) rise = grind (
+  arith,
+  rise,
+  Rise-filter test (n + 1) high ns rise.1,
+  Rise-wider (n + 1) high low high (filter test ns),
+)
 
 -- ---- which numbers lie below another
 
 none_below : (low high end : ℕ) (ns : List ℕ) → Rise low high ns → end ≤ low → list_any (λ n. nat_lt n end) ns ≡ false
 none_below low high end [] rise past = refl
-none_below low high end (n ∷ ns) rise past =
-    let first = rise.0 in
-    let here : nat_lt n end ≡ false = grind (arith, nat_tests) in
-    let later = none_below (n + 1) high end ns rise.1 (omega arith) in
-    rw (here, later) refl
-
-front_decides : (here : Bool) (high n end : ℕ) (ns : List ℕ) → nat_lt n end ≡ here → Rise (n + 1) high ns
-    → (here || list_any (λ m. nat_lt m end) ns) ≡ here
-front_decides true high n end ns is rise = refl
-front_decides false high n end ns is rise = none_below (n + 1) high end ns rise (grind (arith, nat_tests, is))
+none_below low high end (n ∷ ns) rise past = grind (arith, nat_tests, rise, none_below (n + 1) high end ns)
 
 -- the least number decides whether one lies below
 pub list_any-front : (low high n end : ℕ) (ns : List ℕ) → Rise low high (n ∷ ns)
     → list_any (λ m. nat_lt m end) (n ∷ ns) ≡ nat_lt n end
-list_any-front low high n end ns rise = front_decides (nat_lt n end) high n end ns refl rise.1
+list_any-front low high n end ns rise = grind (arith, nat_tests, none_below (n + 1) high end ns rise.1)
 
 -- all numbers lie at or above the low end
 pub list_any-between : (low high from end : ℕ) (ns : List ℕ) → Rise low high ns → from ≤ low →
     list_any (λ n. nat_le from n && nat_lt n end) ns ≡ list_any (λ n. nat_lt n end) ns
 list_any-between low high from end [] rise below = refl
 list_any-between low high from end (n ∷ ns) rise below =
-    let first = rise.0 in
-    let here : nat_le from n ≡ true = grind (arith, nat_tests) in
-    let later = list_any-between (n + 1) high from end ns rise.1 (omega arith) in
-    rw (here, later) refl
+    grind (arith, nat_tests, rise, list_any-between (n + 1) high from end ns)
 
 -- no number lies between a number and itself
 pub list_any-nowhere : (at : ℕ) (ns : List ℕ) → list_any (λ n. nat_le at n && nat_lt n at) ns ≡ false
 list_any-nowhere at [] = refl
-list_any-nowhere at (n ∷ ns) =
-    let here : (nat_le at n && nat_lt n at) ≡ false = grind (arith, nat_tests) in
-    let later = list_any-nowhere at ns in
-    rw (here, later) refl
+list_any-nowhere at (n ∷ ns) = grind (arith, nat_tests, list_any-nowhere at ns)
 
 -- where none lies below another number, all rise from that one
 pub Rise-from : (low high from : ℕ) (ns : List ℕ) → Rise low high ns → list_any (λ n. nat_lt n from) ns ≡ false
     → from ≤ high → Rise from high ns
 Rise-from low high from [] rise none below = below
-Rise-from low high from (n ∷ ns) rise none below =
-    let here : nat_lt n from ≡ false = sym (list_any-front low high n from ns rise) ∙ none in
-    (grind (arith, nat_tests, here), rise.1)
+Rise-from low high from (n ∷ ns) rise none below = grind (arith, nat_tests, rise, none)
 
 -- ---- taking a number out
 
 pub absent_below : (low high x : ℕ) (ns : List ℕ) → Rise low high ns → x < low → filter (λ n. not (n == x)) ns ≡ ns
 absent_below low high x [] rise below = refl
-absent_below low high x (n ∷ ns) rise below =
-    let first = rise.0 in
-    let here : nat_eq n x ≡ false = grind (arith, nat_tests) in
-    let later = absent_below (n + 1) high x ns rise.1 (omega arith) in
-    rw (here, later) refl
+absent_below low high x (n ∷ ns) rise below = grind (arith, nat_tests, rise, absent_below (n + 1) high x ns)

@@ -1,21 +1,14 @@
-use Rattle.std.proofs.Common.{refl, sym, ◌∙◌, ◌-◌, ◌≡◌, ◌<◌, length, arith}
+use Rattle.std.proofs.Common.{refl, sym, ◌∙◌, ◌-◌, arith}
 use Rattle.recovery_ids.proofs.DeadlineLaws.{last_at}
 use Rattle.recovery_ids.proofs.state.drop_last_at.Goals as goal
 
 pub returns-then-eq-clause-items : goal.returns-then-eq-clause-items
-returns-then-eq-clause-items c =
-    let old = c.args.deadlines.now in
-    let len : length old.items ≡ old.len = sym old.ok.0 in
-    let some : 0 < old.len = c.in-Some.ensures.variant.0 refl in
-    let whole = last_at c.args.timestamp old.items (old.len - 1) c.in-Some.last.now (omega arith)
-    c.in-Some.ensures.lookup in
-    c.pop_back-replaced.ensures.rest ∙ sym (rw (sym (c.eq.ensures) ∙ c.if-eq.true) at whole)
+returns-then-eq-clause-items c = let old = c.args.deadlines.now in
+    c.pop_back-replaced.ensures.rest ∙ sym (rw (sym c.eq.ensures ∙ c.if-eq.true) at (last_at c.args.timestamp old.items
+        (old.len - 1) c.in-Some.last.now
+    (omega (arith, old.ok.0, c.in-Some.ensures.variant.0 refl)) c.in-Some.ensures.lookup))
 
 pub returns-else-eq-clause-items : goal.returns-else-eq-clause-items
-returns-else-eq-clause-items c =
-    let old = c.args.deadlines.now in
-    let len : length old.items ≡ old.len = sym old.ok.0 in
-    let some : 0 < old.len = c.in-Some.ensures.variant.0 refl in
-    let whole = last_at c.args.timestamp old.items (old.len - 1) c.in-Some.last.now (omega arith)
-    c.in-Some.ensures.lookup in
-    sym (rw (sym (c.eq.ensures) ∙ c.if-eq.false) at whole)
+returns-else-eq-clause-items c = let old = c.args.deadlines.now in
+    sym (rw (sym c.eq.ensures ∙ c.if-eq.false) at (last_at c.args.timestamp old.items (old.len - 1) c.in-Some.last.now
+    (omega (arith, old.ok.0, c.in-Some.ensures.variant.0 refl)) c.in-Some.ensures.lookup))

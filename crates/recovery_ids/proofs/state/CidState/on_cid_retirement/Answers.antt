@@ -5,9 +5,7 @@ use Rattle.recovery_ids.proofs.StateLaws.{retired_sound}
 use Rattle.recovery_ids.proofs.state.CidState.on_cid_retirement.Goals as goal
 
 pub remove-requires : goal.remove-requires
-remove-requires c =
-    let sound = c.self.invariant in
-    Rise-wider _ _ 0 (2 ^ 62) _ sound.unretired (omega arith) sound.small
+remove-requires c = Rise-wider _ _ 0 (2 ^ 62) _ c.self.invariant.unretired (omega arith) c.self.invariant.small
 
 pub invariant_of-self : goal.invariant_of-self
 invariant_of-self c = rw c.remove.ensures (retired_sound (local_ids c.self.inside) c.self.invariant c.args.sequence)
