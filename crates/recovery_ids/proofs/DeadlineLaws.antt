@@ -82,7 +82,7 @@ pub deadlines_with_last-rise_first : (lifetime : Option ℕ) (now issued : ℕ)
 deadlines_with_last-rise_first lifetime now zero = omega arith
 deadlines_with_last-rise_first lifetime now (suc number) =
     let next : suc number ≡ number + 1 = omega arith in rw next (deadlines_with-rise lifetime now 0 number []
-        (omega arith))
+    (omega arith))
 
 -- ---- the last deadline by its place
 

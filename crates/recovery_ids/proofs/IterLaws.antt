@@ -20,13 +20,9 @@ pub items_where_none : (ids : RemoteIds) (step : ℕ) → step < active_connecti
     items_from step ids ≡ items_from (step + 1) ids
 items_where_none ids step below none = step_first ids step below ∙ rw none refl
 
-length-cons_option : {X : Type 0} (item : Option X) (xs : List X) → length (cons_option item xs) ≤ suc (length xs)
-length-cons_option None xs = omega arith
-length-cons_option (Some x) xs = omega arith
-
 length-filter_map : {X Y : Type 0} (h : X → Option Y) (xs : List X) → length (filter_map h xs) ≤ length xs
 length-filter_map h [] = omega arith
-length-filter_map h (x ∷ xs) = omega (arith, length-cons_option (h x) (filter_map h xs), length-filter_map h xs)
+length-filter_map h (x ∷ xs) = grind (arith, length-filter_map h xs)
 
 -- at most as many ids are held as are stored
 pub length-items_from : (ids : RemoteIds) → length (items_from 0 ids) ≤ active_connection_id_limit

@@ -11,8 +11,12 @@ Rise-bound low high (n ∷ ns) rise = omega (arith, rise.0, Rise-bound (n + 1) h
 pub Rise-wider : (low high lower higher : ℕ) (ns : List ℕ) → Rise low high ns → lower ≤ low → high ≤ higher
     → Rise lower higher ns
 Rise-wider low high lower higher [] rise below above = grind (arith, rise)
-Rise-wider low high lower higher (n ∷ ns) rise below above = grind (arith, rise, Rise-wider (n + 1) high (n + 1) higher
-    ns)
+Rise-wider low high lower higher (n ∷ ns) rise below above = grind (
+  arith,
+  rise,
+  Rise-wider (n + 1) high (n + 1) higher
+      ns,
+)
 
 -- a run with one number more at its end
 pub range_more : (first count next : ℕ) → first + count ≡ next

@@ -14,8 +14,13 @@ use Rattle.recovery_ids.proofs.RiseLaws.{Rise-bound, Rise-wider, absent_below, l
 pub removes : (low high x : ℕ) (ns : List ℕ) → Rise low high ns
     → remove_key (is_at (nat_cmp x)) ns ≡ filter (λ n. not (n == x)) ns
 removes low high x [] rise = refl
-removes low high x (n ∷ ns) rise = grind (arith, nat_tests, removes (n + 1) high x ns rise.1, absent_below (n + 1) high
-    x ns rise.1)
+removes low high x (n ∷ ns) rise = grind (
+  arith,
+  nat_tests,
+  removes (n + 1) high x ns rise.1,
+  absent_below (n + 1) high
+      x ns rise.1,
+)
 
 -- ---- what is filed beside the numbers is nothing
 

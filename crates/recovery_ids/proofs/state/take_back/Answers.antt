@@ -8,10 +8,9 @@ use Rattle.recovery_ids.proofs.SetLaws.{keys-removed, one_back}
 use Rattle.recovery_ids.proofs.state.take_back.Goals as goal
 
 pub loop-number-preserved : goal.loop-number-preserved
-loop-number-preserved c = λ before rise held. (
+loop-number-preserved c = λ before rise held.
     let number = c.loop-number.number in
     ap keys_of c.take-taken.ensures.entries
     ∙ keys-removed (is_at (nat_cmp number)) (entries_of c.loop-number.numbers)
     ∙ ap (remove_key (is_at (nat_cmp number))) (c.loop-number.invariant before rise held)
     ∙ one_back before c.args.first number c.args.end (omega arith) (omega arith) rise
-    )

@@ -11,9 +11,7 @@ returns-in-Some-clause-steps c =
 
 pub returns-in-Some-clause-goes : goal.returns-in-Some-clause-goes
 returns-in-Some-clause-goes c =
-    let at = c.loop-self.self-inside in
-    let first = items_where_held (ids_in at.window.now) at.step c.in-Some.entry c.loop-self-test.true (search rules) in
-    rw (← c.loop-self.invariant.same) (rw first (search rules))
+    rw (returns-in-Some-clause-steps c) (search rules)
 
 pub loop-self-preserved : goal.loop-self-preserved
 loop-self-preserved c =

@@ -28,15 +28,8 @@ returns-clause-range c =
     record { start = c.start-active.result; end = c.min-end.result } (search rules) (search rules)
 
 pub returns-clause-step : goal.returns-clause-step
-returns-clause-step c =
-    let accepts =
-    accepts_move c.args.self.now c.drop_below.new.self c.set.new.self c.advance.new.window c.args.cid
-    c.in-Some.token c.max-low.result c.requires.ordered (search rules) (search rules) (search rules)
-    (search rules) (search rules) (search rules) (search rules) (search rules)
-    record { start = c.start-active.result; end = c.min-end.result } (search rules) (search rules) in
-    record {
-      same =
-          gives (remote_ids c.args.self.now) (remote_ids c.advance.new.window) c.args.cid _ c.requires.ordered
-          accepts (search rules);
-      window = search rules;
-    }
+returns-clause-step c = record {
+  same = gives (remote_ids c.args.self.now) (remote_ids c.advance.new.window) c.args.cid _ c.requires.ordered
+      (returns-clause-reply c) (search rules);
+  window = search rules;
+}
