@@ -9,7 +9,6 @@ pub mod HeardLaws
 pub mod LedgerLaws
 mod LogRows
 pub mod PacketLaws
-pub mod ProbeLaws
 pub mod ReceivedLaws
 pub mod SpaceLaws
 pub mod TrackedLaws

@@ -1,6 +1,6 @@
-use Rattle.std.proofs.Common.{◌∙◌}
+use Rattle.std.proofs.Common.{None, Some, ◌∙◌}
 use Rattle.recovery_slots.specs.Slots.{entries_of}
-use Rattle.recovery_ledger.proofs.TrackedLaws.{none_above, first_above_last, first_above_none, least_above_some, least_above_all}
+use Rattle.recovery_ledger.proofs.TrackedLaws.{none_above, first_above, least_above}
 use Rattle.recovery_ledger.proofs.sent_packets.first_silent.Goals as goal
 
 pub returns-in_err-checked_add-in-Some-clause-first : goal.returns-in_err-checked_add-in-Some-clause-first
@@ -12,19 +12,20 @@ returns-in_err-checked_add-in-Some-clause-first g c =
 pub returns-in_ok-checked_add-in-Some-clause-first : goal.returns-in_ok-checked_add-in-Some-clause-first
 returns-in_ok-checked_add-in-Some-clause-first g c =
     rw (c.in-Some.is, c.first_from.ensures.first, c.max.ensures, c.in_ok-checked_add-in-Some.ensures.1)
-    (first_above_last (entries_of c.args.packets.now) c.in-Some.last c.args.from (rw c.in-Some.is at c.requires.found))
+    (first_above (entries_of c.args.packets.now) (Some c.in-Some.last) c.args.from
+    (rw c.in-Some.is at c.requires.found))
 
 pub returns-in_ok-checked_add-in-Some-clause-least : goal.returns-in_ok-checked_add-in-Some-clause-least
 returns-in_ok-checked_add-in-Some-clause-least g c =
     rw c.in-Some.is
-    (least_above_some (entries_of c.args.packets.now) c.in-Some.last c.args.from c.first_from.result
+    (least_above (entries_of c.args.packets.now) (Some c.in-Some.last) c.args.from c.first_from.result
     (rw c.in-Some.is at c.requires.found)
     (rw (c.max.ensures, c.in_ok-checked_add-in-Some.ensures.1) at c.first_from.ensures.lowest))
 
 pub returns-in-None-clause-first : goal.returns-in-None-clause-first
 returns-in-None-clause-first g c = rw c.in-None.is (c.first_from-in-None.ensures.first
-    ∙ first_above_none (entries_of c.args.packets.now) c.args.from (rw c.in-None.is at c.requires.found))
+    ∙ first_above (entries_of c.args.packets.now) None c.args.from (rw c.in-None.is at c.requires.found))
 
 pub returns-in-None-clause-least : goal.returns-in-None-clause-least
-returns-in-None-clause-least g c = rw c.in-None.is (least_above_all (entries_of c.args.packets.now) c.args.from
+returns-in-None-clause-least g c = rw c.in-None.is (least_above (entries_of c.args.packets.now) None c.args.from
     c.first_from-in-None.result (rw c.in-None.is at c.requires.found) c.first_from-in-None.ensures.lowest)

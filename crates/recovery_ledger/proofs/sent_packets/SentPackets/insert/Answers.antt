@@ -46,8 +46,7 @@ overflow_add-self g c =
 pub invariant_of-self-then-is_eliciting : goal.invariant_of-self-then-is_eliciting
 invariant_of-self-then-is_eliciting g c =
     rw (c.size_count-count.ensures, c.min-self-inside.ensures)
-    (tracked_eliciting _ _ c.push.new.self _ _ _ _ _ c.self.invariant
-    c.args.number c.args.packet c.ranges.number.fits
+    (tracked_eliciting c.self.invariant c.push.new.self c.args.number c.args.packet c.ranges.number.fits
     (below_inside _ _ _ _ c.self.view_is c.requires.above) c.in_ok-push.ensures.ok c.in_ok-push.ensures.one_more)
 
 pub returns-then-is_eliciting-clause-ok : goal.returns-then-is_eliciting-clause-ok
@@ -66,8 +65,7 @@ invariant_of-self-in_default g c =
     let is_silent = flag_of c.packet.view_is c.if-is_eliciting.false in
     let none = forgotten_inside _ _ _ c.args.packet _ c.self.view_is is_silent c.in_default.ensures.number in
     rw (c.size_count-count.ensures, c.min-self-inside.ensures, c.min-self-inside-in_default.ensures)
-    (tracked_silent _ _ c.push.new.self _ _ _ _ _ c.self.invariant
-    c.args.number c.args.packet c.ranges.number.fits
+    (tracked_silent c.self.invariant c.push.new.self c.args.number c.args.packet c.ranges.number.fits
     (below_inside _ _ _ _ c.self.view_is c.requires.above) c.in_ok-push.ensures.ok c.in_ok-push.ensures.one_more
     (above_inside _ _ _ _ c.self.view_is c.requires.above_last) is_silent
     (silent_few _ _ _ _ c.self.invariant.counted none))
@@ -140,11 +138,9 @@ invariant_of-self-2 g c =
     c.in_ok-push.ensures.ok some in
     let same = one_found found.0 c.in-Some-take.gone _ (c.take.ensures.value ∙ found.2) c.in-Some-take.is in
     rw (c.size_count-count.ensures, c.min-self-inside.ensures, c.size_count.ensures, ← same)
-    (tracked_forgetting _ _ c.push.new.self _ _ _ _ _ c.self.invariant
-    c.args.number c.args.packet c.ranges.number.fits
-    (below_inside _ _ _ _ c.self.view_is c.requires.above) c.in_ok-push.ensures.ok c.in_ok-push.ensures.one_more
-    c.take.new.self (above_inside _ _ _ _ c.self.view_is c.requires.above_last) is_silent c.in-Some.least found.0
-    found.1 found.3
+    (tracked_forgetting c.self.invariant c.push.new.self c.args.number c.args.packet c.ranges.number.fits
+    (below_inside _ _ _ _ c.self.view_is c.requires.above) c.in_ok-push.ensures.ok c.in-Some.least found.0
+    (above_inside _ _ _ _ c.self.view_is c.requires.above_last) is_silent found.1 found.3
     (from_inside _ _ _ _ c.self.view_is c.in-Some.ensures.least) c.take.ensures.entries c.in-Some-take.ensures.bound)
 
 pub returns-clause-ok : goal.returns-clause-ok

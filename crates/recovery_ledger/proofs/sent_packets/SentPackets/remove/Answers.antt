@@ -18,6 +18,5 @@ overflow_sub-self-2 g c =
 pub invariant_of-self-2 : goal.invariant_of-self-2
 invariant_of-self-2 g c =
     rw (c.silent_count.ensures, c.size_count.ensures)
-    (tracked_taken _ _ c.take.new.self _ _ _ _ _ c.self.invariant
-    c.args.number c.in_ok-packet.packet
+    (tracked_taken c.self.invariant c.args.number c.in_ok-packet.packet
     (sym c.take.ensures.value ∙ c.in_ok-packet.was) c.take.ensures.entries c.in_ok-packet.ensures.bound)
