@@ -8,7 +8,7 @@ use Rattle.recovery_ledger.proofs.spaces.PacketSpace.receive.Goals as goal
 pub packet_received-arm-requires-clause-earlier : goal.packet_received-arm-requires-clause-earlier
 packet_received-arm-requires-clause-earlier g c =
     still_reached (Has c.self.inside.dedup) (Has c.insert.new.self) c.args.number (has_greatest c.self.inside.dedup)
-    c.insert.ensures.inserts.numbers _ _ c.in-Ok.ensures.inserts.others.6
+    (has_greatest c.insert.new.self) c.insert.ensures.inserts.numbers _ _ c.in-Ok.ensures.inserts.others.6
     (subst (λ (s : Space _ _). HasGreatestCome s) (sym c.self.view_is) c.requires.received)
 
 pub returns-clause-step : goal.returns-clause-step
