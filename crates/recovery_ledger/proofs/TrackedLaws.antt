@@ -109,7 +109,7 @@ module _ {P M S : Type 0} {words : QueueWords P S} {slots : List (Slot (Packet P
       → AreTracked words new last (silent - silent_count last (number, packet)) (sized - size_count packet) from
       filled
   tracked_taken number packet found is closed =
-      tracked_by _ is (counted_taken (entries_of slots) last silent sized tracked.counted number packet found) closed
+      tracked_by _ is (counted_taken tracked.counted number packet found) closed
       (kept_without words (entries_of slots) last from filled (2 ^ 64) number kept_all)
 
   -- the first packet is taken
@@ -127,7 +127,7 @@ module _ {P M S : Type 0} {words : QueueWords P S} {slots : List (Slot (Packet P
       → AreTracked words new last silent sized from lower
   tracked_carrying {lower = lower} number packet contents found is same less nothing =
       tracked_by _ is
-      (counted_carrying (entries_of slots) last silent sized tracked.counted number packet contents found)
+      (counted_carrying tracked.counted number packet found contents)
       (let kept = length-replaced (entries_of slots) (with_contents contents packet) in
       omega (arith, tracked.closed, same, kept, ap (λ (es : Packets P M). length es) is))
       (kept_replaced words (entries_of slots) last from lower (2 ^ 64) number (with_contents contents packet) nothing
@@ -157,7 +157,7 @@ module _ {P M S : Type 0} {words : QueueWords P S} {slots : List (Slot (Packet P
           → AreTracked words new (Some number) 0 (sized + size_count packet) from (min filled number)
       tracked_eliciting one =
           tracked_by _ is
-          (counted_eliciting (entries_of slots) last silent sized tracked.counted number packet kept_below.2)
+          (counted_eliciting tracked.counted number packet kept_below.2)
           (closed_pushed one)
           (kept_pushed words (entries_of slots) last (Some number) from from filled number number packet fits
           (omega arith)
@@ -168,7 +168,7 @@ module _ {P M S : Type 0} {words : QueueWords P S} {slots : List (Slot (Packet P
           → AreTracked words new last (silent + 1) (sized + size_count packet) (min from number) (min filled number)
       tracked_silent one above is_silent room =
           tracked_by _ is
-          (counted_silent (entries_of slots) last silent sized tracked.counted number packet above is_silent room)
+          (counted_silent tracked.counted number packet above is_silent room)
           (closed_pushed one)
           (kept_pushed words (entries_of slots) last last from (min from number) filled number number packet fits
           (omega arith) (λ n le low up. grind arith) kept_below)
@@ -183,8 +183,7 @@ module _ {P M S : Type 0} {words : QueueWords P S} {slots : List (Slot (Packet P
       tracked_forgetting least gone above is_silent found up lowest taken closed =
           tracked_by _ (taken ∙ ap (λ (es : Packets P M). without es least) is
           ∙ without-append (entries_of slots) ((number, packet) ∷ []) least gone found)
-          (counted_forgetting (entries_of slots) last silent sized tracked.counted number packet above is_silent
-          least gone found up) closed
+          (counted_forgetting tracked.counted least gone found up number packet above is_silent) closed
           (kept_pushed words (without (entries_of slots) least) last last least least filled number number packet fits
           (omega arith) (λ n le low over. grind (arith, below least gone found))
           (kept_without words (entries_of slots) last least filled number least (lowest, kept_below.1, kept_below.2)))

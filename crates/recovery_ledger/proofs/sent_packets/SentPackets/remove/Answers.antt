@@ -5,13 +5,13 @@ use Rattle.recovery_ledger.proofs.sent_packets.SentPackets.remove.Goals as goal
 
 pub overflow_sub-self : goal.overflow_sub-self
 overflow_sub-self g c =
-    let enough = counted_enough _ _ _ _ c.self.invariant.counted c.args.number c.in_ok-packet.packet
+    let enough = counted_enough c.self.invariant.counted c.args.number c.in_ok-packet.packet
     (sym c.take.ensures.value ∙ c.in_ok-packet.was) in
     omega (arith, enough.0, c.silent_count.ensures)
 
 pub overflow_sub-self-2 : goal.overflow_sub-self-2
 overflow_sub-self-2 g c =
-    let enough = counted_enough _ _ _ _ c.self.invariant.counted c.args.number c.in_ok-packet.packet
+    let enough = counted_enough c.self.invariant.counted c.args.number c.in_ok-packet.packet
     (sym c.take.ensures.value ∙ c.in_ok-packet.was) in
     omega (arith, enough.1, c.size_count.ensures)
 
