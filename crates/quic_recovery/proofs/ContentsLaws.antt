@@ -1,17 +1,14 @@
 -- Contents are neither lost nor doubled: what was sent is what is tracked and waits, and what is gone. The clause
 -- `contents` of `run` rests on it.
 use Rattle.std.proofs.lemmas.Bool.Decides.{nat_tests}
-use Rattle.std.proofs.Common.{◌≡◌, ◌+◌, ℕ, Bool, true, false, cond, List, [], ◌∷◌, Option, None, Some, Ok, Err, refl, sym, ap, subst, ◌∙◌, arith}
-use Rattle.std.proofs.lemmas.Bool.{false≢true}
-use Rattle.std.specs.Prelude.{sum_by, option_map}
-use Rattle.std.specs.BTreeMap.{is_at}
-use Rattle.std.specs.Ordering.{nat_cmp}
+use Rattle.std.proofs.Common.{◌≡◌, ◌+◌, ℕ, Bool, true, false, cond, List, [], ◌∷◌, Option, None, Some, Ok, Err, refl, ap, ◌∙◌, arith}
+use Rattle.std.specs.Prelude.{sum_by}
 use Rattle.std.proofs.lemmas.List.Sums.{sum_by-cons}
 use Rattle.recovery_base.specs.declared.below.SpaceId.{SpaceId}
 use Rattle.recovery_base.specs.declared.below.SpaceId.TheVariants.{Data}
 use Rattle.recovery_base.specs.Spaces.{same_space}
-use Rattle.recovery_ledger.specs.Packets.{Packet, Packets, packet_at, without, with_contents, replaced, contents_or, entry_at, numbered}
-use Rattle.recovery_ledger.specs.Probes.{ProbeFound, pending_stands, moves, nothing_found}
+use Rattle.recovery_ledger.specs.Packets.{Packet, Packets, packet_at, without, with_contents, replaced, contents_or, entry_at}
+use Rattle.recovery_ledger.specs.Probes.{ProbeFound, moves}
 use Rattle.recovery_ledger.specs.Queued.{joined_with, joined_found, pending_by}
 use Rattle.recovery_ledger.specs.SpaceLog.{SpaceEntry, sends, acknowledged, loses, probes, takes_pending, emptied}
 use Rattle.recovery_ledger.specs.Tracked.{Sent, sent_by, sent_moved, forgotten_by}
@@ -49,13 +46,7 @@ module _ {P M S : Type 0} (words : QueueWords P S) (measure : P → ℕ) (adds :
   -- a packet leaves with what it carries
   sum_leaves : (packets : Packets P M) (n : ℕ) → sum_by carries (without packets n) + carried_at packets n
       ≡ sum_by carries packets
-  sum_leaves packets n = go (packet_at packets n) refl
-    where
-      go : (found : Option (Packet P M)) → packet_at packets n ≡ found
-          → sum_by carries (without packets n) + measure (contents_or words.empty found) ≡ sum_by carries packets
-      go None absent =
-          omega (arith, ap (λ (es : Packets P M). sum_by carries es) (without-absent packets n absent), adds.empty)
-      go (Some packet) found = sum-without carries packets n packet found
+  sum_leaves packets n = grind (arith, sum-without carries packets n, without-absent packets n, adds.empty)
 
   -- a packet carries something else
   sum_replaced : (packets : Packets P M) (n : ℕ) (packet other : Packet P M) → packet_at packets n ≡ Some packet
@@ -63,36 +54,18 @@ module _ {P M S : Type 0} (words : QueueWords P S) (measure : P → ℕ) (adds :
       + measure other.retransmits
   sum_replaced [] n packet other found = none_found packet found
   sum_replaced (entry ∷ packets) n packet other found =
-      go (is_at (nat_cmp n) entry.0) found (λ there. sum_replaced packets n packet other there)
-    where
-      go : (b : Bool) → cond b (Some entry.1) (packet_at packets n) ≡ Some packet
-          → (packet_at packets n ≡ Some packet
-          → sum_by carries (replaced n (Some other) packets) + measure packet.retransmits ≡ sum_by carries packets
-          + measure other.retransmits)
-          → sum_by carries (cond b ((entry.0, other) ∷ packets) (entry ∷ replaced n (Some other) packets))
-          + measure packet.retransmits
-          ≡ sum_by carries (entry ∷ packets) + measure other.retransmits
-      go true is later =
-          let same : entry.1 ≡ packet = cc in
-          omega (
-            arith,
-            sum_by-cons carries entry packets,
-            sum_by-cons carries (entry.0, other) packets,
-            ap (λ (p : Packet P M). measure p.retransmits) same,
-          )
-      go false is later =
-          omega (
-            arith,
-            sum_by-cons carries entry packets,
-            sum_by-cons carries entry (replaced n (Some other) packets),
-            later is,
-          )
+      grind (
+        arith,
+        sum_by-cons carries entry packets,
+        sum_by-cons carries (entry.0, other) packets,
+        sum_by-cons carries entry (replaced n (Some other) packets),
+        sum_replaced packets n packet other,
+      )
 
   -- what a packet carried waits, where it is tracked
   joins : (pending : P) (found : Option (Packet P M))
       → measure (joined_with words pending found) ≡ measure pending + measure (contents_or words.empty found)
-  joins pending None = omega (arith, adds.empty)
-  joins pending (Some packet) = adds.joined pending packet.retransmits
+  joins pending found = grind (arith, adds.empty, adds.joined pending)
 
   -- a lost packet's contents wait
   loses_none : (pending : P) (packets : Packets P M) (n : ℕ)
@@ -105,30 +78,18 @@ module _ {P M S : Type 0} (words : QueueWords P S) (measure : P → ℕ) (adds :
       → sum_by carries (sent_moved words.empty found sent).tracked
       + measure (joined_found words pending found sent.tracked)
       ≡ sum_by carries sent.tracked + measure pending
-  moves_none pending pending_stands sent = refl
-  moves_none pending nothing_found sent = refl
-  moves_none pending (moves n) sent = go (packet_at sent.tracked n) refl
-    where
-      go : (found : Option (Packet P M)) → packet_at sent.tracked n ≡ found
-          → sum_by carries (replaced n (option_map (with_contents words.empty) found) sent.tracked)
-          + measure (joined_with words pending found)
-          ≡ sum_by carries sent.tracked + measure pending
-      go None absent = refl
-      go (Some packet) found =
-          omega (
-            arith,
-            sum_replaced sent.tracked n packet (with_contents words.empty packet) found,
-            joins pending (Some packet),
-            adds.empty,
-          )
+  moves_none pending (moves n) sent =
+      grind (
+        arith,
+        λ (packet : Packet P M). sum_replaced sent.tracked n packet (with_contents words.empty packet),
+        joins pending (packet_at sent.tracked n),
+        adds.empty,
+      )
+  moves_none pending found sent = refl
 
   -- what goes with a packet that is forgotten
   forgets : (packets : Packets P M) (n : ℕ) → gone_by carries (entry_at packets (Some n)) ≡ carried_at packets n
-  forgets packets n = go (packet_at packets n)
-    where
-      go : (found : Option (Packet P M)) → gone_by carries (numbered n found) ≡ measure (contents_or words.empty found)
-      go None = sym adds.empty
-      go (Some packet) = refl
+  forgets packets n = grind (arith, adds.empty)
 
 -- ---- what an event does to them
 
@@ -192,17 +153,12 @@ module _ {F K Q S M P : Type 0} (beginning : Beginning F K Q S M P) (before : Hi
       → held_by (sends k packet ∷ log) + carried beginning measure space forgotten before ≡ held_by log
       + measure packet.retransmits
   sends_more k packet forgotten is =
-      omega (
+      grind (
         arith,
         sum-sent_onto (carries words measure adds) sent.last k packet sent.tracked,
-        ap (λ f. gone_by (carries words measure adds) (entry_at sent.tracked f)) is,
-        go forgotten,
+        is,
+        forgets words measure adds sent.tracked,
       )
-    where
-      go : (f : Option ℕ) → gone_by (carries words measure adds) (entry_at sent.tracked f) ≡ carried beginning measure
-          space f before
-      go None = refl
-      go (Some n) = forgets words measure adds sent.tracked n
 
   goes_told : (there : SpaceId) (packet : Packet P M) (forgotten : Option ℕ)
       → forgotten ≡ forgotten_by (known.spaces there).sent packet
@@ -211,8 +167,7 @@ module _ {F K Q S M P : Type 0} (beginning : Beginning F K Q S M P) (before : Hi
       + (cond (same_space there space) (carried beginning measure space forgotten before) 0 + gone_now)
   goes_told there packet forgotten is =
       goes (same_space there space) (sends (number_in known there) packet) _ _
-      (λ at. sends_more (number_in known there) packet forgotten
-      (subst (λ s. forgotten ≡ forgotten_by (sent_in beginning before s) packet) (one_space there space at) is))
+      (λ at. sends_more (number_in known there) packet forgotten (rw (← one_space there space at) is))
 
   -- a probe of the MTU carries nothing
   probe_goes : (packet : Packet P M) → packet.retransmits ≡ words.empty → packet.ack_eliciting ≡ true
@@ -234,15 +189,11 @@ module _ {F K Q S M P : Type 0} (beginning : Beginning F K Q S M P) (before : Hi
   -- an entry by which no contents come or go
   unmoved : (entry : SpaceEntry P M) → keeps_contents (space_kind entry) ≡ true
       → outgoing_now ≡ held_by (entry ∷ log) + gone_now
-  unmoved (sends number packet) keeps = absurd (false≢true keeps)
-  unmoved (acknowledged number) keeps = absurd (false≢true keeps)
-  unmoved emptied keeps = absurd (false≢true keeps)
-  unmoved takes_pending keeps = absurd (false≢true keeps)
   unmoved (loses number) keeps =
       stays true (loses number) (loses_none words measure adds pending sent.tracked number)
   unmoved (probes immediate found) keeps =
       stays true (probes immediate found) (moves_none words measure adds pending found sent)
-  unmoved entry keeps = same
+  unmoved entry keeps = grind (arith, keeps, same)
 
   abbrev Balanced : History Q S M P → Type 0
   Balanced after = outgoing beginning measure space after ≡ held beginning measure space after + gone beginning measure

@@ -1,6 +1,5 @@
 -- Bytes in flight by events and answers are the sums over what the spaces track: the clause `counted` of `run`.
 use Rattle.std.proofs.Common.{◌≡◌, ◌≤◌, ◌+◌, ℕ, ◌==◌, ◌&&◌, ◌||◌, Bool, true, false, cond, if◌then◌else◌, List, [], ◌∷◌, Option, None, Some, Ok, Err, refl, sym, ap, subst, ◌∙◌, arith}
-use Rattle.std.proofs.lemmas.Bool.{false≢true}
 use Rattle.std.specs.Prelude.{sum_by, option_map}
 use Rattle.std.specs.BTreeMap.{is_at}
 use Rattle.std.specs.Cmp.{nat_cmp_total, tied_itself}
@@ -13,7 +12,7 @@ use Rattle.recovery_base.specs.Spaces.{same_space}
 use Rattle.recovery_ledger.specs.Departures.{one_if_same}
 use Rattle.recovery_ledger.specs.InFlight.{over_spaces, size_in, eliciting_in}
 use Rattle.recovery_ledger.specs.Packets.{Packet, Packets, without, without_some}
-use Rattle.recovery_ledger.specs.Probes.{ProbeFound, pending_stands, moves, nothing_found}
+use Rattle.recovery_ledger.specs.Probes.{ProbeFound, moves}
 use Rattle.recovery_ledger.specs.SpaceLog.{SpaceEntry, sends, acknowledged, loses, probes, emptied}
 use Rattle.recovery_ledger.specs.Tracked.{Sent, sent_by, sent_less, sent_more, sent_moved, forgotten_by}
 use Rattle.recovery_ledger.proofs.CarryLaws.{sum-carrying}
@@ -45,9 +44,6 @@ use Rattle.quic_recovery.proofs.TrackedLaws.{AllTracked, keeps_tracked, none_tra
 
 at_itself : (n : ℕ) → is_at (nat_cmp n) n ≡ true
 at_itself n = ap is_eq (tied_itself nat_cmp_total n)
-
-at_most_one : (tracked : Bool) (count : ℕ) → count ≡ cond tracked 1 0 → count ≤ 1
-at_most_one tracked count is = grind (arith, nat_tests, is)
 
 -- a number is gone too
 abbrev gone_too : (ℕ → Bool) → ℕ → ℕ → Bool
@@ -93,35 +89,19 @@ module _ {P M : Type 0} (weigh : ℕ → Bool → ℕ) (generation : ℕ) where
     sum_without : (packets : Packets P M) → times number packets ≤ 1
         → sum_in gone (without packets number) ≡ sum_in (gone_too gone number) packets
     sum_without [] once = refl
-    sum_without (entry ∷ packets) once = go (is_at (nat_cmp number) entry.0) refl (sum_without packets)
-      where
-        go : (b : Bool) → is_at (nat_cmp number) entry.0 ≡ b
-            → (times number packets ≤ 1 → sum_in gone (without packets number) ≡ sum_in (gone_too gone number) packets)
-            → sum_in gone (cond b packets (entry ∷ without packets number)) ≡ sum_in (gone_too gone number)
-            (entry ∷ packets)
-        go true at later =
-            let same : entry.0 ≡ number = number_at number entry.0 at in
-            grind (
-              arith,
-              nat_tests,
-              once,
-              same,
-              sum_by-cons (λ (e : ℕ × Packet P M). one_if_same e.0 number) entry packets,
-              sum_by-cons (weigh_in (gone_too gone number)) entry packets,
-              sum_of_others packets,
-            )
-        go false at later =
-            let apart : ¬ (entry.0 ≡ number) = λ same. (let itself = at_itself number in cc (same, itself, at)) in
-            grind (
-              arith,
-              nat_tests,
-              once,
-              apart,
-              later,
-              sum_by-cons (λ (e : ℕ × Packet P M). one_if_same e.0 number) entry packets,
-              sum_by-cons (weigh_in gone) entry (without packets number),
-              sum_by-cons (weigh_in (gone_too gone number)) entry packets,
-            )
+    sum_without (entry ∷ packets) once =
+        grind (
+          arith,
+          nat_tests,
+          once,
+          number_at number entry.0,
+          at_itself number,
+          sum_by-cons (λ (e : ℕ × Packet P M). one_if_same e.0 number) entry packets,
+          sum_by-cons (weigh_in gone) entry (without packets number),
+          sum_by-cons (weigh_in (gone_too gone number)) entry packets,
+          sum_of_others packets,
+          sum_without packets,
+        )
 
   -- ---- one entry more, in this space or in another one
 
@@ -130,25 +110,18 @@ module _ {P M : Type 0} (weigh : ℕ → Bool → ℕ) (generation : ℕ) where
       → forgotten ≡ forgotten_by sent packet → ((m : ℕ) → times m sent.tracked ≤ 1)
       → sum_in gone (sent_more number packet sent).tracked ≡ sum_in (λ n. gone_with true forgotten gone n) sent.tracked
       + weigh_in gone (number, packet)
-  sum_sent sent gone number packet forgotten is once =
-      omega (
-        arith,
-        sum_by_push (weigh_in gone) (without_some sent.tracked (forgotten_by sent packet)) (number, packet),
-        ap (λ f. sum_in gone (without_some sent.tracked f)) is,
-        go forgotten,
-      )
-    where
-      go : (f : Option ℕ) → sum_in gone (without_some sent.tracked f) ≡ sum_in (λ n. gone_with true f gone n)
-          sent.tracked
-      go None = refl
-      go (Some m) = sum_without gone m sent.tracked (once m)
+  sum_sent sent gone number packet None is once =
+      let push = sum_by_push (weigh_in gone) (without_some sent.tracked None) (number, packet) in
+      rw (← is) push
+  sum_sent sent gone number packet (Some m) is once =
+      let push = sum_by_push (weigh_in gone) (without_some sent.tracked (Some m)) (number, packet) in
+      rw (← is) (omega (arith, push, sum_without gone m sent.tracked (once m)))
 
   sum_moved : (sent : Sent P M) (gone : ℕ → Bool) (empty : P) (found : ProbeFound)
       → sum_in gone sent.tracked ≡ sum_in gone (sent_moved empty found sent).tracked
-  sum_moved sent gone empty pending_stands = refl
-  sum_moved sent gone empty nothing_found = refl
   sum_moved sent gone empty (moves number) =
       sym (sum-carrying sent.tracked number (weigh_in gone) empty (λ m packet. refl))
+  sum_moved sent gone empty found = refl
 
 -- ---- over all spaces
 
@@ -159,8 +132,7 @@ spaces_more : (f g more : SpaceId → ℕ) (there : SpaceId)
     → ((space : SpaceId) → g space ≡ f space + cond (same_space there space) (more space) 0)
     → more there + over_spaces f ≡ over_spaces g
 spaces_more f g more Initial each = omega (arith, each Initial, each Handshake, each Data)
-spaces_more f g more Handshake each = omega (arith, each Initial, each Handshake, each Data)
-spaces_more f g more Data each = omega (arith, each Initial, each Handshake, each Data)
+spaces_more f g more there each = omega (arith, each Initial, each Handshake, each Data)
 
 none_more : (b : Bool) (x y : ℕ) → x ≡ y → cond b 0 0 + x ≡ y
 none_more b x y is = grind (arith, nat_tests, is)
@@ -199,7 +171,7 @@ module _ {F K Q S M P : Type 0} (beginning : Beginning F K Q S M P) (before : Hi
   is_path = paths_made before == generation
 
   once : (space : SpaceId) (m : ℕ) → times m (sent space).tracked ≤ 1
-  once space m = at_most_one _ _ (all space m).same
+  once space m = grind (arith, nat_tests, (all space m).same)
 
   nothing : cond is_path 0 0 + sum_on weigh generation gone before ≡ over_spaces (λ space. sum_of space (sent space))
   nothing = none_more is_path _ _ (same weigh generation gone)
@@ -207,13 +179,9 @@ module _ {F K Q S M P : Type 0} (beginning : Beginning F K Q S M P) (before : Hi
   -- an entry of a space that keeps the sum
   unmoved : (space : SpaceId) (entry : SpaceEntry P M) → keeps_packets (space_kind entry) ≡ true
       → sum_of space (sent space) ≡ sum_of space (sent_by beginning.queue.words (entry ∷ log space))
-  unmoved space (sends number packet) keeps = absurd (false≢true keeps)
-  unmoved space (acknowledged number) keeps = absurd (false≢true keeps)
-  unmoved space (loses number) keeps = absurd (false≢true keeps)
-  unmoved space emptied keeps = absurd (false≢true keeps)
   unmoved space (probes immediate found) keeps =
       sum_moved weigh generation (sent space) (gone space) beginning.queue.words.empty found
-  unmoved space entry keeps = refl
+  unmoved space entry keeps = grind (arith, keeps)
 
   -- one number of a space is gone too
   leaves_one : (there : SpaceId) (number : ℕ) (entry : SpaceEntry P M)
@@ -277,16 +245,13 @@ module _ {F K Q S M P : Type 0} (beginning : Beginning F K Q S M P) (before : Hi
           ≡ sum_in weigh generation (λ n. gone_with b forgotten (gone space) n) (sent space).tracked
           + cond b (weigh_in weigh generation (gone space) (number_in known there, packet)) 0
       go space true at =
-          let forgets_here : forgotten ≡ forgotten_by (sent space) packet
-          = subst (λ s. forgotten ≡ forgotten_by (sent s) packet) (one_space there space at) forgets in
-          sum_sent weigh generation (sent space) (gone space) (number_in known there) packet forgotten forgets_here
-          (once space)
+          sum_sent weigh generation (sent space) (gone space) (number_in known there) packet forgotten
+          (rw (← one_space there space at) forgets) (once space)
       go space false at = others forgotten
         where
           others : (f : Option ℕ) → sum_of space (sent space)
               ≡ sum_in weigh generation (λ n. gone_with false f (gone space) n) (sent space).tracked + 0
-          others None = omega arith
-          others (Some m) = omega arith
+          others f = grind arith
 
   abbrev Answered : Event Q S M P → Answer Q → Type 0
   Answered event answer = sum_on weigh generation gone ((event, Ok answer) ∷ before)
@@ -379,12 +344,7 @@ module _ {F K Q S M P : Type 0} (beginning : Beginning F K Q S M P) where
     tally None (Err NoSuchPath) told = refl
     tally None (Err refusal) told = absurd told.1
     tally (Some path) (Ok answer) told =
-        ap (λ a. Ok a) told
-        ∙ ap (λ n. Ok (answers.InFlight n
-        (over_spaces (λ space. sum_by (eliciting_in path.generation) (sent_in beginning before space).tracked))))
-        (sym (bytes_same path.generation))
-        ∙ ap (λ n. Ok (answers.InFlight (total (λ size eliciting. size) path.generation before) n))
-        (sym (count_same path.generation))
+        grind (arith, told, bytes_same path.generation, count_same path.generation)
     tally (Some path) (Err NoMemory) told = absurd told
     tally (Some path) (Err refusal) told = absurd told
 

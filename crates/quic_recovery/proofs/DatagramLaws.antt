@@ -7,12 +7,12 @@ use Rattle.std.specs.List.{list_all}
 use Rattle.std.proofs.lemmas.List.Sums.{sum_by-cons}
 use Rattle.recovery_paths.specs.declared.live_paths.PathName.{PathName}
 use Rattle.recovery_paths.specs.declared.live_paths.PathName.TheVariants.{Current, Previous}
-use Rattle.recovery_paths.specs.PathLog.{OfPaths, PathEntry, PathsEntry, PathPast, PathKnown, total, total_transmitted, each_path, known_of, on, moves, drops_previous, on_current, receives, is_validated as validates, transmits, passes, past_with, pasts_by}
+use Rattle.recovery_paths.specs.PathLog.{OfPaths, PathEntry, PathsEntry, PathPast, PathKnown, total, total_transmitted, each_path, known_of, on, receives, is_validated as validates, past_with, pasts_by}
 use Rattle.recovery_paths.specs.PathMaking.{PathMaking, PathSettings}
 use Rattle.recovery_events.specs.declared.event.Event.{Event}
 use Rattle.recovery_events.specs.declared.event.Event.TheVariants.{Transmit, DatagramIn, Validated, NewPath, DropPrevious}
 use Rattle.recovery_events.specs.declared.event.Answer.{Answer}
-use Rattle.recovery_events.specs.declared.event.Answer.TheVariants.{Transmitted, Delayed}
+use Rattle.recovery_events.specs.declared.event.Answer.TheVariants.{Transmitted}
 use Rattle.recovery_events.specs.declared.event.Refusal.{Refusal}
 use Rattle.quic_recovery.specs.Entries.{Entries, answered, logs_of, pasts_of}
 use Rattle.quic_recovery.specs.History.{Beginning, History, Reply}
@@ -103,10 +103,7 @@ module _ {K : Type 0} (settings : PathSettings K) (first : PathMaking K) where
   quiet_one : (entry : PathEntry) → is_quiet (path_kind (on Current entry)) ≡ true → (log : List PathsEntry)
       → flows_in (on Current entry ∷ log) ≡ flows_in log
   quiet_one (receives bytes) quiet log = absurd (false≢true quiet)
-  quiet_one validates quiet log = absurd (false≢true quiet)
-  quiet_one (transmits bytes) quiet log = absurd (false≢true quiet)
-  quiet_one (passes now bytes) quiet log = absurd (false≢true quiet)
-  quiet_one entry quiet log = refl
+  quiet_one entry quiet log = grind (arith, quiet)
 
 -- ---- the table
 
@@ -134,10 +131,7 @@ module _ {F K Q S M P : Type 0} (beginning : Beginning F K Q S M P) (earlier : H
         subst (AreFlows first earlier)
         (sym (quiet_one (settings_of beginning) (first_path beginning) entry quiet (entries ++ log))) flows
     one_more (on Previous (receives bytes)) entries quiet flows = absurd (false≢true quiet)
-    one_more (on Previous validates) entries quiet flows = absurd (false≢true quiet)
-    one_more (on Previous entry) entries quiet flows = absurd (false≢true quiet)
-    one_more (moves following) entries quiet flows = absurd (false≢true quiet)
-    one_more drops_previous entries quiet flows = absurd (false≢true quiet)
+    one_more entry entries quiet flows = grind (arith, quiet)
 
     quietly : (event : Event Q S M P) (answer : Answer Q) → is_by is_quiet event ≡ true
         → AreFlows first earlier (flows ((answered beginning.queue known event answer).paths ++ log))
@@ -159,32 +153,20 @@ module _ {F K Q S M P : Type 0} (beginning : Beginning F K Q S M P) (earlier : H
         → IsFlowWhereLives validated_so_far here (option_map flow_of past)
         → IsFlowWhereLives validated_so_far ((DatagramIn Previous bytes, Ok answer) ∷ here)
         (option_map flow_of (option_map (past_with (settings_of beginning) (receives bytes)) past))
-    came_previous bytes answer Replies None told is = absurd told.1
-    came_previous bytes answer Replies (Some past) told is =
-        came_more validated_so_far here Previous bytes (Ok answer) (flow_of past) is
+    came_previous bytes answer Replies past told is =
+        grind (
+          arith,
+          told,
+          is,
+          λ (past : PathPast K). came_more validated_so_far here Previous bytes (Ok answer) (flow_of past),
+        )
 
     validated_previous : (answer : Answer Q) (Replies : PathKnown K → Reply Q → Type 0) (past : Option (PathPast K))
         → OnPath (option_map (known_of (settings_of beginning)) past) Replies (Ok answer)
         → IsFlowWhereLives validated_so_far here (option_map flow_of past)
         → IsFlowWhereLives true here
         (option_map flow_of (option_map (past_with (settings_of beginning) validates) past))
-    validated_previous answer Replies None told is = absurd told.1
-    validated_previous answer Replies (Some past) told is = ap (λ (f : Flow). flow true f.checked f.came f.went) is
-
-    moved : (now : ℕ) (remote : _) (is_fresh : Bool) (answer : Answer Q)
-        → AreFlows first ((NewPath now remote is_fresh, Ok answer) ∷ earlier)
-        (flows ((answered beginning.queue known (NewPath now remote is_fresh) answer).paths ++ log))
-    moved now remote true answer = (refl, same.0)
-    moved now remote false answer = (refl, same.0)
-
-    went_unchecked : (now bytes : ℕ)
-        → AreFlows first ((Transmit now bytes false, Ok Transmitted) ∷ earlier)
-        (flows (on_current (transmits bytes) ∷ log))
-    went_unchecked now bytes = (
-      went_more (is_validated first Current earlier) (datagrams_on Current earlier) now bytes false (Ok Transmitted)
-          (flow_of pasts.current) same.0,
-      same.1,
-    )
+    validated_previous answer Replies past told is = grind (arith, told, is)
 
     answer_flows : (event : Event Q S M P) (answer : Answer Q) → Told beginning earlier event (Ok answer)
         → AreFlows first ((event, Ok answer) ∷ earlier)
@@ -203,13 +185,15 @@ module _ {F K Q S M P : Type 0} (beginning : Beginning F K Q S M P) (earlier : H
           (flow_of pasts.current) same.0,
       same.1,
     )
-    answer_flows (Transmit now bytes true) (Delayed until) told = same
     answer_flows (Transmit now bytes true) answer told = same
     answer_flows (Transmit now bytes false) answer told =
-        subst (λ a. AreFlows first ((Transmit now bytes false, Ok a) ∷ earlier)
-        (flows (on_current (transmits bytes) ∷ log)))
-        (sym told.1) (went_unchecked now bytes)
-    answer_flows (NewPath now remote is_fresh) answer told = moved now remote is_fresh answer
+        rw told.1 (
+          went_more (is_validated first Current earlier) (datagrams_on Current earlier) now bytes false
+              (Ok Transmitted) (flow_of pasts.current) same.0,
+          same.1,
+        )
+    answer_flows (NewPath now remote true) answer told = (refl, same.0)
+    answer_flows (NewPath now remote false) answer told = (refl, same.0)
     answer_flows DropPrevious answer told = (same.0, refl)
     answer_flows event answer told = quietly event answer refl
 

@@ -1,26 +1,25 @@
 -- What each event is to the search on the path in use is read off its answer. `SearchSteps` go on from it.
-use Rattle.std.proofs.Common.{ℕ, ◌≡◌, ◌&&◌, Bool, true, false, if◌then◌else◌, List, [], ◌∷◌, ◌++◌, Option, None, Some, Ok, Err, refl, sym, ap, subst, ◌∙◌}
+use Rattle.std.proofs.Common.{arith, ℕ, ◌≡◌, Bool, true, false, if◌then◌else◌, List, [], ◌∷◌, ◌++◌, Option, None, Some, Ok, Err, refl, ap, ◌∙◌}
 use Rattle.std.proofs.lemmas.Bool.{false≢true}
 use Rattle.recovery_base.specs.declared.below.SpaceId.{SpaceId}
 use Rattle.recovery_base.specs.declared.below.SpaceId.TheVariants as space
-use Rattle.recovery_congestion.specs.Calls.{ControllerCall}
 use Rattle.recovery_ledger.specs.Packets.{Packet, packet_at}
 use Rattle.recovery_mtud.specs.Discovery.{is_data, poll_of, reports}
-use Rattle.recovery_mtud.specs.DiscoveryLog.{MtuCall, acks as acks_packet, loses, loses_probe, losses_end, discovery_by}
+use Rattle.recovery_mtud.specs.DiscoveryLog.{MtuCall, loses_probe, losses_end, discovery_by}
 use Rattle.recovery_mtud.specs.MtuEntries.{MtuEntry, acked, lost, probe_lost, poll_entry, entry_of}
 use Rattle.recovery_paths.specs.PathMaking.{PathMaking, PathSettings}
-use Rattle.recovery_paths.specs.PathLog.{PathEntry, PathsEntry, PathPast, on, moves, drops_previous, on_current, pasts_by, tells, searches, is_reset}
-use Rattle.recovery_paths.specs.PathStates.{is_path_probe, loss_call}
+use Rattle.recovery_paths.specs.PathLog.{PathsEntry, PathPast, on, pasts_by, searches, is_reset}
+use Rattle.recovery_paths.specs.PathStates.{is_path_probe}
 use Rattle.recovery_events.specs.declared.event.Event.{Event}
 use Rattle.recovery_events.specs.declared.event.Event.TheVariants.{PollMtu, Acked, Lost, LossesDone, PeerLimit, ResetPath, NewPath}
 use Rattle.recovery_events.specs.declared.event.Answer.{Answer}
 use Rattle.recovery_paths.specs.declared.live_paths.PathName.TheVariants.{Current, Previous}
 use Rattle.recovery_events.specs.declared.event.Refusal.{Refusal}
-use Rattle.quic_recovery.specs.Entries.{Entries, acked_entry, acked_search, is_own, logs_of, lost_search, searched, pasts_of}
+use Rattle.quic_recovery.specs.Entries.{Entries, acked_entry, acked_search, logs_of, lost_search, searched, pasts_of}
 use Rattle.quic_recovery.specs.History.{Beginning, History, Reply, Throughout}
 use Rattle.quic_recovery.specs.Known.{Known, first_path, known_by, settings_of, tracked_known}
 use Rattle.quic_recovery.specs.Told.{Told, MtuProbeReply}
-use Rattle.quic_recovery.proofs.EntryKinds.{PathKind, departing, limiting, searching, resetting, moving, elsewhere, call_kind, path_kind, paths_kept, refused_keeps}
+use Rattle.quic_recovery.proofs.EntryKinds.{PathKind, departing, limiting, searching, resetting, moving, elsewhere, path_kind, paths_kept, refused_keeps}
 use Rattle.quic_recovery.proofs.SearchSaid.{EntersAsTold, data_packet, entries_on, of_packet}
 use Rattle.quic_recovery.proofs.Runs.{throughout_kept}
 
@@ -34,25 +33,13 @@ is_unseen moving = false
 is_unseen elsewhere = false
 is_unseen kind = true
 
--- whatever the search is told, it sees something
-call_seen : (call : MtuCall) → is_unseen (call_kind call) ≡ false
-call_seen loses_probe = refl
-call_seen call = refl
-
 module _ {K : Type 0} (settings : PathSettings K) (first : PathMaking K) where
-  unseen_here : (entry : PathEntry) (log : List PathsEntry) → is_unseen (path_kind (on Current entry)) ≡ true
-      → entries_on (pasts_by settings first (on Current entry ∷ log)).current
-      ≡ entries_on (pasts_by settings first log).current
-  unseen_here (searches call) log is = absurd (false≢true (sym (call_seen call) ∙ is))
-  unseen_here (is_reset now) log is = absurd (false≢true is)
-  unseen_here entry log is = refl
-
   unseen_one : (entry : PathsEntry) (log : List PathsEntry) → is_unseen (path_kind entry) ≡ true
       → entries_on (pasts_by settings first (entry ∷ log)).current ≡ entries_on (pasts_by settings first log).current
-  unseen_one (on Current entry) log is = unseen_here entry log is
+  unseen_one (on Current (searches loses_probe)) log is = absurd (false≢true is)
+  unseen_one (on Current (is_reset now)) log is = absurd (false≢true is)
   unseen_one (on Previous entry) log is = refl
-  unseen_one (moves following) log is = absurd (false≢true is)
-  unseen_one drops_previous log is = refl
+  unseen_one entry log is = grind (arith, is)
 
 module _ {K P M : Type 0} (settings : PathSettings K) (first : PathMaking K) (log : List PathsEntry)
     (known : Known K P M) where
@@ -71,48 +58,23 @@ module _ {K P M : Type 0} (settings : PathSettings K) (first : PathMaking K) (lo
 
   -- what the controller is told is nothing to the search
   searched_seen : (changes : Bool) (call : MtuCall) → entries_with (searched known changes call) ≡ seen call ∷ before
-  searched_seen true call = refl
-  searched_seen false call = refl
-
-  acked_with : (own : Bool) (call : ControllerCall) (entries : List PathsEntry)
-      → entries_with ((if own then on_current (tells call) ∷ [] else []) ++ entries) ≡ entries_with entries
-  acked_with true call entries = refl
-  acked_with false call entries = refl
+  searched_seen changes call = grind arith
 
   acked_seen : (space : SpaceId) (now number : ℕ) (app_limited : Bool) (packet : Option (Packet P M))
       → entries_with (acked_entry known now app_limited packet ++ acked_search known space number packet)
       ≡ (if is_data space then of_packet (acked number) packet else []) ++ before
-  acked_seen space.Data now number app_limited None = refl
-  acked_seen space.Data now number app_limited (Some packet) =
-      let probed = is_path_probe space.Data number known.paths.current.state in
-      let call = acks_packet number packet.size in
-      acked_with (is_own known packet && packet.ack_eliciting) _ (searched known probed call)
-      ∙ searched_seen probed call
-  acked_seen space now number app_limited None = refl
-  acked_seen space now number app_limited (Some packet) =
-      acked_with (is_own known packet && packet.ack_eliciting) _ []
-
-  lost_seen : (own : Bool) (number bytes : ℕ)
-      → entries_with (searched known false (if own then loses_probe else loses number bytes))
-      ≡ (if own then probe_lost else lost number bytes) ∷ before
-  lost_seen true number bytes = refl
-  lost_seen false number bytes = refl
+  acked_seen space now number app_limited packet = grind arith
 
   -- outside 1-RTT keys nothing is seen
   lost_unseen : (space : SpaceId) (number : ℕ) (packet : Option (Packet P M)) → is_data space ≡ false
       → entries_with (lost_search known space number packet) ≡ before
-  lost_unseen space number None other = refl
-  lost_unseen space number (Some packet) other =
-      let call = loss_call number packet.size known.paths.current.state.discovery in
-      ap (λ (in_data : Bool). entries_with (if in_data then searched known false call else [])) other
+  lost_unseen space number packet other = grind (arith, other)
 
   lost_data_seen : (number : ℕ) (packet : Option (Packet P M)) →
       entries_with (lost_search known space.Data number packet)
       ≡ of_packet (λ bytes. if is_path_probe space.Data number known.paths.current.state then probe_lost else lost
       number bytes) packet ++ before
-  lost_data_seen number None = refl
-  lost_data_seen number (Some packet) =
-      lost_seen (is_path_probe space.Data number known.paths.current.state) number packet.size
+  lost_data_seen number packet = grind arith
 
 module _ {F K Q S M P : Type 0} (beginning : Beginning F K Q S M P) (past : History Q S M P) where
   abbrev known : Known K P M
@@ -129,38 +91,30 @@ module _ {F K Q S M P : Type 0} (beginning : Beginning F K Q S M P) (past : Hist
       → MtuProbeReply beginning.queue known now size (Ok given) → IsEntered (PollMtu now) given
   polled now given None is told =
       let entries = entries_on (pasts_of beginning past).current in
-      subst (IsEntered (PollMtu now)) (sym told) (ap (λ p. poll_entry now known.numbers.next p ∷ entries) is)
+      rw told (ap (λ p. poll_entry now known.numbers.next p ∷ entries) is)
   polled now given (Some size) is told =
       let entries = entries_on (pasts_of beginning past).current in
-      subst (IsEntered (PollMtu now)) (sym told.1) (ap (λ p. poll_entry now known.numbers.next p ∷ entries) is)
+      rw told.1 (ap (λ p. poll_entry now known.numbers.next p ∷ entries) is)
 
   answered_entered : (event : Event Q S M P) (given : Answer Q) → Told beginning past event (Ok given)
       → IsEntered event given
   answered_entered (PollMtu now) given told =
       polled now given (poll_of now known.paths.current.state.discovery) refl told.1.1
   answered_entered (PeerLimit size) given told = refl
-  answered_entered (Acked space.Initial now number app_limited) given told =
-      acked_seen (settings_of beginning) (first_path beginning) log known space.Initial now number app_limited
-      (packet_at (tracked_known known space.Initial) number)
-  answered_entered (Acked space.Handshake now number app_limited) given told =
-      acked_seen (settings_of beginning) (first_path beginning) log known space.Handshake now number app_limited
-      (packet_at (tracked_known known space.Handshake) number)
   answered_entered (Acked space.Data now number app_limited) given told =
       acked_seen (settings_of beginning) (first_path beginning) log known space.Data now number app_limited
       (data_packet beginning past number)
-  answered_entered (Lost space.Initial number) given told =
-      lost_unseen (settings_of beginning) (first_path beginning) log known space.Initial number
-      (packet_at (tracked_known known space.Initial) number) refl
-  answered_entered (Lost space.Handshake number) given told =
-      lost_unseen (settings_of beginning) (first_path beginning) log known space.Handshake number
-      (packet_at (tracked_known known space.Handshake) number) refl
+  answered_entered (Acked there now number app_limited) given told =
+      acked_seen (settings_of beginning) (first_path beginning) log known there now number app_limited
+      (packet_at (tracked_known known there) number)
   answered_entered (Lost space.Data number) given told =
-      subst (IsEntered (Lost space.Data number)) (sym told.1.1)
-      (lost_data_seen (settings_of beginning) (first_path beginning) log known number
+      rw told.1.1 (lost_data_seen (settings_of beginning) (first_path beginning) log known number
       (data_packet beginning past number))
+  answered_entered (Lost there number) given told =
+      lost_unseen (settings_of beginning) (first_path beginning) log known there number
+      (packet_at (tracked_known known there) number) refl
   answered_entered (LossesDone now) given told =
-      subst (IsEntered (LossesDone now)) (sym told)
-      (searched_seen (settings_of beginning) (first_path beginning) log known
+      rw told (searched_seen (settings_of beginning) (first_path beginning) log known
       (reports known.paths.current.state.discovery) (losses_end now))
   answered_entered (ResetPath now) given told = refl
   answered_entered (NewPath now remote true) given told = refl
@@ -190,6 +144,5 @@ pub entries_told : {F K Q S M P : Type 0} (beginning : Beginning F K Q S M P) (e
     (replies : List (Reply Q)) → Throughout (Told beginning) events replies
     → Throughout (EntersAsTold beginning) events replies
 entries_told {F} {K} {Q} {S} {M} {P} beginning events replies told =
-    let always : History Q S M P → Type 0 = λ past. Unit {0} in
-    throughout_kept beginning always (EntersAsTold beginning) (λ past event reply told kept. tt)
+    throughout_kept beginning (λ past. Unit {0}) (EntersAsTold beginning) (λ past event reply told kept. tt)
     (λ past event reply told kept. entered_one beginning past event reply told) [] events replies told tt

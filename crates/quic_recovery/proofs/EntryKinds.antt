@@ -1,6 +1,6 @@
 -- Of what kinds the entries are that an event may make in the log of a space and in that of the paths. A law over such
 -- a log names the events of the kinds that it reads; what other events make keeps it (`space_kept`, `paths_kept`).
-use Rattle.std.proofs.Common.{◌≡◌, ℕ, ◌&&◌, Bool, true, false, cond, List, [], ◌∷◌, ◌++◌, Option, None, Some, Ok, Err, refl, sym, subst}
+use Rattle.std.proofs.Common.{arith, ◌≡◌, ℕ, ◌&&◌, Bool, true, false, cond, List, [], ◌∷◌, ◌++◌, Option, None, Some, Ok, Err, refl}
 use Rattle.std.proofs.lemmas.Bool.{and_parts}
 use Rattle.recovery_base.specs.declared.below.SpaceId.{SpaceId}
 use Rattle.recovery_base.specs.declared.below.SpaceId.TheVariants.{Data}
@@ -8,7 +8,7 @@ use Rattle.recovery_base.specs.Spaces.{same_space}
 use Rattle.recovery_ledger.specs.Packets.{Packet, packet_at}
 use Rattle.recovery_ledger.specs.SpaceLog.{SpaceEntry, heard, heard_again, sends, acknowledged, loses, probes, takes_pending, feeds_back, emptied, ack_goes, ack_is_late, asked}
 use Rattle.recovery_congestion.specs.Calls.{ControllerCall}
-use Rattle.recovery_mtud.specs.Discovery.{is_data, is_probe, reports}
+use Rattle.recovery_mtud.specs.Discovery.{is_data, reports}
 use Rattle.recovery_mtud.specs.DiscoveryLog.{MtuCall, is_limited, losses_end, acks as acks_packet, loses as loses_packet, loses_probe}
 use Rattle.recovery_paths.specs.declared.live_paths.PathName.TheVariants.{Current, Previous}
 use Rattle.recovery_paths.specs.PathLog.{PathsEntry, on, moves, drops_previous, on_current, receives, is_validated, samples, tells, searches, asks, transmits, passes, is_reset}
@@ -158,13 +158,12 @@ but_requests entries = record entries { requests = None }
 pub refused_nothing : {Q S M P : Type 0} (event : Event Q S M P) (refusal : Refusal)
     → but_requests (refused event refusal) ≡ nothing
 refused_nothing (AckFrequencyIn frame) DelayTooSmall = refl
-refused_nothing (AckFrequencyIn frame) refusal = refl
 refused_nothing event refusal = refl
 
 -- what holds of nothing holds of what a refused event is
 pub refused_keeps : {Q S M P : Type 0} (event : Event Q S M P) (refusal : Refusal) (IsKept : Entries P M → Type 0)
     → IsKept nothing → IsKept (but_requests (refused event refusal))
-refused_keeps event refusal IsKept kept = subst IsKept (sym (refused_nothing event refusal)) kept
+refused_keeps event refusal IsKept kept = rw (refused_nothing event refusal) kept
 
 -- ---- in one space
 
@@ -174,27 +173,23 @@ module _ {K Q S M P : Type 0} (q : QueueMeaning Q S M P) (known : Known K P M) (
     (each : (entry : SpaceEntry P M) → is_idle (space_kind entry) ≡ true → IsKept (Some entry)) where
   pick : (there : SpaceId) (entry : SpaceEntry P M) → is_idle (space_kind entry) ≡ true
       → IsKept (cond (same_space there space) (Some entry) None)
-  pick there entry idle = go (same_space there space)
-    where
-      go : (b : Bool) → IsKept (cond b (Some entry) None)
-      go true = each entry idle
-      go false = none
+  pick there entry idle = grind (arith, each entry idle, none)
 
   answer_kept : (event : Event Q S M P) (answer : Answer Q) → is_idle (kind_of event) ≡ true
       → IsKept ((answered q known event answer).spaces space)
-  answer_kept (Received there now number eliciting) (New arm) idle = pick there (heard now number eliciting) idle
-  answer_kept (Received there now number eliciting) answer idle = pick there (heard_again number) idle
+  answer_kept (Received there now number eliciting) (New arm) idle = pick there _ idle
+  answer_kept (Received there now number eliciting) answer idle = pick there _ idle
   answer_kept (Send there now size eliciting largest queue frames) answer idle = pick there _ idle
-  answer_kept (Acked there now number app_limited) answer idle = pick there (acknowledged number) idle
-  answer_kept (Lost there number) answer idle = pick there (loses number) idle
-  answer_kept (AckFrequencyIn frame) (Flag true) idle = pick Data (asked frame) idle
-  answer_kept (AcksSent there) answer idle = pick there ack_goes idle
-  answer_kept (AckDelayTimeout there) answer idle = pick there ack_is_late idle
-  answer_kept (DiscardSpace there) answer idle = pick there emptied idle
+  answer_kept (Acked there now number app_limited) answer idle = pick there _ idle
+  answer_kept (Lost there number) answer idle = pick there _ idle
+  answer_kept (AckFrequencyIn frame) (Flag true) idle = pick Data _ idle
+  answer_kept (AcksSent there) answer idle = pick there _ idle
+  answer_kept (AckDelayTimeout there) answer idle = pick there _ idle
+  answer_kept (DiscardSpace there) answer idle = pick there _ idle
   answer_kept (PollMtu now) (Probe number size) idle = pick Data _ idle
-  answer_kept (Ecn there newly counts) answer idle = pick there (feeds_back counts) idle
+  answer_kept (Ecn there newly counts) answer idle = pick there _ idle
   answer_kept (QueueProbe there immediate streams) answer idle = pick there _ idle
-  answer_kept (TakePending there) answer idle = pick there takes_pending idle
+  answer_kept (TakePending there) answer idle = pick there _ idle
   answer_kept (Transmit now bytes true) Transmitted idle = none
   answer_kept event answer idle = none
 
@@ -213,15 +208,15 @@ module _ {K Q S M P : Type 0} (q : QueueMeaning Q S M P) (known : Known K P M) (
     → IsKept (entry ∷ earlier)) where
   told : (call : ControllerCall) (earlier : List PathsEntry) → is telling ≡ true → IsKept earlier
       → IsKept (on_current (tells call) ∷ earlier)
-  told call earlier quiet kept = each (on_current (tells call)) earlier quiet kept
+  told call earlier quiet kept = each _ earlier quiet kept
 
-  seen : (call : MtuCall) → is (call_kind call) ≡ true → IsKept (on_current (searches call) ∷ [])
-  seen call quiet = each (on_current (searches call)) [] quiet none
+  one : (entry : PathsEntry) → is (path_kind entry) ≡ true → IsKept (entry ∷ [])
+  one entry quiet = each entry [] quiet none
 
   changed : (changes : Bool) (call : MtuCall) → is telling ≡ true → is (call_kind call) ≡ true
       → IsKept (searched known changes call)
-  changed true call quiet sees = told _ _ quiet (seen call sees)
-  changed false call quiet sees = seen call sees
+  changed true call quiet sees = told _ _ quiet (one _ sees)
+  changed false call quiet sees = one _ sees
 
   told_if : (own : Bool) (call : ControllerCall) (earlier : List PathsEntry) → is telling ≡ true → IsKept earlier
       → IsKept (cond own (on_current (tells call) ∷ []) [] ++ earlier)
@@ -229,8 +224,7 @@ module _ {K Q S M P : Type 0} (q : QueueMeaning Q S M P) (known : Known K P M) (
   told_if false call earlier quiet kept = kept
 
   in_data : (is_data : Bool) (entries : List PathsEntry) → IsKept entries → IsKept (cond is_data entries [])
-  in_data true entries kept = kept
-  in_data false entries kept = none
+  in_data is_data entries kept = grind (arith, kept, none)
 
   acked_kept : (space : SpaceId) (now number : ℕ) (app_limited : Bool) (packet : Option (Packet P M))
       → is telling ≡ true → is departing ≡ true
@@ -245,52 +239,39 @@ module _ {K Q S M P : Type 0} (q : QueueMeaning Q S M P) (known : Known K P M) (
       → IsKept (lost_search known space number packet)
   lost_kept space number None departs = none
   lost_kept space number (Some packet) departs =
-      in_data (is_data space) _ (go (is_probe number known.paths.current.state.discovery))
-    where
-      go : (probe : Bool) → IsKept (searched known false (cond probe loses_probe (loses_packet number packet.size)))
-      go true = seen loses_probe departs
-      go false = seen (loses_packet number packet.size) departs
-
-  one : (entry : PathsEntry) → is (path_kind entry) ≡ true → IsKept (entry ∷ [])
-  one entry quiet = each entry [] quiet none
+      in_data (is_data space) _ (grind (arith, one (on_current (searches loses_probe)) departs,
+      one (on_current (searches (loses_packet number packet.size))) departs))
 
   answer_keeps : (event : Event Q S M P) (answer : Answer Q) → is_by is event ≡ true
       → IsKept (answered q known event answer).paths
-  answer_keeps (Send space now size eliciting largest queue frames) answer quiet = told _ [] quiet none
+  answer_keeps (Send space now size eliciting largest queue frames) answer quiet = one _ quiet
   answer_keeps (Acked space now number app_limited) answer quiet =
-      let both = and_parts (is telling) (is departing) quiet in
-      acked_kept space now number app_limited (packet_at (tracked_known known space) number) both.0 both.1
+      acked_kept space now number app_limited (packet_at (tracked_known known space) number) (grind (arith, quiet))
+      (grind (arith, quiet))
   answer_keeps (Lost space number) answer quiet =
       lost_kept space number (packet_at (tracked_known known space) number) quiet
-  answer_keeps (DatagramIn path bytes) answer quiet = one (on path (receives bytes)) quiet
-  answer_keeps (Validated path) answer quiet = one (on path is_validated) quiet
-  answer_keeps (Sample delay rtt) answer quiet = one (on_current (samples delay rtt)) quiet
-  answer_keeps (Transmit now bytes true) Transmitted quiet =
-      let both = and_parts (is transmitting) (is passing && is asking) quiet in
-      one (on_current (passes now bytes)) (and_parts (is passing) (is asking) both.1).0
+  answer_keeps (DatagramIn path bytes) answer quiet = one _ quiet
+  answer_keeps (Validated path) answer quiet = one _ quiet
+  answer_keeps (Sample delay rtt) answer quiet = one _ quiet
+  answer_keeps (Transmit now bytes true) Transmitted quiet = one (on_current (passes now bytes)) (grind (arith, quiet))
   answer_keeps (Transmit now bytes true) (Delayed until) quiet =
-      let both = and_parts (is transmitting) (is passing && is asking) quiet in
-      one (on_current (asks now bytes)) (and_parts (is passing) (is asking) both.1).1
-  answer_keeps (Transmit now bytes true) answer quiet = none
-  answer_keeps (Transmit now bytes false) answer quiet =
-      one (on_current (transmits bytes)) (and_parts (is transmitting) (is passing && is asking) quiet).0
-  answer_keeps (PacerCheck now bytes) answer quiet = one (on_current (asks now bytes)) quiet
-  answer_keeps (Congestion now sent persistent bytes) answer quiet = told _ [] quiet none
-  answer_keeps (EndAcks now app_limited largest) answer quiet = told _ [] quiet none
+      one (on_current (asks now bytes)) (grind (arith, quiet))
+  answer_keeps (Transmit now bytes false) answer quiet = one (on_current (transmits bytes)) (grind (arith, quiet))
+  answer_keeps (PacerCheck now bytes) answer quiet = one _ quiet
+  answer_keeps (Congestion now sent persistent bytes) answer quiet = one _ quiet
+  answer_keeps (EndAcks now app_limited largest) answer quiet = one _ quiet
   answer_keeps (PollMtu now) (Probe number size) quiet =
-      let both = and_parts (is telling) (is searching) quiet in each _ _ both.1 (told _ [] both.0 none)
-  answer_keeps (PollMtu now) answer quiet = seen _ (and_parts (is telling) (is searching) quiet).1
-  answer_keeps (PeerLimit size) answer quiet = seen (is_limited size) quiet
+      let both = and_parts (is telling) (is searching) quiet in each _ _ both.1 (one _ both.0)
+  answer_keeps (PollMtu now) answer quiet = one _ (and_parts (is telling) (is searching) quiet).1
+  answer_keeps (PeerLimit size) answer quiet = one _ quiet
   answer_keeps (LossesDone now) answer quiet =
       let both = and_parts (is telling) (is searching) quiet in
       changed (reports known.paths.current.state.discovery) (losses_end now) both.0 both.1
   answer_keeps (NewPath now remote is_fresh) answer quiet = one _ quiet
-  answer_keeps (ResetPath now) answer quiet = one (on_current (is_reset now)) quiet
-  answer_keeps DropPrevious answer quiet = one drops_previous quiet
+  answer_keeps (ResetPath now) answer quiet = one _ quiet
+  answer_keeps DropPrevious answer quiet = one _ quiet
   answer_keeps (Received space now number eliciting) (New arm) quiet = none
-  answer_keeps (Received space now number eliciting) answer quiet = none
   answer_keeps (AckFrequencyIn frame) (Flag true) quiet = none
-  answer_keeps (AckFrequencyIn frame) (Flag false) quiet = none
   answer_keeps event answer quiet = none
 
   -- what holds of none, and of one more that is of some kinds, holds of what an event of those kinds makes
@@ -317,4 +298,4 @@ module _ {K Q S M P : Type 0} (q : QueueMeaning Q S M P) (known : Known K P M) w
   -- what holds of the entries that an event makes whatever its answer holds of those that it makes
   pub plainly_keeps : (event : Event Q S M P) (answer : Answer Q) (IsKept : Entries P M → Type 0)
       → IsKept (but_logs (answered q known (plain event) Done)) → IsKept (but_logs (answered q known event answer))
-  plainly_keeps event answer IsKept kept = subst IsKept (sym (plainly event answer)) kept
+  plainly_keeps event answer IsKept kept = rw (plainly event answer) kept

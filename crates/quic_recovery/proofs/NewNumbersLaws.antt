@@ -1,9 +1,9 @@
 -- A number is called new exactly where the history itself says so: the clause `new` of `run`, and `RefusedLaws` rest on
 -- it.
 use Rattle.std.proofs.lemmas.Bool.Decides.{nat_tests}
-use Rattle.std.proofs.Common.{arith, ◌≡◌, ◌≤◌, ◌+◌, ◌^◌, ℕ, Bool, true, false, ◌||◌, cond, nat_eq, nat_lt, nat_le, List, [], ◌∷◌, None, Some, Ok, Err, ◌⊎◌, inl, inr, ◌↔◌, refl, sym, ap, subst, ◌∙◌}
+use Rattle.std.proofs.Common.{arith, ◌≡◌, ◌≤◌, ◌+◌, ◌^◌, ℕ, Bool, true, false, ◌||◌, cond, nat_eq, nat_lt, nat_le, List, [], ◌∷◌, None, Some, Ok, Err, ◌⊎◌, inl, inr, ◌↔◌, refl, sym, ap, subst}
 use Rattle.std.specs.List.{list_all, list_any}
-use Rattle.std.proofs.lemmas.Bool.{false_from_ne_true, ltb-true, lt-ltb, leb-true, le-leb, false≢true}
+use Rattle.std.proofs.lemmas.Bool.{false_from_ne_true, leb-true, le-leb, false≢true}
 use Rattle.recovery_base.specs.declared.below.SpaceId.{SpaceId}
 use Rattle.recovery_base.specs.Numbers.{IsNew}
 use Rattle.recovery_base.specs.Spaces.{same_space}
@@ -13,10 +13,10 @@ use Rattle.recovery_ledger.specs.SpaceLog.{SpaceEntry, heard, heard_again}
 use Rattle.recovery_events.specs.declared.event.Event.{Event}
 use Rattle.recovery_events.specs.declared.event.Event.TheVariants.{Received, DiscardSpace}
 use Rattle.recovery_events.specs.declared.event.Answer.{Answer}
-use Rattle.recovery_events.specs.declared.event.Answer.TheVariants.{New, Duplicate, Done}
+use Rattle.recovery_events.specs.declared.event.Answer.TheVariants.{New, Done}
 use Rattle.recovery_events.specs.declared.event.Refusal.{Refusal}
-use Rattle.recovery_events.specs.declared.event.Refusal.TheVariants.{NoMemory, NumberTooLarge, SpaceDiscarded}
-use Rattle.quic_recovery.specs.Entries.{Entries, answered, entries_of, logs_of}
+use Rattle.recovery_events.specs.declared.event.Refusal.TheVariants.{NumberTooLarge, SpaceDiscarded}
+use Rattle.quic_recovery.specs.Entries.{Entries, nothing, answered, entries_of, logs_of}
 use Rattle.quic_recovery.specs.History.{Beginning, History, Reply, QueueMeaning}
 use Rattle.quic_recovery.specs.Known.{SpaceKnown, Known, known_by}
 use Rattle.quic_recovery.specs.Logs.{onto}
@@ -24,7 +24,7 @@ use Rattle.quic_recovery.specs.Replies.{Refuses, Answers}
 use Rattle.quic_recovery.specs.Told.{Told, ReceivedAnswer}
 use Rattle.recovery_ledger.specs.Acks.{Heard, heard_by}
 use Rattle.quic_recovery.specs.Promises.NewNumbers.{is_new, came_in, is_discarded, IsVerdict, CallsNew}
-use Rattle.quic_recovery.proofs.EntryKinds.{SpaceKind, hearing, space_kind, space_kept, plain, plainly, refused_nothing}
+use Rattle.quic_recovery.proofs.EntryKinds.{SpaceKind, hearing, space_kind, space_kept, plain, plainly_keeps, refused_keeps}
 
 -- ---- lists of numbers and sets of numbers
 
@@ -32,13 +32,9 @@ abbrev In : ℕ → List ℕ → Type 0
 In n [] = ⊥
 In n (m ∷ ms) = (n ≡ m) ⊎ In n ms
 
-member_to : (n : ℕ) (ms : List ℕ) → list_any (nat_eq n) ms ≡ true → In n ms
-member_to n [] e = cc
-member_to n (m ∷ ms) e = grind (arith, nat_tests, e, member_to n ms)
-
-member_from : (n : ℕ) (ms : List ℕ) → In n ms → list_any (nat_eq n) ms ≡ true
-member_from n [] there = absurd there
-member_from n (m ∷ ms) there = grind (arith, nat_tests, there, member_from n ms)
+member : (n : ℕ) (ms : List ℕ) → (list_any (nat_eq n) ms ≡ true) ↔ In n ms
+member n [] = grind arith
+member n (m ∷ ms) = grind (arith, nat_tests, member n ms)
 
 module _ (test : ℕ → Bool) where
   all_to : (ms : List ℕ) → list_all test ms ≡ true → (m : ℕ) → In m ms → test m ≡ true
@@ -48,30 +44,28 @@ module _ (test : ℕ → Bool) where
   all_from : (ms : List ℕ) → ((m : ℕ) → In m ms → test m ≡ true) → list_all test ms ≡ true
   all_from [] each = refl
   all_from (m ∷ ms) each =
-      let here = each m (inl refl) in
-      let rest = all_from ms (λ k there. each k (inr there)) in grind (arith, nat_tests, here, rest)
+      grind (arith, nat_tests, each m (inl refl), all_from ms (λ k there. each k (inr there)))
 
 module _ (Numbers : ℕ → Type 0) (came : List ℕ) (same : (m : ℕ) → In m came ↔ Numbers m) (n : ℕ) where
   new_from : IsNew Numbers n → is_new came n ≡ true
   new_from (inl exceeds) =
-      let all = all_from (λ m. nat_lt m n) came (λ m there. lt-ltb m n (exceeds m ((same m).0 there))) in
+      let all = all_from (λ m. nat_lt m n) came (λ m there. grind (arith, nat_tests, exceeds m, same m, there)) in
       grind (arith, nat_tests, all)
   new_from (inr other) =
-      let all = all_from (λ m. nat_le m (n + 128)) came
-      (λ m there. le-leb m (n + 128) (other.1 m ((same m).0 there))) in
-      let none = false_from_ne_true _ (λ member. other.0 ((same n).0 (member_to n came member))) in
-      grind (arith, nat_tests, all, none)
+      let near = all_from (λ m. nat_le m (n + 128)) came
+      (λ m there. grind (arith, nat_tests, other.1 m, same m, there)) in
+      grind (arith, nat_tests, near, other.0, same n, member n came)
 
   new_to : is_new came n ≡ true → IsNew Numbers n
   new_to e = go (list_all (λ m. nat_lt m n) came) refl
     where
       go : (b : Bool) → list_all (λ m. nat_lt m n) came ≡ b → IsNew Numbers n
-      go true all = inl (λ m in_set. ltb-true m n (all_to _ came all m ((same m).1 in_set)))
+      go true all = inl (λ m in_set. grind (arith, nat_tests, all_to _ came all m, same m, in_set))
       go false some =
           let all : list_all (λ m. nat_le m (n + 128)) came ≡ true = grind (arith, nat_tests, e, some) in
           inr (
-            (λ in_set. let is = member_from n came ((same n).1 in_set) in grind (arith, nat_tests, e, some, is)),
-            λ m in_set. leb-true m (n + 128) (all_to _ came all m ((same m).1 in_set)),
+            (λ in_set. grind (arith, nat_tests, e, some, member n came, same n, in_set)),
+            λ m in_set. grind (arith, nat_tests, all_to _ came all m, same m, in_set),
           )
 
 -- ---- what came, and which spaces were discarded
@@ -83,12 +77,10 @@ module _ {P M : Type 0} (came : List ℕ) (log : List (SpaceEntry P M)) (alike :
   one_more : (n m : ℕ) → In m (n ∷ came) ↔ ((m ≡ n) ⊎ CameIn log m)
   one_more n m = (λ there. grind (arith, there, alike m), λ back. grind (arith, back, alike m))
 
-  arrive : (b c : Bool) (n : ℕ) (entry : SpaceEntry P M) → b ≡ c → Alike (n ∷ came) (entry ∷ log)
-      → Alike (cond b (n ∷ came) came) (onto (cond c (Some entry) None) log)
-  arrive true true n entry is first = first
-  arrive false false n entry is first = alike
-  arrive true false n entry is first = cc
-  arrive false true n entry is first = cc
+  arrive : (b : Bool) (n : ℕ) (entry : SpaceEntry P M) → Alike (n ∷ came) (entry ∷ log)
+      → Alike (cond b (n ∷ came) came) (onto (cond b (Some entry) None) log)
+  arrive true n entry first = first
+  arrive false n entry first = alike
 
 abbrev not_heard : SpaceKind → Bool
 not_heard hearing = false
@@ -100,42 +92,39 @@ module _ {K Q S M P : Type 0} (q : QueueMeaning Q S M P) (known : Known K P M) (
     -- what is no packet that came
     unheard : (entry : SpaceEntry P M) → not_heard (space_kind entry) ≡ true
         → Alike (came_in space earlier) (entry ∷ log)
-    unheard (heard now number eliciting) other = absurd (false≢true other)
     unheard (heard_again number) other = absurd (false≢true other)
-    unheard entry other = alike
+    unheard entry other = grind (arith, other, alike)
 
     reply_came : (event : Event Q S M P) (reply : Reply Q)
         → Alike (came_in space ((event, reply) ∷ earlier)) (onto ((entries_of q known event reply).spaces space) log)
     reply_came (Received there now number eliciting) (Ok (New arm)) =
-        arrive _ log alike _ _ number (heard now number eliciting) refl (one_more _ log alike number)
+        arrive _ log alike _ number (heard now number eliciting) (one_more _ log alike number)
     reply_came (Received there now number eliciting) (Ok answer) =
-        arrive _ log alike _ _ number (heard_again number) refl (one_more _ log alike number)
+        arrive _ log alike _ number (heard_again number) (one_more _ log alike number)
     reply_came (Received there now number eliciting) (Err refusal) = alike
     reply_came event reply =
         space_kept q known space (λ made. Alike (came_in space earlier) (onto made log)) not_heard alike unheard event
         reply refl
 
   module _ (log : List SpaceId) (same : is_discarded space earlier ≡ was_discarded space log) where
+    abbrev Drops : Event Q S M P → Reply Q → Entries P M → Type 0
+    Drops event reply entries =
+        is_discarded space ((event, reply) ∷ earlier) ≡ was_discarded space (onto entries.discarded log)
+
     answer_drops : (event : Event Q S M P) (answer : Answer Q)
-        → is_discarded space ((event, Ok answer) ∷ earlier) ≡ was_discarded space
-        (onto (answered q known (plain event) Done).discarded log)
+        → Drops event (Ok answer) (answered q known (plain event) Done)
     answer_drops (DiscardSpace there) answer = ap (λ b. same_space there space || b) same
     answer_drops event answer = same
 
-    refusal_drops : (event : Event Q S M P) (refusal : Refusal)
-        → is_discarded space ((event, Err refusal) ∷ earlier) ≡ is_discarded space earlier
-    refusal_drops (DiscardSpace there) refusal = refl
-    refusal_drops event refusal = refl
+    refusal_drops : (event : Event Q S M P) (refusal : Refusal) → Drops event (Err refusal) nothing
+    refusal_drops (DiscardSpace there) refusal = same
+    refusal_drops event refusal = same
 
-    reply_drops : (event : Event Q S M P) (reply : Reply Q)
-        → is_discarded space ((event, reply) ∷ earlier) ≡ was_discarded space
-        (onto (entries_of q known event reply).discarded log)
+    reply_drops : (event : Event Q S M P) (reply : Reply Q) → Drops event reply (entries_of q known event reply)
     reply_drops event (Ok answer) =
-        answer_drops event answer
-        ∙ ap (λ (e : Entries P M). was_discarded space (onto e.discarded log)) (sym (plainly q known event answer))
+        plainly_keeps q known event answer (Drops event (Ok answer)) (answer_drops event answer)
     reply_drops event (Err refusal) =
-        refusal_drops event refusal ∙ same
-        ∙ ap (λ (e : Entries P M). was_discarded space (onto e.discarded log)) (sym (refused_nothing event refusal))
+        refused_keeps event refusal (Drops event (Err refusal)) (refusal_drops event refusal)
 
 module _ {F K Q S M P : Type 0} (beginning : Beginning F K Q S M P) where
   all_came : (history : History Q S M P) (space : SpaceId)
@@ -162,32 +151,23 @@ module _ {Q P M : Type 0} (known : SpaceKnown P M) (heard : Heard) (number : ℕ
       → Answers (IsNew heard.came number) (ReceivedAnswer heard known.counts number eliciting) reply
       → IsVerdict false false new reply
   fine (Ok (New arm)) told = yes told.0
-  fine (Ok Duplicate) told = no told
-  fine (Ok answer) told = absurd told
-  fine (Err NoMemory) told = yes told
-  fine (Err refusal) told = absurd told
+  fine reply told = grind (arith, yes, no, told)
 
   sized : (large : Bool) → (2 ^ 62 ≤ number → large ≡ true) → (large ≡ true → 2 ^ 62 ≤ number) → (reply : Reply Q)
       → Refuses NumberTooLarge (2 ^ 62 ≤ number) (Answers (IsNew heard.came number)
       (ReceivedAnswer heard known.counts number eliciting)) reply → IsVerdict false large new reply
-  sized true is to (Ok answer) told = absurd (told.0 (to refl))
-  sized true is to (Err NumberTooLarge) told = refl
-  sized true is to (Err refusal) told = absurd (told.0 (to refl))
-  sized false is to (Ok answer) told = fine (Ok answer) told.1
-  sized false is to (Err NumberTooLarge) told = let wrong = is told in cc
-  sized false is to (Err refusal) told = fine (Err refusal) told.1
+  sized large is to (Ok answer) told = grind (arith, is, to, told, fine (Ok answer))
+  sized large is to (Err NumberTooLarge) told = grind (arith, is, to, told)
+  sized large is to (Err refusal) told = grind (arith, is, to, told, fine (Err refusal))
 
   opened : (discarded large : Bool) → (2 ^ 62 ≤ number → large ≡ true) → (large ≡ true → 2 ^ 62 ≤ number)
       → (reply : Reply Q)
       → Refuses SpaceDiscarded (discarded ≡ true) (Refuses NumberTooLarge (2 ^ 62 ≤ number)
       (Answers (IsNew heard.came number) (ReceivedAnswer heard known.counts number eliciting))) reply
       → IsVerdict discarded large new reply
-  opened true large is to (Ok answer) told = absurd (told.0 refl)
-  opened true large is to (Err SpaceDiscarded) told = refl
-  opened true large is to (Err refusal) told = absurd (told.0 refl)
-  opened false large is to (Ok answer) told = sized large is to (Ok answer) told.1
-  opened false large is to (Err SpaceDiscarded) told = cc
-  opened false large is to (Err refusal) told = sized large is to (Err refusal) told.1
+  opened discarded large is to (Ok answer) told = grind (arith, told, sized large is to (Ok answer))
+  opened discarded large is to (Err SpaceDiscarded) told = grind (arith, told)
+  opened discarded large is to (Err refusal) told = grind (arith, told, sized large is to (Err refusal))
 
 module _ {F K Q S M P : Type 0} (beginning : Beginning F K Q S M P) where
   received_told : (history : History Q S M P) (space : SpaceId) (now number : ℕ) (eliciting : Bool) (reply : Reply Q)

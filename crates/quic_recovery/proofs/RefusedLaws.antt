@@ -1,12 +1,10 @@
 -- Refusals that follow from the history are given exactly where it says so: the clause `refused` of `run`.
-use Rattle.std.proofs.Common.{◌≡◌, ◌≢◌, ℕ, ◌==◌, Bool, true, false, List, [], Option, None, Some, Ok, Err, refl, sym, ap, ◌∙◌, MatchBool, arith}
-use Rattle.std.specs.Prelude.{is_some, option_map, if◌then◌else◌}
-use Rattle.std.specs.Bool.{Decides}
-use Rattle.std.proofs.lemmas.Bool.Decides.{Decides-eqb}
+use Rattle.std.proofs.Common.{◌≡◌, ℕ, ◌==◌, Bool, true, false, List, [], Option, None, Some, Ok, Err, refl, sym, ap, ◌∙◌, MatchBool, arith}
+use Rattle.std.specs.Prelude.{is_some, option_map}
+use Rattle.std.proofs.lemmas.Bool.Decides.{nat_tests}
 use Rattle.recovery_base.specs.declared.below.SpaceId.{SpaceId}
 use Rattle.recovery_base.specs.declared.below.SpaceId.TheVariants.{Data}
 use Rattle.recovery_base.specs.declared.below.frames.EcnCounts.{EcnCounts}
-use Rattle.recovery_ledger.specs.Packets.{Packet, packet_at}
 use Rattle.recovery_paths.specs.declared.live_paths.PathName.{PathName}
 use Rattle.recovery_paths.specs.declared.live_paths.PathName.TheVariants.{Previous}
 use Rattle.recovery_paths.specs.PathLog.{PathKnown, path_of}
@@ -16,6 +14,8 @@ use Rattle.recovery_events.specs.declared.event.Answer.{Answer}
 use Rattle.recovery_events.specs.declared.event.Refusal.{Refusal}
 use Rattle.recovery_events.specs.declared.event.Refusal.TheVariants as refusal
 use Rattle.recovery_events.specs.declared.event.Refusal.TheVariants.{SpaceDiscarded, NotTracked, NoSuchPath, NotInitialId, NoMemory}
+use Rattle.recovery_events.specs.Refusals.{refusal_number}
+use Rattle.quic_recovery.proofs.TableLaws.{only_refusal}
 use Rattle.quic_recovery.specs.Entries.{logs_of}
 use Rattle.quic_recovery.specs.History.{Beginning, History, Reply, Throughout}
 use Rattle.quic_recovery.specs.Known.{SpaceKnown, Known, known_by}
@@ -31,12 +31,6 @@ use Rattle.quic_recovery.proofs.PeerIdsLaws.{HoldsIds, active_told, holds_first,
 use Rattle.quic_recovery.proofs.TrackedLaws.{AllTracked, keeps_tracked, none_tracked, tracked_found}
 
 -- ---- which of these causes a reply names
-
--- another refusal
-abbrev IsOther : Refusal → Type 0
-IsOther other =
-    (same_refusal SpaceDiscarded other ≡ false) × (same_refusal NotTracked other ≡ false)
-    × (same_refusal NoSuchPath other ≡ false) × (same_refusal NotInitialId other ≡ false)
 
 module _ {Q : Type 0} where
   abbrev named : Reply Q → Option Refusal
@@ -58,52 +52,32 @@ module _ {Q : Type 0} where
   -- none of them is allowed
   none_named : (Holds : Reply Q → Type 0) → ¬ Holds (Err SpaceDiscarded) → ¬ Holds (Err NotTracked)
       → ¬ Holds (Err NoSuchPath) → ¬ Holds (Err NotInitialId) → Names None Holds
-  none_named Holds space tracked path initial (Ok answer) told = refl
   none_named Holds space tracked path initial (Err SpaceDiscarded) told = absurd (space told)
-  none_named Holds space tracked path initial (Err NotTracked) told = absurd (tracked told)
-  none_named Holds space tracked path initial (Err NoSuchPath) told = absurd (path told)
-  none_named Holds space tracked path initial (Err NotInitialId) told = absurd (initial told)
-  none_named Holds space tracked path initial (Err refusal) told = refl
+  none_named Holds space tracked path initial reply told = grind (arith, tracked, path, initial, told)
 
-  passes : (given other : Refusal) (Cause : Type 0) (Otherwise : Reply Q → Type 0) → same_refusal given other ≡ false
-      → Refuses other Cause Otherwise (Err given) → Otherwise (Err given)
-  passes given other Cause Otherwise differs told = go (same_refusal given other) differs told
-    where
-      go : (b : Bool) → b ≡ false → MatchBool b Cause ((¬ Cause) × Otherwise (Err given)) → Otherwise (Err given)
-      go false e told = told.1
-      go true e told = cc
-
-  passes_name : (other : Refusal) (Cause : Type 0) (Otherwise : Reply Q → Type 0) → IsOther other → Names None Otherwise
+  -- another cause is none of them
+  passes_name : (other : Refusal) (Cause : Type 0) (Otherwise : Reply Q → Type 0)
+      → (let reply : Reply Q = Err other in named reply ≡ None) → Names None Otherwise
       → Names None (Refuses other Cause Otherwise)
-  passes_name other Cause Otherwise is names (Ok answer) told = refl
   passes_name other Cause Otherwise is names (Err SpaceDiscarded) told =
-      names (Err SpaceDiscarded) (passes SpaceDiscarded other Cause Otherwise is.0 told)
-  passes_name other Cause Otherwise is names (Err NotTracked) told =
-      names (Err NotTracked) (passes NotTracked other Cause Otherwise is.1 told)
-  passes_name other Cause Otherwise is names (Err NoSuchPath) told =
-      names (Err NoSuchPath) (passes NoSuchPath other Cause Otherwise is.2 told)
-  passes_name other Cause Otherwise is names (Err NotInitialId) told =
-      names (Err NotInitialId) (passes NotInitialId other Cause Otherwise is.3 told)
-  passes_name other Cause Otherwise is names (Err refusal) told = refl
+      grind (arith, is, names (Err SpaceDiscarded), told)
+  passes_name other Cause Otherwise is names reply told = grind (arith, is, names reply, told)
 
-  -- where a test decides the cause, a reply names it, or what the others name
-  space_names : (discarded : Bool) (Otherwise : Reply Q → Type 0) (cause : Option Refusal) → Names cause Otherwise
-      → Names (if discarded then Some SpaceDiscarded else cause) (Refuses SpaceDiscarded (discarded ≡ true) Otherwise)
-  space_names true Otherwise cause names (Ok answer) told = absurd (told.0 refl)
-  space_names true Otherwise cause names (Err SpaceDiscarded) told = refl
-  space_names true Otherwise cause names (Err refusal) told = absurd (told.0 refl)
-  space_names false Otherwise cause names (Ok answer) told = names (Ok answer) told.1
-  space_names false Otherwise cause names (Err SpaceDiscarded) told = cc
-  space_names false Otherwise cause names (Err refusal) told = names (Err refusal) told.1
-
-  tracked_names : {P M : Type 0} (found : Option (Packet P M)) (Otherwise : Reply Q → Type 0) → Names None Otherwise
-      → Names (unless (is_some found) NotTracked) (Refuses NotTracked (found ≡ None) Otherwise)
-  tracked_names None Otherwise names (Ok answer) told = absurd (told.0 refl)
-  tracked_names None Otherwise names (Err NotTracked) told = refl
-  tracked_names None Otherwise names (Err refusal) told = absurd (told.0 refl)
-  tracked_names (Some packet) Otherwise names (Ok answer) told = names (Ok answer) told.1
-  tracked_names (Some packet) Otherwise names (Err NotTracked) told = cc
-  tracked_names (Some packet) Otherwise names (Err refusal) told = names (Err refusal) told.1
+  -- a cause that is one of them is named where it holds, and else what the others name
+  cause_names : (cause : Refusal) → (refusal_number cause == 17) ≡ false
+      → (let reply : Reply Q = Err cause in named reply ≡ Some cause) → (Cause : Type 0) (Otherwise : Reply Q → Type 0)
+      (rest expected : Option Refusal) → (Cause → expected ≡ Some cause) → (¬ Cause → expected ≡ rest)
+      → Names rest Otherwise → Names expected (Refuses cause Cause Otherwise)
+  cause_names cause no_text is Cause Otherwise rest expected named_so else_so names (Ok answer) told =
+      names (Ok answer) told.1 ∙ sym (else_so told.0)
+  cause_names cause no_text is Cause Otherwise rest expected named_so else_so names (Err given) told =
+      go (same_refusal given cause) refl told
+    where
+      go : (b : Bool) → same_refusal given cause ≡ b → MatchBool b Cause ((¬ Cause) × Otherwise (Err given))
+          → named (Err given) ≡ expected
+      go true same holds =
+          ap (λ (r : Refusal). named (Err r)) (only_refusal given cause no_text same) ∙ is ∙ sym (named_so holds)
+      go false same other = names (Err given) other.1 ∙ sym (else_so other.0)
 
   path_names : {K : Type 0} (found : Option (PathKnown K)) (Replies : PathKnown K → Reply Q → Type 0)
       → ((path : PathKnown K) → Names None (Replies path))
@@ -112,18 +86,6 @@ module _ {Q : Type 0} where
   path_names None Replies names (Err NoSuchPath) told = refl
   path_names None Replies names (Err refusal) told = absurd told.1
   path_names (Some path) Replies names reply told = names path reply told
-
-  initial_names : (active : ℕ) (first : Bool) (Otherwise : Reply Q → Type 0) → Decides first (active ≡ 0)
-      → Names None Otherwise
-      → Names (unless first NotInitialId) (Refuses NotInitialId (active ≢ 0) Otherwise)
-  initial_names active true Otherwise is names (Ok answer) told = names (Ok answer) told.1
-  initial_names active true Otherwise is names (Err NotInitialId) told = absurd (told (is.0 refl))
-  initial_names active true Otherwise is names (Err refusal) told = names (Err refusal) told.1
-  initial_names active false Otherwise is names (Ok answer) told =
-      absurd (told.0 (λ zero. (let wrong = is.1 zero in cc)))
-  initial_names active false Otherwise is names (Err NotInitialId) told = refl
-  initial_names active false Otherwise is names (Err refusal) told =
-      absurd (told.0 (λ zero. (let wrong = is.1 zero in cc)))
 
   ecn_names : {P M : Type 0} (here : SpaceKnown P M) (newly : ℕ) (counts : EcnCounts)
       → Names None (EcnAnswer here newly counts)
@@ -134,12 +96,8 @@ module _ {Q : Type 0} where
 -- what is named is refused rightly
 module _ {Q S M P : Type 0} (history : History Q S M P) (event : Event Q S M P) where
   by_name : (reply : Reply Q) → named reply ≡ first_cause history event → RefusesRightly history event reply
-  by_name (Ok answer) is = sym is
   by_name (Err SpaceDiscarded) is = sym is
-  by_name (Err NotTracked) is = sym is
-  by_name (Err NoSuchPath) is = sym is
-  by_name (Err NotInitialId) is = sym is
-  by_name (Err refusal) is = sym is
+  by_name reply is = sym is
 
 -- ---- the table
 
@@ -156,9 +114,10 @@ module _ {F K Q S M P : Type 0} (beginning : Beginning F K Q S M P) where
     -- an event in a space
     in_one : (space : SpaceId) (Otherwise : Reply Q → Type 0) (cause : Option Refusal) → Names cause Otherwise
         → Names (in_space history space cause) (InSpace (known.spaces space) Otherwise)
-    in_one space Otherwise cause names reply told =
-        space_names (known.spaces space).discarded Otherwise cause names reply told
-        ∙ ap (λ (b : Bool). if b then Some SpaceDiscarded else cause) (sym (all_dropped beginning history space))
+    in_one space Otherwise cause names =
+        let dropped = all_dropped beginning history space in
+        cause_names SpaceDiscarded refl refl _ Otherwise cause _ (λ is. grind (arith, is, dropped))
+        (λ live. grind (arith, live, dropped)) names
 
     -- one that is refused for no other of these causes
     only_in : (space : SpaceId) (Otherwise : Reply Q → Type 0) → Names None Otherwise
@@ -170,9 +129,9 @@ module _ {F K Q S M P : Type 0} (beginning : Beginning F K Q S M P) where
         → Names (in_space history space (unless (is_tracked space number history) NotTracked))
         (LeaveReply (known.spaces space) Grows number given)
     leave_names space Grows number given =
-        in_one space _ _ (λ reply told.
-        tracked_names (packet_at (known.spaces space).sent.tracked number) _ (answers_name Grows (Is given)) reply told
-        ∙ ap (λ (b : Bool). unless b NotTracked) (tracked_found beginning history stands.tracked space number))
+        let found = tracked_found beginning history stands.tracked space number in
+        in_one space _ _ (cause_names NotTracked refl refl _ _ None _ (λ none. grind (arith, none, found))
+        (λ some. grind (arith, some, found)) (answers_name Grows (Is given)))
 
     -- a path that lives
     on_path : (name : PathName) (Replies : PathKnown K → Reply Q → Type 0)
@@ -184,45 +143,43 @@ module _ {F K Q S M P : Type 0} (beginning : Beginning F K Q S M P) where
         ∙ ap (λ (g : Option ℕ). is_some g) (generation_told beginning history name))
       where
         mapped : (found : Option (PathKnown K)) → is_some found ≡ is_some (option_map (λ path. path.generation) found)
-        mapped None = refl
-        mapped (Some path) = refl
+        mapped found = grind arith
 
     probe_names : (now : ℕ) (due : Option ℕ) → Names None (MtuProbeReply beginning.queue known now due)
     probe_names now None = answers_name ⊥ _
-    probe_names now (Some size) = passes_name refusal.Overflow _ _ (refl, refl, refl, refl) (answers_name _ _)
+    probe_names now (Some size) = passes_name refusal.Overflow _ _ refl (answers_name _ _)
 
     names : (event : Event Q S M P) → Names (first_cause history event) (Told beginning history event)
     names (Received space now number eliciting) =
-        only_in space _ (passes_name refusal.NumberTooLarge _ _ (refl, refl, refl, refl) (answers_name _ _))
+        only_in space _ (passes_name refusal.NumberTooLarge _ _ refl (answers_name _ _))
     names (Send space now size eliciting largest queue frames) =
         only_in space _
-        (passes_name refusal.NumberTooLarge _ _ (refl, refl, refl, refl)
-        (passes_name refusal.NumbersExhausted _ _ (refl, refl, refl, refl)
-        (passes_name refusal.Overflow _ _ (refl, refl, refl, refl) (answers_name _ _))))
+        (passes_name refusal.NumberTooLarge _ _ refl
+        (passes_name refusal.NumbersExhausted _ _ refl
+        (passes_name refusal.Overflow _ _ refl (answers_name _ _))))
     names (Acked space now number app_limited) = leave_names space ⊥ number _
     names (Lost space number) = leave_names space (Unit {0}) number _
-    names (InitialId id) = λ reply told. (
-        initial_names known.remote_ids.active (known.remote_ids.active == 0) _ (Decides-eqb known.remote_ids.active 0)
-        (answers_name _ _) reply told
-        ∙ ap (λ (a : ℕ). unless (a == 0) NotInitialId) (sym (active_told beginning history stands.ids))
-        )
+    names (InitialId id) =
+        let active = active_told beginning history stands.ids in
+        cause_names NotInitialId refl refl _ _ None _ (λ late. grind (arith, nat_tests, late, active))
+        (λ first. grind (arith, nat_tests, first, active)) (answers_name _ _)
     names (AckFrequencyIn frame) =
-        only_in Data _ (passes_name refusal.DelayTooSmall _ _ (refl, refl, refl, refl) (answers_name _ _))
+        only_in Data _ (passes_name refusal.DelayTooSmall _ _ refl (answers_name _ _))
     names (AcksSent space) = only_in space _ (answers_name _ _)
     names (AckDelayTimeout space) = only_in space _ (answers_name _ _)
     names (DiscardSpace space) = only_in space _ (answers_name _ _)
     names (InFlight path) = on_path path _ (λ there. answers_name _ _)
     names (DatagramIn path bytes) =
-        on_path path _ (λ there. passes_name refusal.Overflow _ _ (refl, refl, refl, refl) (answers_name _ _))
+        on_path path _ (λ there. passes_name refusal.Overflow _ _ refl (answers_name _ _))
     names (Validated path) = on_path path _ (λ there. answers_name _ _)
     names (PollMtu now) =
-        only_in Data _ (passes_name refusal.NumbersExhausted _ _ (refl, refl, refl, refl) (probe_names now _))
+        only_in Data _ (passes_name refusal.NumbersExhausted _ _ refl (probe_names now _))
     names (Ecn space newly counts) = only_in space _ (ecn_names (known.spaces space) newly counts)
     names (CheckAck space low high) =
         only_in space _
-        (passes_name refusal.NumberTooLarge _ _ (refl, refl, refl, refl)
-        (passes_name refusal.BadRange _ _ (refl, refl, refl, refl)
-        (passes_name refusal.SkippedAcked _ _ (refl, refl, refl, refl) (answers_name _ _))))
+        (passes_name refusal.NumberTooLarge _ _ refl
+        (passes_name refusal.BadRange _ _ refl
+        (passes_name refusal.SkippedAcked _ _ refl (answers_name _ _))))
     names (QueueProbe space immediate streams) = only_in space _ (answers_name _ _)
     names (TakePending space) = only_in space _ (answers_name _ _)
     names DropPrevious = on_path Previous _ (λ there. answers_name _ _)

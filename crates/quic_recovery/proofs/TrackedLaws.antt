@@ -1,6 +1,6 @@
 -- A packet is tracked by its space exactly where the history says so; and each number that was given out, once at most,
 -- has one fate. The promises on what is tracked rest on it.
-use Rattle.std.proofs.Common.{◌≡◌, ◌<◌, ◌≤◌, ◌+◌, ◌^◌, ℕ, ◌==◌, ◌&&◌, ◌||◌, not, Bool, true, false, cond, List, [], ◌∷◌, Option, None, Some, Ok, Err, refl, sym, ap, subst, ◌∙◌, arith, eqb-true}
+use Rattle.std.proofs.Common.{◌≡◌, ◌<◌, ◌≤◌, ◌+◌, ◌^◌, ℕ, ◌==◌, ◌&&◌, ◌||◌, not, Bool, true, false, cond, List, [], ◌∷◌, Option, None, Some, Ok, Err, refl, ap, subst, arith}
 use Rattle.std.proofs.lemmas.Bool.{false≢true}
 use Rattle.std.specs.Prelude.{is_some, sum_by}
 use Rattle.std.specs.BTreeMap.{is_at}
@@ -12,14 +12,13 @@ use Rattle.recovery_base.specs.declared.below.SpaceId.{SpaceId}
 use Rattle.recovery_base.specs.declared.below.SpaceId.TheVariants.{Initial, Handshake, Data}
 use Rattle.recovery_base.specs.Spaces.{same_space}
 use Rattle.recovery_ledger.specs.Departures.{one_if_same}
-use Rattle.recovery_ledger.specs.Packets.{Packet, Packets, packet_at, entry_at, numbered, is_silent_above, least_number, forgotten_silent, silent_above}
-use Rattle.recovery_ledger.specs.Probes.{ProbeFound, pending_stands, moves, nothing_found}
+use Rattle.recovery_ledger.specs.Packets.{Packet, Packets, packet_at, entry_at, least_number, silent_above}
+use Rattle.recovery_ledger.specs.Probes.{ProbeFound, moves}
 use Rattle.recovery_ledger.specs.SpaceLog.{SpaceEntry, sends, acknowledged, loses, probes, emptied}
 use Rattle.recovery_ledger.specs.Tracked.{Sent, sent_by, sent_less, sent_more, sent_moved, forgotten_by}
 use Rattle.recovery_ledger.proofs.CarryLaws.{sum-carrying}
-use Rattle.recovery_ledger.proofs.CountLaws.{is_forgotten}
 use Rattle.recovery_ledger.proofs.LedgerLaws.{gone, sum-sent_onto}
-use Rattle.recovery_ledger.proofs.PacketLaws.{found-le-sum, sum-without}
+use Rattle.recovery_ledger.proofs.PacketLaws.{number_at, sum-without}
 use Rattle.recovery_skips.proofs.SkipLaws.{number_from_above}
 use Rattle.recovery_events.specs.declared.event.Event.{Event}
 use Rattle.recovery_events.specs.declared.event.Event.TheVariants.{Send, Acked, Lost, DiscardSpace, PollMtu}
@@ -73,78 +72,46 @@ module _ {P M : Type 0} (n : ℕ) where
     pub once : given ≤ 1
     pub late : sent.next ≤ n → given ≡ 0
 
-  found_counts : (packets : Packets P M) (packet : Packet P M) → packet_at packets n ≡ Some packet → 1 ≤ times n packets
-  found_counts packets packet found =
-      let least = found-le-sum (λ entry. one_if_same entry.0 n) packets n packet found in
-      grind (arith, nat_tests, least)
+  -- a number stands nowhere where it is not found, and else once at least
+  abbrev Stands : Option (Packet P M) → ℕ → Type 0
+  Stands None count = count ≡ 0
+  Stands (Some packet) count = 1 ≤ count
 
-  absent_counts : (packets : Packets P M) → packet_at packets n ≡ None → times n packets ≡ 0
-  absent_counts [] absent = refl
-  absent_counts (entry ∷ packets) absent = go (is_at (nat_cmp n) entry.0) refl absent (absent_counts packets)
-    where
-      go : (b : Bool) → is_at (nat_cmp n) entry.0 ≡ b → cond b (Some entry.1) (packet_at packets n) ≡ None
-          → (packet_at packets n ≡ None → times n packets ≡ 0) → times n (entry ∷ packets) ≡ 0
-      go true at is later = cc
-      go false at is later =
-          let other : ¬ (entry.0 ≡ n) = λ same. (let itself = at_itself n in cc (same, itself, at)) in
-          grind (
-            arith,
-            nat_tests,
-            sum_by-cons (λ (e : ℕ × Packet P M). one_if_same e.0 n) entry packets,
-            other,
-            later is,
-          )
+  stands : (packets : Packets P M) → Stands (packet_at packets n) (times n packets)
+  stands [] = refl
+  stands (entry ∷ packets) =
+      grind (
+        arith,
+        nat_tests,
+        sum_by-cons (λ (e : ℕ × Packet P M). one_if_same e.0 n) entry packets,
+        number_at n entry.0,
+        at_itself n,
+        stands packets,
+      )
 
   -- what is forgotten takes the number from a count where it is that one, and tracked
   forgotten_counts : (packets : Packets P M) (forgotten : Option ℕ) (tracked : Bool)
       → times n packets ≡ cond tracked 1 0
       → gone (λ entry. one_if_same entry.0 n) (entry_at packets forgotten) ≡ cond (is_it n forgotten && tracked) 1 0
   forgotten_counts packets None tracked same = refl
-  forgotten_counts packets (Some m) tracked same = go (packet_at packets m) tracked refl same
-    where
-      go : (found : Option (Packet P M)) (tracked : Bool) → packet_at packets m ≡ found
-          → times n packets ≡ cond tracked 1 0
-          → gone (λ entry. one_if_same entry.0 n) (numbered m found) ≡ cond (m == n && tracked) 1 0
-      go None tracked absent same =
-          let none : m ≡ n → times n packets
-          ≡ 0 = λ is. absent_counts packets (subst (λ k. packet_at packets k ≡ None) is absent) in
-          grind (arith, nat_tests, none, same)
-      go (Some packet) tracked found same =
-          let one : m ≡ n → 1 ≤ times n packets = λ is. found_counts packets packet
-          (subst (λ k. packet_at packets k ≡ Some packet) is found) in
-          grind (arith, nat_tests, one, same)
+  forgotten_counts packets (Some m) tracked same = grind (arith, nat_tests, stands packets, same)
 
   -- what is forgotten stands there
   least_counts : (last : Option ℕ) (packets : Packets P M) → least_number (silent_above last packets) ≡ Some n
       → 1 ≤ times n packets
   least_counts last [] is = cc
-  least_counts last (entry ∷ packets) is = go (is_silent_above last entry) is (least_counts last packets)
-    where
-      go : (b : Bool) → least_number (cond b (entry ∷ silent_above last packets) (silent_above last packets)) ≡ Some n
-          → (least_number (silent_above last packets) ≡ Some n → 1 ≤ times n packets) → 1 ≤ times n (entry ∷ packets)
-      go true is later =
-          let same : entry.0 ≡ n = cc in
-          grind (arith, nat_tests, sum_by-cons (λ (e : ℕ × Packet P M). one_if_same e.0 n) entry packets, same)
-      go false is later =
-          omega (arith, sum_by-cons (λ (e : ℕ × Packet P M). one_if_same e.0 n) entry packets, later is)
+  least_counts last (entry ∷ packets) is =
+      grind (
+        arith,
+        nat_tests,
+        sum_by-cons (λ (e : ℕ × Packet P M). one_if_same e.0 n) entry packets,
+        least_counts last packets,
+        is,
+      )
 
   forgotten_stands : (sent : Sent P M) (packet : Packet P M) → is_it n (forgotten_by sent packet) ≡ true
       → 1 ≤ times n sent.tracked
-  forgotten_stands sent packet is = eliciting packet.ack_eliciting is
-    where
-      silent : (f : Option ℕ) → forgotten_silent sent.last sent.tracked ≡ f → is_it n f ≡ true
-          → 1 ≤ times n sent.tracked
-      silent None e is = cc
-      silent (Some m) e is =
-          let same : m ≡ n = grind (arith, nat_tests, is) in
-          let least = is_forgotten sent.last sent.tracked m e in
-          least_counts sent.last sent.tracked (subst (λ k. least_number (silent_above sent.last sent.tracked) ≡ Some k)
-          same least)
-
-      eliciting : (b : Bool) → is_it n (cond b None (forgotten_silent sent.last sent.tracked)) ≡ true
-          → 1 ≤ times n sent.tracked
-      eliciting true is = cc
-      eliciting false is = silent (forgotten_silent sent.last sent.tracked) refl is
+  forgotten_stands sent packet is = grind (arith, nat_tests, least_counts sent.last sent.tracked, is)
 
   module _ (sent : Sent P M) (tracked : Bool) (given departed : ℕ) (here : Tracks sent tracked given departed) where
     -- a packet goes out under a number that was not given out, and another is perhaps forgotten
@@ -153,60 +120,35 @@ module _ {P M : Type 0} (n : ℕ) where
         Tracks (sent_more number packet sent) (number == n || (not forgotten && tracked)) (more_if (number == n) given)
         (more_if forgotten departed)
     sent_tracks number packet new =
-        let none : (number == n) ≡ true → given ≡ 0 = λ is. here.late (grind (arith, nat_tests, is, new)) in
-        let stands = forgotten_stands sent packet in
-        record {
-          same = grind (
-            arith,
-            nat_tests,
-            sum-sent_onto (λ entry. one_if_same entry.0 n) sent.last number packet sent.tracked,
-            forgotten_counts sent.tracked (forgotten_by sent packet) tracked here.same,
-            here.same,
-            here.adds,
-            none,
-          );
-          adds = grind (arith, nat_tests, here.adds, here.same, none, stands);
-          once = grind (arith, nat_tests, here.once, none);
-          late = λ late. grind (arith, nat_tests, late, new, here.late);
-        }
+        grind (
+          arith,
+          nat_tests,
+          sum-sent_onto (λ entry. one_if_same entry.0 n) sent.last number packet sent.tracked,
+          forgotten_counts sent.tracked (forgotten_by sent packet) tracked here.same,
+          forgotten_stands sent packet,
+          here.same,
+          here.adds,
+          here.once,
+          here.late,
+        )
 
     -- a tracked packet leaves
     taken_tracks : (number : ℕ) → IsTracked sent number
         → Tracks (sent_less number sent) (not (number == n) && tracked) given (more_if (number == n) departed)
     taken_tracks number there =
         let sum = sum-without (λ entry. one_if_same entry.0 n) sent.tracked number there.0 there.1 in
-        record {
-          same = grind (arith, nat_tests, sum, here.same);
-          adds = grind (arith, nat_tests, sum, here.same, here.adds);
-          once = here.once;
-          late = here.late;
-        }
+        grind (arith, nat_tests, sum, here.same, here.adds, here.once, here.late)
 
     -- contents are moved out of a packet
     moved_tracks : (empty : P) (found : ProbeFound) → Tracks (sent_moved empty found sent) tracked given departed
-    moved_tracks empty pending_stands = here
-    moved_tracks empty nothing_found = here
-    moved_tracks empty (moves number) = record {
-      same =
-          omega (
-            arith,
-            here.same,
-            sum-carrying sent.tracked number (λ entry. one_if_same entry.0 n) empty (λ m packet. refl),
-          );
-      adds = here.adds;
-      once = here.once;
-      late = here.late;
-    }
+    moved_tracks empty (moves number) =
+        let sum = sum-carrying sent.tracked number (λ entry. one_if_same entry.0 n) empty (λ m packet. refl) in
+        record { same = omega (arith, here.same, sum); adds = here.adds; once = here.once; late = here.late }
+    moved_tracks empty found = here
 
     -- a look-up says the same
     looked_up : is_some (packet_at sent.tracked n) ≡ tracked
-    looked_up = go (packet_at sent.tracked n) tracked refl here.same
-      where
-        go : (found : Option (Packet P M)) (tracked : Bool) → packet_at sent.tracked n ≡ found
-            → times n sent.tracked ≡ cond tracked 1 0
-            → is_some found ≡ tracked
-        go None tracked absent same = grind (arith, nat_tests, absent_counts sent.tracked absent, same)
-        go (Some packet) tracked found same = grind (arith, nat_tests, found_counts sent.tracked packet found, same)
+    looked_up = grind (arith, nat_tests, stands sent.tracked, here.same)
 
 -- ---- what an event does to it
 
@@ -280,28 +222,22 @@ module _ {F K Q S M P : Type 0} (beginning : Beginning F K Q S M P) (before : Hi
   -- an entry that leaves what is tracked
   unmoved : (entry : SpaceEntry P M) → keeps_packets (space_kind entry) ≡ true
       → After (Some entry) tracked_now given_now departed_now
-  unmoved (sends number packet) keeps = absurd (false≢true keeps)
-  unmoved (acknowledged number) keeps = absurd (false≢true keeps)
-  unmoved (loses number) keeps = absurd (false≢true keeps)
-  unmoved emptied keeps = absurd (false≢true keeps)
   unmoved (probes immediate found) keeps =
       moved_tracks n (sent_in beginning before space) tracked_now given_now departed_now here
       beginning.queue.words.empty found
-  unmoved entry keeps = here
+  unmoved entry keeps = grind (arith, keeps, here)
 
   goes : (b out : Bool) (entry : SpaceEntry P M)
       → (b ≡ true → After (Some entry) (out || tracked_now) (more_if out given_now) departed_now)
       → After (cond b (Some entry) None) ((b && out) || tracked_now) (more_if (b && out) given_now) departed_now
-  goes true out entry first = first refl
-  goes false out entry first = here
+  goes b out entry first = grind (arith, first, here)
 
   goes_for : (b out left : Bool) (entry : SpaceEntry P M)
       → (b ≡ true → After (Some entry) (out || (not left && tracked_now)) (more_if out given_now)
       (more_if left departed_now))
       → After (cond b (Some entry) None) ((b && out) || (not (b && left) && tracked_now)) (more_if (b && out) given_now)
       (more_if (b && left) departed_now)
-  goes_for true out left entry first = first refl
-  goes_for false out left entry first = here
+  goes_for b out left entry first = grind (arith, first, here)
 
   takes : (b left : Bool) (entry : SpaceEntry P M)
       → (b ≡ true → After (Some entry) (not left && tracked_now) given_now (more_if left departed_now))
@@ -311,8 +247,7 @@ module _ {F K Q S M P : Type 0} (beginning : Beginning F K Q S M P) (before : Hi
 
   empties : (b : Bool) → After (cond b (Some emptied) None) (not b && tracked_now) given_now
       (more_if (b && tracked_now) departed_now)
-  empties true = record { same = refl; adds = here.adds; once = here.once; late = here.late }
-  empties false = here
+  empties b = grind (arith, nat_tests, here.same, here.adds, here.once, here.late)
 
   -- a packet goes out as it is told
   goes_told : (there : SpaceId) (packet : Packet P M) (number : ℕ) (forgotten : Option ℕ)
@@ -321,19 +256,9 @@ module _ {F K Q S M P : Type 0} (beginning : Beginning F K Q S M P) (before : Hi
       → After (Some (sends (number_in known there) packet)) (number == n || (not (is_it n forgotten) && tracked_now))
       (more_if (number == n) given_now) (more_if (is_it n forgotten) departed_now)
   goes_told there packet number forgotten is same_number same_forgotten =
-      let at = one_space there space is in
-      let k = number_in known there in
-      let entry : SpaceEntry P M = sends k packet in
-      let Goes : ℕ → Option ℕ → Type 0 =
-      λ m f. After (Some entry) (m == n || (not (is_it n f) && tracked_now)) (more_if (m == n) given_now)
-      (more_if (is_it n f) departed_now) in
-      let new : (sent_in beginning before space).next ≤ k = subst (λ s. (sent_in beginning before s).next ≤ k) at
-      (is_new beginning before there) in
-      let other : forgotten ≡ forgotten_by (sent_in beginning before space) packet
-      = subst (λ s. forgotten ≡ forgotten_by (sent_in beginning before s) packet) at same_forgotten in
-      let step : Goes k (forgotten_by (sent_in beginning before space) packet)
-      = sent_tracks n (sent_in beginning before space) tracked_now given_now departed_now here k packet new in
-      subst (λ m. Goes m forgotten) (sym same_number) (subst (λ f. Goes k f) (sym other) step)
+      rw (same_number, same_forgotten, one_space there space is)
+      (sent_tracks n (sent_in beginning before space) tracked_now given_now departed_now here (number_in known space)
+      packet (is_new beginning before space))
 
   -- a tracked packet leaves
   leaves_told : (there : SpaceId) (number : ℕ) → ¬ (packet_at (known.spaces there).sent.tracked number ≡ None)
@@ -341,9 +266,8 @@ module _ {F K Q S M P : Type 0} (beginning : Beginning F K Q S M P) (before : Hi
       → Tracks n (sent_less number (sent_in beginning before space)) (not (number == n) && tracked_now) given_now
       (more_if (number == n) departed_now)
   leaves_told there number told is =
-      let found = is_there (packet_at (known.spaces there).sent.tracked number) told in
       taken_tracks n (sent_in beginning before space) tracked_now given_now departed_now here number
-      (subst (λ s. IsTracked (sent_in beginning before s) number) (one_space there space is) found)
+      (is_there (packet_at (sent_in beginning before space).tracked number) (rw (← one_space there space is) told))
 
   abbrev Answered : Event Q S M P → Answer Q → Type 0
   Answered event answer =
@@ -424,9 +348,6 @@ module _ {F K Q S M P : Type 0} (beginning : Beginning F K Q S M P) where
 
 -- ---- numbers rise
 
-both_true : (a b : Bool) → (a && b) ≡ true → (a ≡ true) × (b ≡ true)
-both_true a b is = (grind (arith, nat_tests, is), grind (arith, nat_tests, is))
-
 module _ {F K Q S M P : Type 0} (beginning : Beginning F K Q S M P) where
   module _ (before : History Q S M P) (all : AllTracked beginning before) where
     abbrev known_before : Known K P M
@@ -437,13 +358,12 @@ module _ {F K Q S M P : Type 0} (beginning : Beginning F K Q S M P) where
         → ¬ (2 ^ 62 ≤ number_in known_before there) → (space : SpaceId) (number : ℕ)
         → (same_space there space && given == number) ≡ true → (number < 2 ^ 62) × IsAbove space number before
     next_rises there given is few space number goes =
-        let at = both_true (same_space there space) (given == number) goes in
-        let Rises : SpaceId → ℕ → Type 0 = λ s n. (n < 2 ^ 62) × IsAbove s n before in
-        subst (Rises space) (sym is ∙ eqb-true given number at.1)
-        (subst (λ s. Rises s (number_in known_before there)) (one_space there space at.0) (
+        let same : number ≡ given = grind (arith, nat_tests, goes) in
+        let at = one_space there space (grind (arith, nat_tests, goes)) in
+        rw (same, is, ← at) (
           omega (arith, few),
           λ n above. (all there n).late (omega (arith, is_new beginning before there, above)),
-        ))
+        )
 
     rises : (event : Event Q S M P) (reply : Reply Q) → Told beginning before event reply
         → GivesRising before event reply
