@@ -17,11 +17,9 @@ use Rattle.recovery_ledger.proofs.PacketLaws.{sum-without, without-absent, none_
 use Rattle.recovery_queue.specs.Queues.{QueueWords}
 use Rattle.recovery_events.specs.declared.event.Event.{Event}
 use Rattle.recovery_events.specs.declared.event.Event.TheVariants.{Send, PollMtu, Acked, DiscardSpace, TakePending}
-use Rattle.recovery_events.specs.declared.event.Answer.{Answer}
 use Rattle.recovery_events.specs.declared.event.Answer.TheVariants as answers
 use Rattle.recovery_events.specs.declared.event.Answer.TheVariants.{Probe}
-use Rattle.recovery_events.specs.declared.event.Refusal.{Refusal}
-use Rattle.quic_recovery.specs.Entries.{Entries, nothing, logs_of}
+use Rattle.quic_recovery.specs.Entries.{Entries, logs_of}
 use Rattle.quic_recovery.specs.History.{Beginning, History, Reply, Throughout, history}
 use Rattle.quic_recovery.specs.Known.{Known, known_by, number_in, packet_now}
 use Rattle.quic_recovery.specs.Logs.{onto}
@@ -199,43 +197,32 @@ module _ {F K Q S M P : Type 0} (beginning : Beginning F K Q S M P) (before : Hi
   Balanced after = outgoing beginning measure space after ≡ held beginning measure space after + gone beginning measure
       space after
 
-  answer_keeps : (event : Event Q S M P) (answer : Answer Q) → Told beginning before event (Ok answer)
-      → Balanced ((event, Ok answer) ∷ before)
-  answer_keeps (Send there now size eliciting largest queue frames) (answers.Sent number forgotten) told =
+  reply_keeps : (event : Event Q S M P) (reply : Reply Q) → Told beginning before event reply
+      → Balanced ((event, reply) ∷ before)
+  reply_keeps (Send there now size eliciting largest queue frames) (Ok (answers.Sent number forgotten)) told =
       let packet = packet_now known now size eliciting largest (beginning.queue.contents queue) frames in
       let is = past_four told in
       goes_told there packet forgotten (cc)
-  answer_keeps (Send there now size eliciting largest queue frames) answer told = let is = past_four told in cc
-  answer_keeps (PollMtu now) (Probe number size) told =
+  reply_keeps (Send there now size eliciting largest queue frames) (Ok answer) told = let is = past_four told in cc
+  reply_keeps (PollMtu now) (Ok (Probe number size)) told =
       probe_goes (packet_now known now size true None words.empty beginning.queue.blank) refl refl
-  answer_keeps (PollMtu now) answer told = same
-  answer_keeps (Acked there now number app_limited) answer told =
+  reply_keeps (PollMtu now) (Ok answer) told = same
+  reply_keeps (Acked there now number app_limited) (Ok answer) told =
       leaves (same_space there space) (acknowledged number) _ (λ at. leaves_less number)
-  answer_keeps (DiscardSpace there) answer told = leaves (same_space there space) emptied _ (λ at. empties)
-  answer_keeps (TakePending there) (answers.Queue queue) told =
+  reply_keeps (DiscardSpace there) (Ok answer) told = leaves (same_space there space) emptied _ (λ at. empties)
+  reply_keeps (TakePending there) (Ok (answers.Queue queue)) told =
       leaves (same_space there space) takes_pending _
       (λ at. hands_out _ (ap measure (told.1
       ∙ ap (λ s. pending_by words ((logs_of beginning before).spaces s)) (one_space there space at))))
-  answer_keeps (TakePending there) answer told = absurd told.1
-  answer_keeps event answer told =
+  reply_keeps (TakePending there) (Ok answer) told = absurd told.1
+  reply_keeps event (Ok answer) told =
       space_kept beginning.queue known space (λ entry. outgoing_now ≡ held_by (onto entry log) + gone_now)
       keeps_contents same unmoved event (Ok answer) refl
 
-  abbrev Refused : Event Q S M P → Refusal → Entries P M → Type 0
-  Refused event refusal entries =
-      let after : History Q S M P = (event, Err refusal) ∷ before in
-      outgoing beginning measure space after ≡ held_by (onto (entries.spaces space) log)
-      + gone beginning measure space after
-
-  refusal_keeps : (event : Event Q S M P) (refusal : Refusal) → Refused event refusal nothing
-  refusal_keeps (PollMtu now) refusal = same
-  refusal_keeps event refusal = same
-
-  reply_keeps : (event : Event Q S M P) (reply : Reply Q) → Told beginning before event reply
-      → Balanced ((event, reply) ∷ before)
-  reply_keeps event (Ok answer) told = answer_keeps event answer told
+  reply_keeps (PollMtu now) (Err refusal) told = same
   reply_keeps event (Err refusal) told =
-      refused_keeps event refusal (Refused event refusal) (refusal_keeps event refusal)
+      refused_keeps event refusal
+      (λ (entries : Entries P M). outgoing_now ≡ held_by (onto (entries.spaces space) log) + gone_now) same
 
 -- ---- throughout a run
 

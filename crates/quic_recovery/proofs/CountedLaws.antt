@@ -21,10 +21,8 @@ use Rattle.recovery_paths.specs.PathLog.{PathKnown, path_of}
 use Rattle.recovery_paths.specs.declared.live_paths.PathName.TheVariants.{Current}
 use Rattle.recovery_events.specs.declared.event.Event.{Event}
 use Rattle.recovery_events.specs.declared.event.Event.TheVariants.{Send, Acked, Lost, DiscardSpace, PollMtu, InFlight}
-use Rattle.recovery_events.specs.declared.event.Answer.{Answer}
 use Rattle.recovery_events.specs.declared.event.Answer.TheVariants as answers
 use Rattle.recovery_events.specs.declared.event.Answer.TheVariants.{Probe}
-use Rattle.recovery_events.specs.declared.event.Refusal.{Refusal}
 use Rattle.recovery_events.specs.declared.event.Refusal.TheVariants.{NoMemory, NoSuchPath}
 use Rattle.quic_recovery.specs.Entries.{Entries, here, answered, entries_of, logs_of}
 use Rattle.quic_recovery.specs.History.{Beginning, History, Reply, Throughout}
@@ -253,48 +251,37 @@ module _ {F K Q S M P : Type 0} (beginning : Beginning F K Q S M P) (before : Hi
               ≡ sum_in weigh generation (λ n. gone_with false f (gone space) n) (sent space).tracked + 0
           others f = grind arith
 
-  abbrev Answered : Event Q S M P → Answer Q → Type 0
-  Answered event answer = sum_on weigh generation gone ((event, Ok answer) ∷ before)
-      ≡ over_spaces (sum_after (answered beginning.queue known event answer).spaces)
-
-  answer_counts : (event : Event Q S M P) (answer : Answer Q) → Told beginning before event (Ok answer)
-      → Answered event answer
-  answer_counts (Send there now size eliciting largest queue frames) (answers.Sent number None) told =
+  reply_counts : (event : Event Q S M P) (reply : Reply Q) → Told beginning before event reply
+      → sum_on weigh generation gone ((event, reply) ∷ before) ≡ over_spaces
+      (sum_after (entries_of beginning.queue known event reply).spaces)
+  reply_counts (Send there now size eliciting largest queue frames) (Ok (answers.Sent number None)) told =
       let is = past_four told in
       goes_out there number (packet_now known now size eliciting largest (beginning.queue.contents queue) frames)
       None (cc) (cc) refl
-  answer_counts (Send there now size eliciting largest queue frames) (answers.Sent number (Some forgotten)) told =
+  reply_counts (Send there now size eliciting largest queue frames) (Ok (answers.Sent number (Some forgotten))) told =
       let is = past_four told in
       goes_out there number (packet_now known now size eliciting largest (beginning.queue.contents queue) frames)
       (Some forgotten) (cc) (cc) refl
-  answer_counts (Send there now size eliciting largest queue frames) answer told = let is = past_four told in cc
-  answer_counts (PollMtu now) (Probe number size) told =
+  reply_counts (Send there now size eliciting largest queue frames) (Ok answer) told = let is = past_four told in cc
+  reply_counts (PollMtu now) (Ok (Probe number size)) told =
       goes_out Data number (packet_now known now size true None beginning.queue.words.empty beginning.queue.blank) None
       (probe_number beginning.queue known now _ number size told.1.1) refl refl
-  answer_counts (PollMtu now) answer told = nothing
-  answer_counts (Acked there now number app_limited) answer told =
+  reply_counts (PollMtu now) (Ok answer) told = nothing
+  reply_counts (Acked there now number app_limited) (Ok answer) told =
       leaves_one there number (acknowledged number) (λ space. refl)
-  answer_counts (Lost there number) answer told = leaves_one there number (loses number) (λ space. refl)
-  answer_counts (DiscardSpace there) answer told = leaves_all there
-  answer_counts event answer told =
+  reply_counts (Lost there number) (Ok answer) told = leaves_one there number (loses number) (λ space. refl)
+  reply_counts (DiscardSpace there) (Ok answer) told = leaves_all there
+  reply_counts event (Ok answer) told =
       nothing ∙ spaces_same _ (sum_after (answered beginning.queue known event answer).spaces) (λ space.
       space_kept beginning.queue known space
       (λ entry. sum_of space (sent space) ≡ sum_of space (sent_by beginning.queue.words (onto entry (log space))))
       keeps_packets refl (unmoved space) event (Ok answer) refl)
 
-  refusal_counts : (event : Event Q S M P) (refusal : Refusal)
-      → sum_on weigh generation gone ((event, Err refusal) ∷ before) ≡ over_spaces (sum_after (λ space. None))
-  refusal_counts (PollMtu now) refusal = nothing
-  refusal_counts event refusal = nothing
-
-  reply_counts : (event : Event Q S M P) (reply : Reply Q) → Told beginning before event reply
-      → sum_on weigh generation gone ((event, reply) ∷ before) ≡ over_spaces
-      (sum_after (entries_of beginning.queue known event reply).spaces)
-  reply_counts event (Ok answer) told = answer_counts event answer told
+  reply_counts (PollMtu now) (Err refusal) told = nothing
   reply_counts event (Err refusal) told =
       refused_keeps event refusal
-      (λ (e : Entries P M). sum_on weigh generation gone ((event, Err refusal) ∷ before) ≡ over_spaces
-      (sum_after e.spaces)) (refusal_counts event refusal)
+      (λ (e : Entries P M). cond is_path 0 0 + sum_on weigh generation gone before ≡ over_spaces (sum_after e.spaces))
+      nothing
 
 -- ---- what is told of it
 

@@ -13,7 +13,6 @@ use Rattle.recovery_events.specs.declared.event.Event.{Event}
 use Rattle.recovery_events.specs.declared.event.Event.TheVariants.{Transmit, DatagramIn, Validated, NewPath, DropPrevious}
 use Rattle.recovery_events.specs.declared.event.Answer.{Answer}
 use Rattle.recovery_events.specs.declared.event.Answer.TheVariants.{Transmitted}
-use Rattle.recovery_events.specs.declared.event.Refusal.{Refusal}
 use Rattle.quic_recovery.specs.Entries.{Entries, answered, logs_of, pasts_of}
 use Rattle.quic_recovery.specs.History.{Beginning, History, Reply}
 use Rattle.quic_recovery.specs.Known.{Known, known_by, first_path, settings_of}
@@ -168,49 +167,40 @@ module _ {F K Q S M P : Type 0} (beginning : Beginning F K Q S M P) (earlier : H
         (option_map flow_of (option_map (past_with (settings_of beginning) validates) past))
     validated_previous answer Replies past told is = grind (arith, told, is)
 
-    answer_flows : (event : Event Q S M P) (answer : Answer Q) → Told beginning earlier event (Ok answer)
-        → AreFlows first ((event, Ok answer) ∷ earlier)
-        (flows ((answered beginning.queue known event answer).paths ++ log))
-    answer_flows (DatagramIn Current bytes) answer told = (
+    -- one event more
+    pub reply_flows : (event : Event Q S M P) (reply : Reply Q) → Told beginning earlier event reply
+        → AreFlows first ((event, reply) ∷ earlier) (each_path flow_of (pasts_of beginning ((event, reply) ∷ earlier)))
+    reply_flows (DatagramIn Current bytes) (Ok answer) told = (
       came_more (is_validated first Current earlier) (datagrams_on Current earlier) Current bytes (Ok answer)
           (flow_of pasts.current) same.0,
       same.1,
     )
-    answer_flows (DatagramIn Previous bytes) answer told =
+    reply_flows (DatagramIn Previous bytes) (Ok answer) told =
         (same.0, came_previous bytes answer _ pasts.previous told same.1)
-    answer_flows (Validated Current) answer told = (ap (λ (f : Flow). flow true f.checked f.came f.went) same.0, same.1)
-    answer_flows (Validated Previous) answer told = (same.0, validated_previous answer _ pasts.previous told same.1)
-    answer_flows (Transmit now bytes true) Transmitted told = (
+    reply_flows (Validated Current) (Ok answer) told =
+        (ap (λ (f : Flow). flow true f.checked f.came f.went) same.0, same.1)
+    reply_flows (Validated Previous) (Ok answer) told = (same.0, validated_previous answer _ pasts.previous told same.1)
+    reply_flows (Transmit now bytes true) (Ok Transmitted) told = (
       went_more (is_validated first Current earlier) (datagrams_on Current earlier) now bytes true (Ok Transmitted)
           (flow_of pasts.current) same.0,
       same.1,
     )
-    answer_flows (Transmit now bytes true) answer told = same
-    answer_flows (Transmit now bytes false) answer told =
+    reply_flows (Transmit now bytes true) (Ok answer) told = same
+    reply_flows (Transmit now bytes false) (Ok answer) told =
         rw told.1 (
           went_more (is_validated first Current earlier) (datagrams_on Current earlier) now bytes false
               (Ok Transmitted) (flow_of pasts.current) same.0,
           same.1,
         )
-    answer_flows (NewPath now remote true) answer told = (refl, same.0)
-    answer_flows (NewPath now remote false) answer told = (refl, same.0)
-    answer_flows DropPrevious answer told = (same.0, refl)
-    answer_flows event answer told = quietly event answer refl
+    reply_flows (NewPath now remote true) (Ok answer) told = (refl, same.0)
+    reply_flows (NewPath now remote false) (Ok answer) told = (refl, same.0)
+    reply_flows DropPrevious (Ok answer) told = (same.0, refl)
+    reply_flows event (Ok answer) told = quietly event answer refl
 
-    refusal_flows : (event : Event Q S M P) (refusal : Refusal)
-        → AreFlows first ((event, Err refusal) ∷ earlier) (flows log)
-    refusal_flows (DatagramIn Current bytes) refusal = same
-    refusal_flows (Validated Current) refusal = same
-    refusal_flows event refusal = same
-
-    -- one event more
-    pub reply_flows : (event : Event Q S M P) (reply : Reply Q) → Told beginning earlier event reply
-        → AreFlows first ((event, reply) ∷ earlier) (each_path flow_of (pasts_of beginning ((event, reply) ∷ earlier)))
-    reply_flows event (Ok answer) told = answer_flows event answer told
+    reply_flows (DatagramIn Current bytes) (Err refusal) told = same
+    reply_flows (Validated Current) (Err refusal) told = same
     reply_flows event (Err refusal) told =
-        refused_keeps event refusal
-        (λ (e : Entries P M). AreFlows first ((event, Err refusal) ∷ earlier) (flows (e.paths ++ log)))
-        (refusal_flows event refusal)
+        refused_keeps event refusal (λ (e : Entries P M). AreFlows first earlier (flows (e.paths ++ log))) same
 
 module _ {F K Q S M P : Type 0} (beginning : Beginning F K Q S M P) where
   -- in a history that was told so, the flows by events and answers are those of the pasts

@@ -12,11 +12,9 @@ use Rattle.recovery_ledger.specs.Received.{CameIn}
 use Rattle.recovery_ledger.specs.SpaceLog.{SpaceEntry, heard, heard_again}
 use Rattle.recovery_events.specs.declared.event.Event.{Event}
 use Rattle.recovery_events.specs.declared.event.Event.TheVariants.{Received, DiscardSpace}
-use Rattle.recovery_events.specs.declared.event.Answer.{Answer}
-use Rattle.recovery_events.specs.declared.event.Answer.TheVariants.{New, Done}
-use Rattle.recovery_events.specs.declared.event.Refusal.{Refusal}
+use Rattle.recovery_events.specs.declared.event.Answer.TheVariants.{New}
 use Rattle.recovery_events.specs.declared.event.Refusal.TheVariants.{NumberTooLarge, SpaceDiscarded}
-use Rattle.quic_recovery.specs.Entries.{Entries, nothing, answered, entries_of, logs_of}
+use Rattle.quic_recovery.specs.Entries.{Entries, entries_of, logs_of}
 use Rattle.quic_recovery.specs.History.{Beginning, History, Reply, QueueMeaning}
 use Rattle.quic_recovery.specs.Known.{SpaceKnown, Known, known_by}
 use Rattle.quic_recovery.specs.Logs.{onto}
@@ -24,7 +22,7 @@ use Rattle.quic_recovery.specs.Replies.{Refuses, Answers}
 use Rattle.quic_recovery.specs.Told.{Told, ReceivedAnswer}
 use Rattle.recovery_ledger.specs.Acks.{Heard, heard_by}
 use Rattle.quic_recovery.specs.Promises.NewNumbers.{is_new, came_in, is_discarded, IsVerdict, CallsNew}
-use Rattle.quic_recovery.proofs.EntryKinds.{SpaceKind, hearing, space_kind, space_kept, plain, plainly_keeps, refused_keeps}
+use Rattle.quic_recovery.proofs.EntryKinds.{SpaceKind, hearing, space_kind, space_kept, plainly_keeps, refused_keeps}
 
 -- ---- lists of numbers and sets of numbers
 
@@ -106,26 +104,6 @@ module _ {K Q S M P : Type 0} (q : QueueMeaning Q S M P) (known : Known K P M) (
         space_kept q known space (λ made. Alike (came_in space earlier) (onto made log)) not_heard alike unheard event
         reply refl
 
-  module _ (log : List SpaceId) (same : is_discarded space earlier ≡ was_discarded space log) where
-    abbrev Drops : Event Q S M P → Reply Q → Entries P M → Type 0
-    Drops event reply entries =
-        is_discarded space ((event, reply) ∷ earlier) ≡ was_discarded space (onto entries.discarded log)
-
-    answer_drops : (event : Event Q S M P) (answer : Answer Q)
-        → Drops event (Ok answer) (answered q known (plain event) Done)
-    answer_drops (DiscardSpace there) answer = ap (λ b. same_space there space || b) same
-    answer_drops event answer = same
-
-    refusal_drops : (event : Event Q S M P) (refusal : Refusal) → Drops event (Err refusal) nothing
-    refusal_drops (DiscardSpace there) refusal = same
-    refusal_drops event refusal = same
-
-    reply_drops : (event : Event Q S M P) (reply : Reply Q) → Drops event reply (entries_of q known event reply)
-    reply_drops event (Ok answer) =
-        plainly_keeps q known event answer (Drops event (Ok answer)) (answer_drops event answer)
-    reply_drops event (Err refusal) =
-        refused_keeps event refusal (Drops event (Err refusal)) (refusal_drops event refusal)
-
 module _ {F K Q S M P : Type 0} (beginning : Beginning F K Q S M P) where
   all_came : (history : History Q S M P) (space : SpaceId)
       → Alike (came_in space history) ((logs_of beginning history).spaces space)
@@ -138,10 +116,19 @@ module _ {F K Q S M P : Type 0} (beginning : Beginning F K Q S M P) where
   pub all_dropped : (history : History Q S M P) (space : SpaceId)
       → is_discarded space history ≡ was_discarded space (logs_of beginning history).discarded
   all_dropped [] space = refl
-  all_dropped (happened ∷ earlier) space =
+  all_dropped ((DiscardSpace there, Ok answer) ∷ earlier) space =
+      ap (λ b. same_space there space || b) (all_dropped earlier space)
+  all_dropped ((event, Ok answer) ∷ earlier) space =
       let logs = logs_of beginning earlier in
-      reply_drops beginning.queue (known_by beginning logs) earlier space logs.discarded (all_dropped earlier space)
-      happened.0 happened.1
+      plainly_keeps beginning.queue (known_by beginning logs) event answer
+      (λ (e : Entries P M). is_discarded space earlier ≡ was_discarded space (onto e.discarded logs.discarded))
+      (all_dropped earlier space)
+  all_dropped ((DiscardSpace there, Err refusal) ∷ earlier) space = all_dropped earlier space
+  all_dropped ((event, Err refusal) ∷ earlier) space =
+      let discarded = (logs_of beginning earlier).discarded in
+      refused_keeps event refusal
+      (λ (e : Entries P M). is_discarded space earlier ≡ was_discarded space (onto e.discarded discarded))
+      (all_dropped earlier space)
 
 -- ---- the verdict
 

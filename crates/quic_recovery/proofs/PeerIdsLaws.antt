@@ -16,7 +16,7 @@ use Rattle.recovery_events.specs.declared.event.Answer.TheVariants.{Retire, Done
 use Rattle.recovery_events.specs.declared.event.Refusal.{Refusal}
 use Rattle.recovery_events.specs.declared.event.Refusal.TheVariants.{NoMemory, NumberTooLarge, BadRetirePriorTo, Retired, ExceedsLimit, Conflict, NotInitialId}
 use Rattle.recovery_events.specs.Refusals.{refusal_number}
-use Rattle.quic_recovery.specs.Entries.{Entries, nothing, answered, logs_of}
+use Rattle.quic_recovery.specs.Entries.{Entries, logs_of}
 use Rattle.quic_recovery.specs.History.{Beginning, History, Reply, Throughout}
 use Rattle.quic_recovery.specs.IdReplies.{FrameReply, IsFrameAnswer, IsNextAnswer, InitialReply}
 use Rattle.quic_recovery.specs.Known.{Known, known_by}
@@ -26,7 +26,7 @@ use Rattle.quic_recovery.specs.Told.{Told}
 use Rattle.quic_recovery.specs.Promises.GivenIds.{id_under, retired_below, least_from, active_id}
 use Rattle.quic_recovery.specs.Promises.PeerIds.{AcceptsIds, frame_reply, moved, repeats}
 use Rattle.quic_recovery.proofs.Runs.{throughout_kept}
-use Rattle.quic_recovery.proofs.EntryKinds.{plain, plainly_keeps, refused_keeps}
+use Rattle.quic_recovery.proofs.EntryKinds.{plainly_keeps, refused_keeps}
 use Rattle.quic_recovery.proofs.ReplyLaws.{refused_by}
 use Rattle.quic_recovery.proofs.TableLaws.{only_refusal}
 
@@ -352,24 +352,19 @@ module _ {F K Q S M P : Type 0} (beginning : Beginning F K Q S M P) where
     abbrev known : Known K P M
     known = known_by beginning (logs_of beginning before)
 
-    answer_holds : (event : Event Q S M P) (answer : Answer Q) → Told beginning before event (Ok answer)
-        → After event (Ok answer) (answered beginning.queue known (plain event) Done)
-    answer_holds (NewId frame) answer told = frame_step initial_id before (ids_by before) same frame answer told
-    answer_holds NextId answer told = next_step initial_id before (ids_by before) same answer told
-    answer_holds (InitialId id) answer told = initial_step initial_id before (ids_by before) same id answer told
-    answer_holds event answer told = record { held = same.held; retired = same.retired; window = same.window }
-
-    refusal_holds : (event : Event Q S M P) (refusal : Refusal) → After event (Err refusal) nothing
-    refusal_holds NextId refusal = record { held = same.held; retired = same.retired; window = same.window }
-    refusal_holds event refusal = record { held = same.held; retired = same.retired; window = same.window }
-
     -- an event that was told keeps that
     pub keeps_ids : (event : Event Q S M P) (reply : Reply Q) → Told beginning before event reply
         → HoldsIds ((event, reply) ∷ before)
+    keeps_ids (NewId frame) (Ok answer) told = frame_step initial_id before (ids_by before) same frame answer told
+    keeps_ids NextId (Ok answer) told = next_step initial_id before (ids_by before) same answer told
+    keeps_ids (InitialId id) (Ok answer) told = initial_step initial_id before (ids_by before) same id answer told
     keeps_ids event (Ok answer) told =
-        plainly_keeps beginning.queue known event answer (After event (Ok answer)) (answer_holds event answer told)
+        plainly_keeps beginning.queue known event answer (After event (Ok answer))
+        record { held = same.held; retired = same.retired; window = same.window }
+    keeps_ids NextId (Err refusal) told = record { held = same.held; retired = same.retired; window = same.window }
     keeps_ids event (Err refusal) told =
-        refused_keeps event refusal (After event (Err refusal)) (refusal_holds event refusal)
+        refused_keeps event refusal (After event (Err refusal))
+        record { held = same.held; retired = same.retired; window = same.window }
 
     -- the active id by the history
     pub active_told : active_id before ≡ (known_by beginning (logs_of beginning before)).remote_ids.active

@@ -22,11 +22,9 @@ use Rattle.recovery_ledger.proofs.PacketLaws.{number_at, sum-without}
 use Rattle.recovery_skips.proofs.SkipLaws.{number_from_above}
 use Rattle.recovery_events.specs.declared.event.Event.{Event}
 use Rattle.recovery_events.specs.declared.event.Event.TheVariants.{Send, Acked, Lost, DiscardSpace, PollMtu}
-use Rattle.recovery_events.specs.declared.event.Answer.{Answer}
 use Rattle.recovery_events.specs.declared.event.Answer.TheVariants as answers
 use Rattle.recovery_events.specs.declared.event.Answer.TheVariants.{Probe}
-use Rattle.recovery_events.specs.declared.event.Refusal.{Refusal}
-use Rattle.quic_recovery.specs.Entries.{Entries, nothing, answered, logs_of}
+use Rattle.quic_recovery.specs.Entries.{Entries, logs_of}
 use Rattle.quic_recovery.specs.History.{Beginning, History, QueueMeaning, Reply, Throughout}
 use Rattle.quic_recovery.specs.Known.{Known, known_by, number_in, packet_now}
 use Rattle.quic_recovery.specs.Logs.{onto}
@@ -269,59 +267,39 @@ module _ {F K Q S M P : Type 0} (beginning : Beginning F K Q S M P) (before : Hi
       taken_tracks n (sent_in beginning before space) tracked_now given_now departed_now here number
       (is_there (packet_at (sent_in beginning before space).tracked number) (rw (← one_space there space is) told))
 
-  abbrev Answered : Event Q S M P → Answer Q → Type 0
-  Answered event answer =
-      let after : History Q S M P = (event, Ok answer) ∷ before in
-      After ((answered beginning.queue known event answer).spaces space) (is_tracked space n after)
-      (times_in (is_given space n) after)
-      (departed_in space n after)
-
-  answer_tracks : (event : Event Q S M P) (answer : Answer Q) → Told beginning before event (Ok answer)
-      → Answered event answer
-  answer_tracks (Acked there now number app_limited) answer told =
+  reply_tracks : (event : Event Q S M P) (reply : Reply Q) → Told beginning before event reply
+      → TracksIn beginning ((event, reply) ∷ before) space n
+  reply_tracks (Acked there now number app_limited) (Ok answer) told =
       gone_as (takes (same_space there space) (number == n) (acknowledged number) (leaves_told there number told.1.0))
       (grind (arith, nat_tests))
-  answer_tracks (Lost there number) answer told =
+  reply_tracks (Lost there number) (Ok answer) told =
       gone_as (takes (same_space there space) (number == n) (loses number) (leaves_told there number told.1.0))
       (grind (arith, nat_tests))
-  answer_tracks (Send there now size eliciting largest queue frames) (answers.Sent number None) told =
+  reply_tracks (Send there now size eliciting largest queue frames) (Ok (answers.Sent number None)) told =
       let packet = packet_now known now size eliciting largest (beginning.queue.contents queue) frames in
       let is = past_four told in
       goes (same_space there space) (number == n) _ (λ at. goes_told there packet number None at (cc) (cc))
-  answer_tracks (Send there now size eliciting largest queue frames) (answers.Sent number (Some forgotten)) told =
+  reply_tracks (Send there now size eliciting largest queue frames) (Ok (answers.Sent number (Some forgotten))) told =
       let packet = packet_now known now size eliciting largest (beginning.queue.contents queue) frames in
       let is = past_four told in
       gone_as (goes_for (same_space there space) (number == n) (forgotten == n) (sends (number_in known there) packet)
       (λ at. goes_told there packet number (Some forgotten) at (cc) (cc))) (grind (arith, nat_tests))
-  answer_tracks (Send there now size eliciting largest queue frames) answer told = let is = past_four told in cc
-  answer_tracks (PollMtu now) (Probe number size) told =
+  reply_tracks (Send there now size eliciting largest queue frames) (Ok answer) told = let is = past_four told in cc
+  reply_tracks (PollMtu now) (Ok (Probe number size)) told =
       let packet = packet_now known now size true None beginning.queue.words.empty beginning.queue.blank in
       let is = probe_number beginning.queue known now _ number size told.1.1 in
       goes (same_space Data space) (number == n) _ (λ at. goes_told Data packet number None at is refl)
-  answer_tracks (PollMtu now) answer told = here
-  answer_tracks (DiscardSpace there) answer told =
+  reply_tracks (PollMtu now) (Ok answer) told = here
+  reply_tracks (DiscardSpace there) (Ok answer) told =
       gone_as (empties (same_space there space)) (grind (arith, nat_tests))
-  answer_tracks event answer told =
+  reply_tracks event (Ok answer) told =
       space_kept beginning.queue known space (λ entry. After entry tracked_now given_now departed_now) keeps_packets
       here unmoved event (Ok answer) refl
 
-  abbrev Replied : Event Q S M P → Reply Q → Type 0
-  Replied event reply = TracksIn beginning ((event, reply) ∷ before) space n
-
-  abbrev Refused : Event Q S M P → Refusal → Entries P M → Type 0
-  Refused event refusal entries =
-      let after : History Q S M P = (event, Err refusal) ∷ before in
-      After (entries.spaces space) (is_tracked space n after) (times_in (is_given space n) after)
-      (departed_in space n after)
-
-  refusal_tracks : (event : Event Q S M P) (refusal : Refusal) → Refused event refusal nothing
-  refusal_tracks (PollMtu now) refusal = here
-  refusal_tracks event refusal = here
-
-  reply_tracks : (event : Event Q S M P) (reply : Reply Q) → Told beginning before event reply → Replied event reply
-  reply_tracks event (Ok answer) told = answer_tracks event answer told
+  reply_tracks (PollMtu now) (Err refusal) told = here
   reply_tracks event (Err refusal) told =
-      refused_keeps event refusal (Refused event refusal) (refusal_tracks event refusal)
+      refused_keeps event refusal
+      (λ (entries : Entries P M). After (entries.spaces space) tracked_now given_now departed_now) here
 
 -- ---- throughout a run
 
