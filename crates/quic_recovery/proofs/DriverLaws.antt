@@ -1,9 +1,8 @@
 -- What an event does to one space is a step of all three. The steps of calls (`SendLaws`, `ProbeStepLaws`,
 -- `PathStepLaws`, `AckedLostLaws`) rest on it.
-use Rattle.std.proofs.Common.{◌≡◌, ℕ, ◌<◌, ◌^◌, ap₂, arith, Bool, false, List, [], ◌∷◌, Option, Some, Result, IfOk, OnErr, Ok, Err, refl, sym, ap, subst}
+use Rattle.std.proofs.Common.{◌≡◌, ℕ, ◌<◌, ◌^◌, ap₂, arith, Bool, false, List, [], ◌∷◌, Option, Some, Result, IfOk, OnErr, Ok, Err, refl, ap}
 use Rattle.recovery_base.specs.declared.below.SpaceId.{SpaceId}
 use Rattle.recovery_base.specs.declared.below.SpaceId.TheVariants.{Initial, Handshake, Data}
-use Rattle.recovery_ids.specs.CidQueue.{remote_ids}
 use Rattle.recovery_ledger.specs.declared.spaces.ReceiveError.{ReceiveError}
 use Rattle.recovery_ledger.specs.declared.spaces.ReceiveError.TheVariants.{NumberTooLarge, NoMemory}
 use Rattle.recovery_ledger.specs.declared.spaces.Receipt.{Receipt}
@@ -37,15 +36,13 @@ use Rattle.quic_recovery.specs.State.{Changes, Steps, SkippingStep, known_to}
 pub with_same_space : {P M : Type 0} (spaces : Spaces P M) (space : SpaceId) (there : Space P M)
     → there ≡ space_of space spaces → with_space spaces space there ≡ spaces
 with_same_space spaces Initial there same = ap (with_space spaces Initial) same
-with_same_space spaces Handshake there same = ap (with_space spaces Handshake) same
-with_same_space spaces Data there same = ap (with_space spaces Data) same
+with_same_space spaces space there same = ap (with_space spaces space) same
 
 -- what is no packet of 1-RTT keys that is sent leaves the skipped numbers
 pub skips_nothing : {P M : Type 0} (space : SpaceId) (entry : SpaceEntry P M) (n : ℕ) (skipping : Skipping)
     → SkippingStep (Some entry) n skipping skipping → SkippingStep (here space Data entry) n skipping skipping
-skips_nothing Initial entry n skipping same = refl
-skips_nothing Handshake entry n skipping same = refl
 skips_nothing Data entry n skipping same = same
+skips_nothing space entry n skipping same = refl
 
 module _ {P M S : Type 0} (words : QueueWords P S) where
   -- one space changes, and the others stay
@@ -54,32 +51,27 @@ module _ {P M S : Type 0} (words : QueueWords P S) where
       → (space : SpaceId) → StepBy (SpaceStep words) (here changed space entry) (space_of space spaces)
       (space_of space (with_space spaces changed there))
   spaces_step entry spaces Initial there change Initial = change
-  spaces_step entry spaces Initial there change Handshake = refl
-  spaces_step entry spaces Initial there change Data = refl
-  spaces_step entry spaces Handshake there change Initial = refl
   spaces_step entry spaces Handshake there change Handshake = change
-  spaces_step entry spaces Handshake there change Data = refl
-  spaces_step entry spaces Data there change Initial = refl
-  spaces_step entry spaces Data there change Handshake = refl
   spaces_step entry spaces Data there change Data = change
+  spaces_step entry spaces changed there change space = refl
 
 -- ---- frames: what an event that is something to few parts does to all of them
 
 module _ {K P M S : Type 0} (words : QueueWords P S) where
   -- an event that is nothing to any part
   pub nothing_changes : (old new : Parts K P M) → new ≡ old → Steps words nothing old new
-  nothing_changes old new same = record {
-    settings = ap (λ (p : Parts K P M). p.settings) same;
-    spaces = λ space. ap (λ (p : Parts K P M). space_of space p.spaces) same;
-    discarded = ap (λ (p : Parts K P M). p.discarded) same;
-    skipping = ap (λ (p : Parts K P M). p.skipping) same;
-    frequency = ap (λ (p : Parts K P M). p.frequency) same;
-    timers = ap (λ (p : Parts K P M). p.timers) same;
-    remote_ids = ap (λ (p : Parts K P M). remote_ids p.remote_cids) same;
-    local_ids = ap (λ (p : Parts K P M). p.local_ids) same;
-    paths = ap (λ (p : Parts K P M). paths_known p.paths) same;
-    limits = ap (λ (p : Parts K P M). p.peer_limit) same;
-  }
+  nothing_changes old new same = rw same (record {
+    settings = refl;
+    spaces = λ space. refl;
+    discarded = refl;
+    skipping = refl;
+    frequency = refl;
+    timers = refl;
+    remote_ids = refl;
+    local_ids = refl;
+    paths = refl;
+    limits = refl;
+  })
 
   -- an event in one space, which may draw the next skip, and be something to the paths
   pub space_changes : (old : Parts K P M) (space : SpaceId) (entry : SpaceEntry P M) (there : Space P M)
@@ -161,18 +153,8 @@ received_keeps words now number ack_eliciting (Ok (New arm)) old new come step k
   ap next_number_of step.others,
   heard_greatest old new now number ack_eliciting come step,
 )
-received_keeps words now number ack_eliciting (Ok Duplicate) old new come step kept = (
-  ap tracking_of step.1,
-  ap next_number_of step.1,
-  let Holds : Space _ _
-      → Type 0 = HasGreatestCome in subst Holds (sym step.1) come,
-)
-received_keeps words now number ack_eliciting (Err refused) old new come step kept = (
-  ap tracking_of kept,
-  ap next_number_of kept,
-  let Holds : Space _ _
-      → Type 0 = HasGreatestCome in subst Holds (sym kept) come,
-)
+received_keeps words now number ack_eliciting (Ok Duplicate) old new come step kept = rw step.1 (refl, refl, come)
+received_keeps words now number ack_eliciting (Err refused) old new come step kept = rw kept (refl, refl, come)
 
 -- ---- a packet that is sent
 

@@ -1,6 +1,6 @@
 -- By the history alone the MTU in use is the one that is kept, on both paths: the clause `mtu` of `run`.
 use Rattle.std.proofs.Common.{ℕ, ◌≡◌, ◌<◌, ◌^◌, true, false, List, [], ◌∷◌, Option, None, Some, Ok, Err, refl, sym, ap, subst, ◌∙◌, is_some, arith}
-use Rattle.std.specs.Prelude.{IsSomeAnd, option_map}
+use Rattle.std.specs.Prelude.{option_map}
 use Rattle.std.specs.Option.{ForSome}
 use Rattle.recovery_base.specs.declared.below.SpaceId.TheVariants as space
 use Rattle.recovery_config.specs.declared.config.TransportConfig.{TransportConfig}
@@ -8,8 +8,7 @@ use Rattle.recovery_config.specs.Settings.{initial_mtu_of}
 use Rattle.recovery_mtud.specs.declared.config.MtuDiscoveryConfig.{MtuDiscoveryConfig}
 use Rattle.recovery_mtud.specs.Discovery.{Discovery}
 use Rattle.recovery_mtud.specs.DiscoveryLog.{kept_limit}
-use Rattle.recovery_mtud.specs.MtuEntries.{MtuEntry, probed, probe_in_flight, limit_in_use, min_mtu_in_use, mtu_in_use as by_entries}
-use Rattle.recovery_mtud.specs.SearchRuns.{ProbesInSearch}
+use Rattle.recovery_mtud.specs.MtuEntries.{MtuEntry, probe_in_flight, limit_in_use, min_mtu_in_use, mtu_in_use as by_entries}
 use Rattle.recovery_paths.specs.declared.live_paths.PathName.TheVariants.{Current, Previous}
 use Rattle.recovery_paths.specs.PathLog.{OfPaths, PathKnown, PathPast, is_validated, known_of, past_with, receives, state_of}
 use Rattle.recovery_paths.specs.PathMaking.{discovery_with}
@@ -68,8 +67,7 @@ fresh_unsearched : {F : Type 0} (limit : Option ℕ) (config : TransportConfig F
     → by ≡ None
     → (kept_limit (discovery_with limit config by) ≡ None)
     × (initial_mtu_of config ≡ (discovery_with limit config by).mtu)
-fresh_unsearched limit config None is = (refl, refl)
-fresh_unsearched limit config (Some settings) is = absurd (cc)
+fresh_unsearched limit config by is = grind (arith, is)
 
 module _ {F K Q S M P : Type 0} (beginning : Beginning F K Q S M P) (is : discovery_settings beginning ≡ None) where
   abbrev first : ℕ
@@ -84,8 +82,7 @@ module _ {F K Q S M P : Type 0} (beginning : Beginning F K Q S M P) (is : discov
   probes_none : (history : History Q S M P) (event : Event Q S M P) (reply : Reply Q)
       → ProbesInTurn beginning history event reply → ProbesNone first least event reply
   probes_none history (PollMtu now) (Ok (answer.Probe number size)) turn =
-      subst (λ by. IsSomeAnd by
-      (λ settings. ProbesInSearch settings (probed now number size ∷ entered_so_far beginning history))) is turn
+      grind (arith, is, turn)
   probes_none history event reply turn = tt
 
   pub unsearched_after : (history : History Q S M P) → Unsearched history
@@ -114,8 +111,7 @@ module _ {F K Q S M P : Type 0} (beginning : Beginning F K Q S M P) (is : discov
 
 map_kept : {A B : Type 0} (see : A → B) (f : A → A) → ((a : A) → see (f a) ≡ see a) → (o : Option A)
     → option_map see (option_map f o) ≡ option_map see o
-map_kept see f same None = refl
-map_kept see f same (Some a) = ap (λ b. Some b) (same a)
+map_kept see f same o = grind (arith, same)
 
 some_same : {A : Type 0} {a b : A} → Some a ≡ Some b → a ≡ b
 some_same e = cc
@@ -145,29 +141,15 @@ module _ {F K Q S M P : Type 0} (beginning : Beginning F K Q S M P) where
   abbrev IsNow : History Q S M P → Type 0
   IsNow history = in_state (pasts_of beginning history).current ≡ mtu_in_use beginning history
 
-  left_as : (before : History Q S M P) (event : Event Q S M P) (reply : Reply Q)
-      → mtu_before (pasts_of beginning ((event, reply) ∷ before)) ≡ mtu_before (pasts_of beginning before)
-      → IsLeft before
-      → ForSome (mtu_before (pasts_of beginning ((event, reply) ∷ before)))
-      (λ size. size ≡ mtu_in_use beginning (before_move before))
-  left_as before event reply same left =
-      subst (λ o. ForSome o (λ size. size ≡ mtu_in_use beginning (before_move before))) (sym same) left
-
   left_after : (history : History Q S M P) (event : Event Q S M P) (reply : Reply Q) → IsNow history → IsLeft history
       → IsLeft ((event, reply) ∷ history)
   left_after history (NewPath now remote true) (Ok given) is left = λ size found. sym (some_same found) ∙ is
   left_after history (NewPath now remote false) (Ok given) is left = λ size found. sym (some_same found) ∙ is
   left_after history DropPrevious (Ok given) is left = λ size found. absurd (cc)
-  left_after history (NewPath now remote true) (Err refusal) is left =
-      left_as history (NewPath now remote true) (Err refusal)
-      (stays_seen beginning mtu_before still still_on history (NewPath now remote true) (Err refusal))
-      left
-  left_after history (NewPath now remote false) (Err refusal) is left =
-      left_as history (NewPath now remote false) (Err refusal)
-      (stays_seen beginning mtu_before still still_on history (NewPath now remote false) (Err refusal))
-      left
+  left_after history (NewPath now remote true) (Err refusal) is left = left
   left_after history event reply is left =
-      left_as history event reply (stays_seen beginning mtu_before still still_on history event reply) left
+      subst (λ o. ForSome o (λ size. size ≡ mtu_in_use beginning (before_move history)))
+      (sym (stays_seen beginning mtu_before still still_on history event reply)) left
 
   -- ---- throughout a run
 
@@ -220,8 +202,7 @@ module _ {F K Q S M P : Type 0} (beginning : Beginning F K Q S M P) where
   state_mtu : (previous : Option (PathPast K)) (path : PathKnown K)
       → option_map (known_of (settings_of beginning)) previous ≡ Some path
       → option_map in_state previous ≡ Some path.state.discovery.mtu
-  state_mtu None path is = absurd (cc)
-  state_mtu (Some past) path is = ap (λ (p : PathKnown K). Some p.state.discovery.mtu) (some_same is)
+  state_mtu previous path is = grind (arith, is)
 
   uses_mtu : (history : History Q S M P) (event : Event Q S M P) (reply : Reply Q)
       → Facts beginning history event reply

@@ -1,7 +1,6 @@
 -- By the history alone a search ends near the best size of an honest link, as its entries say: the clause `near` of
 -- `run`.
-use Rattle.std.proofs.Common.{ℕ, ◌≡◌, ◌<◌, ◌≤◌, ◌^◌, ◌||◌, min, max, Bool, true, false, if◌then◌else◌, List, [], ◌∷◌, Option, None, Some, Ok, Err, refl, sym, ap, ap₂, subst, ◌∙◌, is_some, arith}
-use Rattle.std.specs.Prelude.{All}
+use Rattle.std.proofs.Common.{ℕ, ◌≡◌, ◌<◌, ◌^◌, ◌||◌, min, max, Bool, true, false, if◌then◌else◌, List, [], ◌∷◌, Option, None, Some, Ok, Err, refl, sym, ap, ap₂, subst, ◌∙◌, is_some, arith}
 use Rattle.std.specs.Option.{ForSome}
 use Rattle.recovery_base.specs.declared.below.SpaceId.TheVariants as space
 use Rattle.recovery_config.specs.declared.config.TransportConfig.{TransportConfig}
@@ -14,12 +13,10 @@ use Rattle.recovery_mtud.specs.SearchRuns.{AreLimitsOutside, EndsNearBest, start
 use Rattle.recovery_paths.specs.PathMaking.{discovery_with}
 use Rattle.recovery_events.specs.declared.event.Event.{Event}
 use Rattle.recovery_events.specs.declared.event.Event.TheVariants.{PollMtu, Acked, Lost, LossesDone, PeerLimit, ResetPath, NewPath}
-use Rattle.recovery_events.specs.declared.event.Answer.{Answer}
 use Rattle.recovery_events.specs.declared.event.Answer.TheVariants as answer
-use Rattle.recovery_events.specs.declared.event.Refusal.{Refusal}
-use Rattle.quic_recovery.specs.Entries.{Entries, nothing as no_entries, answered, entries_of, logs_of}
-use Rattle.quic_recovery.specs.History.{Beginning, History, QueueMeaning, Reply, Throughout}
-use Rattle.quic_recovery.specs.Known.{Known, known_by, last_limit, settings_of}
+use Rattle.quic_recovery.specs.Entries.{Entries, logs_of}
+use Rattle.quic_recovery.specs.History.{Beginning, History, Reply, Throughout}
+use Rattle.quic_recovery.specs.Known.{known_by, last_limit, settings_of}
 use Rattle.quic_recovery.specs.Logs.{onto}
 use Rattle.quic_recovery.specs.Search.{discovery_settings}
 use Rattle.quic_recovery.specs.Promises.Few.{is_in_flight}
@@ -27,7 +24,7 @@ use Rattle.quic_recovery.specs.Promises.Mtu.{limit, mtu}
 use Rattle.quic_recovery.specs.Promises.Near.{EndsNearBy, IsNear, next, start}
 use Rattle.quic_recovery.specs.Promises.Probes.{acked_probes, are_some, last_probe, lost_probes, runs}
 use Rattle.quic_recovery.specs.Told.{Told}
-use Rattle.quic_recovery.proofs.EntryKinds.{plain, plainly_keeps, refused_keeps}
+use Rattle.quic_recovery.proofs.EntryKinds.{plainly_keeps, refused_keeps}
 use Rattle.quic_recovery.proofs.SearchSaid.{entered_so_far}
 use Rattle.quic_recovery.proofs.FewLaws as few
 use Rattle.quic_recovery.proofs.FlightLaws.{before_idle}
@@ -38,34 +35,19 @@ use Rattle.quic_recovery.proofs.SearchSteps.{Facts, Step, facts, stepped, throug
 
 -- ---- the limit that the peer told last
 
-module _ {K Q S M P : Type 0} (q : QueueMeaning Q S M P) (known : Known K P M) (earlier : History Q S M P)
-    (log : List ℕ)
-    (same : limit earlier ≡ last_limit log) where
-  abbrev LimitsAfter : Event Q S M P → Reply Q → Entries P M → Type 0
-  LimitsAfter event reply entries = limit ((event, reply) ∷ earlier) ≡ last_limit (onto entries.limits log)
-
-  answer_limits : (event : Event Q S M P) (given : Answer Q)
-      → LimitsAfter event (Ok given) (answered q known (plain event) answer.Done)
-  answer_limits (PeerLimit size) given = refl
-  answer_limits event given = same
-
-  refusal_limits : (event : Event Q S M P) (refusal : Refusal) → LimitsAfter event (Err refusal) no_entries
-  refusal_limits (PeerLimit size) refusal = same
-  refusal_limits event refusal = same
-
-  reply_limits : (event : Event Q S M P) (reply : Reply Q) → LimitsAfter event reply (entries_of q known event reply)
-  reply_limits event (Ok given) =
-      plainly_keeps q known event given (LimitsAfter event (Ok given)) (answer_limits event given)
-  reply_limits event (Err refusal) =
-      refused_keeps event refusal (LimitsAfter event (Err refusal)) (refusal_limits event refusal)
-
 limit_known : {F K Q S M P : Type 0} (beginning : Beginning F K Q S M P) (history : History Q S M P)
     → limit history ≡ last_limit (logs_of beginning history).limits
 limit_known beginning [] = refl
-limit_known beginning (happened ∷ earlier) =
+limit_known beginning ((PeerLimit size, Ok given) ∷ earlier) = refl
+limit_known {F} {K} {Q} {S} {M} {P} beginning ((event, Ok given) ∷ earlier) =
     let logs = logs_of beginning earlier in
-    reply_limits beginning.queue (known_by beginning logs) earlier logs.limits
-    (limit_known beginning earlier) happened.0 happened.1
+    plainly_keeps beginning.queue (known_by beginning logs) event given
+    (λ (e : Entries P M). limit earlier ≡ last_limit (onto e.limits logs.limits)) (limit_known beginning earlier)
+limit_known beginning ((PeerLimit size, Err refusal) ∷ earlier) = limit_known beginning earlier
+limit_known {F} {K} {Q} {S} {M} {P} beginning ((event, Err refusal) ∷ earlier) =
+    let limits = (logs_of beginning earlier).limits in
+    refused_keeps event refusal (λ (e : Entries P M). limit earlier ≡ last_limit (onto e.limits limits))
+    (limit_known beginning earlier)
 
 -- ---- the entries of the search that runs
 
@@ -160,8 +142,7 @@ fresh_searched : {F : Type 0} (limit : Option ℕ) (config : TransportConfig F) 
     (by : Option MtuDiscoveryConfig) → by ≡ Some settings
     → (kept_limit (discovery_with limit config by) ≡ Some (limit_or_greatest limit))
     × (within (initial_mtu_of config) limit ≡ (discovery_with limit config by).mtu)
-fresh_searched limit config settings None is = absurd (cc)
-fresh_searched limit config settings (Some own) is = (refl, refl)
+fresh_searched limit config settings by is = grind (arith, is)
 
 module _ {F K Q S M P : Type 0} (beginning : Beginning F K Q S M P) (settings : MtuDiscoveryConfig)
     (is : discovery_settings beginning ≡ Some settings) where
@@ -232,14 +213,8 @@ module _ {F K Q S M P : Type 0} (beginning : Beginning F K Q S M P) (settings : 
       → start_upper (made_in beginning history) settings (entered_so_far beginning history)
       ≡ min (max settings.upper_bound (start first least history)) (limit_or_greatest (limit history))
   upper_is history searched =
-      let started = searched.start in
       let limited = limit_before (made_in beginning history) (entered_so_far beginning history) searched.tied.6 in
-      let told = searched.tied.1 in
-      grind (arith, started, limited, told)
-
-  none_flies : (flight : Option MtuProbe) → false ≡ is_some flight → flight ≡ None
-  none_flies None e = refl
-  none_flies (Some probe) e = absurd (cc)
+      grind (arith, searched.start, limited, searched.tied.1)
 
   near_after : (history : History Q S M P) (now : ℕ) → few.Tied beginning history → Searched history
       → EndsNearBest (made_in beginning history) settings (unprobed now ∷ entered_so_far beginning history)
@@ -248,18 +223,14 @@ module _ {F K Q S M P : Type 0} (beginning : Beginning F K Q S M P) (settings : 
   near_after history now before searched near quiet due link starts acks losses =
       let tied = searched.tied in
       let entries = entered_so_far beginning history in
-      let found = near (none_flies (probe_in_flight entries) (sym quiet ∙ before.0))
+      let found = near (grind (arith, quiet, before.0))
       (ap₂ (λ (r : Bool) (n : Option ℕ). r || is_due n now) (sym (runs_same history entries before)) (sym tied.3)
       ∙ due) link (record {
-        start = subst (λ size. size ≤ link) searched.start starts;
-        acked = subst (λ (sizes : List ℕ). All (λ size. size ≤ link) sizes) tied.4 acks;
-        lost = subst (λ (sizes : List ℕ). All (λ size. link < size) sizes) tied.5 losses;
+        start = grind (arith, searched.start, starts);
+        acked = rw (← tied.4) acks;
+        lost = rw (← tied.5) losses;
       }) in
-      let upper = upper_is history searched in
-      let same = tied.2 in
-      let carried = found.carried in
-      let near = found.near in
-      (omega (arith, carried, same), omega (arith, near, upper, same))
+      (omega (arith, found.carried, tied.2), omega (arith, found.near, upper_is history searched, tied.2))
 
 -- ---- throughout a run
 
