@@ -1,7 +1,7 @@
 -- Contents are neither lost nor doubled: what was sent is what is tracked and waits, and what is gone. The clause
 -- `contents` of `run` rests on it.
 use Rattle.std.proofs.lemmas.Bool.Decides.{nat_tests}
-use Rattle.std.proofs.Common.{◌≡◌, ◌+◌, ℕ, Bool, true, false, cond, List, [], ◌∷◌, Option, None, Some, Ok, Err, refl, ap, ◌∙◌, arith}
+use Rattle.std.proofs.Common.{◌≡◌, ◌+◌, ℕ, Bool, true, false, cond, List, [], ◌∷◌, Option, None, Some, Ok, Err, refl, ap, arith}
 use Rattle.std.specs.Prelude.{sum_by}
 use Rattle.std.proofs.lemmas.List.Sums.{sum_by-cons}
 use Rattle.recovery_base.specs.declared.below.SpaceId.{SpaceId}
@@ -124,10 +124,6 @@ module _ {F K Q S M P : Type 0} (beginning : Beginning F K Q S M P) (before : Hi
   abbrev held_after : Bool → SpaceEntry P M → ℕ
   held_after b entry = held_by (onto (cond b (Some entry) None) log)
 
-  stays : (b : Bool) (entry : SpaceEntry P M) → held_by (entry ∷ log) ≡ held_by log
-      → outgoing_now ≡ held_after b entry + gone_now
-  stays b entry keeps = grind (arith, nat_tests, same, keeps)
-
   leaves : (b : Bool) (entry : SpaceEntry P M) (left : ℕ) → (b ≡ true → held_by (entry ∷ log) + left ≡ held_by log)
       → outgoing_now ≡ held_after b entry + (cond b left 0 + gone_now)
   leaves b entry left less = grind (arith, nat_tests, same, less)
@@ -158,39 +154,24 @@ module _ {F K Q S M P : Type 0} (beginning : Beginning F K Q S M P) (before : Hi
         forgets words measure adds sent.tracked,
       )
 
-  goes_told : (there : SpaceId) (packet : Packet P M) (forgotten : Option ℕ)
-      → forgotten ≡ forgotten_by (known.spaces there).sent packet
-      → cond (same_space there space) (measure packet.retransmits) 0 + outgoing_now
-      ≡ held_after (same_space there space) (sends (number_in known there) packet)
-      + (cond (same_space there space) (carried beginning measure space forgotten before) 0 + gone_now)
-  goes_told there packet forgotten is =
-      goes (same_space there space) (sends (number_in known there) packet) _ _
-      (λ at. sends_more (number_in known there) packet forgotten (rw (← one_space there space at) is))
-
   -- a probe of the MTU carries nothing
   probe_goes : (packet : Packet P M) → packet.retransmits ≡ words.empty → packet.ack_eliciting ≡ true
       → outgoing_now ≡ held_after (same_space Data space) (sends (number_in known Data) packet) + gone_now
   probe_goes packet empty eliciting =
       let none : None ≡ forgotten_by sent packet = cc in
-      stays (same_space Data space) (sends (number_in known Data) packet)
-      (omega (arith, sends_more (number_in known Data) packet None none, ap measure empty, adds.empty))
-
-  leaves_less : (n : ℕ) → held_by (acknowledged n ∷ log) + carried beginning measure space (Some n) before ≡ held_by log
-  leaves_less n = omega (arith, sum_leaves words measure adds sent.tracked n)
+      let sum = sends_more (number_in known Data) packet None none in
+      grind (arith, nat_tests, same, sum, empty, adds.empty)
 
   hands_out : (waits : ℕ) → waits ≡ measure pending → held_by (takes_pending ∷ log) + waits ≡ held_by log
   hands_out waits is = omega (arith, adds.empty, is)
-
-  empties : held_by (emptied ∷ log) + held_by log ≡ held_by log
-  empties = omega (arith, adds.empty)
 
   -- an entry by which no contents come or go
   unmoved : (entry : SpaceEntry P M) → keeps_contents (space_kind entry) ≡ true
       → outgoing_now ≡ held_by (entry ∷ log) + gone_now
   unmoved (loses number) keeps =
-      stays true (loses number) (loses_none words measure adds pending sent.tracked number)
+      omega (arith, same, loses_none words measure adds pending sent.tracked number)
   unmoved (probes immediate found) keeps =
-      stays true (probes immediate found) (moves_none words measure adds pending found sent)
+      omega (arith, same, moves_none words measure adds pending found sent)
   unmoved entry keeps = grind (arith, keeps, same)
 
   abbrev Balanced : History Q S M P → Type 0
@@ -202,23 +183,25 @@ module _ {F K Q S M P : Type 0} (beginning : Beginning F K Q S M P) (before : Hi
   reply_keeps (Send there now size eliciting largest queue frames) (Ok (answers.Sent number forgotten)) told =
       let packet = packet_now known now size eliciting largest (beginning.queue.contents queue) frames in
       let is = past_four told in
-      goes_told there packet forgotten (cc)
+      let forgets_there : forgotten ≡ forgotten_by (known.spaces there).sent packet = cc in
+      goes (same_space there space) (sends (number_in known there) packet) _ _
+      (λ at. sends_more (number_in known there) packet forgotten (rw (← one_space there space at) forgets_there))
   reply_keeps (Send there now size eliciting largest queue frames) (Ok answer) told = let is = past_four told in cc
   reply_keeps (PollMtu now) (Ok (Probe number size)) told =
       probe_goes (packet_now known now size true None words.empty beginning.queue.blank) refl refl
   reply_keeps (PollMtu now) (Ok answer) told = same
   reply_keeps (Acked there now number app_limited) (Ok answer) told =
-      leaves (same_space there space) (acknowledged number) _ (λ at. leaves_less number)
-  reply_keeps (DiscardSpace there) (Ok answer) told = leaves (same_space there space) emptied _ (λ at. empties)
+      leaves (same_space there space) (acknowledged number) _
+      (λ at. omega (arith, sum_leaves words measure adds sent.tracked number))
+  reply_keeps (DiscardSpace there) (Ok answer) told =
+      leaves (same_space there space) emptied _ (λ at. omega (arith, adds.empty))
   reply_keeps (TakePending there) (Ok (answers.Queue queue)) told =
       leaves (same_space there space) takes_pending _
-      (λ at. hands_out _ (ap measure (told.1
-      ∙ ap (λ s. pending_by words ((logs_of beginning before).spaces s)) (one_space there space at))))
+      (λ at. hands_out _ (ap measure (rw (← one_space there space at) told.1)))
   reply_keeps (TakePending there) (Ok answer) told = absurd told.1
   reply_keeps event (Ok answer) told =
       space_kept beginning.queue known space (λ entry. outgoing_now ≡ held_by (onto entry log) + gone_now)
       keeps_contents same unmoved event (Ok answer) refl
-
   reply_keeps (PollMtu now) (Err refusal) told = same
   reply_keeps event (Err refusal) told =
       refused_keeps event refusal

@@ -126,12 +126,6 @@ module _ {P M : Type 0} (weigh : ℕ → Bool → ℕ) (generation : ℕ) where
 spaces_same : (f g : SpaceId → ℕ) → ((space : SpaceId) → f space ≡ g space) → over_spaces f ≡ over_spaces g
 spaces_same f g same = omega (arith, same Initial, same Handshake, same Data)
 
-spaces_more : (f g more : SpaceId → ℕ) (there : SpaceId)
-    → ((space : SpaceId) → g space ≡ f space + cond (same_space there space) (more space) 0)
-    → more there + over_spaces f ≡ over_spaces g
-spaces_more f g more Initial each = omega (arith, each Initial, each Handshake, each Data)
-spaces_more f g more there each = omega (arith, each Initial, each Handshake, each Data)
-
 none_more : (b : Bool) (x y : ℕ) → x ≡ y → cond b 0 0 + x ≡ y
 none_more b x y is = grind (arith, nat_tests, is)
 
@@ -181,6 +175,25 @@ module _ {F K Q S M P : Type 0} (beginning : Beginning F K Q S M P) (before : Hi
       sum_moved weigh generation (sent space) (gone space) beginning.queue.words.empty found
   unmoved space entry keeps = grind (arith, keeps)
 
+  -- an entry of one space, by which numbers there are gone and a packet may go out
+  changes : (there : SpaceId) (entry : SpaceEntry P M) (left : Bool → SpaceId → ℕ → Bool) (weight : ℕ)
+      → ((space : SpaceId) → same_space there space ≡ true → sum_of space
+      (sent_by beginning.queue.words (entry ∷ log space))
+      ≡ sum_in weigh generation (left true space) (sent space).tracked + weight)
+      → ((space : SpaceId) → sum_of space (sent space)
+      ≡ sum_in weigh generation (left false space) (sent space).tracked)
+      → weight + sum_on weigh generation (λ space. left (same_space there space) space) before
+      ≡ over_spaces (sum_after (only there entry))
+  changes Initial entry left weight each others =
+      let sum = same weigh generation (λ space. left (same_space Initial space) space) in
+      omega (arith, sum, each Initial refl, others Handshake, others Data)
+  changes Handshake entry left weight each others =
+      let sum = same weigh generation (λ space. left (same_space Handshake space) space) in
+      omega (arith, sum, others Initial, each Handshake refl, others Data)
+  changes Data entry left weight each others =
+      let sum = same weigh generation (λ space. left (same_space Data space) space) in
+      omega (arith, sum, others Initial, others Handshake, each Data refl)
+
   -- one number of a space is gone too
   leaves_one : (there : SpaceId) (number : ℕ) (entry : SpaceEntry P M)
       → ((space : SpaceId) → sent_by beginning.queue.words (entry ∷ log space) ≡ sent_less number (sent space))
@@ -188,29 +201,11 @@ module _ {F K Q S M P : Type 0} (beginning : Beginning F K Q S M P) (before : Hi
       before
       ≡ over_spaces (sum_after (only there entry))
   leaves_one there number entry less =
-      none_more is_path _ _ (same weigh generation (λ space n. (same_space there space && number == n) || gone space n)
-      ∙ spaces_same _ (sum_after (only there entry)) (λ space. go space (same_space there space)))
-    where
-      go : (space : SpaceId) (b : Bool)
-          → sum_in weigh generation (λ n. (b && number == n) || gone space n) (sent space).tracked
-          ≡ sum_of space (sent_by beginning.queue.words (onto (cond b (Some entry) None) (log space)))
-      go space true = sym (ap (sum_of space) (less space)
-          ∙ sum_without weigh generation (gone space) number (sent space).tracked (once space number))
-      go space false = refl
-
-  -- a whole space is gone
-  leaves_all : (there : SpaceId)
-      → cond is_path 0 0 + sum_on weigh generation (λ space n. same_space there space || gone space n) before
-      ≡ over_spaces (sum_after (only there emptied))
-  leaves_all there =
-      none_more is_path _ _ (same weigh generation (λ space n. same_space there space || gone space n)
-      ∙ spaces_same _ (sum_after (only there emptied)) (λ space. go space (same_space there space)))
-    where
-      go : (space : SpaceId) (b : Bool)
-          → sum_in weigh generation (λ n. b || gone space n) (sent space).tracked
-          ≡ sum_of space (sent_by beginning.queue.words (onto (cond b (Some emptied) None) (log space)))
-      go space true = sum_of_none weigh generation (sent space).tracked
-      go space false = refl
+      changes there entry (λ b space n. (b && number == n) || gone space n) (cond is_path 0 0)
+      (λ space at. (
+      let sum = sum_without weigh generation (gone space) number (sent space).tracked (once space number) in
+      grind (arith, less space, sum)))
+      (λ space. refl)
 
   -- a packet goes out
   made_now : paths_made before ≡ known.paths.current.generation
@@ -223,33 +218,18 @@ module _ {F K Q S M P : Type 0} (beginning : Beginning F K Q S M P) (before : Hi
       + sum_on weigh generation (λ space n. gone_with (same_space there space) forgotten (gone space) n) before
       ≡ over_spaces (sum_after (only there (sends (number_in known there) packet)))
   goes_out there number packet forgotten is forgets on_path =
-      let k = number_in known there in
-      let entry : SpaceEntry P M = sends k packet in
-      let weighs = ap (λ n. cond (n == generation) (cond (gone there number) 0 (weigh packet.size packet.ack_eliciting))
-      0)
-      (made_now ∙ sym on_path)
-      ∙ ap (λ n. weigh_in weigh generation (gone there) (n, packet)) is in
-      let rest = same weigh generation (λ space n. gone_with (same_space there space) forgotten (gone space) n) in
-      let sums = spaces_more
-      (λ space. sum_in weigh generation (λ n. gone_with (same_space there space) forgotten (gone space) n)
-      (sent space).tracked)
-      (sum_after (only there entry)) (λ space. weigh_in weigh generation (gone space) (k, packet)) there
-      (λ space. go space (same_space there space) refl) in
-      omega (arith, weighs, rest, sums)
+      changes there (sends (number_in known there) packet) (λ b space. gone_with b forgotten (gone space)) _
+      (λ space at. (
+      let same_space = one_space there space at in
+      let sum = sum_sent weigh generation (sent space) (gone space) (number_in known there) packet forgotten
+      (rw (← same_space) forgets) (once space) in
+      grind (arith, sum, is, on_path, made_now, same_space)))
+      (λ space. others space forgotten)
     where
-      go : (space : SpaceId) (b : Bool) → same_space there space ≡ b
-          → sum_of space (sent_by beginning.queue.words
-          (onto (cond b (Some (sends (number_in known there) packet)) None) (log space)))
-          ≡ sum_in weigh generation (λ n. gone_with b forgotten (gone space) n) (sent space).tracked
-          + cond b (weigh_in weigh generation (gone space) (number_in known there, packet)) 0
-      go space true at =
-          sum_sent weigh generation (sent space) (gone space) (number_in known there) packet forgotten
-          (rw (← one_space there space at) forgets) (once space)
-      go space false at = others forgotten
-        where
-          others : (f : Option ℕ) → sum_of space (sent space)
-              ≡ sum_in weigh generation (λ n. gone_with false f (gone space) n) (sent space).tracked + 0
-          others f = grind arith
+      others : (space : SpaceId) (f : Option ℕ) → sum_of space (sent space)
+          ≡ sum_in weigh generation (gone_with false f (gone space)) (sent space).tracked
+      others space None = refl
+      others space (Some m) = refl
 
   reply_counts : (event : Event Q S M P) (reply : Reply Q) → Told beginning before event reply
       → sum_on weigh generation gone ((event, reply) ∷ before) ≡ over_spaces
@@ -270,13 +250,14 @@ module _ {F K Q S M P : Type 0} (beginning : Beginning F K Q S M P) (before : Hi
   reply_counts (Acked there now number app_limited) (Ok answer) told =
       leaves_one there number (acknowledged number) (λ space. refl)
   reply_counts (Lost there number) (Ok answer) told = leaves_one there number (loses number) (λ space. refl)
-  reply_counts (DiscardSpace there) (Ok answer) told = leaves_all there
+  reply_counts (DiscardSpace there) (Ok answer) told =
+      changes there emptied (λ b space n. b || gone space n) (cond is_path 0 0)
+      (λ space at. grind (arith, sum_of_none weigh generation (sent space).tracked)) (λ space. refl)
   reply_counts event (Ok answer) told =
       nothing ∙ spaces_same _ (sum_after (answered beginning.queue known event answer).spaces) (λ space.
       space_kept beginning.queue known space
       (λ entry. sum_of space (sent space) ≡ sum_of space (sent_by beginning.queue.words (onto entry (log space))))
       keeps_packets refl (unmoved space) event (Ok answer) refl)
-
   reply_counts (PollMtu now) (Err refusal) told = nothing
   reply_counts event (Err refusal) told =
       refused_keeps event refusal

@@ -13,13 +13,13 @@ use Rattle.recovery_events.specs.declared.event.Event.{Event}
 use Rattle.recovery_events.specs.declared.event.Event.TheVariants.{Transmit, DatagramIn, Validated, NewPath, DropPrevious}
 use Rattle.recovery_events.specs.declared.event.Answer.{Answer}
 use Rattle.recovery_events.specs.declared.event.Answer.TheVariants.{Transmitted}
-use Rattle.quic_recovery.specs.Entries.{Entries, answered, logs_of, pasts_of}
+use Rattle.quic_recovery.specs.Entries.{Entries, logs_of, pasts_of}
 use Rattle.quic_recovery.specs.History.{Beginning, History, Reply}
 use Rattle.quic_recovery.specs.Known.{Known, known_by, first_path, settings_of}
 use Rattle.quic_recovery.specs.Told.{Told, OnPath}
 use Rattle.quic_recovery.specs.Promises.Datagrams.{datagrams_on, bytes_in, bytes_out, is_validated}
 use Rattle.quic_recovery.specs.Promises.Threefold.{is_checked}
-use Rattle.quic_recovery.proofs.EntryKinds.{PathKind, receiving, validating, transmitting, passing, moving, dropping, elsewhere, path_kind, is_by, paths_kept, refused_keeps}
+use Rattle.quic_recovery.proofs.EntryKinds.{PathKind, receiving, validating, transmitting, passing, moving, dropping, elsewhere, path_kind, paths_kept, refused_keeps}
 
 -- ---- what the bound reads of a path
 
@@ -132,12 +132,6 @@ module _ {F K Q S M P : Type 0} (beginning : Beginning F K Q S M P) (earlier : H
     one_more (on Previous (receives bytes)) entries quiet flows = absurd (false≢true quiet)
     one_more entry entries quiet flows = grind (arith, quiet)
 
-    quietly : (event : Event Q S M P) (answer : Answer Q) → is_by is_quiet event ≡ true
-        → AreFlows first earlier (flows ((answered beginning.queue known event answer).paths ++ log))
-    quietly event answer quiet =
-        paths_kept beginning.queue known (λ entries. AreFlows first earlier (flows (entries ++ log))) is_quiet same
-        one_more event (Ok answer) quiet
-
     -- ---- on the previous path, where it lives
 
     abbrev validated_so_far : Bool
@@ -170,33 +164,24 @@ module _ {F K Q S M P : Type 0} (beginning : Beginning F K Q S M P) (earlier : H
     -- one event more
     pub reply_flows : (event : Event Q S M P) (reply : Reply Q) → Told beginning earlier event reply
         → AreFlows first ((event, reply) ∷ earlier) (each_path flow_of (pasts_of beginning ((event, reply) ∷ earlier)))
-    reply_flows (DatagramIn Current bytes) (Ok answer) told = (
-      came_more (is_validated first Current earlier) (datagrams_on Current earlier) Current bytes (Ok answer)
-          (flow_of pasts.current) same.0,
-      same.1,
-    )
+    reply_flows (DatagramIn Current bytes) (Ok answer) told =
+        (came_more _ (datagrams_on Current earlier) Current bytes (Ok answer) _ same.0, same.1)
     reply_flows (DatagramIn Previous bytes) (Ok answer) told =
         (same.0, came_previous bytes answer _ pasts.previous told same.1)
     reply_flows (Validated Current) (Ok answer) told =
         (ap (λ (f : Flow). flow true f.checked f.came f.went) same.0, same.1)
     reply_flows (Validated Previous) (Ok answer) told = (same.0, validated_previous answer _ pasts.previous told same.1)
-    reply_flows (Transmit now bytes true) (Ok Transmitted) told = (
-      went_more (is_validated first Current earlier) (datagrams_on Current earlier) now bytes true (Ok Transmitted)
-          (flow_of pasts.current) same.0,
-      same.1,
-    )
+    reply_flows (Transmit now bytes true) (Ok Transmitted) told =
+        (went_more _ (datagrams_on Current earlier) now bytes true (Ok Transmitted) _ same.0, same.1)
     reply_flows (Transmit now bytes true) (Ok answer) told = same
     reply_flows (Transmit now bytes false) (Ok answer) told =
-        rw told.1 (
-          went_more (is_validated first Current earlier) (datagrams_on Current earlier) now bytes false
-              (Ok Transmitted) (flow_of pasts.current) same.0,
-          same.1,
-        )
+        rw told.1 (went_more _ (datagrams_on Current earlier) now bytes false (Ok Transmitted) _ same.0, same.1)
     reply_flows (NewPath now remote true) (Ok answer) told = (refl, same.0)
     reply_flows (NewPath now remote false) (Ok answer) told = (refl, same.0)
     reply_flows DropPrevious (Ok answer) told = (same.0, refl)
-    reply_flows event (Ok answer) told = quietly event answer refl
-
+    reply_flows event (Ok answer) told =
+        paths_kept beginning.queue known (λ entries. AreFlows first earlier (flows (entries ++ log))) is_quiet same
+        one_more event (Ok answer) refl
     reply_flows (DatagramIn Current bytes) (Err refusal) told = same
     reply_flows (Validated Current) (Err refusal) told = same
     reply_flows event (Err refusal) told =

@@ -1,9 +1,9 @@
 -- A number is called new exactly where the history itself says so: the clause `new` of `run`, and `RefusedLaws` rest on
 -- it.
 use Rattle.std.proofs.lemmas.Bool.Decides.{nat_tests}
-use Rattle.std.proofs.Common.{arith, ◌≡◌, ◌≤◌, ◌+◌, ◌^◌, ℕ, Bool, true, false, ◌||◌, cond, nat_eq, nat_lt, nat_le, List, [], ◌∷◌, None, Some, Ok, Err, ◌⊎◌, inl, inr, ◌↔◌, refl, sym, ap, subst}
+use Rattle.std.proofs.Common.{arith, ◌≡◌, ◌≤◌, ◌+◌, ◌^◌, ℕ, Bool, true, false, ◌||◌, cond, nat_eq, nat_lt, nat_le, List, [], ◌∷◌, None, Some, Ok, Err, ◌⊎◌, inl, inr, ◌↔◌, refl, ap}
 use Rattle.std.specs.List.{list_all, list_any}
-use Rattle.std.proofs.lemmas.Bool.{false_from_ne_true, leb-true, le-leb, false≢true}
+use Rattle.std.proofs.lemmas.Bool.{leb-true, le-leb, false≢true}
 use Rattle.recovery_base.specs.declared.below.SpaceId.{SpaceId}
 use Rattle.recovery_base.specs.Numbers.{IsNew}
 use Rattle.recovery_base.specs.Spaces.{same_space}
@@ -13,13 +13,12 @@ use Rattle.recovery_ledger.specs.SpaceLog.{SpaceEntry, heard, heard_again}
 use Rattle.recovery_events.specs.declared.event.Event.{Event}
 use Rattle.recovery_events.specs.declared.event.Event.TheVariants.{Received, DiscardSpace}
 use Rattle.recovery_events.specs.declared.event.Answer.TheVariants.{New}
-use Rattle.recovery_events.specs.declared.event.Refusal.TheVariants.{NumberTooLarge, SpaceDiscarded}
-use Rattle.quic_recovery.specs.Entries.{Entries, entries_of, logs_of}
-use Rattle.quic_recovery.specs.History.{Beginning, History, Reply, QueueMeaning}
-use Rattle.quic_recovery.specs.Known.{SpaceKnown, Known, known_by}
+use Rattle.recovery_events.specs.declared.event.Refusal.TheVariants.{SpaceDiscarded}
+use Rattle.quic_recovery.specs.Entries.{Entries, logs_of}
+use Rattle.quic_recovery.specs.History.{Beginning, History, Reply}
+use Rattle.quic_recovery.specs.Known.{SpaceKnown, known_by}
 use Rattle.quic_recovery.specs.Logs.{onto}
-use Rattle.quic_recovery.specs.Replies.{Refuses, Answers}
-use Rattle.quic_recovery.specs.Told.{Told, ReceivedAnswer}
+use Rattle.quic_recovery.specs.Told.{Told, ReceivedReply}
 use Rattle.recovery_ledger.specs.Acks.{Heard, heard_by}
 use Rattle.quic_recovery.specs.Promises.NewNumbers.{is_new, came_in, is_discarded, IsVerdict, CallsNew}
 use Rattle.quic_recovery.proofs.EntryKinds.{SpaceKind, hearing, space_kind, space_kept, plainly_keeps, refused_keeps}
@@ -73,45 +72,41 @@ Alike came log = (m : ℕ) → In m came ↔ CameIn log m
 
 module _ {P M : Type 0} (came : List ℕ) (log : List (SpaceEntry P M)) (alike : Alike came log) where
   one_more : (n m : ℕ) → In m (n ∷ came) ↔ ((m ≡ n) ⊎ CameIn log m)
-  one_more n m = (λ there. grind (arith, there, alike m), λ back. grind (arith, back, alike m))
+  one_more n m = grind (arith, alike m)
 
   arrive : (b : Bool) (n : ℕ) (entry : SpaceEntry P M) → Alike (n ∷ came) (entry ∷ log)
       → Alike (cond b (n ∷ came) came) (onto (cond b (Some entry) None) log)
-  arrive true n entry first = first
-  arrive false n entry first = alike
+  arrive b n entry first m = grind (arith, first m, alike m)
 
 abbrev not_heard : SpaceKind → Bool
 not_heard hearing = false
 not_heard kind = true
 
-module _ {K Q S M P : Type 0} (q : QueueMeaning Q S M P) (known : Known K P M) (earlier : History Q S M P)
-    (space : SpaceId) where
-  module _ (log : List (SpaceEntry P M)) (alike : Alike (came_in space earlier) log) where
-    -- what is no packet that came
-    unheard : (entry : SpaceEntry P M) → not_heard (space_kind entry) ≡ true
-        → Alike (came_in space earlier) (entry ∷ log)
-    unheard (heard_again number) other = absurd (false≢true other)
-    unheard entry other = grind (arith, other, alike)
-
-    reply_came : (event : Event Q S M P) (reply : Reply Q)
-        → Alike (came_in space ((event, reply) ∷ earlier)) (onto ((entries_of q known event reply).spaces space) log)
-    reply_came (Received there now number eliciting) (Ok (New arm)) =
-        arrive _ log alike _ number (heard now number eliciting) (one_more _ log alike number)
-    reply_came (Received there now number eliciting) (Ok answer) =
-        arrive _ log alike _ number (heard_again number) (one_more _ log alike number)
-    reply_came (Received there now number eliciting) (Err refusal) = alike
-    reply_came event reply =
-        space_kept q known space (λ made. Alike (came_in space earlier) (onto made log)) not_heard alike unheard event
-        reply refl
+module _ {P M : Type 0} (came : List ℕ) (log : List (SpaceEntry P M)) (alike : Alike came log) where
+  -- what is no packet that came
+  unheard : (entry : SpaceEntry P M) → not_heard (space_kind entry) ≡ true → Alike came (entry ∷ log)
+  unheard (heard_again number) other = absurd (false≢true other)
+  unheard entry other = grind (arith, other, alike)
 
 module _ {F K Q S M P : Type 0} (beginning : Beginning F K Q S M P) where
   all_came : (history : History Q S M P) (space : SpaceId)
       → Alike (came_in space history) ((logs_of beginning history).spaces space)
   all_came [] space = λ m. (λ there. there, λ there. there)
-  all_came (happened ∷ earlier) space =
+  all_came ((Received there now number eliciting, Ok (New arm)) ∷ earlier) space =
+      let log = (logs_of beginning earlier).spaces space in
+      let alike = all_came earlier space in
+      arrive _ log alike _ number (heard now number eliciting) (one_more _ log alike number)
+  all_came ((Received there now number eliciting, Ok answer) ∷ earlier) space =
+      let log = (logs_of beginning earlier).spaces space in
+      let alike = all_came earlier space in
+      arrive _ log alike _ number (heard_again number) (one_more _ log alike number)
+  all_came ((Received there now number eliciting, Err refusal) ∷ earlier) space = all_came earlier space
+  all_came ((event, reply) ∷ earlier) space =
       let logs = logs_of beginning earlier in
-      reply_came beginning.queue (known_by beginning logs) earlier space (logs.spaces space) (all_came earlier space)
-      happened.0 happened.1
+      let alike = all_came earlier space in
+      space_kept beginning.queue (known_by beginning logs) space
+      (λ made. Alike (came_in space earlier) (onto made (logs.spaces space))) not_heard alike
+      (unheard _ (logs.spaces space) alike) event reply refl
 
   pub all_dropped : (history : History Q S M P) (space : SpaceId)
       → is_discarded space history ≡ was_discarded space (logs_of beginning history).discarded
@@ -132,29 +127,13 @@ module _ {F K Q S M P : Type 0} (beginning : Beginning F K Q S M P) where
 
 -- ---- the verdict
 
-module _ {Q P M : Type 0} (known : SpaceKnown P M) (heard : Heard) (number : ℕ) (eliciting : Bool) (new : Bool)
-    (yes : IsNew heard.came number → new ≡ true) (no : ¬ IsNew heard.came number → new ≡ false) where
-  fine : (reply : Reply Q)
-      → Answers (IsNew heard.came number) (ReceivedAnswer heard known.counts number eliciting) reply
-      → IsVerdict false false new reply
-  fine (Ok (New arm)) told = yes told.0
-  fine reply told = grind (arith, yes, no, told)
-
-  sized : (large : Bool) → (2 ^ 62 ≤ number → large ≡ true) → (large ≡ true → 2 ^ 62 ≤ number) → (reply : Reply Q)
-      → Refuses NumberTooLarge (2 ^ 62 ≤ number) (Answers (IsNew heard.came number)
-      (ReceivedAnswer heard known.counts number eliciting)) reply → IsVerdict false large new reply
-  sized large is to (Ok answer) told = grind (arith, is, to, told, fine (Ok answer))
-  sized large is to (Err NumberTooLarge) told = grind (arith, is, to, told)
-  sized large is to (Err refusal) told = grind (arith, is, to, told, fine (Err refusal))
-
-  opened : (discarded large : Bool) → (2 ^ 62 ≤ number → large ≡ true) → (large ≡ true → 2 ^ 62 ≤ number)
-      → (reply : Reply Q)
-      → Refuses SpaceDiscarded (discarded ≡ true) (Refuses NumberTooLarge (2 ^ 62 ≤ number)
-      (Answers (IsNew heard.came number) (ReceivedAnswer heard known.counts number eliciting))) reply
-      → IsVerdict discarded large new reply
-  opened discarded large is to (Ok answer) told = grind (arith, told, sized large is to (Ok answer))
-  opened discarded large is to (Err SpaceDiscarded) told = grind (arith, told)
-  opened discarded large is to (Err refusal) told = grind (arith, told, sized large is to (Err refusal))
+module _ {Q P M : Type 0} (known : SpaceKnown P M) (heard : Heard) (number : ℕ) (eliciting large new : Bool)
+    (sizes : (2 ^ 62 ≤ number) ↔ (large ≡ true)) (news : IsNew heard.came number ↔ (new ≡ true)) where
+  verdict : (reply : Reply Q) → ReceivedReply known heard number eliciting reply
+      → IsVerdict known.discarded large new reply
+  verdict (Ok (New arm)) told = grind (arith, told, sizes, news)
+  verdict (Err SpaceDiscarded) told = grind (arith, told, sizes, news)
+  verdict reply told = grind (arith, told, sizes, news)
 
 module _ {F K Q S M P : Type 0} (beginning : Beginning F K Q S M P) where
   received_told : (history : History Q S M P) (space : SpaceId) (now number : ℕ) (eliciting : Bool) (reply : Reply Q)
@@ -162,18 +141,13 @@ module _ {F K Q S M P : Type 0} (beginning : Beginning F K Q S M P) where
       → CallsNew history (Received space now number eliciting) reply
   received_told history space now number eliciting reply told =
       let logs = logs_of beginning history in
-      let heard = heard_by beginning.queue.words (logs.spaces space) in
+      let numbers = CameIn (logs.spaces space) in
       let came = came_in space history in
       let same = all_came beginning history space in
-      let new = is_new came number in
-      let yes = new_from (CameIn (logs.spaces space)) came same number in
-      let no : ¬ IsNew (CameIn (logs.spaces space)) number → new
-      ≡ false = λ other. false_from_ne_true new (λ is. other
-      (new_to (CameIn (logs.spaces space)) came same number is)) in
-      let verdict = opened ((known_by beginning logs).spaces space) heard number eliciting new yes no
-      (was_discarded space logs.discarded) (nat_le (2 ^ 62) number) (le-leb (2 ^ 62) number)
-      (leb-true (2 ^ 62) number) reply told in
-      subst (λ d. IsVerdict d (nat_le (2 ^ 62) number) new reply) (sym (all_dropped beginning history space)) verdict
+      rw (all_dropped beginning history space) (verdict ((known_by beginning logs).spaces space)
+      (heard_by beginning.queue.words (logs.spaces space)) number eliciting (nat_le (2 ^ 62) number)
+      (is_new came number) (le-leb (2 ^ 62) number, leb-true (2 ^ 62) number)
+      (new_from numbers came same number, new_to numbers came same number) reply told)
 
   -- what an event is told, it is told of new numbers
   pub numbers_told : (history : History Q S M P) (event : Event Q S M P) (reply : Reply Q)

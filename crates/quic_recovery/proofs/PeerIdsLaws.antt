@@ -1,12 +1,11 @@
 -- Ids of the peer are taken, refused and moved to as the history itself says: the clause `peer_ids` of `run`.
-use Rattle.std.proofs.Common.{◌≡◌, ◌≤◌, ◌<◌, ◌+◌, ◌^◌, ℕ, ◌==◌, max, min, nat_lt, nat_le, not, Bool, true, false, List, [], ◌∷◌, Option, None, Some, IsSome, Ok, Err, refl, ap, ◌∙◌, arith, leb-true, le-leb}
-use Rattle.std.specs.Prelude.{IsSomeAnd, IfSome, option_map, unwrap_or, if◌then◌else◌}
+use Rattle.std.proofs.Common.{◌≡◌, ◌≤◌, ◌<◌, ◌+◌, ◌^◌, ℕ, ◌==◌, max, min, nat_lt, nat_le, not, Bool, false, List, [], ◌∷◌, Option, None, Some, IsSome, Ok, Err, refl, ap, arith, leb-true, le-leb}
+use Rattle.std.specs.Prelude.{IfSome, option_map, unwrap_or, if◌then◌else◌}
 use Rattle.std.specs.Bool.{Decides}
-use Rattle.std.specs.declared.ops.Range.{Range}
-use Rattle.std.proofs.lemmas.Bool.Decides.{nat_tests, Decides-eqb, Decides-ltb, Decides-not}
+use Rattle.std.proofs.lemmas.Bool.Decides.{nat_tests, Decides-eqb, Decides-ltb}
 use Rattle.std.proofs.lemmas.Slice.Eq.{bytes_eq-Decides}
 use Rattle.recovery_base.specs.declared.below.ids.NewConnectionId.{NewConnectionId}
-use Rattle.recovery_ids.specs.RemoteIds.{AcceptsFrame, TellsMove, HeldId, Table, RemoteIds, IsLeastHeld, AreInWindow, Repeats, active_connection_id_limit, with_id, with_frame, without_id}
+use Rattle.recovery_ids.specs.RemoteIds.{HeldId, Table, RemoteIds, IsLeastHeld, AreInWindow, Repeats, active_connection_id_limit, with_id, with_frame, without_id}
 use Rattle.recovery_ids.specs.RemoteLog.{given, used, replaced, remote_ids_with, remote_ids_by}
 use Rattle.recovery_ids.proofs.RemoteLogLaws.{gives, uses, uses_none, replaces}
 use Rattle.recovery_events.specs.declared.event.Event.{Event}
@@ -14,7 +13,7 @@ use Rattle.recovery_events.specs.declared.event.Event.TheVariants.{NewId, NextId
 use Rattle.recovery_events.specs.declared.event.Answer.{Answer}
 use Rattle.recovery_events.specs.declared.event.Answer.TheVariants.{Retire, Done}
 use Rattle.recovery_events.specs.declared.event.Refusal.{Refusal}
-use Rattle.recovery_events.specs.declared.event.Refusal.TheVariants.{NoMemory, NumberTooLarge, BadRetirePriorTo, Retired, ExceedsLimit, Conflict, NotInitialId}
+use Rattle.recovery_events.specs.declared.event.Refusal.TheVariants.{NumberTooLarge, BadRetirePriorTo, Retired, ExceedsLimit, Conflict, NotInitialId}
 use Rattle.recovery_events.specs.Refusals.{refusal_number}
 use Rattle.quic_recovery.specs.Entries.{Entries, logs_of}
 use Rattle.quic_recovery.specs.History.{Beginning, History, Reply, Throughout}
@@ -57,26 +56,16 @@ same_least held low one (Some m) is_one is_other =
 same_least held low (Some n) None is_one is_other = grind (arith, is_other n, is_one.bound, is_one.is_held)
 
 module _ (held : Table) (low number : ℕ) (entry : HeldId) where
-  abbrev with_more : Option ℕ → Option ℕ
-  with_more least = if nat_lt number low then least else Some (unwrap_or (option_map (min number) least) number)
-
   -- one more id is held
-  least_with : (least : Option ℕ) → IsLeastFrom held low least
-      → IsLeastFrom (with_id number entry held) low (with_more least)
-  least_with least is = go (nat_lt number low) refl least is
-    where
-      go : (b : Bool) → nat_lt number low ≡ b → (least : Option ℕ) → IsLeastFrom held low least
-          → IsLeastFrom (with_id number entry held) low
-          (if b then least else Some (unwrap_or (option_map (min number) least) number))
-      go true below None is = λ n above. grind (arith, nat_tests, is n)
-      go true below (Some m) is = grind (arith, nat_tests, is.bound, is.is_held, is.least)
-      go false above None is = grind (arith, nat_tests, is)
-      go false above (Some m) is = grind (arith, nat_tests, is.bound, is.is_held, is.least)
+  least_with : (least : Option ℕ) → IsLeastFrom held low least → IsLeastFrom (with_id number entry held) low
+      (if nat_lt number low then least else Some (unwrap_or (option_map (min number) least) number))
+  least_with None is = grind (arith, nat_tests, is)
+  least_with (Some m) is = grind (arith, nat_tests, is.bound, is.is_held, is.least)
 
   -- the id of a number that is held is another one
   least_again : IsSome (held number) → (least : Option ℕ) → IsLeastFrom held low least
       → IsLeastFrom (with_id number entry held) low least
-  least_again there None is = λ n above. grind (arith, nat_tests, is n, there)
+  least_again there None is = grind (arith, nat_tests, is, there)
   least_again there (Some m) is = grind (arith, nat_tests, is.bound, is.is_held, is.least, there)
 
 module _ {Q S M P : Type 0} (initial : List ℕ) where
@@ -92,11 +81,7 @@ module _ {Q S M P : Type 0} (initial : List ℕ) where
 
   -- the least one given is found
   least_is : (low : ℕ) (history : History Q S M P) → IsLeastFrom (ids_given history) low (least_from low history)
-  least_is low [] = go (low == 0) refl
-    where
-      go : (b : Bool) → (low == 0) ≡ b → IsLeastFrom (ids_given []) low (if b then Some 0 else None)
-      go true none = grind (arith, nat_tests)
-      go false some = λ n above. grind (arith, nat_tests)
+  least_is low [] = grind (arith, nat_tests)
   least_is low ((NewId frame, Ok answer) ∷ earlier) =
       least_with (ids_given earlier) low frame.sequence (frame.id, Some frame.reset_token) (least_from low earlier)
       (least_is low earlier)
@@ -168,26 +153,6 @@ module _ {Q S M P : Type 0} (initial : List ℕ) (history : History Q S M P) (id
     stays_least : frame.retire_prior_to ≤ ids.active → IsLeastHeld (with_frame frame ids.held) 0 ids.active
     stays_least kept = grind (arith, nat_tests, same.window.active_held, same.window.within, kept, fine.ahead)
 
-    -- it is one that is accepted
-    accepts : (next : ℕ) (answer : Option (Range ℕ × List ℕ)) → Repeats frame ids.held
-        → IsLeastHeld (with_frame frame ids.held) 0 next
-        → (frame.retire_prior_to ≤ ids.active → (next ≡ ids.active) × (answer ≡ None))
-        → (ids.active < frame.retire_prior_to → IsSomeAnd answer (λ told. TellsMove ids told.0 told.1 (made next)))
-        → AcceptsFrame ids frame answer (made next)
-    accepts next answer again least stays moves =
-        grind (
-          arith,
-          nat_tests,
-          again,
-          least.bound,
-          least.is_held,
-          least.least,
-          fine.ahead,
-          fine.near,
-          stays,
-          moves,
-        )
-
   frame_step : (frame : NewConnectionId) (answer : Answer Q) → FrameReply ids frame (Ok answer)
       → SameIds initial ((NewId frame, Ok answer) ∷ history) (remote_ids_with (given frame) ids)
   frame_step frame answer (small, (ordered, (ahead, (near, (unlike, told))))) = go answer told
@@ -203,13 +168,12 @@ module _ {Q S M P : Type 0} (initial : List ℕ) (history : History Q S M P) (id
       go (Retire None) kept =
           let least = stays_least frame fine kept in
           rw (← gives ids (made frame fine ids.active) frame None (omega (arith, ordered))
-          (accepts frame fine ids.active None again least (λ stay. (refl, refl))
-          (λ less. absurd (omega (arith, less, kept)))) same.window)
+          (grind (arith, nat_tests, again, least.bound, least.is_held, least.least, ahead, near, kept)) same.window)
           (made_same frame fine ids.active (Retire None) least)
       go (Retire (Some told)) (less, starts, next, least, ends, token) =
+          let held = least.is_held in
           rw (← gives ids (made frame fine next) frame (Some told) (omega (arith, ordered))
-          (accepts frame fine next (Some told) again least (λ stay. absurd (omega (arith, less, stay)))
-          (λ less. record { begins = starts; ends = ends; token_held = token })) same.window)
+          (grind (arith, nat_tests, again, held, least.least, ahead, near, less, starts, ends, token.1)) same.window)
           (made_same frame fine next (Retire (Some told)) least)
       go other is = absurd is
 
@@ -218,14 +182,17 @@ module _ {Q S M P : Type 0} (initial : List ℕ) (history : History Q S M P) (id
   next_step (Retire None) none =
       rw (← uses_none ids ids none refl) record { held = same.held; retired = same.retired; window = same.window }
   next_step (Retire (Some told)) (starts, least, (id, token)) =
-      let next = told.0.end in
-      let new : RemoteIds = record { active = next; held = without_id ids.active ids.held } in
-      let inside = same.window.within next least.is_held in
-      let kept : without_id ids.active ids.held next ≡ ids.held next = grind (arith, nat_tests, least.bound) in
-      rw (← uses ids new told.1 told.0 (record {
+      let new : RemoteIds = record { active = told.0.end; held = without_id ids.active ids.held } in
+      let inside = same.window.within told.0.end least.is_held in
+      rw (← uses ids new told.1 told.0
+      (record {
         active = least;
         held = λ n. refl;
-        told = record { begins = starts; ends = omega (arith, inside); token_held = (id, kept ∙ token) };
+        told = record {
+          begins = starts;
+          ends = omega (arith, inside);
+          token_held = (id, grind (arith, nat_tests, least.bound, token));
+        };
         whole = refl;
       }) same.window) (grind (
         arith,
@@ -260,15 +227,9 @@ module _ {Q S M P : Type 0} (initial : List ℕ) (history : History Q S M P) (id
       let new = made_same frame fine next (Retire None) is_least in
       let above = new.retired in
       let found = least_held_found initial after (made frame fine next) new frame.retire_prior_to next
-      (omega (arith, less, same.retired)) (record {
-        bound = omega (arith, above);
-        is_held = is_least.is_held;
-        least = λ n over less. is_least.least n (omega arith) less;
-      }) in
+      (omega (arith, less, same.retired)) (grind (arith, above, is_least.is_held, is_least.least)) in
       grind (arith, nat_tests, less, starts, ends, found, new.held next above, token.1)
-  frame_accepted frame fine (Ok other) is = absurd is
-  frame_accepted frame fine (Err NoMemory) is = absurd is
-  frame_accepted frame fine (Err refusal) is = absurd is
+  frame_accepted frame fine reply is = grind (arith, is)
 
   -- a refusal that comes first, where a test decides its cause
   first : (refusal : Refusal) → (refusal_number refusal == 17) ≡ false → (cause : Bool) (Cause : Type 0)
@@ -295,8 +256,13 @@ module _ {Q S M P : Type 0} (initial : List ℕ) (history : History Q S M P) (id
       conflicts : (frame : NewConnectionId) → ids.active ≤ frame.sequence
           → Decides (not (repeats frame (id_under initial frame.sequence history))) (¬ Repeats frame ids.held)
       conflicts frame ahead =
-          Decides-not _ (rw (← same.held frame.sequence (omega (arith, ahead, same.retired)))
-          (repeats_decides frame (ids.held frame.sequence)))
+          grind (
+            arith,
+            same.held frame.sequence,
+            ahead,
+            same.retired,
+            repeats_decides frame (ids.held frame.sequence),
+          )
 
   next_told : (reply : Reply Q) → AlwaysAnswers (IsNextAnswer ids) reply
       → reply ≡ moved initial ids.active (least_from (ids.active + 1) history) history
@@ -309,16 +275,12 @@ module _ {Q S M P : Type 0} (initial : List ℕ) (history : History Q S M P) (id
       let found = least_held_found initial history ids same (ids.active + 1) next (omega (arith, same.retired)) least in
       let inside = same.window.within next least.is_held in
       grind (arith, nat_tests, starts, found, inside, same.held next, least.bound, same.retired, token)
-  next_told (Ok other) is = absurd is
-  next_told (Err NoMemory) is = absurd is
-  next_told (Err refusal) is = absurd is
+  next_told reply is = grind (arith, is)
 
   initial_told : (reply : Reply Q) → InitialReply ids reply
       → reply ≡ (if ids.active == 0 then Ok Done else Err NotInitialId)
-  initial_told (Ok answer) told = grind (arith, nat_tests, told)
-  initial_told (Err NoMemory) told = absurd told.1
   initial_told (Err NotInitialId) told = grind (arith, nat_tests, told)
-  initial_told (Err refusal) told = absurd told.1
+  initial_told reply told = grind (arith, nat_tests, told)
 
 -- ---- throughout a run
 
@@ -334,14 +296,7 @@ module _ {F K Q S M P : Type 0} (beginning : Beginning F K Q S M P) where
   HoldsIds history = SameIds initial_id history (ids_by history)
 
   pub holds_first : HoldsIds []
-  holds_first = record {
-    held = λ n above. refl;
-    retired = omega arith;
-    window = record {
-      active_held = refl;
-      within = λ n there. (omega arith, grind (arith, nat_tests, there));
-    };
-  }
+  holds_first = grind (arith, nat_tests)
 
   module _ (before : History Q S M P) (same : HoldsIds before) where
     abbrev After : Event Q S M P → Reply Q → Entries P M → Type 0

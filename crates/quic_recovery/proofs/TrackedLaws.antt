@@ -1,6 +1,6 @@
 -- A packet is tracked by its space exactly where the history says so; and each number that was given out, once at most,
 -- has one fate. The promises on what is tracked rest on it.
-use Rattle.std.proofs.Common.{◌≡◌, ◌<◌, ◌≤◌, ◌+◌, ◌^◌, ℕ, ◌==◌, ◌&&◌, ◌||◌, not, Bool, true, false, cond, List, [], ◌∷◌, Option, None, Some, Ok, Err, refl, ap, subst, arith}
+use Rattle.std.proofs.Common.{◌≡◌, ◌<◌, ◌≤◌, ◌+◌, ◌^◌, ℕ, ◌==◌, ◌&&◌, ◌||◌, not, Bool, true, false, cond, List, [], ◌∷◌, Option, None, Some, Ok, Err, refl, ap, arith}
 use Rattle.std.proofs.lemmas.Bool.{false≢true}
 use Rattle.std.specs.Prelude.{is_some, sum_by}
 use Rattle.std.specs.BTreeMap.{is_at}
@@ -157,10 +157,9 @@ sent_in beginning history space = sent_by beginning.queue.words ((logs_of beginn
 -- the number that is given out was not given out before
 pub is_new : {F K Q S M P : Type 0} (beginning : Beginning F K Q S M P) (before : History Q S M P) (space : SpaceId)
     → (sent_in beginning before space).next ≤ number_in (known_by beginning (logs_of beginning before)) space
-is_new beginning before Initial = omega arith
-is_new beginning before Handshake = omega arith
 is_new beginning before Data =
     number_from_above beginning.config.skips beginning.random (sent_in beginning before Data).next
+is_new beginning before space = omega arith
 
 -- a packet that was found is there
 pub is_there : {P M : Type 0} (found : Option (Packet P M)) → ¬ (found ≡ None)
@@ -213,39 +212,20 @@ module _ {F K Q S M P : Type 0} (beginning : Beginning F K Q S M P) (before : Hi
   abbrev After : Option (SpaceEntry P M) → Bool → ℕ → ℕ → Type 0
   After entry tracked given departed = Tracks n (sent_by beginning.queue.words (onto entry log)) tracked given departed
 
-  gone_as : {sent : Sent P M} {tracked : Bool} {given d e : ℕ} → Tracks n sent tracked given d → d ≡ e
-      → Tracks n sent tracked given e
-  gone_as {sent} {tracked} {given} here is = subst (λ d. Tracks n sent tracked given d) is here
-
   -- an entry that leaves what is tracked
   unmoved : (entry : SpaceEntry P M) → keeps_packets (space_kind entry) ≡ true
       → After (Some entry) tracked_now given_now departed_now
   unmoved (probes immediate found) keeps =
-      moved_tracks n (sent_in beginning before space) tracked_now given_now departed_now here
-      beginning.queue.words.empty found
+      moved_tracks n _ _ _ _ here beginning.queue.words.empty found
   unmoved entry keeps = grind (arith, keeps, here)
 
-  goes : (b out : Bool) (entry : SpaceEntry P M)
-      → (b ≡ true → After (Some entry) (out || tracked_now) (more_if out given_now) departed_now)
-      → After (cond b (Some entry) None) ((b && out) || tracked_now) (more_if (b && out) given_now) departed_now
-  goes b out entry first = grind (arith, first, here)
-
-  goes_for : (b out left : Bool) (entry : SpaceEntry P M)
+  -- an entry in one space, by which a number may go out or leave
+  step : (b out left : Bool) (entry : SpaceEntry P M) (tracked : Bool) (given departed : ℕ)
       → (b ≡ true → After (Some entry) (out || (not left && tracked_now)) (more_if out given_now)
       (more_if left departed_now))
-      → After (cond b (Some entry) None) ((b && out) || (not (b && left) && tracked_now)) (more_if (b && out) given_now)
-      (more_if (b && left) departed_now)
-  goes_for b out left entry first = grind (arith, first, here)
-
-  takes : (b left : Bool) (entry : SpaceEntry P M)
-      → (b ≡ true → After (Some entry) (not left && tracked_now) given_now (more_if left departed_now))
-      → After (cond b (Some entry) None) (not (b && left) && tracked_now) given_now (more_if (b && left) departed_now)
-  takes true left entry first = first refl
-  takes false left entry first = here
-
-  empties : (b : Bool) → After (cond b (Some emptied) None) (not b && tracked_now) given_now
-      (more_if (b && tracked_now) departed_now)
-  empties b = grind (arith, nat_tests, here.same, here.adds, here.once, here.late)
+      → (tracked ≡ ((b && out) || (not (b && left) && tracked_now))) × (given ≡ more_if (b && out) given_now)
+      × (departed ≡ more_if (b && left) departed_now) → After (cond b (Some entry) None) tracked given departed
+  step b out left entry tracked given departed first same = grind (arith, first, here, same)
 
   -- a packet goes out as it is told
   goes_told : (there : SpaceId) (packet : Packet P M) (number : ℕ) (forgotten : Option ℕ)
@@ -255,8 +235,7 @@ module _ {F K Q S M P : Type 0} (beginning : Beginning F K Q S M P) (before : Hi
       (more_if (number == n) given_now) (more_if (is_it n forgotten) departed_now)
   goes_told there packet number forgotten is same_number same_forgotten =
       rw (same_number, same_forgotten, one_space there space is)
-      (sent_tracks n (sent_in beginning before space) tracked_now given_now departed_now here (number_in known space)
-      packet (is_new beginning before space))
+      (sent_tracks n _ _ _ _ here (number_in known space) packet (is_new beginning before space))
 
   -- a tracked packet leaves
   leaves_told : (there : SpaceId) (number : ℕ) → ¬ (packet_at (known.spaces there).sent.tracked number ≡ None)
@@ -264,38 +243,40 @@ module _ {F K Q S M P : Type 0} (beginning : Beginning F K Q S M P) (before : Hi
       → Tracks n (sent_less number (sent_in beginning before space)) (not (number == n) && tracked_now) given_now
       (more_if (number == n) departed_now)
   leaves_told there number told is =
-      taken_tracks n (sent_in beginning before space) tracked_now given_now departed_now here number
+      taken_tracks n _ _ _ _ here number
       (is_there (packet_at (sent_in beginning before space).tracked number) (rw (← one_space there space is) told))
 
   reply_tracks : (event : Event Q S M P) (reply : Reply Q) → Told beginning before event reply
       → TracksIn beginning ((event, reply) ∷ before) space n
   reply_tracks (Acked there now number app_limited) (Ok answer) told =
-      gone_as (takes (same_space there space) (number == n) (acknowledged number) (leaves_told there number told.1.0))
+      step (same_space there space) false (number == n) (acknowledged number) _ _ _ (leaves_told there number told.1.0)
       (grind (arith, nat_tests))
   reply_tracks (Lost there number) (Ok answer) told =
-      gone_as (takes (same_space there space) (number == n) (loses number) (leaves_told there number told.1.0))
+      step (same_space there space) false (number == n) (loses number) _ _ _ (leaves_told there number told.1.0)
       (grind (arith, nat_tests))
   reply_tracks (Send there now size eliciting largest queue frames) (Ok (answers.Sent number None)) told =
       let packet = packet_now known now size eliciting largest (beginning.queue.contents queue) frames in
       let is = past_four told in
-      goes (same_space there space) (number == n) _ (λ at. goes_told there packet number None at (cc) (cc))
+      step (same_space there space) (number == n) false _ _ _ _
+      (λ at. goes_told there packet number None at (cc) (cc)) (grind (arith, nat_tests))
   reply_tracks (Send there now size eliciting largest queue frames) (Ok (answers.Sent number (Some forgotten))) told =
       let packet = packet_now known now size eliciting largest (beginning.queue.contents queue) frames in
       let is = past_four told in
-      gone_as (goes_for (same_space there space) (number == n) (forgotten == n) (sends (number_in known there) packet)
-      (λ at. goes_told there packet number (Some forgotten) at (cc) (cc))) (grind (arith, nat_tests))
+      step (same_space there space) (number == n) (forgotten == n) _ _ _ _
+      (λ at. goes_told there packet number (Some forgotten) at (cc) (cc)) (grind (arith, nat_tests))
   reply_tracks (Send there now size eliciting largest queue frames) (Ok answer) told = let is = past_four told in cc
   reply_tracks (PollMtu now) (Ok (Probe number size)) told =
       let packet = packet_now known now size true None beginning.queue.words.empty beginning.queue.blank in
       let is = probe_number beginning.queue known now _ number size told.1.1 in
-      goes (same_space Data space) (number == n) _ (λ at. goes_told Data packet number None at is refl)
+      step (same_space Data space) (number == n) false _ _ _ _ (λ at. goes_told Data packet number None at is refl)
+      (grind (arith, nat_tests))
   reply_tracks (PollMtu now) (Ok answer) told = here
   reply_tracks (DiscardSpace there) (Ok answer) told =
-      gone_as (empties (same_space there space)) (grind (arith, nat_tests))
+      step (same_space there space) false tracked_now emptied _ _ _
+      (λ at. grind (arith, nat_tests, here.same, here.adds, here.once, here.late)) (grind (arith, nat_tests))
   reply_tracks event (Ok answer) told =
       space_kept beginning.queue known space (λ entry. After entry tracked_now given_now departed_now) keeps_packets
       here unmoved event (Ok answer) refl
-
   reply_tracks (PollMtu now) (Err refusal) told = here
   reply_tracks event (Err refusal) told =
       refused_keeps event refusal
