@@ -1,6 +1,7 @@
 -- What it says that a number was read from a word, or not. The readers of numbers and `FieldLaws` rest on it.
 use Rattle.std.proofs.Common.{◌⊎◌, inl, inr, ◌+◌, ◌-◌, ◌*◌, ◌%◌, ◌==◌, take, le-ltb, ne_eqb, length-take, length-take-le, zero, suc, lit≤, ◌≡◌, ℕ, ◌^◌, ◌<◌, ◌≤◌, ◌≢◌, Bool, true, false, cond, ◌&&◌, List, length, get_or, Option, Some, None, Result, Ok, Err, decimal, bytes_eq, refl, sym, ap, subst, ◌∙◌, arith, ltb-true, lt-ltb}
-use Rattle.std.proofs.lemmas.Bool.{cases_lt, eq-eqb}
+use Rattle.std.proofs.lemmas.Bool.{eq-eqb}
+use Rattle.std.proofs.lemmas.Bool.Decides.{nat_tests}
 use Rattle.std.proofs.lemmas.List.{get_or-take}
 use Rattle.std.proofs.lemmas.List.Sums.{position_or_len_is}
 use Rattle.std.specs.List.{before_first, position_or_len}
@@ -20,22 +21,12 @@ use Rattle.std.proofs.lemmas.Slice.Eq.{bytes_eq-Decides}
 use Rattle.recovery_lines.specs.Reading.{AreDigits, number_of}
 use Rattle.recovery_lines.proofs.NumeralLaws.{digits_written, leads_above_zero}
 
-guarded : {A : Type 0} (b c : Bool) (x : A) (y : A) → cond (b && c) (Some x) None ≡ Some y → (b ≡ true) × (c ≡ true)
-    × (x ≡ y)
-guarded true true x y e = (refl, refl, cc)
-guarded true false x y e = absurd cc
-guarded false c x y e = absurd cc
-
 -- what is read is spelled so
 pub number_takes : (limit : ℕ) (word : List ℕ) (n : ℕ) → number_of limit word ≡ Some n
     → (word ≡ decimal n) × (n < limit)
 unfolding number_of
 number_takes limit word n e =
-    let g = guarded (nat_lt (digits_value 10 word) limit) (bytes_eq (decimal (digits_value 10 word)) word)
-    (digits_value 10 word) n e in
-    let same : decimal (digits_value 10 word) ≡ word = (bytes_eq-Decides (decimal (digits_value 10 word)) word).0 g.1 in
-    let below : digits_value 10 word < limit = ltb-true _ _ g.0 in
-    (sym same ∙ ap decimal g.2, subst (λ (m : ℕ). m < limit) g.2 below)
+    grind (arith, nat_tests, e, bytes_eq-Decides (decimal (digits_value 10 word)) word)
 
 -- what is spelled so is read
 pub number_again : (limit n : ℕ) → limit ≤ 10 ^ 64 → n < limit → number_of limit (decimal n) ≡ Some n
@@ -48,13 +39,10 @@ number_again limit n most lt =
     rw (value, test, same) refl
 
 -- what is no number is not read
-number_none : (limit : ℕ) (word : List ℕ) → ((n : ℕ) → n < limit → word ≢ decimal n) → (r : Option ℕ)
-    → number_of limit word ≡ r → r ≡ None
-number_none limit word h None e = refl
-number_none limit word h (Some n) e = let t = number_takes limit word n e in absurd (h n t.1 t.0)
-
 pub no_number : (limit : ℕ) (word : List ℕ) → ((n : ℕ) → n < limit → word ≢ decimal n) → number_of limit word ≡ None
-no_number limit word h = number_none limit word h (number_of limit word) refl
+unfolding number_of
+no_number limit word h = let n : ℕ = digits_value 10 word in
+    grind (arith, nat_tests, h n, bytes_eq-Decides (decimal n) word)
 
 -- a decimal number begins with a digit
 first_is_digit : (n : ℕ) → n < 2 ^ 64 → (48 ≤ get_or (decimal n) 0 0) × (get_or (decimal n) 0 0 ≤ 57)
@@ -168,75 +156,36 @@ not_both b p q = absurd cc
 
 -- a number is not spelled by a dash
 pub decimal_is_no_dash : (n : ℕ) → n < 2 ^ 64 → bytes_eq (decimal n) (codes "-") ≡ false
-decimal_is_no_dash n lt = go (bytes_eq (decimal n) (codes "-")) refl
-  where
-    go : (b : Bool) → bytes_eq (decimal n) (codes "-") ≡ b → b ≡ false
-    go false e = refl
-    go true e =
-        let same : decimal n ≡ codes "-" = (bytes_eq-Decides (decimal n) (codes "-")).0 e in
-        let first : get_or (decimal n) 0 0 ≡ 45 = ap (λ (w : List ℕ). get_or w 0 0) same in
-        let digit = first_is_digit n lt in
-        absurd (omega arith)
-
-one_number : (m n : ℕ) → Some m ≡ Some n → m ≡ n
-one_number m n e = cc
-
-some_is_none : {A : Type 0} (n : ℕ) (r : Option ℕ) → r ≡ Some n → r ≡ None → A
-some_is_none n r e f = cc
+decimal_is_no_dash n lt = grind (arith, first_is_digit n lt, bytes_eq-Decides (decimal n) (codes "-"))
 
 -- a number below another limit
-pub other_limit : (limit other : ℕ) (word : List ℕ) (n : ℕ) → other ≤ 10 ^ 64
-    → number_of limit word ≡ Some n → n < other → number_of other word ≡ Some n
-other_limit limit other word n most some lt =
-    ap (λ (w : List ℕ). number_of other w) (number_takes limit word n some).0
-    ∙ number_again other n most lt
+pub other_limit : (limit other : ℕ) (word : List ℕ) (n : ℕ) → number_of limit word ≡ Some n → n < other
+    → number_of other word ≡ Some n
+unfolding number_of
+other_limit limit other word n some lt = grind (arith, nat_tests, some)
 
 -- the same below a greater limit
 pub wider_limit : (limit other : ℕ) (word : List ℕ) (n : ℕ) → limit ≤ other → other ≤ 10 ^ 64
     → number_of limit word ≡ Some n → number_of other word ≡ Some n
-wider_limit limit other word n le most some =
-    let takes = number_takes limit word n some in
-    other_limit limit other word n most some (omega (arith, le, takes.1))
-
-none_narrower : (limit small : ℕ) (word : List ℕ) → limit ≤ 10 ^ 64 → small ≤ limit
-    → number_of limit word ≡ None → number_of small word ≡ None
-none_narrower limit small word most le none = no_number small word (λ n lt same.
-    let read = number_again limit n most (omega (arith, le, lt)) in
-    some_is_none n (number_of limit word) (ap (λ (w : List ℕ). number_of limit w) same ∙ read) none)
-
-large_narrower : (limit small : ℕ) (word : List ℕ) (n : ℕ) → limit ≤ 10 ^ 64 → small ≤ limit
-    → number_of limit word ≡ Some n → small ≤ n → number_of small word ≡ None
-large_narrower limit small word n most le some large = no_number small word (λ m lt same.
-    let read = number_again limit m most (omega (arith, le, lt)) in
-    let is : n ≡ m =
-    one_number n m (sym some ∙ ap (λ (w : List ℕ). number_of limit w) same ∙ read) in
-    omega (arith, is, lt, large))
-
-not_below : (a b : ℕ) → ¬ (a < b) → b ≤ a
-not_below a b no_less = go (cases_lt a b)
-  where
-    go : (a < b) ⊎ (b ≤ a) → b ≤ a
-    go (inl less) = absurd (no_less less)
-    go (inr more) = more
+unfolding number_of
+wider_limit limit other word n le most some = grind (arith, nat_tests, some)
 
 -- what `try_from` makes of a number that was read
 pub narrowed : {E : Type 0} (limit small : ℕ) (word : List ℕ) (n : ℕ) (r : Result ℕ E) → limit ≤ 10 ^ 64 → small ≤ limit
     → number_of limit word ≡ Some n → OkIff r (n < small) n → result_ok r ≡ number_of small word
-narrowed limit small word n (Ok m) most le some h =
-    ap (λ (k : ℕ). Some k) h.1 ∙ sym (other_limit limit small word n (omega (arith, most, le)) some h.0)
-narrowed limit small word n (Err e) most le some h =
-    sym (large_narrower limit small word n most le some (not_below n small h))
+unfolding number_of
+narrowed limit small word n (Ok m) most le some h = grind (arith, nat_tests, some, h)
+narrowed limit small word n (Err e) most le some h = grind (arith, nat_tests, some, h)
 
 -- the same of a test that gives an option
 pub kept_below : (limit small : ℕ) (word : List ℕ) (n : ℕ) (r : Option ℕ) → limit ≤ 10 ^ 64
     → small ≤ limit → number_of limit word ≡ Some n → SomeIff r (n < small) n
     → r ≡ number_of small word
-kept_below limit small word n (Some m) most le some h =
-    ap (λ (k : ℕ). Some k) h.1
-    ∙ sym (other_limit limit small word n (omega (arith, most, le)) some h.0)
-kept_below limit small word n None most le some h =
-    sym (large_narrower limit small word n most le some (not_below n small h))
+unfolding number_of
+kept_below limit small word n (Some m) most le some h = grind (arith, nat_tests, some, h)
+kept_below limit small word n None most le some h = grind (arith, nat_tests, some, h)
 
 pub kept_none : (limit small : ℕ) (word : List ℕ) → limit ≤ 10 ^ 64 → small ≤ limit
     → number_of limit word ≡ None → None ≡ number_of small word
-kept_none limit small word most le none = sym (none_narrower limit small word most le none)
+unfolding number_of
+kept_none limit small word most le none = grind (arith, nat_tests, none)
