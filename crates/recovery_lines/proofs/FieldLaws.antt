@@ -1,9 +1,9 @@
 -- A field that is read is the field that is spelled, and what is spelled is read. `FormLaws` rest on it.
-use Rattle.std.proofs.Common.{◌≡◌, ℕ, ◌<◌, ◌≤◌, ◌^◌, Bool, true, false, cond, List, [], ◌∷◌, Option, Some, None, IfSome, decimal, bytes_eq, refl, subst, ap, ◌∙◌, lit≤}
+use Rattle.std.proofs.Common.{arith, ◌≡◌, ℕ, ◌<◌, ◌≤◌, ◌^◌, Bool, true, false, List, [], ◌∷◌, Option, Some, None, IfSome, decimal, bytes_eq, refl, ap, ◌∙◌, lit≤}
 use Rattle.std.specs.List.{AllByRecursion}
 use Rattle.std.proofs.lemmas.Slice.Eq.{bytes_eq-Decides}
 use Rattle.recovery_base.specs.declared.below.SpaceId.{SpaceId}
-use Rattle.recovery_base.specs.declared.below.SpaceId.TheVariants.{Initial, Handshake, Data}
+use Rattle.recovery_base.specs.declared.below.SpaceId.TheVariants.{Initial}
 use Rattle.recovery_base.specs.declared.timer.Timer.{Timer}
 use Rattle.recovery_base.specs.declared.timer.Timer.TheVariants.{LossDetection}
 use lib.Chars.{codes}
@@ -35,11 +35,13 @@ pub named_takes : {A : Type 0} (word : A → List ℕ) (names : List (List ℕ �
     → AllByRecursion (λ p. p.0 ≡ word p.1) names → (text : List ℕ) (x : A) → named names text ≡ Some x → text ≡ word x
 named_takes word [] h text x e = absurd cc
 named_takes word ((name, value) ∷ names) h text x e =
-    go (bytes_eq text name) refl e (named_takes word names h.1 text x) where
-      go : (b : Bool) → bytes_eq text name ≡ b → cond b (Some value) (named names text) ≡ Some x
-          → (named names text ≡ Some x → text ≡ word x) → text ≡ word x
-      go true same f later = (bytes_eq-Decides text name).0 same ∙ h.0 ∙ ap word (some_is value x f)
-      go false other f later = later f
+    grind (arith, e, h.0, bytes_eq-Decides text name, named_takes word names h.1 text x)
+
+-- a field of one word for each value
+names_field : {A : Type 0} (word : A → List ℕ) (names : List (List ℕ × A)) → AllByRecursion (λ p. p.0 ≡ word p.1) names
+    → ((x : A) → named names (word x) ≡ Some x) → IsField word (λ x. Unit {0}) (named names)
+names_field word names h again =
+    record { takes = λ text x e. (named_takes word names h text x e, tt); again = λ x fits. again x }
 
 pub number_field : (limit : ℕ) → limit ≤ 10 ^ 64 → IsField decimal (λ n. n < limit) (number_of limit)
 number_field limit most = record { takes = number_takes limit; again = λ n lt. number_again limit n most lt }
@@ -51,23 +53,16 @@ flag_again false = refl
 
 pub flag_field : IsField flag_word (λ b. Unit {0}) flag_of
 unfolding flag_of
-flag_field = record {
-  takes = λ text b e. (named_takes flag_word flag_names (refl, (refl, tt)) text b e, tt);
-  again = λ b h. flag_again b;
-}
+flag_field = names_field flag_word flag_names (refl, (refl, tt)) flag_again
 
 pub space_again : (s : SpaceId) → space_of (space_word s) ≡ Some s
 unfolding space_of
 space_again Initial = refl
-space_again Handshake = refl
-space_again Data = refl
+space_again s = refl
 
 pub space_field : IsField space_word (λ s. Unit {0}) space_of
 unfolding space_of
-space_field = record {
-  takes = λ text s e. (named_takes space_word space_names (refl, (refl, (refl, tt))) text s e, tt);
-  again = λ s h. space_again s;
-}
+space_field = names_field space_word space_names (refl, (refl, (refl, tt))) space_again
 
 pub timer_again : (t : Timer) → timer_of (timer_word t) ≡ Some t
 unfolding timer_of
@@ -76,14 +71,8 @@ timer_again t = refl
 
 pub timer_field : IsField timer_word (λ t. Unit {0}) timer_of
 unfolding timer_of
-timer_field = record {
-  takes = λ text t e. (
-    named_takes timer_word timer_names
-        (refl, (refl, (refl, (refl, (refl, (refl, (refl, (refl, (refl, tt))))))))) text t e,
-    tt,
-  );
-  again = λ t h. timer_again t;
-}
+timer_field = names_field timer_word timer_names
+    (refl, (refl, (refl, (refl, (refl, (refl, (refl, (refl, (refl, tt))))))))) timer_again
 
 pub path_again : (p : PathName) → path_of (path_word p) ≡ Some p
 unfolding path_of
@@ -92,35 +81,19 @@ path_again Previous = refl
 
 pub path_field : IsField path_word (λ p. Unit {0}) path_of
 unfolding path_of
-path_field = record {
-  takes = λ text p e. (named_takes path_word path_names (refl, (refl, tt)) text p e, tt);
-  again = λ p h. path_again p;
-}
+path_field = names_field path_word path_names (refl, (refl, tt)) path_again
 
 -- a number or none
 largest_takes : (text : List ℕ) (l : Option ℕ) → largest_of text ≡ Some l → (text ≡ largest_word l)
     × IfSome l (λ n. n < 2 ^ 64)
 unfolding largest_of
-largest_takes text l e = go (bytes_eq text (codes "-")) refl e
-  where
-    go : (b : Bool) → bytes_eq text (codes "-") ≡ b
-        → cond b (Some None) (number_of (2 ^ 64) text >>= λ n. Some (Some n)) ≡ Some l
-        → (text ≡ largest_word l) × IfSome l (λ n. n < 2 ^ 64)
-    go true same f =
-        let P : Option ℕ → Type 0 = λ m. (text ≡ largest_word m) × IfSome m (λ n. n < 2 ^ 64) in
-        subst P (some_is None l f) ((bytes_eq-Decides text (codes "-")).0 same, tt)
-    go false other f =
-        let b = bind_some (number_of (2 ^ 64) text) (λ n. Some (Some n)) l f in
-        let t = number_takes (2 ^ 64) text b.0 b.1 in
-        let P : Option ℕ → Type 0 = λ m. (text ≡ largest_word m) × IfSome m (λ n. n < 2 ^ 64) in
-        subst P (some_is (Some b.0) l b.2) t
+largest_takes text None e = grind (arith, e, bytes_eq-Decides text (codes "-"))
+largest_takes text (Some n) e = grind (arith, e, bytes_eq-Decides text (codes "-"), number_takes (2 ^ 64) text n)
 
 largest_again : (l : Option ℕ) → IfSome l (λ n. n < 2 ^ 64) → largest_of (largest_word l) ≡ Some l
 unfolding largest_of
 largest_again None h = refl
-largest_again (Some n) h =
-    ap (λ b. cond b (Some None) (number_of (2 ^ 64) (decimal n) >>= λ m. Some (Some m))) (decimal_is_no_dash n h)
-    ∙ ap (λ (o : Option ℕ). o >>= λ m. Some (Some m)) (number_again (2 ^ 64) n (lit≤ tt) h)
+largest_again (Some n) h = rw (decimal_is_no_dash n h, number_again (2 ^ 64) n (lit≤ tt) h) refl
 
 -- where a word is a number, it is none of the words for no number
 pub largest_is : (word : List ℕ) (n : ℕ) → number_of (2 ^ 64) word ≡ Some n → largest_of word ≡ Some (Some n)
@@ -140,14 +113,9 @@ pub field_takes : {A : Type 0} {word : A → List ℕ} {Fits : A → Type 0} {re
     → field read words ≡ Some (x, rest) → (words ≡ word x ∷ rest) × Fits x
 unfolding field
 field_takes f [] x rest e = absurd cc
-field_takes {A} {word} {Fits} {read} f (text ∷ words) x rest e =
-    let b = bind_some (read text) (λ v. Some (v, words)) (x, rest) e in
-    let v-is : b.0 ≡ x = ap (λ (p : A × List (List ℕ)). p.0) (some_is (b.0, words) (x, rest) b.2) in
-    let rest-is : words ≡ rest = ap (λ (p : A × List (List ℕ)). p.1) (some_is (b.0, words) (x, rest) b.2) in
-    let t = f.takes text x (b.1 ∙ ap (λ (v : A). Some v) v-is) in
-    (rw (t.0, rest-is) refl, t.1)
+field_takes f (text ∷ words) x rest e = grind (arith, e, f.takes text x)
 
 pub field_again : {A : Type 0} {word : A → List ℕ} {Fits : A → Type 0} {read : List ℕ → Option A}
     (f : IsField word Fits read) (x : A) (rest : List (List ℕ)) → Fits x → field read (word x ∷ rest) ≡ Some (x, rest)
 unfolding field
-field_again {A} {word} {Fits} {read} f x rest h = ap (λ (o : Option A). o >>= λ v. Some (v, rest)) (f.again x h)
+field_again f x rest h = rw (f.again x h) refl

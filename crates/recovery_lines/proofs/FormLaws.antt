@@ -1,19 +1,16 @@
 -- Each form of a line: what is read is spelled so, what is spelled so is read, and the words are plain. `LineLaws` rest
 -- on it.
-use Rattle.std.proofs.Common.{◌≡◌, ℕ, ◌*◌, ◌<◌, ◌^◌, Bool, true, false, cond, List, [], ◌∷◌, ◌++◌}
-use Rattle.std.proofs.Common.{Option, Some, None, IfSome, bytes_eq, refl, sym, ap, ap₂, subst}
+use Rattle.std.proofs.Common.{◌≡◌, ℕ, ◌*◌, ◌<◌, ◌^◌, true, false, List, [], ◌∷◌, ◌++◌}
+use Rattle.std.proofs.Common.{Option, Some, None, refl, sym, ap, ap₂, subst}
 use Rattle.std.proofs.Common.{◌∙◌, arith, lit≤, append-nil, map, decimal}
 use Rattle.std.specs.Global.{Vec}
 use Rattle.std.specs.List.{AllByRecursion}
 use Rattle.std.proofs.lemmas.Slice.Eq.{bytes_eq-Decides}
 use lib.Chars.{codes}
-use Rattle.recovery_base.specs.declared.below.SpaceId.{SpaceId}
 use Rattle.recovery_base.specs.declared.below.SpaceId.TheVariants.{Initial}
 use Rattle.recovery_base.specs.declared.below.ids.IssuedCid.{IssuedCid}
-use Rattle.recovery_base.specs.declared.timer.Timer.{Timer}
 use Rattle.recovery_base.specs.declared.timer.Timer.TheVariants.{LossDetection}
 use Rattle.recovery_events.specs.declared.event.Event.TheVariants.{Received}
-use Rattle.recovery_events.specs.declared.event.PathName.{PathName}
 use Rattle.recovery_events.specs.declared.event.PathName.TheVariants.{Current, Previous}
 use Rattle.recovery_lines.specs.declared.lines.Line.{Line}
 use Rattle.recovery_lines.specs.declared.lines.Line.TheVariants.{Said, Ids}
@@ -22,8 +19,8 @@ use Rattle.recovery_lines.specs.Fields.{a_space, a_timer, a_path, a_flag, a_larg
 use Rattle.recovery_lines.specs.Fields.{a_u64, a_span, a_u16, a_var_int, a_byte, a_count}
 use Rattle.recovery_lines.specs.Lines.{ItemEvent, Means, Form, FormValues, issue_ids, new_path, forms, saying, words_said, spelling, IsWithinTypes}
 use Rattle.recovery_lines.specs.Reading.{◌>>=◌, field, value_of, items_read, tail_read, fields_read, all_read, reading, form_named, line_at, line_behind}
-use Rattle.recovery_lines.specs.Words.{flag_word, space_word, timer_word, path_word, largest_word}
-use Rattle.recovery_lines.proofs.FieldLaws.{bind_some, some_is, IsField, number_field, flag_field, space_field, timer_field, path_field, largest_field, field_takes, field_again}
+use Rattle.recovery_lines.specs.Words.{flag_word, space_word, timer_word, path_word}
+use Rattle.recovery_lines.proofs.FieldLaws.{bind_some, IsField, number_field, flag_field, space_field, timer_field, path_field, largest_field, field_takes, field_again}
 use Rattle.recovery_lines.proofs.IdLaws.{AreZero, zero_ids_are}
 use Rattle.recovery_lines.proofs.ItemLaws.{items_take, items_again, items_plain}
 use Rattle.recovery_lines.proofs.NameLaws.{◌⨾◌}
@@ -31,40 +28,18 @@ use Rattle.recovery_lines.proofs.PlainLaws.{IsPlain, is_plain, tested_plain, dec
 
 -- ---- the fields
 
-flag_plain : (b : Bool) → is_plain (flag_word b) ≡ true
-unfolding is_plain
-flag_plain true = refl
-flag_plain false = refl
-
-space_plain : (s : SpaceId) → is_plain (space_word s) ≡ true
-unfolding is_plain
-space_plain Initial = refl
-space_plain s = refl
-
-timer_plain : (t : Timer) → is_plain (timer_word t) ≡ true
-unfolding is_plain
-timer_plain LossDetection = refl
-timer_plain t = refl
-
-path_plain : (p : PathName) → is_plain (path_word p) ≡ true
-unfolding is_plain
-path_plain Current = refl
-path_plain Previous = refl
-
-dash_plain : is_plain (codes "-") ≡ true
-unfolding is_plain
-dash_plain = refl
-
-largest_plain : (l : Option ℕ) → IfSome l (λ n. n < 2 ^ 64) → IsPlain (largest_word l)
-largest_plain None h = tested_plain (codes "-") dash_plain
-largest_plain (Some n) h = decimal_plain n (omega (arith, h))
-
 field_plain : (f : Field) (x : Value f) → Fits f x → IsPlain (word_for f x)
-field_plain a_space x h = tested_plain (space_word x) (space_plain x)
-field_plain a_timer x h = tested_plain (timer_word x) (timer_plain x)
-field_plain a_path x h = tested_plain (path_word x) (path_plain x)
-field_plain a_flag x h = tested_plain (flag_word x) (flag_plain x)
-field_plain a_largest x h = largest_plain x h
+unfolding is_plain
+field_plain a_space Initial h = tested_plain (space_word Initial) refl
+field_plain a_space x h = tested_plain (space_word x) refl
+field_plain a_timer LossDetection h = tested_plain (timer_word LossDetection) refl
+field_plain a_timer x h = tested_plain (timer_word x) refl
+field_plain a_path Current h = tested_plain (path_word Current) refl
+field_plain a_path Previous h = tested_plain (path_word Previous) refl
+field_plain a_flag true h = tested_plain (flag_word true) refl
+field_plain a_flag false h = tested_plain (flag_word false) refl
+field_plain a_largest None h = tested_plain (codes "-") refl
+field_plain a_largest (Some n) h = decimal_plain n (omega (arith, h))
 field_plain f x h = decimal_plain x (omega (arith, h))
 
 is_field : (f : Field) → IsField (word_for f) (Fits f) (value_of f)
@@ -97,34 +72,18 @@ record FieldsRead {A : Type 0} (tail : Tail) (fields : List Field) (make : Value
 tail_takes : {A : Type 0} (tail : Tail) (make : TailValue tail → A) (words : List (List ℕ)) (made : A)
     (rest : List (List ℕ)) → tail_read tail make words ≡ Some (made, rest)
     → FieldsRead tail [] make words made rest
-tail_takes {A} no_tail make words made rest e =
-    let same = some_is (make tt, words) (made, rest) e in
-    record {
-      values = tt;
-      is = ap (λ (r : A × List (List ℕ)). r.1) same;
-      fit = tt;
-      same = ap (λ (r : A × List (List ℕ)). r.0) same;
-    }
-tail_takes {A} an_item_tail make words made rest e =
+tail_takes no_tail make words made rest e =
+    record { values = tt; is = grind (arith, e); fit = tt; same = grind (arith, e) }
+tail_takes an_item_tail make words made rest e =
     let b = bind_some (items_read words) (λ items. Some (make items, [])) (made, rest) e in
-    let same = some_is (make b.0, []) (made, rest) b.2 in
     let t = items_take words b.0 b.1 in
-    let end : [] ≡ rest = ap (λ (r : A × List (List ℕ)). r.1) same in
-    let spelled : List (List ℕ) = map decimal b.0 in
-    record {
-      values = b.0;
-      is = t.0 ∙ sym (append-nil spelled) ∙ ap (λ (ws : List (List ℕ)). spelled ++ ws) end;
-      fit = t.1;
-      same = ap (λ (r : A × List (List ℕ)). r.0) same;
-    }
+    record { values = b.0; is = grind (arith, b.2, t.0, append-nil (map decimal b.0)); fit = t.1; same = grind (arith, b.2) }
 
 -- at the end of the words
 tail_again : {A : Type 0} (tail : Tail) (make : TailValue tail → A) (x : TailValue tail) → TailFits tail x
     → tail_read tail make (tail_words tail x) ≡ Some (make x, [])
 tail_again no_tail make x h = refl
-tail_again {A} an_item_tail make x h =
-    ap (λ (o : Option (List ℕ)). let read : Option (A × List (List ℕ)) = (o >>= λ items. Some (make items, [])) in read)
-    (items_again x h)
+tail_again an_item_tail make x h = rw (items_again x h) refl
 
 -- ---- several fields
 
@@ -138,12 +97,7 @@ fields_take tail (f ∷ fields) make words made rest e =
     e in
     let t = field_takes (is_field f) words b.0.0 b.0.1 b.1 in
     let r = fields_take tail fields (λ y. make (b.0.0, y)) b.0.1 made rest b.2 in
-    record {
-      values = (b.0.0, r.values);
-      is = t.0 ∙ ap (λ (ws : List (List ℕ)). word_for f b.0.0 ∷ ws) r.is;
-      fit = (t.1, r.fit);
-      same = r.same;
-    }
+    record { values = (b.0.0, r.values); is = grind (arith, t.0, r.is); fit = (t.1, r.fit); same = r.same }
 
 -- at the end of the words, where items stand
 fields_again : {A : Type 0} (tail : Tail) (fields : List Field) (make : Values tail fields → A) (x : Values tail fields)
@@ -151,11 +105,8 @@ fields_again : {A : Type 0} (tail : Tail) (fields : List Field) (make : Values t
     → fields_read tail fields make (words_for tail fields x) ≡ Some (make x, [])
 unfolding fields_read
 fields_again tail [] make x h = tail_again tail make x h
-fields_again {A} tail (f ∷ fields) make x h =
-    ap (λ (o : Option (Value f × List (List ℕ))).
-    let read : Option (A × List (List ℕ)) = (o >>= λ v. fields_read tail fields (λ y. make (v.0, y)) v.1) in read)
-    (field_again (is_field f) x.0 (words_for tail fields x.1) h.0)
-    ∙ fields_again tail fields (λ y. make (x.0, y)) x.1 h.1
+fields_again tail (f ∷ fields) make x h =
+    rw (field_again (is_field f) x.0 (words_for tail fields x.1) h.0) (fields_again tail fields (λ y. make (x.0, y)) x.1 h.1)
 
 fields_plain : (tail : Tail) (fields : List Field) (x : Values tail fields) → AllFit tail fields x
     → AllByRecursion IsPlain (words_for tail fields x)
@@ -188,13 +139,8 @@ saying_form name tail fields event = record { name = name; fields = fields; tail
 says : {name : List ℕ} {tail : Tail} {fields : List Field} {event : Values tail fields → ItemEvent}
     → ((x : Values tail fields) → saying 0 (event x) ≡ (saying_form name tail fields event, x)) → is_plain name ≡ true
     → IsForm (saying_form name tail fields event)
-says {name} {tail} {fields} {event} same plain = record {
-  own = λ x e means. (0, ap (saying 0) means ∙ same x);
-  ids = λ x now first count h e. not_ids (event x) now first count e;
-  plain = plain;
-} where
-  not_ids : {A : Type 0} (said : ItemEvent) (now first count : ℕ) → Said said ≡ Ids now first count → A
-  not_ids said now first count e = absurd cc
+says {event = event} same plain =
+    record { own = λ x e means. (0, ap (saying 0) means ∙ same x); ids = λ x now first count h e. absurd cc; plain = plain }
 
 ids_own : (x : FormValues issue_ids) (event : ItemEvent) → Means (issue_ids.line x) event
     → (unkept : ℕ) × (saying unkept event ≡ (issue_ids, x))
@@ -208,11 +154,7 @@ ids_own x event means =
 ids_words : (x : FormValues issue_ids) (now first count : ℕ) → AllFit issue_ids.tail issue_ids.fields x
     → issue_ids.line x ≡ Ids now first count
     → (words_said (issue_ids, x) ≡ words_said (issue_ids, (now, (first, (count, tt))))) × (now < 2 ^ 64) × (count < 65)
-ids_words x now first count h e =
-    let a : x.0 ≡ now = cc in
-    let b : x.1.0 ≡ first = cc in
-    let c : x.1.1.0 ≡ count = cc in
-    (rw (a, b, c) refl, omega (arith, a, h.0), omega (arith, c, h.1.1.0))
+ids_words x now first count h e = grind (arith, e, h)
 
 is_issue_ids : IsForm issue_ids
 unfolding is_plain
@@ -224,12 +166,9 @@ path_own x event means =
     let says : ℕ → Saying = λ port. (new_path, (x.0, (port, (x.1.1.0, tt)))) in
     (0, ap (saying 0) means.1 ∙ ap says means.2.at)
 
-path_words : {A : Type 0} (x : FormValues new_path) (now first count : ℕ) → new_path.line x ≡ Ids now first count → A
-path_words x now first count e = absurd cc
-
 is_new_path : IsForm new_path
 unfolding is_plain
-is_new_path = record { own = path_own; ids = λ x now first count h e. path_words x now first count e; plain = refl }
+is_new_path = record { own = path_own; ids = λ x now first count h e. absurd cc; plain = refl }
 
 -- each of them, in their order
 are_forms : AllByRecursion IsForm forms
@@ -257,13 +196,8 @@ is_listed unkept event = refl
 named_form : (listed : List Form) → AllByRecursion IsForm listed → (name : List ℕ) (form : Form)
     → form_named listed name ≡ Some form → (name ≡ form.name) × IsForm form
 named_form [] h name form e = absurd cc
-named_form (first ∷ listed) h name form e = go (bytes_eq name first.name) refl e (named_form listed h.1 name form) where
-  go : (b : Bool) → bytes_eq name first.name ≡ b → cond b (Some first) (form_named listed name) ≡ Some form
-      → (form_named listed name ≡ Some form → (name ≡ form.name) × IsForm form) → (name ≡ form.name) × IsForm form
-  go true same f later =
-      subst (λ (g : Form). (name ≡ g.name) × IsForm g) (some_is first form f)
-      ((bytes_eq-Decides name first.name).0 same, h.0)
-  go false other f later = later f
+named_form (first ∷ listed) h name form e =
+    grind (arith, e, h.0, bytes_eq-Decides name first.name, named_form listed h.1 name form)
 
 -- ---- lines
 

@@ -1,10 +1,9 @@
 -- Items up to the end of the words: what is read is spelled so, what is spelled so is read, and the words are plain.
 -- `FormLaws` rest on it.
-use Rattle.std.proofs.Common.{◌≡◌, ◌≢◌, ℕ, ◌+◌, ◌<◌, ◌^◌, List, [], ◌∷◌, ◌++◌, map, length, Option, Some, None, is_some, IsSome, IsSomeAnd, Result, Ok, Err, OnErr, Bool, true, false, Decides, decimal}
-use Rattle.std.proofs.Common.{refl, sym, ap, ap₂, subst, ◌∙◌, arith, lit≤, append_assoc, length-append}
+use Rattle.std.proofs.Common.{◌≡◌, ◌≢◌, ℕ, ◌+◌, ◌<◌, ◌^◌, List, [], ◌∷◌, ◌++◌, map, length, Option, Some, None, is_some, IsSome, IsSomeAnd, Result, Ok, Err, OnErr, Bool, false, Decides, decimal}
+use Rattle.std.proofs.Common.{refl, sym, ap, arith, lit≤, append_assoc, length-append}
 use Rattle.std.specs.List.{AllByRecursion}
 use Rattle.recovery_lines.specs.Reading.{◌>>=◌, field, items_read, number_of}
-use Rattle.recovery_lines.proofs.FieldLaws.{bind_some, some_is}
 use Rattle.recovery_lines.proofs.NumberLaws.{number_again, number_takes}
 use Rattle.recovery_lines.proofs.PlainLaws.{IsPlain, decimal_plain}
 
@@ -15,23 +14,13 @@ abbrev Spelled : List (List ℕ) → List ℕ → Type 0
 Spelled words items = (words ≡ map decimal items) × AreItems items
 
 pub items_take : (words : List (List ℕ)) (items : List ℕ) → items_read words ≡ Some items → Spelled words items
-items_take [] items e = subst (λ (xs : List ℕ). Spelled [] xs) (some_is [] items e) (refl, tt)
+items_take [] items e = grind (arith, e)
 items_take (word ∷ words) items e =
-    let b = bind_some (number_of (2 ^ 64) word) (λ item. items_read words >>= λ more. Some (item ∷ more)) items e in
-    let r = bind_some (items_read words) (λ more. Some (b.0 ∷ more)) items b.2 in
-    let t = number_takes (2 ^ 64) word b.0 b.1 in
-    let more = items_take words r.0 r.1 in
-    subst (λ (xs : List ℕ). Spelled (word ∷ words) xs) (some_is (b.0 ∷ r.0) items r.2)
-    (ap₂ (λ (w : List ℕ) (ws : List (List ℕ)). w ∷ ws) t.0 more.0, (t.1, more.1))
+    grind (arith, e, number_takes (2 ^ 64) word, items_take words)
 
 pub items_again : (items : List ℕ) → AreItems items → items_read (map decimal items) ≡ Some items
 items_again [] h = refl
-items_again (item ∷ items) h =
-    ap (λ (o : Option ℕ). let read : Option (List ℕ) = (o >>= λ n. items_read (map decimal items) >>= λ more.
-    Some (n ∷ more)) in read)
-    (number_again (2 ^ 64) item (lit≤ tt) h.0)
-    ∙ ap (λ (o : Option (List ℕ)). let read : Option (List ℕ) = (o >>= λ more. Some (item ∷ more)) in read)
-    (items_again items h.1)
+items_again (item ∷ items) h = rw (number_again (2 ^ 64) item (lit≤ tt) h.0, items_again items h.1) refl
 
 pub items_plain : (items : List ℕ) → AreItems items → AllByRecursion IsPlain (map decimal items)
 items_plain [] h = tt
@@ -47,31 +36,16 @@ pub item_first : (words rest : List (List ℕ)) (item : ℕ) → field (number_o
     → (items_read words ≡ (items_read rest >>= λ more. Some (item ∷ more))) × (length rest + 1 ≡ length words)
 unfolding field
 item_first [] rest item e = absurd cc
-item_first (word ∷ words) rest item e =
-    let b = bind_some (number_of (2 ^ 64) word) (λ v. Some (v, words)) (item, rest) e in
-    let is = some_is (b.0, words) (item, rest) b.2 in
-    let item-is : b.0 ≡ item = ap (λ (r : ℕ × List (List ℕ)). r.0) is in
-    let rest-is : words ≡ rest = ap (λ (r : ℕ × List (List ℕ)). r.1) is in (
-      ap (λ (o : Option ℕ). let read : Option (List ℕ) = (o >>= λ n. one_more n words) in read) b.1
-          ∙ ap₂ one_more item-is rest-is,
-      omega (arith, ap length rest-is),
-    )
+item_first (word ∷ words) rest item e = grind (arith, e)
 
 -- the next word is none
 pub no_item : (words : List (List ℕ)) → words ≢ [] → field (number_of (2 ^ 64)) words ≡ None → items_read words ≡ None
 unfolding field
 no_item [] some e = absurd (some refl)
-no_item (word ∷ words) some e = go (number_of (2 ^ 64) word) e where
-  go : (o : Option ℕ) → (let read : Option (ℕ × List (List ℕ)) = (o >>= λ v. Some (v, words)) in read) ≡ None
-      → (let read : Option (List ℕ) = (o >>= λ n. one_more n words) in read) ≡ None
-  go None f = refl
-  go (Some n) f = absurd cc
+no_item (word ∷ words) some e = grind (arith, e)
 
 pub some_left : (words : List (List ℕ)) (empty : Bool) → empty ≡ false → Decides empty (words ≡ []) → words ≢ []
-some_left words true is decides = absurd cc
-some_left words false is decides = λ none. true_is_false (decides.1 none) where
-  true_is_false : false ≡ true → ⊥
-  true_is_false e = cc
+some_left words empty is decides = grind (arith, is, decides)
 
 -- one item before them changes nothing of whether there are items
 pub still_some : (item : ℕ) (read : Option (List ℕ))
@@ -92,11 +66,9 @@ item_behind items item None = refl
 pub some_items : (items : List ℕ) (item : ℕ) (all : Option (List ℕ)) (read : Option (List ℕ))
     → all ≡ behind items (read >>= λ more. Some (item ∷ more)) → IsSome all
     → IsSomeAnd all (λ each. 0 < length each)
-some_items items item (Some each) (Some more) is some =
-    let whole : each ≡ items ++ item ∷ more = some_is each (items ++ item ∷ more) is in
-    omega (arith, ap length whole, length-append items (item ∷ more))
-some_items items item (Some each) None is some = absurd cc
-some_items items item None read is some = absurd cc
+some_items items item all (Some more) is some =
+    grind (arith, is, some, length-append items (item ∷ more))
+some_items items item all None is some = grind (arith, is, some)
 
 -- what is true is true where memory was refused
 pub on_err : {T E P : Type 0} (result : Result T E) → P → OnErr result P

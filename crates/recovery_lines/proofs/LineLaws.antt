@@ -1,39 +1,29 @@
 -- What is read from a line is what it spells, and what a line spells is read from it: the laws of lines and of scripts
 -- rest on it.
-use Rattle.std.proofs.Common.{IsSomeAnd, ◌≡◌, ◌≢◌, ℕ, ◌<◌, ◌≤◌, ◌==◌, Bool, true, false, cond, List, [], ◌∷◌, length, Option, Some, None, inl, inr, refl, sym, ap, ap₂, subst, ◌∙◌, arith, eqb-true, bytes_eq}
+use Rattle.std.proofs.Common.{IsSomeAnd, ◌≡◌, ◌≢◌, ℕ, ◌<◌, ◌≤◌, true, false, List, [], ◌∷◌, length, Option, Some, None, inl, inr, refl, sym, ap, subst, ◌∙◌, arith, bytes_eq}
 use lib.Chars.{codes}
+use Rattle.std.proofs.lemmas.Bool.Decides.{nat_tests}
 use Rattle.std.specs.List.{AllByRecursion, All, join_with_byte}
 use Rattle.std.proofs.lemmas.List.{append-nil}
-use Rattle.std.specs.declared.net.socket_addr.SocketAddr.{SocketAddr}
-use Rattle.recovery_events.specs.declared.event.Event.TheVariants.{Send, IssueIds, NewPath}
+use Rattle.recovery_events.specs.declared.event.Event.TheVariants.{Send}
 use Rattle.recovery_lines.specs.declared.lines.Line.{Line}
 use Rattle.recovery_lines.specs.declared.lines.Line.TheVariants.{Said, Ids, Path}
 use Rattle.recovery_lines.specs.Words.{words_of}
 use Rattle.recovery_lines.specs.Lines.{ItemEvent, Means, spelling, IsWithinTypes, Spells, IsSame, SendsItems, HoldsList, forms_without_items, send}
-use Rattle.recovery_lines.specs.Reading.{◌>>=◌, first_word, line_behind, line_at, line_of, reading, TakesMemory, TookMemory, TookAll}
+use Rattle.recovery_lines.specs.Reading.{whole, first_word, line_behind, line_at, line_of, reading, TakesMemory, TookMemory, TookAll}
 use Rattle.recovery_lines.proofs.AddressLaws.{one_address}
-use Rattle.recovery_lines.proofs.FieldLaws.{bind_some, some_is}
 use Rattle.recovery_lines.proofs.PlainLaws.{IsPlain, plain_no_feed, words_joined}
 use Rattle.recovery_lines.proofs.FormLaws.{line_takes, line_words, line_again}
 
 -- ---- whole lines
 
-whole : (n : ℕ) (said other : Line) → cond (n == 0) (Some said) None ≡ Some other → (n ≡ 0) × (said ≡ other)
-whole n said other e = go (n == 0) refl e where
-  go : (b : Bool) → (n == 0) ≡ b → cond b (Some said) None ≡ Some other → (n ≡ 0) × (said ≡ other)
-  go true same f = (eqb-true n 0 same, some_is said other f)
-  go false not_zero f = absurd cc
-
-empty_is : (rest : List (List ℕ)) → length rest ≡ 0 → rest ≡ []
-empty_is [] e = refl
-empty_is (w ∷ rest) e = absurd (omega arith)
-
 all_words : (line : List ℕ) (said : Line) → line_of line ≡ Some said → line_at (words_of line) ≡ Some (said, [])
 unfolding line_of
-all_words line said e =
-    let b = bind_some (line_at (words_of line)) (λ x. cond (length x.1 == 0) (Some x.0) None) said e in
-    let w = whole (length b.0.1) b.0.0 said b.2 in
-    b.1 ∙ ap₂ (λ (l : Line) (r : List (List ℕ)). Some (l, r)) w.1 (empty_is b.0.1 w.0)
+all_words line said e = go (line_at (words_of line)) e where
+  go : (read : Option (Line × List (List ℕ))) → whole read ≡ Some said → read ≡ Some (said, [])
+  go None f = absurd cc
+  go (Some (other, [])) f = grind (arith, f)
+  go (Some (other, w ∷ rest)) f = grind (arith, nat_tests, f)
 
 -- what a line that is not too long says, it spells
 pub line_found : (line : List ℕ) (said : Line) (event : ItemEvent) → line_of line ≡ Some said → length line ≤ 4096
@@ -53,11 +43,8 @@ line_only line event spells =
 
 one_meant : (said : Line) (first second : ItemEvent) → Means said first → Means said second → IsSame first second
 one_meant (Said event) first second m n = inl (m ∙ sym n)
-one_meant (Ids now number count) first second m n =
-    subst (λ (v : ItemEvent). IsSame v second) (sym m.1)
-    (subst (λ (v : ItemEvent). IsSame (IssueIds now m.0) v) (sym n.1) (inr (refl, m.2 ∙ sym n.2)))
-one_meant (Path now port fresh) first second m n =
-    inl (m.1 ∙ ap (λ (remote : SocketAddr). NewPath now remote fresh) (one_address port m.0 n.0 m.2 n.2) ∙ sym n.1)
+one_meant (Ids now number count) first second m n = rw (m.1, n.1) (inr (refl, m.2 ∙ sym n.2))
+one_meant (Path now port fresh) first second m n = inl (grind (arith, m.1, n.1, one_address port m.0 n.0 m.2 n.2))
 
 -- ---- memory
 
@@ -122,15 +109,12 @@ pub took_line : (line : List ℕ) (words : List (List ℕ)) → words ≡ words_
     → IsSomeAnd (line_of line) TookMemory
 unfolding line_of
 took_line line words is took = rw (← is) (go (line_at words) took) where
-  go : (read : Option (Line × List (List ℕ))) → IsSomeAnd read TookAll
-      → IsSomeAnd (read >>= λ said. cond (length said.1 == 0) (Some said.0) None) TookMemory
+  go : (read : Option (Line × List (List ℕ))) → IsSomeAnd read TookAll → IsSomeAnd (whole read) TookMemory
   go (Some (said, rest)) h = rw h.1 h.0
   go None h = absurd h
 
 pub none_spelled : (line : List ℕ) (event : ItemEvent) → line_of line ≡ None → Spells line event → ⊥
-none_spelled line event none spells = let s = line_only line event spells in some_or_none s.0 (sym s.1 ∙ none) where
-  some_or_none : (said : Line) → Some said ≡ None → ⊥
-  some_or_none said e = absurd cc
+none_spelled line event none spells = let s = line_only line event spells in grind (arith, s.1, none)
 
 -- ---- the words are plain
 
@@ -144,7 +128,7 @@ spelling_plain unkept event within =
 
 spelled_plain : (line : List ℕ) (event : ItemEvent) → Spells line event → AllByRecursion IsPlain (words_of line)
 spelled_plain line event spells =
-    subst (AllByRecursion IsPlain) (sym spells.words) (spelling_plain spells.unkept event spells.within)
+    rw spells.words (spelling_plain spells.unkept event spells.within)
 
 pub spelled_no_feed : (line : List ℕ) (event : ItemEvent) → Spells line event → All (λ byte. byte ≢ 10) line
 spelled_no_feed line event spells = plain_no_feed line (spelled_plain line event spells)
@@ -156,7 +140,8 @@ pub one_event : (line : List ℕ) (first second : ItemEvent) → Spells line fir
 one_event line first second s t =
     let a = line_only line first s in
     let b = line_only line second t in
-    one_meant b.0 first second (subst (λ (l : Line). Means l first) (some_is a.0 b.0 (sym a.1 ∙ b.1)) a.2) b.2
+    let same : a.0 ≡ b.0 = grind (arith, a.1, b.1) in
+    one_meant b.0 first second (rw (← same) a.2) b.2
 
 joined : (words : List (List ℕ)) → 0 < length words → AllByRecursion IsPlain words
     → words_of (join_with_byte 32 words) ≡ words

@@ -1,6 +1,6 @@
 -- A line's name is sought among the names of its length. `line_behind` and `FormLaws` rest on it.
-use Rattle.std.proofs.Common.{◌≡◌, ◌≢◌, ℕ, ◌==◌, Bool, true, false, cond, List, [], ◌∷◌, length, Option, Some, None, bytes_eq, refl, ap, ◌∙◌, ne_eqb}
-use Rattle.std.proofs.lemmas.Bool.{eqb-false}
+use Rattle.std.proofs.Common.{arith, ◌≡◌, ◌≢◌, ℕ, ◌==◌, Bool, true, false, cond, List, [], ◌∷◌, length, Option, Some, None, refl, ap, ◌∙◌, ne_eqb}
+use Rattle.std.proofs.lemmas.Bool.Decides.{nat_tests}
 use Rattle.std.specs.List.{AllByRecursion}
 use Rattle.std.proofs.lemmas.Slice.Eq.{bytes_eq-Decides}
 use Rattle.recovery_lines.specs.Lines.{Form, forms_without_items}
@@ -16,22 +16,10 @@ abbrev pub of_length : ℕ → List Form → List Form
 of_length n [] = []
 of_length n (form ∷ others) = cond (n == length form.name) (form ∷ of_length n others) (of_length n others)
 
-other_length : (name other : List ℕ) → length name ≢ length other → bytes_eq name other ≡ false
-other_length name other ne = go (bytes_eq name other) refl where
-  go : (b : Bool) → bytes_eq name other ≡ b → b ≡ false
-  go true same = absurd (ne (ap length ((bytes_eq-Decides name other).0 same)))
-  go false differ = refl
-
 by_length : (fs : List Form) (name : List ℕ) → form_named fs name ≡ form_named (of_length (length name) fs) name
 by_length [] name = refl
-by_length (form ∷ others) name = go (length name == length form.name) refl (by_length others name) where
-  go : (b : Bool) → (length name == length form.name) ≡ b
-      → form_named others name ≡ form_named (of_length (length name) others) name
-      → form_named (form ∷ others) name ≡ form_named
-      (cond b (form ∷ of_length (length name) others) (of_length (length name) others)) name
-  go true same later = ap (λ (found : Option Form). cond (bytes_eq name form.name) (Some form) found) later
-  go false differ later = let t : bytes_eq name form.name ≡ false =
-      other_length name form.name (eqb-false _ _ differ) in rw t later
+by_length (form ∷ others) name =
+    grind (arith, nat_tests, bytes_eq-Decides name form.name, by_length others name)
 
 pub skip : {A : Type 0} (x : A) (found : Option A) (b : Bool) → false ≡ b → found ≡ None → cond b (Some x) found ≡ None
 skip x found false e none = none
