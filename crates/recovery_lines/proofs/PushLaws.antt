@@ -1,6 +1,6 @@
 -- What is put behind the events of a script: what a form says behind its name, and what a whole line spells. The pushes
 -- of `lines` rest on it.
-use Rattle.std.proofs.Common.{◌≡◌, ◌≤◌, ℕ, Bool, true, false, List, length, Option, Some, None, Result, Ok, Err, IfOk, OnErr, IsSomeAnd, bytes_eq, refl, sym, ap, subst, ◌∙◌}
+use Rattle.std.proofs.Common.{arith, ◌≡◌, ◌≤◌, ℕ, Bool, true, false, List, length, Option, Some, None, Result, Ok, Err, IfOk, OnErr, IsSomeAnd, bytes_eq, refl, sym, ap, subst, ◌∙◌}
 use lib.Chars.{codes}
 use Rattle.std.proofs.lemmas.Slice.Eq.{bytes_eq-Decides}
 use Rattle.recovery_lines.specs.declared.lines.Line.{Line}
@@ -27,9 +27,8 @@ module _ {E : Type 0} (before : List ItemEvent) (result : Result Bool E) (after 
   unfolding line_behind
   form_pushes form named name words left line same is pushes =
       let found : form_named forms_without_items name ≡ Some form =
-      ap (form_named forms_without_items) ((bytes_eq-Decides name form.name).0 (sym same)) ∙ named in
-      rw found (subst (λ (said : Option Line). Pushes said before result after)
-      (sym (whole_read line left (reading form words) is)) pushes)
+      grind (arith, same, named, bytes_eq-Decides name form.name) in
+      rw (found, whole_read line left (reading form words) is) pushes
 
   -- one that has no fields says what it says
   pub says_itself : (form : Form) → form_named forms_without_items form.name ≡ Some form
@@ -54,35 +53,29 @@ pub pushes_spelled : {E : Type 0} (line : List ℕ) (said : Option Line) (before
     → IfOk result (λ spells. PushesSpelled line before spells after)
 pushes_spelled line (Some said) before (Ok true) after is short pushes =
     (pushes.0, line_found line said pushes.0 is short pushes.1, pushes.2)
-pushes_spelled line (Some said) before (Ok false) after is short pushes = (
-  λ event spells. (
-      let says = line_only line event spells in
-      pushes.0 event (subst (λ (l : Line). Means l event) (some_is says.0 said (sym says.1 ∙ is)) says.2)
-      ),
-  pushes.1,
-)
-pushes_spelled line (Some said) before (Err refused) after is short pushes = tt
-pushes_spelled line None before (Ok spells) after is short pushes =
-    subst (λ (b : Bool). PushesSpelled line before b after) (sym pushes.0)
+pushes_spelled line (Some said) before (Ok false) after is short pushes =
+    (λ event spells. let says = line_only line event spells in
+    pushes.0 event (let same : said ≡ says.0 = grind (arith, says.1, is) in rw same says.2), pushes.1)
+pushes_spelled line None before (Ok false) after is short pushes =
     (λ event spells. none_spelled line event is spells, pushes.1)
+pushes_spelled line None before (Ok true) after is short pushes = absurd cc
 pushes_spelled line None before (Err refused) after is short pushes = absurd pushes
+pushes_spelled line said before (Err refused) after is short pushes = tt
 
 -- memory for ids is refused to lines that issue them alone
 pub pushes_refused : {E : Type 0} (line : List ℕ) (said : Option Line) (before : List ItemEvent)
     (result : Result Bool E) (after : List ItemEvent)
     → line_of line ≡ said → length line ≤ 4096 → Pushes said before result after → OnErr result (HoldsList line)
-pushes_refused line (Some said) before (Ok spells) after is short pushes = tt
 pushes_refused line (Some said) before (Err refused) after is short pushes = refused_whole line said is short pushes.0
-pushes_refused line None before (Ok spells) after is short pushes = tt
 pushes_refused line None before (Err refused) after is short pushes = absurd pushes
+pushes_refused line said before (Ok spells) after is short pushes = tt
 
 -- then nothing was put
 pub pushes_kept : {E : Type 0} (said : Option Line) (before : List ItemEvent) (result : Result Bool E)
     (after : List ItemEvent) → Pushes said before result after → OnErr result (after ≡ before)
-pushes_kept (Some said) before (Ok spells) after pushes = tt
 pushes_kept (Some said) before (Err refused) after pushes = pushes.1
-pushes_kept None before (Ok spells) after pushes = tt
 pushes_kept None before (Err refused) after pushes = absurd pushes
+pushes_kept said before (Ok spells) after pushes = tt
 
 -- ---- of a line that is not too long, and its first word
 
@@ -120,5 +113,4 @@ module _ (line : List ℕ) (words rest : List (List ℕ)) (name : List ℕ) (is 
   -- memory for its items was refused
   pub send_items : bytes_eq name (codes "send") ≡ true → IsSomeAnd (reading send rest) TookAll → HoldsList line
   send_items same took =
-      items_refused line short (took_line line words is (subst (λ (read : Option (Line × List (List ℕ))).
-      IsSomeAnd read TookAll) (sym (send_line words rest name first same)) took))
+      items_refused line short (took_line line words is (rw (send_line words rest name first same) took))
