@@ -33,19 +33,13 @@ pub session : {Z E F K : Type 0} (built : F → ℕ → ℕ → K) (words : Cont
     (λ lines. string_bytes text ≡ lines))
 session built words factory seed said replies remote config start random at is_config is_start is_random told (Ok text)
     written =
-    let queues = queue_meaning (λ (items : List ℕ). items) item_words tt in
-    let Begun : RecoveryConfig _ → Type 0 =
-    λ c. Throughout (Told (begins built words queues c start random)) said replies in
-    let chosen = settings factory remote (skips_with seed) in
-    let Started : ℕ → Type 0 = λ s. Throughout (Told (begins built words queues chosen s random)) said replies in
-    let Drawn : Stream → Type 0 = λ r. Throughout (Told (begins built words queues chosen 0 r)) said replies in
     record {
       events = said;
       replies = replies;
       said = refl;
       remote = remote;
       at = at;
-      told = subst Drawn is_random (subst Started is_start (subst Begun is_config told));
+      told = rw (is_config, is_start, is_random) at told;
       written = written;
     }
 session built words factory seed said replies remote config start random at is_config is_start is_random told
