@@ -1,6 +1,6 @@
 -- What the layer above keeps with paths and spaces stays as events go by. `LeftLaws` and the steps of calls rest on it.
-use Rattle.std.proofs.Common.{◌≡◌, ℕ, true, false, Option, None, Some, option_map, Ok, Err, refl, sym, ap, subst, ◌∙◌}
-use Rattle.std.proofs.lemmas.Option.{none-some, same_Some}
+use Rattle.std.proofs.Common.{◌≡◌, ℕ, true, false, Option, None, Some, option_map, Ok, Err, refl, ap}
+use Rattle.std.proofs.lemmas.Option.{none-some}
 use Rattle.recovery_base.specs.declared.below.frames.EcnCounts.{EcnCounts}
 use Rattle.recovery_ledger.specs.Probes.{pending_stands, moves, nothing_found}
 use Rattle.recovery_ledger.specs.SpaceLog.{SpaceEntry, heard, heard_again, sends, acknowledged, probes}
@@ -22,7 +22,7 @@ use Rattle.quic_recovery.specs.Logs.{StepBy}
 -- the marks of the path that was in use go with it
 left_fresh : (marks : PathMarks) → marks ≡ marks_made None → (left : PathMarks) → Some marks ≡ Some left
     → left ≡ marks_made None
-left_fresh marks fresh left is = sym (same_Some marks left is) ∙ fresh
+left_fresh marks fresh left is = cc
 
 -- fresh marks stay fresh
 pub fresh_after : {Q S M P : Type 0} (event : Event Q S M P) (reply : Reply Q) (marks : OfPaths PathMarks)
@@ -53,22 +53,13 @@ module _ {K : Type 0} (change : Path K → Path K) (keeps : (path : Path K) → 
         previous = option_map change paths.previous;
       } in paths_marks new) ≡ paths_marks paths
   both_marks current paths same =
-      let old = paths.previous in
-      ap (λ (m : PathMarks). let all : OfPaths PathMarks = record {
-        current = m;
-        previous = option_map (λ path. path.marks) (option_map change old);
-      } in all) same
-      ∙ ap (λ (o : Option PathMarks). let all : OfPaths PathMarks = record {
-        current = paths.current.marks;
-        previous = o;
-      } in all) (previous_marks old)
+      rw (same, previous_marks paths.previous) refl
 
 -- a path alone, as it is made
 pub fresh_first : {K : Type 0} (path : Path K) (paths : OfPaths (Path K))
     → paths ≡ record { current = path; previous = None } → path.marks ≡ marks_made None → AreFresh (paths_marks paths)
 fresh_first path paths is fresh =
-    let Fresh : OfPaths (Path _) → Type 0 = λ all. AreFresh (paths_marks all) in
-    subst Fresh (sym is) (fresh, λ left lives. absurd (none-some left lives))
+    rw is (fresh, λ left lives. absurd (none-some left lives))
 
 -- ---- spaces
 
@@ -77,11 +68,7 @@ pub beside_made : (ecn : EcnCounts) (loss_time : Option ℕ) (offset : ℕ) → 
     → (let found : Beside = record { ecn = ecn; loss_time = loss_time; crypto_offset = offset } in found)
     ≡ nothing_beside
 beside_made ecn loss_time offset no_counts no_loss none =
-    ap (λ (e : EcnCounts). let b : Beside = record { ecn = e; loss_time = loss_time; crypto_offset = offset } in b)
-    no_counts
-    ∙ ap (λ (l : Option ℕ). let b : Beside = record { ecn = no_ecn; loss_time = l; crypto_offset = offset } in b)
-    no_loss
-    ∙ ap (λ (o : ℕ). let b : Beside = record { ecn = no_ecn; loss_time = None; crypto_offset = o } in b) none
+    cc
 
 module _ {P M S : Type 0} (words : QueueWords P S) where
   -- no entry touches what is kept beside

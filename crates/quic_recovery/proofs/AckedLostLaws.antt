@@ -70,11 +70,8 @@ module _ {K P M : Type 0} (old : Parts K P M) (space : SpaceId) (number : ℕ) (
           ++ cond in_data (cond probe (on_current (tells (takes_mtu seen.discovery.mtu)) ∷ on_current (searches call) ∷
           []) (on_current (searches call) ∷ [])) []) (paths_known old.paths)
       go true true true = refl
-      go true true false = refl
-      go true false probe = refl
       go false true true = refl
-      go false true false = refl
-      go false false probe = refl
+      go own in_data probe = refl
 
 some_is_not_none : {P M : Type 0} (packet : Packet P M) → Some packet ≡ None → ⊥
 some_is_not_none packet e = cc
@@ -101,7 +98,7 @@ module _ {K Q S M P : Type 0} (q : QueueMeaning Q S M P) (old : Parts K P M) (sp
       record {
         told = (
           fails _ live,
-          ((λ none. some_is_not_none packet (sym found ∙ none)), ap (λ b. answer.Acked b) is_probe),
+          ((λ none. absurd cc), ap (λ b. answer.Acked b) is_probe),
         );
         steps = space_changes q.words old space (acknowledged number) there old.skipping entries paths step
             (skips_nothing space (acknowledged number) _ old.skipping refl) path_step;

@@ -1,8 +1,8 @@
 -- What is to be acknowledged is by the table what the history says: new numbers, but those dropped since they came. The
 -- clause `to_acknowledge` of `run` rests on it.
 use Rattle.std.proofs.lemmas.Bool.Decides.{nat_tests}
-use Rattle.std.proofs.Common.{◌≡◌, ◌≤◌, ℕ, ◌==◌, ◌&&◌, Bool, true, false, cond, List, [], ◌∷◌, length, Option, None, Some, Ok, Err, ◌⊎◌, inl, inr, ◌↔◌, IsTrue, IsSomeAnd, refl, sym, subst, arith}
-use Rattle.std.proofs.lemmas.Bool.{cases_lt, false≢true}
+use Rattle.std.proofs.Common.{◌≡◌, ◌≤◌, ℕ, ◌==◌, ◌&&◌, Bool, true, false, cond, List, [], ◌∷◌, length, Option, None, Some, Ok, Err, ◌⊎◌, inl, inr, ◌↔◌, IsTrue, IsSomeAnd, refl, arith}
+use Rattle.std.proofs.lemmas.Bool.{cases_lt}
 use Rattle.recovery_acks.specs.Runs.{AtMost, EndsRun, IsInHighest}
 use Rattle.recovery_acks.proofs.RunLaws.{highest_alike}
 use Rattle.recovery_base.specs.declared.below.SpaceId.{SpaceId}
@@ -15,16 +15,15 @@ use Rattle.recovery_ledger.specs.Tracked.{sent_by}
 use Rattle.recovery_queue.specs.Queues.{QueueWords}
 use Rattle.recovery_events.specs.declared.event.Event.{Event}
 use Rattle.recovery_events.specs.declared.event.Event.TheVariants.{Received, Acked}
-use Rattle.recovery_events.specs.declared.event.Answer.{Answer}
 use Rattle.recovery_events.specs.declared.event.Answer.TheVariants.{New}
-use Rattle.recovery_events.specs.declared.event.Refusal.{Refusal}
-use Rattle.quic_recovery.specs.Entries.{Entries, answered, logs_of}
-use Rattle.quic_recovery.specs.History.{Beginning, History, Reply, Throughout, ThroughoutFrom, history, history_from}
+use Rattle.quic_recovery.specs.Entries.{entries_of, Entries, logs_of}
+use Rattle.quic_recovery.specs.History.{Beginning, History, Reply, Throughout, history}
 use Rattle.quic_recovery.specs.Known.{Known, known_by}
 use Rattle.quic_recovery.specs.Logs.{onto}
 use Rattle.quic_recovery.specs.Promises.Acknowledged.{HasCome, KeepsToAcknowledge, LiesBelow, WasDropped, largest_in}
 use Rattle.quic_recovery.specs.Told.{Told}
 use Rattle.quic_recovery.proofs.CarriedLaws.{AllCarry, carries_largest, keeps_carried, none_carry}
+use Rattle.quic_recovery.proofs.Runs.{kept_after}
 use Rattle.quic_recovery.proofs.EntryKinds.{SpaceKind, hearing, acknowledging, space_kind, space_kept, refused_keeps}
 
 -- that there are at most so many is kept where its negation is refuted
@@ -48,8 +47,7 @@ module _ {P M S : Type 0} (words : QueueWords P S) (log : List (SpaceEntry P M))
 
   stays : (b : Bool) (entry : SpaceEntry P M) (n : ℕ) → IsAfter (Some entry) n (Came n) (Dropped n)
       → IsAfter (cond b (Some entry) None) n (Came n) (Dropped n)
-  stays true entry n first = first
-  stays false entry n first = kept n
+  stays b entry n first = grind (arith, first, kept n)
 
   -- ---- a new number, in this space or in another one
 
@@ -60,59 +58,39 @@ module _ {P M S : Type 0} (words : QueueWords P S) (log : List (SpaceEntry P M))
   Drops b m n = ((b ≡ true) × LiesBelow (With m Stands) n) ⊎ (((b && m == n) ≡ false) × Dropped n)
 
   module _ (m n : ℕ) where
-    high_stands : IsInHighest 64 (With m Stands) n → Comes true m n × ¬ Drops true m n
-    high_stands high =
-        let came = high.0 in
-        let some = high.1 in
-        (grind (arith, nat_tests, came), λ drops. grind (arith, nat_tests, came, some, drops))
-
-    stands_high : Comes true m n → ¬ Drops true m n → IsInHighest 64 (With m Stands) n
-    stands_high come none = (
-      grind (arith, nat_tests, come, none),
-      many_or_few 64 (λ end. (n ≤ end) × EndsRun (With m Stands) end) (λ low. none (inl (refl, low))),
+    stands : IsInHighest 64 (With m Stands) n ↔ (Comes true m n × ¬ Drops true m n)
+    stands = (
+      λ high. (grind (arith, nat_tests, high.0), λ drops. grind (arith, nat_tests, high.0, high.1, drops)),
+      λ both. (
+        grind (arith, nat_tests, both.0, both.1),
+        many_or_few 64 (λ end. (n ≤ end) × EndsRun (With m Stands) end) (λ low. both.1 (inl (refl, low))),
+      ),
     )
 
     alike : (k : ℕ) → With m Pending k ↔ With m Stands k
-    alike k = let is = kept k in (λ h. grind (arith, h, is), λ h. grind (arith, h, is))
+    alike k = grind (arith, kept k)
 
     arrives : (b : Bool) (now : ℕ) (eliciting : Bool)
         → IsAfter (cond b (Some (heard now m eliciting)) None) n (Comes b m n) (Drops b m n)
     arrives true now eliciting = (
-      λ high. high_stands (highest_alike (With m Pending) (With m Stands) alike 64 n high),
-      λ both. highest_alike (With m Stands) (With m Pending) (λ k. ((alike k).1, (alike k).0)) 64 n
-          (stands_high both.0 both.1),
+      λ high. stands.0 (highest_alike (With m Pending) (With m Stands) alike 64 n high),
+      λ both. highest_alike (With m Stands) (With m Pending) (λ k. ((alike k).1, (alike k).0)) 64 n (stands.1 both),
     )
-    arrives false now eliciting =
-        let is = kept n in (
-          λ set. (grind (arith, is, set), λ drops. grind (arith, is, set, drops)),
-          λ both. let come = both.0 in let none = both.1 in grind (arith, is, come, none),
-        )
+    arrives false now eliciting = grind (arith, kept n)
 
   -- ---- a tracked packet is acknowledged, which carried the ACK of the numbers up to a largest one
 
   abbrev Goes : Bool → Option ℕ → ℕ → Type 0
   Goes b largest n = ((b ≡ true) × IsSomeAnd largest (λ last. n ≤ last)) ⊎ Dropped n
 
-  above_largest : (n : ℕ) (largest : Option ℕ)
-      → (Pending n × IsTrue (is_above largest n)) ↔ (Came n × ¬ Goes true largest n)
-  above_largest n largest =
-      let is = kept n in (
-        λ set. (grind (arith, is, set), λ goes. grind (arith, nat_tests, is, set, goes)),
-        λ both. let come = both.0 in let none = both.1 in
-            (grind (arith, is, come, none), grind (arith, nat_tests, come, none)),
-      )
-
   leaves : (b : Bool) (m n : ℕ) (largest : Option ℕ)
       → (b ≡ true → largest_acked_by (packet_at (sent_by words log).tracked m) ≡ largest)
       → IsAfter (cond b (Some (acknowledged m)) None) n (Came n) (Goes b largest n)
-  leaves true m n largest is =
-      let Holds : Option ℕ → Type 0 = λ o. (Pending n × IsTrue (is_above o n)) ↔ (Came n × ¬ Goes true largest n) in
-      subst Holds (sym (is refl)) (above_largest n largest)
-  leaves false m n largest is =
-      let same = kept n in (
-        λ set. (grind (arith, same, set), λ goes. grind (arith, same, set, goes)),
-        λ both. let come = both.0 in let none = both.1 in grind (arith, same, come, none),
-      )
+  leaves true m n largest is = rw (is refl) (go largest) where
+    go : (o : Option ℕ) → (Pending n × IsTrue (is_above o n)) ↔ (Came n × ¬ Goes true o n)
+    go None = grind (arith, nat_tests, kept n)
+    go (Some last) = grind (arith, nat_tests, kept n)
+  leaves false m n largest is = grind (arith, kept n)
 
 -- ---- what an event does
 
@@ -149,29 +127,28 @@ module _ {F K Q S M P : Type 0} (beginning : Beginning F K Q S M P) (before : Hi
   -- an entry that leaves it
   unmoved : (entry : SpaceEntry P M) → keeps_pending (space_kind entry) ≡ true
       → Pending_then (Some entry) ↔ (Came n × ¬ Dropped n)
-  unmoved (heard now number eliciting) keeps = absurd (false≢true keeps)
-  unmoved (heard_again number) keeps = absurd (false≢true keeps)
-  unmoved (acknowledged number) keeps = absurd (false≢true keeps)
+  unmoved (heard now number eliciting) keeps = absurd cc
+  unmoved (heard_again number) keeps = absurd cc
+  unmoved (acknowledged number) keeps = absurd cc
   unmoved entry keeps = kept
 
-  answer_keeps : (event : Event Q S M P) (answer : Answer Q) → Told beginning before event (Ok answer)
-      → After ((answered beginning.queue known event answer).spaces space) event (Ok answer)
-  answer_keeps (Received there now number eliciting) (New arm) told =
+  reply_keeps : (event : Event Q S M P) (reply : Reply Q) → Told beginning before event reply
+      → After ((entries_of beginning.queue known event reply).spaces space) event reply
+  reply_keeps (Received there now number eliciting) (Ok (New arm)) told =
       arrives beginning.queue.words (log space) Came Dropped (keeps space) number n
       (same_space there space) now eliciting
-  answer_keeps (Received there now number eliciting) answer told =
+  reply_keeps (Received there now number eliciting) (Ok answer) told =
       stays beginning.queue.words (log space) Came Dropped (keeps space) (same_space there space) (heard_again number) n
       kept
-  answer_keeps (Acked there now number app_limited) answer told =
+  reply_keeps (Acked there now number app_limited) (Ok answer) told =
       leaves beginning.queue.words (log space) Came Dropped (keeps space) (same_space there space) number n
       (largest_in space number before) (carries_largest beginning before carried there space number told.1.0)
-  answer_keeps event answer told =
+  reply_keeps event (Ok answer) told =
       space_kept beginning.queue known space (λ entry. Pending_then entry ↔ (Came n × ¬ Dropped n)) keeps_pending kept
       unmoved event (Ok answer) refl
-
-  refusal_keeps : (event : Event Q S M P) (refusal : Refusal) → After None event (Err refusal)
-  refusal_keeps (Received there now number eliciting) refusal = kept
-  refusal_keeps event refusal = kept
+  reply_keeps (Received there now number eliciting) (Err refusal) told = kept
+  reply_keeps event (Err refusal) told =
+      refused_keeps event refusal (λ (e : Entries P M). Pending_then (e.spaces space) ↔ (Came n × ¬ Dropped n)) kept
 
 -- ---- throughout a run
 
@@ -183,28 +160,14 @@ module _ {F K Q S M P : Type 0} (beginning : Beginning F K Q S M P) where
 
   keeps_after : (before : History Q S M P) (event : Event Q S M P) (reply : Reply Q) → Told beginning before event reply
       → Tied before → KeepsToAcknowledge beginning ((event, reply) ∷ before)
-  keeps_after before event (Ok answer) told tied =
-      λ space n. answer_keeps beginning before space n tied.carried tied.keeps event answer told
-  keeps_after before event (Err refusal) told tied =
-      λ space n. refused_keeps event refusal
-      (λ (e : Entries P M). ToAcknowledge beginning.queue.words
-      (onto (e.spaces space) ((logs_of beginning before).spaces space)) n
-      ↔ (HasCome space n ((event, Err refusal) ∷ before) × ¬ WasDropped space n ((event, Err refusal) ∷ before)))
-      (refusal_keeps beginning before space n tied.carried tied.keeps event refusal)
-
-  tied_then : (before : History Q S M P) (events : List (Event Q S M P)) (replies : List (Reply Q))
-      → ThroughoutFrom (Told beginning) before events replies → Tied before → Tied (history_from before events replies)
-  tied_then before [] replies told tied = tied
-  tied_then before (event ∷ events) (reply ∷ replies) told tied =
-      tied_then ((event, reply) ∷ before) events replies told.1 record {
-        carried = keeps_carried beginning before event reply told.0 tied.carried;
-        keeps = keeps_after before event reply told.0 tied;
-      }
-  tied_then before (event ∷ events) [] told tied = absurd told
+  keeps_after before event reply told tied =
+      λ space n. reply_keeps beginning before space n tied.carried tied.keeps event reply told
 
   pub keeps_to_acknowledge : (events : List (Event Q S M P)) (replies : List (Reply Q))
       → Throughout (Told beginning) events replies → KeepsToAcknowledge beginning (history events replies)
-  keeps_to_acknowledge events replies told = (tied_then [] events replies told record {
-    carried = none_carry beginning;
-    keeps = λ space n. (λ set. absurd set, λ both. absurd both.0);
-  }).keeps
+  keeps_to_acknowledge events replies told =
+      (kept_after (Told beginning) Tied (λ before event reply here tied. record {
+        carried = keeps_carried beginning before event reply here tied.carried;
+        keeps = keeps_after before event reply here tied;
+      }) [] events replies told
+      (record { carried = none_carry beginning; keeps = λ space n. (λ set. absurd set, λ both. absurd both.0) })).keeps

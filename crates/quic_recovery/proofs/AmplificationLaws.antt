@@ -1,7 +1,7 @@
 -- What each event may be to the paths, and that it keeps the bound on what goes to an address that is not validated.
 -- `ThreefoldLaws`, `PacingLaws` and `SearchLaws` rest on it.
-use Rattle.std.proofs.Common.{ℕ, ◌≡◌, Bool, true, false, cond, ◌∷◌, Option, None, Some, Ok, Err, refl}
-use Rattle.std.proofs.lemmas.Bool.{false_from_ne_true, false≢true}
+use Rattle.std.proofs.Common.{arith, ℕ, ◌≡◌, Bool, true, false, cond, ◌∷◌, Option, None, Some, Ok, Err, refl}
+use Rattle.std.proofs.lemmas.Bool.{false_from_ne_true}
 use Rattle.recovery_base.specs.declared.below.SpaceId.{SpaceId}
 use Rattle.recovery_congestion.specs.Controllers.{ControllerWords}
 use Rattle.recovery_ledger.specs.Acks.{Heard}
@@ -25,19 +25,12 @@ use Rattle.quic_recovery.specs.Known.{Known, known_by, first_path, settings_of}
 use Rattle.quic_recovery.specs.Told.{Told, ToldBy, delayed_or}
 use Rattle.quic_recovery.proofs.EntryKinds.{PathKind, passing, limiting, elsewhere, call_kind, path_kind, paths_kept, refused_keeps}
 
-blocked_is_not_sent : {A Q : Type 0} → (let t : Answer Q = Transmitted in t ≡ Blocked) → A
-blocked_is_not_sent e = cc
-
-delayed_is_not_sent : {A Q : Type 0} {until : ℕ} → (let t : Answer Q = Transmitted in t ≡ Delayed until) → A
-delayed_is_not_sent e = cc
-
 -- what was transmitted was neither blocked nor delayed
 sent_freely : {K Q : Type 0} (words : ControllerWords K) (blocked : Bool) (delay : Option ℕ)
     → (let t : Answer Q = Transmitted in t ≡ cond blocked Blocked (delayed_or words t delay)) → (blocked ≡ false)
     × (delay ≡ None)
-sent_freely words true delay is = blocked_is_not_sent is
-sent_freely words false None is = (refl, refl)
-sent_freely words false (Some until) is = delayed_is_not_sent is
+sent_freely words blocked None is = grind (arith, is)
+sent_freely words blocked (Some until) is = grind (arith, is)
 
 -- nothing passes, and no limit is told to a search
 abbrev is_free : PathKind → Bool
@@ -48,13 +41,13 @@ is_free kind = true
 
 -- what is told to a search in turn whatever it does
 free_call : (call : MtuCall) → is_free (call_kind call) ≡ true → (old : Discovery) → IsInTurn call old
-free_call (is_limited limit) free old = absurd (false≢true free)
+free_call (is_limited limit) free old = absurd cc
 free_call call free old = tt
 
 module _ {K : Type 0} (settings : PathSettings K) where
   free_one : (entry : PathEntry) → is_free (path_kind (on Current entry)) ≡ true → (state : PathState K)
       → IsAllowed settings.words state entry
-  free_one (passes now bytes) free state = absurd (false≢true free)
+  free_one (passes now bytes) free state = absurd cc
   free_one (searches call) free state = free_call call free state.discovery
   free_one entry free state = tt
 
@@ -63,7 +56,7 @@ module _ {K : Type 0} (settings : PathSettings K) where
   free_on (on Current entry) free now = free_one entry free now.current.state
   free_on (on Previous (receives bytes)) free now = tt
   free_on (on Previous is_validated) free now = tt
-  free_on (on Previous entry) free now = absurd (false≢true free)
+  free_on (on Previous entry) free now = absurd cc
   free_on (moves following) free now = tt
   free_on drops_previous free now = tt
 

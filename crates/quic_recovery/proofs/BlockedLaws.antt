@@ -1,5 +1,5 @@
 -- A datagram is blocked exactly where the events and answers before it say so: the clause `blocked` of `run`.
-use Rattle.std.proofs.Common.{ℕ, ◌≡◌, ◌≤◌, ◌+◌, ◌*◌, ◌^◌, ◌&&◌, not, nat_lt, nat_le, Bool, true, false, cond, List, [], None, Some, Option, Ok, Err, refl, sym, subst}
+use Rattle.std.proofs.Common.{arith, ℕ, ◌≡◌, ◌≤◌, ◌+◌, ◌*◌, ◌^◌, ◌&&◌, not, nat_lt, nat_le, Bool, true, false, cond, [], None, Some, Option, Ok, Err, refl}
 use Rattle.std.proofs.lemmas.Bool.{leb-true, le-leb}
 use Rattle.recovery_congestion.specs.Controllers.{ControllerWords}
 use Rattle.recovery_paths.specs.PathLog.{state_of}
@@ -10,28 +10,26 @@ use Rattle.recovery_events.specs.declared.event.Answer.{Answer}
 use Rattle.recovery_events.specs.declared.event.Answer.TheVariants.{Transmitted, Blocked}
 use Rattle.recovery_events.specs.declared.event.Refusal.TheVariants.{Overflow}
 use Rattle.quic_recovery.specs.Entries.{pasts_of}
-use Rattle.quic_recovery.specs.History.{Beginning, History, Reply, Throughout}
+use Rattle.quic_recovery.specs.History.{Beginning, History, Reply}
 use Rattle.quic_recovery.specs.Known.{settings_of}
 use Rattle.quic_recovery.specs.Replies.{Refuses, AlwaysAnswers}
 use Rattle.quic_recovery.specs.Told.{Told, Is, delayed_or, transmit_answer}
 use Rattle.quic_recovery.specs.Promises.Blocked.{IsPassage, BlocksExactly}
-use Rattle.quic_recovery.proofs.Runs.{throughout_kept}
+use Rattle.quic_recovery.proofs.Runs.{AllAlong, throughout_kept}
 use Rattle.quic_recovery.proofs.DatagramLaws.{Flow, FlowsAgree, flows_at_first, flows_after}
 
 -- what the table answers is one of what the promise allows
 module _ {K : Type 0} (Q : Type 0) (words : ControllerWords K) where
-  allows : (forbidden : Bool) (delay : Option ℕ)
-      → (let t : Answer Q = Transmitted in IsPassage false true forbidden
-      (Ok (cond forbidden Blocked (delayed_or words t delay))))
-  allows true delay = refl
-  allows false None = tt
-  allows false (Some until) = tt
-
   fits : (now bytes : ℕ) (checked : Bool) (path : PathState K)
       → (let answer : Answer Q = transmit_answer words now bytes checked path in IsPassage false checked
       (is_blocked path bytes) (Ok answer))
   fits now bytes false path = refl
-  fits now bytes true path = allows (is_blocked path bytes) (path_delay words now bytes path)
+  fits now bytes true path = go (is_blocked path bytes) (path_delay words now bytes path) where
+    go : (forbidden : Bool) (delay : Option ℕ) → (let t : Answer Q = Transmitted in IsPassage false true forbidden
+        (Ok (cond forbidden Blocked (delayed_or words t delay))))
+    go true delay = refl
+    go false None = tt
+    go false (Some until) = tt
 
 module _ {Q : Type 0} (checked forbidden : Bool) (answer : Answer Q)
     (fine : IsPassage false checked forbidden (Ok answer)) (TooLarge : Type 0) where
@@ -40,7 +38,7 @@ module _ {Q : Type 0} (checked forbidden : Bool) (answer : Answer Q)
   decide true is to (Ok given) told = absurd (told.0 (to refl))
   decide true is to (Err Overflow) told = refl
   decide true is to (Err refusal) told = absurd (told.0 (to refl))
-  decide false is to (Ok given) told = subst (λ a. IsPassage false checked forbidden (Ok a)) (sym told.1) fine
+  decide false is to (Ok given) told = rw told.1 fine
   decide false is to (Err Overflow) told = let wrong = is told in cc
   decide false is to (Err refusal) told = absurd told.1
 
@@ -53,11 +51,7 @@ module _ {F K Q S M P : Type 0} (beginning : Beginning F K Q S M P) where
       let large = nat_le (2 ^ 64) (path.total_sent + bytes) in
       let Verdict : Flow → Type 0 = λ f. IsPassage (nat_le (2 ^ 64) (f.went + bytes)) checked
       (not f.validated && nat_lt (3 * f.came) (f.went + bytes)) reply in
-      subst Verdict (sym agree.0)
-      (decide checked (is_blocked path bytes) (transmit_answer beginning.words now bytes checked path)
-      (fits Q beginning.words now bytes checked path) (2 ^ 64 ≤ path.total_sent + bytes) large
-      (le-leb (2 ^ 64) (path.total_sent + bytes))
-      (leb-true (2 ^ 64) (path.total_sent + bytes)) reply told)
+      grind (arith, agree.0, decide checked (is_blocked path bytes) (transmit_answer beginning.words now bytes checked path) (fits Q beginning.words now bytes checked path) (2 ^ 64 ≤ path.total_sent + bytes) large (le-leb (2 ^ 64) (path.total_sent + bytes)) (leb-true (2 ^ 64) (path.total_sent + bytes)) reply told)
 
   blocked_told : (before : History Q S M P) (event : Event Q S M P) (reply : Reply Q)
       → Told beginning before event reply
@@ -67,9 +61,7 @@ module _ {F K Q S M P : Type 0} (beginning : Beginning F K Q S M P) where
   blocked_told before event reply told agree = tt
 
   -- throughout a run
-  pub blocks_exactly : (events : List (Event Q S M P)) (replies : List (Reply Q))
-      → Throughout (Told beginning) events replies
-      → Throughout (BlocksExactly beginning.config.validated) events replies
+  pub blocks_exactly : AllAlong beginning (BlocksExactly beginning.config.validated)
   blocks_exactly events replies told =
       throughout_kept beginning (FlowsAgree beginning) (BlocksExactly beginning.config.validated)
       (flows_after beginning)

@@ -1,5 +1,5 @@
 -- A report of a black hole needs four bursts, and comes at four, throughout a run. `HolesLaws` say it of events alone.
-use Rattle.std.proofs.Common.{◌≡◌, ◌≤◌, ℕ, Bool, true, false, cond, List, [], Option, None, Some, Ok, Err, refl, sym, ap, subst, arith, ◌∙◌}
+use Rattle.std.proofs.Common.{◌≡◌, ◌≤◌, ℕ, Bool, true, false, cond, [], Option, None, Some, Ok, Err, refl, arith}
 use Rattle.recovery_base.specs.declared.below.SpaceId.TheVariants.{Data}
 use Rattle.recovery_config.specs.declared.config.TransportConfig.{TransportConfig}
 use Rattle.recovery_mtud.specs.declared.config.MtuDiscoveryConfig.{MtuDiscoveryConfig}
@@ -13,16 +13,15 @@ use Rattle.recovery_paths.proofs.FateLaws.{apart_once}
 use Rattle.recovery_paths.proofs.UntoldLaws.{WasUntold, untold_by}
 use Rattle.recovery_events.specs.declared.event.Event.{Event}
 use Rattle.recovery_events.specs.declared.event.Event.TheVariants.{LossesDone}
-use Rattle.recovery_events.specs.declared.event.Answer.{Answer}
 use Rattle.recovery_events.specs.declared.event.Answer.TheVariants.{BlackHole}
 use Rattle.recovery_events.specs.declared.event.Refusal.TheVariants.{NoMemory}
 use Rattle.quic_recovery.specs.Entries.{logs_of, pasts_of}
-use Rattle.quic_recovery.specs.History.{Beginning, History, Reply, Throughout}
+use Rattle.quic_recovery.specs.History.{Beginning, History, Reply}
 use Rattle.quic_recovery.specs.Known.{first_path, settings_of}
 use Rattle.quic_recovery.specs.Promises.Once.{departures_of}
 use Rattle.quic_recovery.specs.Told.{Told}
 use Rattle.quic_recovery.proofs.SearchSaid.{ComesAtFourBursts, NeedsFourBursts}
-use Rattle.quic_recovery.proofs.Runs.{throughout_kept}
+use Rattle.quic_recovery.proofs.Runs.{AllAlong, throughout_kept}
 use Rattle.quic_recovery.proofs.FateLaws.{fates_depart}
 use Rattle.quic_recovery.proofs.OneFateLaws.{leave_once, one_fate}
 use Rattle.quic_recovery.proofs.TrackedLaws.{AllTracked, keeps_tracked, none_tracked}
@@ -58,10 +57,7 @@ module _ {F K Q S M P : Type 0} (beginning : Beginning F K Q S M P) where
       → ComesAtFourBursts beginning before event reply
   comes_one before (LossesDone now) (Ok answer) told = λ many.
       let past = (pasts_of beginning before).current in
-      let reply : Answer Q → Reply Q = λ a. Ok a in
-      let reported : Bool → Reply Q = λ hole. Ok (BlackHole hole) in
-      let is : reports_there before ≡ true = four_report past.making.discovery (untold_in before) past.searched many in
-      ap reply told ∙ ap reported is
+      rw (told, four_report past.making.discovery (untold_in before) past.searched many) refl
   comes_one before (LossesDone now) (Err NoMemory) told = absurd told
   comes_one before (LossesDone now) (Err refusal) told = absurd told
   comes_one before event reply told = tt
@@ -86,14 +82,12 @@ module _ {F K Q S M P : Type 0} (beginning : Beginning F K Q S M P) where
   needs_one : (before : History Q S M P) (event : Event Q S M P) (reply : Reply Q) → Told beginning before event reply
       → HaveLeftOnce before → NeedsFourBursts beginning before event reply
   needs_one before (LossesDone now) (Ok answer) told once =
-      let N : Answer Q → Type 0 = λ a. NeedsFourBursts beginning before (LossesDone now) (Ok a) in
-      subst N (sym told) (needs_by before now once (reports_there before) refl)
+      rw told (needs_by before now once (reports_there before) refl)
   needs_one before (LossesDone now) (Err refusal) told once = tt
   needs_one before event reply told once = tt
 
   -- throughout a run
-  pub needs_four : (events : List (Event Q S M P)) (replies : List (Reply Q))
-      → Throughout (Told beginning) events replies → Throughout (NeedsFourBursts beginning) events replies
+  pub needs_four : AllAlong beginning (NeedsFourBursts beginning)
   needs_four events replies told =
       throughout_kept beginning (AllTracked beginning) (NeedsFourBursts beginning) (keeps_tracked beginning)
       (λ before event reply here all.

@@ -1,6 +1,7 @@
 -- Each tracked packet carries the ACK of the numbers that the history says, up to a largest one. `AcknowledgedLaws`
 -- rest on it.
-use Rattle.std.proofs.Common.{◌≡◌, ◌≤◌, ℕ, ◌==◌, ◌&&◌, Bool, true, false, cond, List, [], ◌∷◌, Option, None, Some, Ok, Err, refl, sym, ap, subst, ◌∙◌, arith, eq-eqb, ne_eqb}
+use Rattle.std.proofs.lemmas.Bool.Decides.{nat_tests}
+use Rattle.std.proofs.Common.{◌≡◌, ◌≤◌, ℕ, ◌==◌, ◌&&◌, Bool, true, false, cond, List, [], ◌∷◌, Option, None, Some, Ok, Err, refl, sym, ap, subst, ◌∙◌, arith}
 use Rattle.recovery_base.specs.declared.below.SpaceId.{SpaceId}
 use Rattle.recovery_base.specs.declared.below.SpaceId.TheVariants.{Data}
 use Rattle.recovery_base.specs.Spaces.{same_space}
@@ -9,11 +10,9 @@ use Rattle.recovery_ledger.specs.SpaceLog.{SpaceEntry, sends}
 use Rattle.recovery_ledger.specs.Tracked.{Sent, sent_by}
 use Rattle.recovery_events.specs.declared.event.Event.{Event}
 use Rattle.recovery_events.specs.declared.event.Event.TheVariants.{Send, PollMtu}
-use Rattle.recovery_events.specs.declared.event.Answer.{Answer}
 use Rattle.recovery_events.specs.declared.event.Answer.TheVariants as answers
 use Rattle.recovery_events.specs.declared.event.Answer.TheVariants.{Probe}
-use Rattle.recovery_events.specs.declared.event.Refusal.{Refusal}
-use Rattle.quic_recovery.specs.Entries.{Entries, answered, logs_of}
+use Rattle.quic_recovery.specs.Entries.{entries_of, Entries, logs_of}
 use Rattle.quic_recovery.specs.History.{Beginning, History, Reply}
 use Rattle.quic_recovery.specs.Known.{Known, known_by, number_in, packet_now}
 use Rattle.quic_recovery.specs.Logs.{onto}
@@ -65,29 +64,26 @@ module _ {F K Q S M P : Type 0} (beginning : Beginning F K Q S M P) (before : Hi
           let k = number_in known there in
           let IsNext : SpaceId → Type 0 = λ s. (sent_in beginning before s).next ≤ k in
           let new : sent.next ≤ k = subst IsNext (one_space there space at) (is_new beginning before there) in
-          said_sent carried_by largest sent.next k new (then_by k true)
-          (λ n below. (
-          let other : (k == n) ≡ false = ne_eqb k n (λ is. omega (arith, is, new, below)) in
-          sym (ap (λ (own : Bool). cond own packet.largest_acked (largest n)) other)
-          ))
-          sent.last sent.tracked packet
-          (sym (ap (λ (own : Bool). cond own packet.largest_acked (largest k)) (eq-eqb k k refl))) carried
+          said_sent carried_by largest sent.next k new (then_by k true) (λ n below. grind (arith, nat_tests, new, below))
+          sent.last sent.tracked packet (grind (arith, nat_tests)) carried
 
-  answer_carries : (event : Event Q S M P) (answer : Answer Q) → Told beginning before event (Ok answer)
-      → Carries ((answered beginning.queue known event answer).spaces space)
-      (λ n. largest_in space n ((event, Ok answer) ∷ before))
-  answer_carries (Send there now size eliciting last queue frames) (answers.Sent number forgotten) told =
+  reply_carries : (event : Event Q S M P) (reply : Reply Q) → Told beginning before event reply
+      → Carries ((entries_of beginning.queue known event reply).spaces space)
+      (λ n. largest_in space n ((event, reply) ∷ before))
+  reply_carries (Send there now size eliciting last queue frames) (Ok (answers.Sent number forgotten)) told =
       let is = past_four told in
-      goes_out there (packet_now known now size eliciting last (beginning.queue.contents queue) frames) number (cc)
-  answer_carries (Send there now size eliciting last queue frames) answer told = let is = past_four told in cc
-  answer_carries (PollMtu now) (Probe number size) told =
+      goes_out there (packet_now known now size eliciting last (beginning.queue.contents queue) frames) number cc
+  reply_carries (Send there now size eliciting last queue frames) (Ok answer) told = let is = past_four told in cc
+  reply_carries (PollMtu now) (Ok (Probe number size)) told =
       goes_out Data (packet_now known now size true None beginning.queue.words.empty beginning.queue.blank) number
       (probe_number beginning.queue known now _ number size told.1.1)
-  answer_carries (PollMtu now) answer told = carried
-  answer_carries event answer told =
+  reply_carries (PollMtu now) reply told = carried
+  reply_carries event (Ok answer) told =
       space_kept beginning.queue known space (λ entry. Carries entry largest) sends_none carried
       (said_after carried_by (λ contents packet. refl) beginning.queue.words largest (log space) carried) event
       (Ok answer) refl
+  reply_carries event (Err refusal) told =
+      refused_keeps event refusal (λ (e : Entries P M). Carries (e.spaces space) largest) carried
 
 module _ {F K Q S M P : Type 0} (beginning : Beginning F K Q S M P) where
   abbrev pub AllCarry : History Q S M P → Type 0
@@ -97,22 +93,11 @@ module _ {F K Q S M P : Type 0} (beginning : Beginning F K Q S M P) where
   pub none_carry : AllCarry []
   none_carry = λ space. tt
 
-  refusal_carries : (before : History Q S M P) (event : Event Q S M P) (refusal : Refusal) (space : SpaceId)
-      → IsSaid carried_by (λ n. largest_in space n before) (sent_in beginning before space)
-      → IsSaid carried_by (λ n. largest_in space n ((event, Err refusal) ∷ before)) (sent_in beginning before space)
-  refusal_carries before (PollMtu now) refusal space carried = carried
-  refusal_carries before event refusal space carried = carried
-
   -- an event that was told keeps that
   pub keeps_carried : (before : History Q S M P) (event : Event Q S M P) (reply : Reply Q)
       → Told beginning before event reply → AllCarry before → AllCarry ((event, reply) ∷ before)
-  keeps_carried before event (Ok answer) told all =
-      λ space. answer_carries beginning before space (all space) event answer told
-  keeps_carried before event (Err refusal) told all =
-      λ space. refused_keeps event refusal
-      (λ (e : Entries P M). IsSaid carried_by (λ n. largest_in space n ((event, Err refusal) ∷ before))
-      (sent_by beginning.queue.words (onto (e.spaces space) ((logs_of beginning before).spaces space))))
-      (refusal_carries before event refusal space (all space))
+  keeps_carried before event reply told all =
+      λ space. reply_carries beginning before space (all space) event reply told
 
   -- the packet of a tracked number carries what it went out with
   pub carries_largest : (history : History Q S M P) → AllCarry history → (there space : SpaceId) (number : ℕ)
@@ -120,8 +105,7 @@ module _ {F K Q S M P : Type 0} (beginning : Beginning F K Q S M P) where
       → largest_acked_by (packet_at (sent_in beginning history space).tracked number) ≡ largest_in space number history
   carries_largest history all there space number tracked at =
       let sent = sent_in beginning history space in
-      let IsIn : SpaceId → Type 0 = λ s. ¬ (packet_at (sent_in beginning history s).tracked number ≡ None) in
-      let found = is_there (packet_at sent.tracked number) (subst IsIn (one_space there space at) tracked) in
+      let found = is_there (packet_at sent.tracked number) (rw (one_space there space at) at tracked) in
       let largest : ℕ → Option ℕ = λ n. largest_in space n history in
       ap largest_acked_by found.1
       ∙ said_found carried_by largest sent.next sent.tracked (all space) number found.0 found.1

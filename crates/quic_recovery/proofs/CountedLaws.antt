@@ -33,7 +33,7 @@ use Rattle.quic_recovery.specs.Told.{Told, Is, OnPath, counters_answer}
 use Rattle.quic_recovery.specs.Promises.Counted.{sum_on, total, IsTally, CountsInFlight}
 use Rattle.quic_recovery.specs.Promises.Paths.{paths_made}
 use Rattle.quic_recovery.proofs.AnswerLaws.{past_four}
-use Rattle.quic_recovery.proofs.Runs.{throughout_kept}
+use Rattle.quic_recovery.proofs.Runs.{AllAlong, throughout_kept}
 use Rattle.quic_recovery.proofs.EntryKinds.{keeps_packets, space_kind, space_kept, refused_keeps}
 use Rattle.quic_recovery.proofs.PathLaws.{generation_told}
 use Rattle.quic_recovery.proofs.TrackedLaws.{AllTracked, keeps_tracked, none_tracked, probe_number, one_space, sent_in, times}
@@ -324,8 +324,7 @@ module _ {F K Q S M P : Type 0} (beginning : Beginning F K Q S M P) where
   holds before event reply told kept = tt
 
   -- throughout a run
-  pub counts_in_flight : (events : List (Event Q S M P)) (replies : List (Reply Q))
-      → Throughout (Told beginning) events replies → Throughout CountsInFlight events replies
+  pub counts_in_flight : AllAlong beginning CountsInFlight
   counts_in_flight events replies told =
       throughout_kept beginning Kept CountsInFlight keeps holds [] events replies told
       (none_tracked beginning, λ weigh generation gone. refl)

@@ -1,8 +1,7 @@
 -- While an ack-eliciting packet waits, an ACK is required at once or the timer was started, by what each event is told:
 -- the clause `duty` of `run`.
 use Rattle.std.proofs.lemmas.Bool.Decides.{nat_tests}
-use Rattle.std.proofs.Common.{◌≡◌, ◌<◌, ℕ, Bool, true, false, not, ◌&&◌, ◌||◌, cond, List, [], ◌∷◌, Option, None, Some, Ok, Err, ◌⊎◌, refl, subst, arith}
-use Rattle.std.proofs.lemmas.Bool.{false≢true}
+use Rattle.std.proofs.Common.{◌≡◌, ◌<◌, ℕ, Bool, true, false, not, ◌&&◌, ◌||◌, cond, List, [], ◌∷◌, Option, None, Some, Ok, Err, ◌⊎◌, refl, arith}
 use Rattle.recovery_base.specs.declared.below.SpaceId.{SpaceId}
 use Rattle.recovery_base.specs.Spaces.{same_space}
 use Rattle.recovery_ledger.specs.Acks.{Arms, IsRequired, StartedAt, counts_by, heard_by}
@@ -10,16 +9,14 @@ use Rattle.recovery_ledger.specs.SpaceLog.{SpaceEntry, heard, heard_again, ack_g
 use Rattle.recovery_queue.specs.Queues.{QueueWords}
 use Rattle.recovery_events.specs.declared.event.Event.{Event}
 use Rattle.recovery_events.specs.declared.event.Event.TheVariants.{Received, AcksSent, AckDelayTimeout}
-use Rattle.recovery_events.specs.declared.event.Answer.{Answer}
 use Rattle.recovery_events.specs.declared.event.Answer.TheVariants.{New}
-use Rattle.recovery_events.specs.declared.event.Refusal.{Refusal}
-use Rattle.quic_recovery.specs.Entries.{Entries, answered, entries_of, logs_of}
-use Rattle.quic_recovery.specs.History.{Beginning, History, Reply, Throughout}
+use Rattle.quic_recovery.specs.Entries.{Entries, entries_of, logs_of}
+use Rattle.quic_recovery.specs.History.{Beginning, History, Reply}
 use Rattle.quic_recovery.specs.Known.{Known, known_by}
 use Rattle.quic_recovery.specs.Logs.{onto}
 use Rattle.quic_recovery.specs.Promises.Duty.{KeepsDuty, timer_runs, waits}
 use Rattle.quic_recovery.specs.Told.{Told}
-use Rattle.quic_recovery.proofs.Runs.{throughout_kept}
+use Rattle.quic_recovery.proofs.Runs.{AllAlong, throughout_kept}
 use Rattle.quic_recovery.proofs.EntryKinds.{SpaceKind, hearing, answering, delaying, space_kind, space_kept, refused_keeps}
 use Rattle.quic_recovery.proofs.RequiredLaws.{either, asks, is_required}
 use Rattle.quic_recovery.proofs.TrackedLaws.{one_space}
@@ -40,29 +37,12 @@ AttendsTo words waiting running log =
 
 module _ {P M S : Type 0} (words : QueueWords P S) (waiting running : Bool) (log : List (SpaceEntry P M))
     (attends : AttendsTo words waiting running log) where
-  module _ (now number : ℕ) where
-    -- the timer starts at a new ack-eliciting packet
-    starts_now : AttendsTo words true true (heard now number true ∷ log)
-    starts_now = grind (arith, nat_tests)
-
-    -- or it does not: it was started, or an ACK is required
-    not_now : ¬ Arms (heard_by words log) (counts_by log) number true
-        → AttendsTo words true running (heard now number true ∷ log)
-    not_now other =
-        let why = either (is_required log) (asks log (counts_by log) number) in
-        grind (arith, nat_tests, attends, other, why)
-
-    -- a packet that elicits no ACK
-    silent : AttendsTo words waiting running (heard now number false ∷ log)
-    silent = grind (arith, nat_tests, attends)
-
-  -- an ACK is sent
-  acked : AttendsTo words false false (ack_goes ∷ log)
-  acked = grind (arith, nat_tests)
-
-  -- the timer for a late one expired
-  late : AttendsTo words waiting false (ack_is_late ∷ log)
-  late = grind (arith, nat_tests, attends)
+  -- a new ack-eliciting packet with which the timer does not start: it was started, or an ACK is required
+  not_now : (now number : ℕ) → ¬ Arms (heard_by words log) (counts_by log) number true
+      → AttendsTo words true running (heard now number true ∷ log)
+  not_now now number other =
+      let why = either (is_required log) (asks log (counts_by log) number) in
+      grind (arith, nat_tests, attends, other, why)
 
 -- ---- what an event does
 
@@ -101,11 +81,11 @@ module _ {F K Q S M P : Type 0} (beginning : Beginning F K Q S M P) (before : Hi
   stays false entry first = here
 
   sends_ack : (b : Bool) → After (cond b (Some ack_goes) None) (not b && waiting) (not b && running)
-  sends_ack true = acked beginning.queue.words waiting running (log space) here
+  sends_ack true = grind (arith, nat_tests)
   sends_ack false = here
 
   expires : (b : Bool) → After (cond b (Some ack_is_late) None) waiting (not b && running)
-  expires true = late beginning.queue.words waiting running (log space) here
+  expires true = grind (arith, nat_tests, here)
   expires false = here
 
   -- a new ack-eliciting packet with which the timer starts, or does not
@@ -114,7 +94,7 @@ module _ {F K Q S M P : Type 0} (beginning : Beginning F K Q S M P) (before : Hi
     Comes b running = After (cond b (Some (heard now number true)) None) (b || waiting) running
 
     arms_told : (b : Bool) → Comes b (b || running)
-    arms_told true = starts_now beginning.queue.words waiting running (log space) here now number
+    arms_told true = grind (arith, nat_tests)
     arms_told false = here
 
     other_told : ¬ ArmsIn there number → Comes (same_space there space) running
@@ -122,51 +102,39 @@ module _ {F K Q S M P : Type 0} (beginning : Beginning F K Q S M P) (before : Hi
       where
         go : (b : Bool) → same_space there space ≡ b → Comes b running
         go true at = not_now beginning.queue.words waiting running (log space) here now number
-            (subst (λ s. ¬ ArmsIn s number) (one_space there space at) other)
+            (rw (one_space there space at) at other)
         go false at = here
 
   -- all other entries
   unmoved : (entry : SpaceEntry P M) → is_silent (space_kind entry) ≡ true → After (Some entry) waiting running
-  unmoved (heard now number eliciting) is = absurd (false≢true is)
-  unmoved (heard_again number) is = absurd (false≢true is)
-  unmoved ack_goes is = absurd (false≢true is)
-  unmoved ack_is_late is = absurd (false≢true is)
+  unmoved (heard now number eliciting) is = absurd cc
+  unmoved (heard_again number) is = absurd cc
+  unmoved ack_goes is = absurd cc
+  unmoved ack_is_late is = absurd cc
   unmoved entry is = here
-
-  answer_attends : (event : Event Q S M P) (answer : Answer Q) → Told beginning before event (Ok answer)
-      → After ((answered beginning.queue known event answer).spaces space)
-      (waits space ((event, Ok answer) ∷ before)) (timer_runs space ((event, Ok answer) ∷ before))
-  answer_attends (Received there now number true) (New true) told = arms_told there now number (same_space there space)
-  answer_attends (Received there now number true) (New false) told =
-      let receipt = told.1.1 in other_told there now number (λ arms. let is = receipt.1.1 arms in cc)
-  answer_attends (Received there now number false) (New true) told =
-      let receipt = told.1.1 in let is = (receipt.1.0 refl).0 in cc
-  answer_attends (Received there now number false) (New false) told =
-      stays (same_space there space) (heard now number false)
-      (silent beginning.queue.words waiting running (log space) here now number)
-  answer_attends (Received there now number eliciting) answer told =
-      stays (same_space there space) (heard_again number) here
-  answer_attends (AcksSent there) answer told = sends_ack (same_space there space)
-  answer_attends (AckDelayTimeout there) answer told = expires (same_space there space)
-  answer_attends event answer told =
-      space_kept beginning.queue known space (λ entry. After entry waiting running) is_silent here unmoved event
-      (Ok answer) refl
-
-  refusal_attends : (event : Event Q S M P) (refusal : Refusal)
-      → After None (waits space ((event, Err refusal) ∷ before)) (timer_runs space ((event, Err refusal) ∷ before))
-  refusal_attends (Received there now number true) refusal = here
-  refusal_attends (Received there now number false) refusal = here
-  refusal_attends event refusal = here
 
   reply_attends : (event : Event Q S M P) (reply : Reply Q) → Told beginning before event reply
       → After ((entries_of beginning.queue known event reply).spaces space)
       (waits space ((event, reply) ∷ before)) (timer_runs space ((event, reply) ∷ before))
-  reply_attends event (Ok answer) told = answer_attends event answer told
+  reply_attends (Received there now number true) (Ok (New true)) told =
+      arms_told there now number (same_space there space)
+  reply_attends (Received there now number true) (Ok (New false)) told =
+      let receipt = told.1.1 in other_told there now number (λ arms. let is = receipt.1.1 arms in cc)
+  reply_attends (Received there now number false) (Ok (New true)) told =
+      let receipt = told.1.1 in let is = (receipt.1.0 refl).0 in cc
+  reply_attends (Received there now number false) (Ok (New false)) told =
+      stays (same_space there space) (heard now number false) (grind (arith, nat_tests, here))
+  reply_attends (Received there now number eliciting) (Ok answer) told =
+      stays (same_space there space) (heard_again number) here
+  reply_attends (AcksSent there) (Ok answer) told = sends_ack (same_space there space)
+  reply_attends (AckDelayTimeout there) (Ok answer) told = expires (same_space there space)
+  reply_attends event (Ok answer) told =
+      space_kept beginning.queue known space (λ entry. After entry waiting running) is_silent here unmoved event
+      (Ok answer) refl
+  reply_attends (Received there now number true) (Err refusal) told = here
+  reply_attends (Received there now number false) (Err refusal) told = here
   reply_attends event (Err refusal) told =
-      refused_keeps event refusal
-      (λ (e : Entries P M). After (e.spaces space) (waits space ((event, Err refusal) ∷ before))
-      (timer_runs space ((event, Err refusal) ∷ before)))
-      (refusal_attends event refusal)
+      refused_keeps event refusal (λ (e : Entries P M). After (e.spaces space) waiting running) here
 
 -- ---- throughout a run
 
@@ -180,8 +148,7 @@ module _ {F K Q S M P : Type 0} (beginning : Beginning F K Q S M P) where
       → AllAttended before → AllAttended ((event, reply) ∷ before)
   after_one before event reply told all = λ space. reply_attends beginning before space (all space) event reply told
 
-  pub keeps_duty : (events : List (Event Q S M P)) (replies : List (Reply Q))
-      → Throughout (Told beginning) events replies → Throughout (KeepsDuty beginning) events replies
+  pub keeps_duty : AllAlong beginning (KeepsDuty beginning)
   keeps_duty events replies told =
       throughout_kept beginning AllAttended (KeepsDuty beginning) after_one
       (λ before event reply here all space. (after_one before event reply here all space).duty) [] events replies told

@@ -20,7 +20,7 @@ use Rattle.quic_recovery.specs.Known.{Known, first_path, known_by, settings_of, 
 use Rattle.quic_recovery.specs.Told.{Told, MtuProbeReply}
 use Rattle.quic_recovery.proofs.EntryKinds.{PathKind, departing, limiting, searching, resetting, moving, elsewhere, path_kind, paths_kept, refused_keeps}
 use Rattle.quic_recovery.proofs.SearchSaid.{EntersAsTold, data_packet, entries_on, of_packet}
-use Rattle.quic_recovery.proofs.Runs.{throughout_kept}
+use Rattle.quic_recovery.proofs.Runs.{AllAlong, throughout_kept}
 
 -- the search sees nothing of it, nor does it begin anew
 abbrev is_unseen : PathKind → Bool
@@ -113,9 +113,7 @@ module _ {F K Q S M P : Type 0} (beginning : Beginning F K Q S M P) (past : Hist
       refused_keeps event refusal (λ (e : Entries P M). entries_with e.paths ≡ before) refl
 
 -- throughout a run
-pub entries_told : {F K Q S M P : Type 0} (beginning : Beginning F K Q S M P) (events : List (Event Q S M P))
-    (replies : List (Reply Q)) → Throughout (Told beginning) events replies
-    → Throughout (EntersAsTold beginning) events replies
+pub entries_told : {F K Q S M P : Type 0} (beginning : Beginning F K Q S M P) AllAlong beginning (EntersAsTold beginning)
 entries_told {F} {K} {Q} {S} {M} {P} beginning events replies told =
     throughout_kept beginning (λ past. Unit {0}) (EntersAsTold beginning) (λ past event reply told kept. tt)
     (λ past event reply told kept. entered_one beginning past event reply told) [] events replies told tt

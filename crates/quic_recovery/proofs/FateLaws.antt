@@ -1,25 +1,19 @@
 -- What the search of the path in use is told of a number happened to that number in the space of 1-RTT packets.
 -- `BurstLaws` rest on it.
 use Rattle.std.proofs.lemmas.Bool.Decides.{nat_tests}
-use Rattle.std.proofs.Common.{◌≡◌, ℕ, ◌+◌, ◌≤◌, ◌==◌, ◌&&◌, Bool, true, false, cond, if◌then◌else◌, List, [], ◌∷◌, ◌++◌, Option, None, Some, Ok, Err, refl, arith}
-use Rattle.std.proofs.lemmas.Bool.{false≢true}
+use Rattle.std.proofs.Common.{◌≡◌, ℕ, ◌+◌, ◌≤◌, ◌==◌, ◌&&◌, Bool, true, false, if◌then◌else◌, List, [], ◌∷◌, ◌++◌, Option, None, Some, Ok, Err, refl, arith}
 use Rattle.recovery_base.specs.declared.below.SpaceId.{SpaceId}
 use Rattle.recovery_base.specs.declared.below.SpaceId.TheVariants.{Data}
 use Rattle.recovery_base.specs.Spaces.{same_space}
-use Rattle.recovery_congestion.specs.Calls.{ControllerCall}
-use Rattle.recovery_ledger.specs.Departures.{one_if_same}
 use Rattle.recovery_ledger.specs.Packets.{Packet, packet_at}
-use Rattle.recovery_mtud.specs.Discovery.{is_probe}
-use Rattle.recovery_mtud.specs.DiscoveryLog.{MtuCall, loses_probe, loses as loses_packet, acks as acks_packet}
+use Rattle.recovery_mtud.specs.DiscoveryLog.{MtuCall, loses as loses_packet, acks as acks_packet}
 use Rattle.recovery_paths.specs.declared.live_paths.PathName.TheVariants.{Current}
-use Rattle.recovery_paths.specs.PathLog.{PathEntry, PathsEntry, on, on_current, tells, searches}
+use Rattle.recovery_paths.specs.PathLog.{PathEntry, PathsEntry, on, searches}
 use Rattle.recovery_paths.specs.PathStates.{is_path_probe, loss_call}
 use Rattle.recovery_paths.proofs.FateLaws.{fate, fates, told_in, told-append, fates_by}
 use Rattle.recovery_events.specs.declared.event.Event.{Event}
 use Rattle.recovery_events.specs.declared.event.Event.TheVariants.{Acked, Lost}
-use Rattle.recovery_events.specs.declared.event.Answer.{Answer}
-use Rattle.recovery_events.specs.declared.event.Refusal.{Refusal}
-use Rattle.quic_recovery.specs.Entries.{Entries, nothing, answered, entries_of, acked_entry, acked_search, lost_search, searched, is_own, logs_of, pasts_of}
+use Rattle.quic_recovery.specs.Entries.{Entries, entries_of, acked_entry, acked_search, lost_search, searched, logs_of, pasts_of}
 use Rattle.quic_recovery.specs.History.{Beginning, History, QueueMeaning, Reply}
 use Rattle.quic_recovery.specs.Known.{Known, known_by, first_path, settings_of, tracked_known}
 use Rattle.quic_recovery.specs.Promises.Once.{departures_of}
@@ -36,20 +30,10 @@ module _ {K P M : Type 0} (known : Known K P M) (number : ℕ) where
   searched_tells : (changes : Bool) (call : MtuCall) → told_in number (searched known changes call) ≡ fate number call
   searched_tells changes call = grind (arith, nat_tests)
 
-  -- what the controller is told says nothing of numbers
-  told_if : (own : Bool) (call : ControllerCall) → told_in number (cond own (on_current (tells call) ∷ []) []) ≡ 0
-  told_if true call = refl
-  told_if false call = refl
-
   acked_entry_tells : (now : ℕ) (app_limited : Bool) (packet : Option (Packet P M))
       → told_in number (acked_entry known now app_limited packet) ≡ 0
   acked_entry_tells now app_limited None = refl
-  acked_entry_tells now app_limited (Some packet) = told_if (is_own known packet && packet.ack_eliciting) _
-
-  -- a lost probe has no fate, and another packet has one
-  lost_tells : (probe : Bool) (other bytes : ℕ) → fate number (cond probe loses_probe (loses_packet other bytes))
-      ≤ one_if_same other number
-  lost_tells probe other bytes = grind (arith, nat_tests)
+  acked_entry_tells now app_limited (Some packet) = grind arith
 
   -- ---- the packets that leave
 
@@ -59,13 +43,12 @@ module _ {K P M : Type 0} (known : Known K P M) (number : ℕ) where
       space other number
   acked_departs space now other app_limited None = omega arith
   acked_departs Data now other app_limited (Some packet) =
-      let probed = is_path_probe Data other known.paths.current.state in
       let call = acks_packet other packet.size in
       omega (
         arith,
-        told-append number (acked_entry known now app_limited (Some packet)) (searched known probed call),
+        told-append number (acked_entry known now app_limited (Some packet)),
         acked_entry_tells now app_limited (Some packet),
-        searched_tells probed call,
+        searched_tells (is_path_probe Data other known.paths.current.state) call,
       )
   acked_departs space now other app_limited (Some packet) =
       omega (
@@ -80,11 +63,7 @@ module _ {K P M : Type 0} (known : Known K P M) (number : ℕ) where
   lost_departs space other None = omega arith
   lost_departs Data other (Some packet) =
       let discovery = known.paths.current.state.discovery in
-      omega (
-        arith,
-        searched_tells false (loss_call other packet.size discovery),
-        lost_tells (is_probe other discovery) other packet.size,
-      )
+      grind (arith, nat_tests, searched_tells false (loss_call other packet.size discovery))
   lost_departs space other (Some packet) = omega arith
 
 -- ---- all else
@@ -97,8 +76,8 @@ is_silent kind = true
 
 module _ (number : ℕ) where
   silent_call : (call : MtuCall) → is_silent (call_kind call) ≡ true → fate number call ≡ 0
-  silent_call (acks_packet other bytes) silent = absurd (false≢true silent)
-  silent_call (loses_packet other bytes) silent = absurd (false≢true silent)
+  silent_call (acks_packet other bytes) silent = absurd cc
+  silent_call (loses_packet other bytes) silent = absurd cc
   silent_call call silent = refl
 
   silent_here : (entry : PathEntry) (earlier : List PathsEntry) → is_silent (path_kind (on Current entry)) ≡ true
@@ -120,32 +99,23 @@ module _ {K Q S M P : Type 0} (q : QueueMeaning Q S M P) (known : Known K P M) (
         (happened ∷ earlier)
 
     -- by each event
-    answer_departs : (event : Event Q S M P) (answer : Answer Q)
-        → Departs (answered q known event answer) (event, Ok answer)
-    answer_departs (Acked space now other app_limited) answer =
-        omega (
-          arith,
-          acked_departs known number space now other app_limited (packet_at (tracked_known known space) other),
-        )
-    answer_departs (Lost space other) answer =
+    event_departs : (event : Event Q S M P) (reply : Reply Q) → Departs (entries_of q known event reply) (event, reply)
+    event_departs (Acked space now other app_limited) (Ok answer) = omega (
+      arith,
+      acked_departs known number space now other app_limited (packet_at (tracked_known known space) other),
+    )
+    event_departs (Lost space other) (Ok answer) =
         omega (arith, lost_departs known number space other (packet_at (tracked_known known space) other))
-    answer_departs event answer =
+    event_departs event (Ok answer) =
         omega (
           arith,
           paths_kept q known (λ entries. told_in number entries ≡ 0) is_silent refl (silent_one number)
               event (Ok answer) refl,
         )
-
-    -- and by a refused one
-    refusal_departs : (event : Event Q S M P) (refusal : Refusal) → Departs nothing (event, Err refusal)
-    refusal_departs (Acked space now other app_limited) refusal = omega arith
-    refusal_departs event refusal = omega arith
-
-    event_departs : (event : Event Q S M P) (reply : Reply Q) → Departs (entries_of q known event reply) (event, reply)
-    event_departs event (Ok answer) = answer_departs event answer
+    event_departs (Acked space now other app_limited) (Err refusal) = omega arith
     event_departs event (Err refusal) =
-        refused_keeps event refusal (λ (e : Entries P M). Departs e (event, Err refusal))
-        (refusal_departs event refusal)
+        refused_keeps event refusal (λ (e : Entries P M). told_in number e.paths + departures_of Data number earlier
+        ≤ departures_of Data number earlier) (omega arith)
 
 module _ {F K Q S M P : Type 0} (beginning : Beginning F K Q S M P) (number : ℕ) where
   -- so by a whole history

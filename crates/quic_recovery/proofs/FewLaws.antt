@@ -1,8 +1,6 @@
 -- By the history alone a search takes few probes, as its entries say: the clause `few` of `run`.
-use Rattle.std.proofs.Common.{ℕ, ◌≡◌, ◌≤◌, ◌<◌, ◌^◌, true, false, if◌then◌else◌, List, [], ◌∷◌, length, Ok, Err, refl, sym, ap, subst, is_some, arith}
-use Rattle.std.specs.Prelude.{nat_eq}
+use Rattle.std.proofs.Common.{ℕ, ◌≡◌, ◌<◌, ◌^◌, true, false, if◌then◌else◌, List, [], ◌∷◌, Ok, Err, refl, ap, is_some, arith}
 use Rattle.std.specs.Option.{ForSome}
-use Rattle.std.specs.Set.{distinct_count}
 use Rattle.recovery_base.specs.declared.below.SpaceId.TheVariants as space
 use Rattle.recovery_mtud.specs.MtuEntries.{MtuEntry, probe_in_flight}
 use Rattle.recovery_mtud.specs.SearchRuns.{probed_sizes, search_of, search_runs}
@@ -10,13 +8,14 @@ use Rattle.recovery_events.specs.declared.event.Event.{Event}
 use Rattle.recovery_events.specs.declared.event.Event.TheVariants.{PollMtu, Acked, Lost, LossesDone, PeerLimit, ResetPath, NewPath}
 use Rattle.recovery_events.specs.declared.event.Answer.TheVariants as answer
 use Rattle.quic_recovery.specs.Known.{settings_of}
-use Rattle.quic_recovery.specs.History.{Beginning, History, Reply, Throughout}
+use Rattle.quic_recovery.specs.History.{Beginning, History, Reply}
 use Rattle.quic_recovery.specs.Search.{discovery_settings}
 use Rattle.quic_recovery.specs.Promises.Few.{ProbesFew, is_in_flight, probed}
-use Rattle.quic_recovery.specs.Told.{Told}
 use Rattle.quic_recovery.proofs.SearchSaid.{entered_so_far}
 use Rattle.quic_recovery.proofs.SearchLaws.{few_one}
-use Rattle.quic_recovery.proofs.SearchSteps.{Facts, Step, facts, stepped, throughout_by}
+use Rattle.quic_recovery.proofs.SearchSteps.{Facts, Step, facts, stepped}
+use Rattle.quic_recovery.proofs.Runs.{throughout_by}
+use Rattle.quic_recovery.proofs.Runs.{AllAlong}
 
 -- ---- the sizes probed by the search that runs
 
@@ -66,8 +65,7 @@ module _ {F K Q S M P : Type 0} (beginning : Beginning F K Q S M P) where
 
   -- throughout a run, where the upper bound of a search is a `u16`
   pub few_told : ForSome (discovery_settings beginning) (λ settings. settings.upper_bound < 2 ^ 16)
-      → (events : List (Event Q S M P)) (replies : List (Reply Q))
-      → Throughout (Told beginning) events replies → Throughout (ProbesFew beginning) events replies
+      → AllAlong beginning (ProbesFew beginning)
   few_told small events replies told =
       throughout_by (Facts beginning) (ProbesFew beginning) Tied tied_after few [] events replies
       (facts beginning events replies told) (refl, refl)
@@ -77,5 +75,4 @@ module _ {F K Q S M P : Type 0} (beginning : Beginning F K Q S M P) where
           → ProbesFew beginning history event reply
       few history event reply known tied after = λ settings is change.
           let few = few_one beginning small history event reply known.told known.searched settings is change in
-          subst (λ sizes. (length sizes ≤ 48) × (distinct_count nat_eq sizes ≤ 16)) (sym after.1)
-          (few.probes, few.sizes)
+          rw (after.1) (few.probes, few.sizes)

@@ -2,7 +2,6 @@
 -- `SizeLaws` and `CarriedLaws` rest on it.
 use Rattle.std.proofs.lemmas.Bool.Decides.{nat_tests}
 use Rattle.std.proofs.Common.{ℕ, ◌≡◌, ◌+◌, ◌<◌, ◌≤◌, true, List, [], ◌∷◌, ◌++◌, Option, None, Some, refl, ◌∙◌, arith}
-use Rattle.std.proofs.lemmas.Bool.{false≢true}
 use Rattle.std.specs.Prelude.{option_map}
 use Rattle.recovery_ledger.specs.Packets.{Packet, Packets, packet_at, without, without_some, replaced, carrying, with_contents, forgotten_number, sent_onto}
 use Rattle.recovery_ledger.specs.Probes.{ProbeFound, pending_stands, moves, nothing_found}
@@ -24,15 +23,14 @@ module _ {P M A : Type 0} (says : Packet P M → A) where
         → packet_at packets number ≡ Some packet → says packet ≡ by number
     said_found [] said number packet found = none_found packet found
     said_found (entry ∷ packets) said number packet found =
-        let at = number_at number entry.0 in
-        let later = said_found packets said.2 number packet in grind (arith, nat_tests, said, found, at, later)
+        grind (arith, nat_tests, said, found, number_at number entry.0, said_found packets said.2 number packet)
 
     -- some that are left
     pub said_without : (packets : Packets P M) (number : ℕ) → AreSaid by limit packets
         → AreSaid by limit (without packets number)
     said_without [] number said = tt
     said_without (entry ∷ packets) number said =
-        let later = said_without packets number said.2 in grind (arith, nat_tests, said, later)
+        grind (arith, nat_tests, said, said_without packets number said.2)
 
     said_without_some : (packets : Packets P M) (forgotten : Option ℕ) → AreSaid by limit packets
         → AreSaid by limit (without_some packets forgotten)
@@ -45,9 +43,7 @@ module _ {P M A : Type 0} (says : Packet P M → A) where
           → AreSaid by limit packets → AreSaid by limit (replaced number (Some packet) packets)
       said_replaced [] number packet same said = tt
       said_replaced (entry ∷ packets) number packet same said =
-          let at = number_at number entry.0 in
-          let later = said_replaced packets number packet same said.2 in
-          grind (arith, nat_tests, said, same, at, later)
+          grind (arith, nat_tests, said, same, number_at number entry.0, said_replaced packets number packet same said.2)
 
       pub said_carrying : (packets : Packets P M) (number : ℕ) (contents : P) → AreSaid by limit packets
           → AreSaid by limit (carrying number contents packets)
@@ -66,8 +62,7 @@ module _ {P M A : Type 0} (says : Packet P M → A) where
           → AreSaid by limit packets → AreSaid then_by (number + 1) (packets ++ (number, packet) ∷ [])
       said_push [] packet own said = (own, omega arith, tt)
       said_push (entry ∷ packets) packet own said =
-          let goes_on = same entry.0 in
-          let later = said_push packets packet own said.2 in grind (arith, said, goes_on, later, above)
+          grind (arith, said, same entry.0, said_push packets packet own said.2, above)
 
       pub said_sent : (last : Option ℕ) (packets : Packets P M) (packet : Packet P M) → says packet ≡ then_by number
           → AreSaid by limit packets → AreSaid then_by (number + 1) (sent_onto last number packet packets)
@@ -93,7 +88,7 @@ module _ {P M A : Type 0} (says : Packet P M → A) where
       (words : QueueWords P S) (by : ℕ → A) (log : List (SpaceEntry P M)) (said : IsSaid by (sent_by words log)) where
     pub said_after : (entry : SpaceEntry P M) → sends_none (space_kind entry) ≡ true
         → IsSaid by (sent_by words (entry ∷ log))
-    said_after (sends number packet) none = absurd (false≢true none)
+    said_after (sends number packet) none = absurd cc
     said_after (acknowledged number) none =
         said_without by (sent_by words log).next (sent_by words log).tracked number said
     said_after (loses number) none = said_without by (sent_by words log).next (sent_by words log).tracked number said

@@ -1,6 +1,6 @@
 -- The probe in flight lies within the bounds of its search, and above the MTU in use, whatever a discovery was told.
 -- `SizesLaws` rest on it.
-use Rattle.std.proofs.Common.{◌≡◌, ℕ, ◌+◌, ◌<◌, ◌≤◌, min, max, Option, Some, None, true, false, List, [], ◌∷◌, arith, refl, sym, ap, ap₂, ◌∙◌, subst}
+use Rattle.std.proofs.Common.{◌≡◌, ℕ, ◌+◌, ◌<◌, ◌≤◌, min, max, Option, Some, None, true, false, List, [], ◌∷◌, arith, refl, sym, ap, ap₂, ◌∙◌}
 use Rattle.std.specs.Prelude.{if◌then◌else◌, IfSome}
 use Rattle.std.specs.Option.{option_map}
 use Rattle.std.proofs.lemmas.Bool.Decides.{nat_tests}
@@ -75,8 +75,7 @@ module _ (made : Discovery) (settings : MtuDiscoveryConfig) (entries : List MtuE
       → Within settings (start_upper made settings entries) now p
       → Within settings (start_upper made settings (entry ∷ entries)) now p
   stays entry runs now p within =
-      subst (λ b. Within settings (upper_behind (if b then before_search entries else entry ∷ entries)) now p)
-      (sym runs) within
+      grind (arith, runs, within)
 
   abbrev search_in : Phase → MtuSearch
   search_in phase = record { limit = limit; phase = phase; settings = settings }
@@ -105,7 +104,7 @@ module _ (made : Discovery) (settings : MtuDiscoveryConfig) (entries : List MtuE
       let fresh = begun mtu (search_in phase) in
       let bound = ap₂ (λ (m : ℕ) (l : Option ℕ). upper_from m (limit_or_greatest l) settings.upper_bound)
       holds.mtu holds.limit ∙ ap upper_behind (sym (before_idle entries idle)) in
-      polled now next fresh (subst (λ b. Within settings b mtu fresh) bound (within_begun mtu (search_in phase))) _ refl
+      polled now next fresh (grind (arith, bound, within_begun mtu (search_in phase))) _ refl
 
   searching : (call : MtuCall) (p : Probing) (flight : Option ℕ)
       → Keeps call (Searching (record p { in_flight = flight }))
@@ -133,8 +132,7 @@ module _ (made : Discovery) (settings : MtuDiscoveryConfig) (new : IsUntold made
   told_next call entries old None holds kept = absurd kept
   told_next call entries old (Some search) holds kept =
       let old' : Discovery = record old { search = Some search } in
-      subst (λ own. KeptBy made own (entry_of call old' ∷ entries) (discovery_after call old')) kept.0
-      (told made search.settings entries old.mtu search.limit old.bursts call search.phase holds kept.1)
+      grind (arith, kept.0, told made search.settings entries old.mtu search.limit old.bursts call search.phase holds kept.1)
 
   kept_by : (calls : List MtuCall) → KeptBy made settings (entries_by made calls) (discovery_by made calls)
   kept_by [] = told_first made.search new.search is
@@ -164,6 +162,4 @@ pub flight_within : (made : Discovery) (settings : MtuDiscoveryConfig) → IsUnt
 flight_within made settings new is calls probe flies =
     let holds = holds_by made new calls in
     let entries = entries_by made calls in
-    subst (λ mtu. IsBetween made settings entries mtu probe.size) holds.mtu
-    (in_search made settings entries _ probe (discovery_by made calls).search (holds.probe ∙ flies)
-    (kept_by made settings new is calls))
+    grind (arith, holds.mtu, in_search made settings entries _ probe (discovery_by made calls).search (holds.probe ∙ flies) (kept_by made settings new is calls))

@@ -16,16 +16,17 @@ use Rattle.recovery_events.specs.declared.event.Event.TheVariants.{PollMtu, Acke
 use Rattle.recovery_events.specs.declared.event.Answer.TheVariants as answer
 use Rattle.quic_recovery.specs.Entries.{logs_of}
 use Rattle.quic_recovery.specs.Known.{settings_of}
-use Rattle.quic_recovery.specs.History.{Beginning, History, Reply, Throughout}
+use Rattle.quic_recovery.specs.History.{Beginning, History, Reply}
 use Rattle.quic_recovery.specs.Promises.Bursts.{size_of, open_run}
 use Rattle.quic_recovery.specs.Promises.Holes.{ReportsAtFour, larger_acked, standing, unanswered}
-use Rattle.quic_recovery.specs.Told.{Told}
 use Rattle.quic_recovery.proofs.SearchSaid.{NeedsFourBursts, data_packet, entered_so_far}
 use Rattle.quic_recovery.proofs.BurstLaws.{comes_one, needs_four}
 use Rattle.quic_recovery.proofs.FieldLaws.{said_found}
 use Rattle.quic_recovery.proofs.MadeLaws.{is_made, made_after, made_in}
-use Rattle.quic_recovery.proofs.SearchSteps.{Facts, Step, facts, stepped, throughout_both, throughout_by}
+use Rattle.quic_recovery.proofs.SearchSteps.{Facts, Step, facts, stepped, throughout_both}
+use Rattle.quic_recovery.proofs.Runs.{throughout_by}
 use Rattle.quic_recovery.proofs.SizeLaws.{Sized, sized_after, size_in}
+use Rattle.quic_recovery.proofs.Runs.{AllAlong}
 
 -- ---- the least MTU is that of the settings
 
@@ -153,9 +154,7 @@ module _ {F K Q S M P : Type 0} (beginning : Beginning F K Q S M P) where
   holes_one history event reply known kept after = tt
 
   -- throughout a run
-  pub holes_told : (events : List (Event Q S M P)) (replies : List (Reply Q))
-      → Throughout (Told beginning) events replies
-      → Throughout (ReportsAtFour least) events replies
+  pub holes_told : AllAlong beginning (ReportsAtFour least)
   holes_told events replies told =
       throughout_by _ (ReportsAtFour least) Kept (λ history event reply known. kept_after history event reply known.0)
       holes_one [] events replies

@@ -26,7 +26,8 @@ use Rattle.quic_recovery.proofs.MadeLaws.{is_made, made_in}
 use Rattle.quic_recovery.proofs.NearLaws as near
 use Rattle.quic_recovery.proofs.SearchLaws.{mtu_one, probes_one}
 use Rattle.quic_recovery.proofs.SearchSaid.{ProbesInTurn, entered_so_far}
-use Rattle.quic_recovery.proofs.SearchSteps.{Facts, Step, facts, stepped, throughout_by}
+use Rattle.quic_recovery.proofs.SearchSteps.{Facts, Step, facts, stepped}
+use Rattle.quic_recovery.proofs.Runs.{AllAlong, throughout_by}
 use Rattle.quic_recovery.proofs.SeenLaws.{IsStill, IsStillOn, stays_seen}
 
 -- ---- where paths are not searched: no probe goes out, and no limit is kept
@@ -215,8 +216,7 @@ module _ {F K Q S M P : Type 0} (beginning : Beginning F K Q S M P) where
   )
 
   pub mtu_told : ForSome (discovery_settings beginning) (λ settings. settings.upper_bound < 2 ^ 16)
-      → (events : List (Event Q S M P)) (replies : List (Reply Q))
-      → Throughout (Told beginning) events replies → Throughout (UsesMtu beginning) events replies
+      → AllAlong beginning (UsesMtu beginning)
   mtu_told small events replies told =
       throughout_by (Facts beginning) (UsesMtu beginning) Kept kept_after uses_mtu [] events replies
       (facts beginning events replies told) kept_first

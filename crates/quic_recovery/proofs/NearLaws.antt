@@ -31,7 +31,8 @@ use Rattle.quic_recovery.proofs.FlightLaws.{before_idle}
 use Rattle.quic_recovery.proofs.HolesLaws as holes
 use Rattle.quic_recovery.proofs.MadeLaws.{is_made, made_in}
 use Rattle.quic_recovery.proofs.SearchLaws.{ends_one}
-use Rattle.quic_recovery.proofs.SearchSteps.{Facts, Step, facts, stepped, throughout_by}
+use Rattle.quic_recovery.proofs.SearchSteps.{Facts, Step, facts, stepped}
+use Rattle.quic_recovery.proofs.Runs.{AllAlong, throughout_by}
 
 -- ---- the limit that the peer told last
 
@@ -260,8 +261,7 @@ module _ {F K Q S M P : Type 0} (beginning : Beginning F K Q S M P) where
   }
 
   pub near_told : ForSome (discovery_settings beginning) (λ settings. settings.upper_bound < 2 ^ 16)
-      → (events : List (Event Q S M P)) (replies : List (Reply Q))
-      → Throughout (Told beginning) events replies → Throughout (EndsNearBy beginning) events replies
+      → AllAlong beginning (EndsNearBy beginning)
   near_told small events replies told =
       throughout_by (Facts beginning) (EndsNearBy beginning) Kept kept_by near [] events replies
       (facts beginning events replies told) kept_first

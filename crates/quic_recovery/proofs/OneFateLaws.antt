@@ -1,31 +1,16 @@
 -- Each number has one fate throughout a run, and so it leaves once: the clauses `fates` and `once` of `run`.
-use Rattle.std.proofs.Common.{◌≡◌, ◌≤◌, ◌+◌, ℕ, ◌==◌, ◌&&◌, Bool, true, false, cond, List, [], ◌∷◌, Ok, refl, arith}
+use Rattle.std.proofs.Common.{◌≡◌, ◌+◌, ℕ, List, [], ◌∷◌, Ok, refl, arith}
 use Rattle.recovery_base.specs.declared.below.SpaceId.{SpaceId}
-use Rattle.recovery_base.specs.Spaces.{same_space}
 use Rattle.recovery_events.specs.declared.event.Event.{Event}
 use Rattle.recovery_events.specs.declared.event.Event.TheVariants.{Acked, Lost}
 use Rattle.quic_recovery.specs.History.{Beginning, History, Reply, Throughout, history}
-use Rattle.quic_recovery.specs.Promises.Fates.{more_if, times, is_acked, is_lost, is_forgotten, is_discarded, HaveOneFate}
+use Rattle.quic_recovery.specs.Promises.Fates.{times, is_acked, is_lost, HaveOneFate}
 use Rattle.quic_recovery.specs.Promises.Once.{LeaveOnceEach, departures_of}
-use Rattle.quic_recovery.specs.Promises.Tracked.{is_tracked}
 use Rattle.quic_recovery.specs.Told.{Told}
 use Rattle.quic_recovery.proofs.Runs.{kept_after}
 use Rattle.quic_recovery.proofs.TrackedLaws.{AllTracked, keeps_tracked, none_tracked}
 
 -- ---- what has one fate leaves once
-
-acked_too : (one : Bool) (n acked lost : ℕ) → n ≡ acked + lost → n + cond one 1 0 ≡ more_if one acked + lost
-acked_too true n acked lost same = omega (arith, same)
-acked_too false n acked lost same = omega (arith, same)
-
-lost_too : (one : Bool) (n acked lost : ℕ) → n ≡ acked + lost → n + cond one 1 0 ≡ acked + more_if one lost
-lost_too true n acked lost same = omega (arith, same)
-lost_too false n acked lost same = omega (arith, same)
-
-fewer : (tracked : Bool) (given acked lost forgotten discarded : ℕ) → given ≤ 1
-    → given ≡ more_if tracked (acked + lost + forgotten + discarded) → acked + lost ≤ 1
-fewer true given acked lost forgotten discarded once same = omega (arith, once, same)
-fewer false given acked lost forgotten discarded once same = omega (arith, once, same)
 
 module _ {Q S M P : Type 0} (space : SpaceId) (n : ℕ) where
   -- it leaves as often as it is acknowledged and lost
@@ -33,18 +18,13 @@ module _ {Q S M P : Type 0} (space : SpaceId) (n : ℕ) where
       → departures_of space n history ≡ times (is_acked space n) history + times (is_lost space n) history
   departures_are [] = refl
   departures_are ((Acked there now number app_limited, Ok answer) ∷ earlier) =
-      acked_too (same_space there space && number == n) _ _ _ (departures_are earlier)
+      grind (arith, departures_are earlier)
   departures_are ((Lost there number, Ok answer) ∷ earlier) =
-      lost_too (same_space there space && number == n) _ _ _ (departures_are earlier)
+      grind (arith, departures_are earlier)
   departures_are (happened ∷ earlier) = departures_are earlier
 
 pub leave_once : {Q S M P : Type 0} (history : History Q S M P) → HaveOneFate history → LeaveOnceEach history
-leave_once history fates = λ space n. (
-    let is = departures_are space n history in
-    let few = fewer (is_tracked space n history) _ (times (is_acked space n) history) (times (is_lost space n) history)
-    (times (is_forgotten space n) history) (times (is_discarded space n) history) (fates space n).0 (fates space n).1 in
-    omega (arith, is, few)
-    )
+leave_once history fates = λ space n. grind (arith, departures_are space n history, fates space n)
 
 -- ---- throughout a run
 

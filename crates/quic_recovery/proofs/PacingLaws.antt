@@ -1,6 +1,6 @@
 -- Each pacer delays by its balance and keeps its rate, throughout a run: the clauses `delayed`, `rate`, `soon` and
 -- `named` of `run`.
-use Rattle.std.proofs.Common.{arith, ℕ, Bool, true, false, cond, List, [], ◌∷◌, Option, Ok, Err, refl, sym, subst}
+use Rattle.std.proofs.Common.{arith, ℕ, true, false, [], ◌∷◌, Option, Ok, Err, refl}
 use Rattle.recovery_pacing.specs.PacerLog.{AreChecked, KeepsRate}
 use Rattle.recovery_pacing.specs.Pacing.{PacerCall}
 use Rattle.recovery_pacing.specs.NamedMoment.{PassesAtMoment}
@@ -10,18 +10,16 @@ use Rattle.recovery_pacing.proofs.NamedMomentLaws.{passes_at_moment}
 use Rattle.recovery_pacing.proofs.ProgressLaws.{passes_behind}
 use Rattle.recovery_paths.specs.PathLog.{OnEachPath, PathPast, state_of}
 use Rattle.recovery_paths.specs.PathMaking.{bucket_of}
-use Rattle.recovery_paths.specs.PathStates.{pacer_call, path_delay, is_blocked}
+use Rattle.recovery_paths.specs.PathStates.{pacer_call, path_delay}
 use Rattle.recovery_paths.proofs.PassedLaws.{HavePassedOn, passed_after, passed_at_first}
 use Rattle.recovery_events.specs.declared.event.Event.{Event}
 use Rattle.recovery_events.specs.declared.event.Event.TheVariants.{Transmit, PacerCheck}
-use Rattle.recovery_events.specs.declared.event.Answer.{Answer}
-use Rattle.recovery_events.specs.declared.event.Answer.TheVariants.{Ready, Transmitted, Blocked}
 use Rattle.quic_recovery.specs.Entries.{entries_of, logs_of, pasts_of}
-use Rattle.quic_recovery.specs.History.{Beginning, History, Reply, Throughout}
+use Rattle.quic_recovery.specs.History.{Beginning, History, Reply}
 use Rattle.quic_recovery.specs.Known.{known_by, first_path, settings_of}
 use Rattle.quic_recovery.specs.Pacing.{IsByBalance, OnCall, AtCalls, DelaysByBalance, PassesSoon, PassesWhenNamed, KeepsPace}
-use Rattle.quic_recovery.specs.Told.{Told, delayed_or}
-use Rattle.quic_recovery.proofs.Runs.{throughout_kept}
+use Rattle.quic_recovery.specs.Told.{Told}
+use Rattle.quic_recovery.proofs.Runs.{AllAlong, throughout_kept}
 use Rattle.quic_recovery.proofs.AmplificationLaws.{is_allowed}
 
 -- a pacer whose checked transmissions had passed keeps its rate
@@ -50,28 +48,14 @@ module _ {F K Q S M P : Type 0} (beginning : Beginning F K Q S M P) where
 
   -- what holds of each call and its answer holds at each event
   module _ (Holds : PathPast K → PacerCall → Option ℕ → Type 0) where
-    checks_by : (before : History Q S M P) (now bytes : ℕ) (given : Option ℕ)
-        → OnCall beginning Holds before now bytes given
-        → AtCalls beginning Holds before (PacerCheck now bytes) (Ok (delayed_or beginning.words Ready given))
-    checks_by before now bytes given by = grind arith
-
-    transmits_by : (before : History Q S M P) (now bytes : ℕ) (blocked : Bool) (given : Option ℕ)
-        → OnCall beginning Holds before now bytes given
-        → AtCalls beginning Holds before (Transmit now bytes true)
-        (Ok (cond blocked Blocked (delayed_or beginning.words Transmitted given)))
-    transmits_by before now bytes blocked given by = grind arith
-
     at_calls : (before : History Q S M P) (event : Event Q S M P) (reply : Reply Q) → Told beginning before event reply
         → ((now bytes : ℕ) → OnCall beginning Holds before now bytes (delay_there before now bytes))
         → AtCalls beginning Holds before event reply
     at_calls before (PacerCheck now bytes) (Ok answer) told holds =
-        let D : Answer Q → Type 0 = λ a. AtCalls beginning Holds before (PacerCheck now bytes) (Ok a) in
-        subst D (sym told) (checks_by before now bytes (delay_there before now bytes) (holds now bytes))
+        rw told (grind (arith, holds now bytes))
     at_calls before (PacerCheck now bytes) (Err refusal) told holds = tt
     at_calls before (Transmit now bytes true) (Ok answer) told holds =
-        let blocked = is_blocked (state_of (settings_of beginning) (pasts_of beginning before).current) bytes in
-        let D : Answer Q → Type 0 = λ a. AtCalls beginning Holds before (Transmit now bytes true) (Ok a) in
-        subst D (sym told.1) (transmits_by before now bytes blocked (delay_there before now bytes) (holds now bytes))
+        rw told.1 (grind (arith, holds now bytes))
     at_calls before (Transmit now bytes true) (Err refusal) told holds = tt
     at_calls before (Transmit now bytes false) reply told holds = tt
     at_calls before event reply told holds = tt
@@ -80,8 +64,7 @@ module _ {F K Q S M P : Type 0} (beginning : Beginning F K Q S M P) where
   paced : (Holds : History Q S M P → Event Q S M P → Reply Q → Type 0)
       → ((before : History Q S M P) (event : Event Q S M P) (reply : Reply Q) → Told beginning before event reply
       → HavePassedThere before → Holds before event reply)
-      → (events : List (Event Q S M P)) (replies : List (Reply Q)) → Throughout (Told beginning) events replies
-      → Throughout Holds events replies
+      → AllAlong beginning Holds
   paced Holds each events replies told =
       throughout_kept beginning HavePassedThere Holds passed_one each [] events replies told
       (passed_at_first (settings_of beginning) (first_path beginning))
@@ -94,30 +77,26 @@ module _ {F K Q S M P : Type 0} (beginning : Beginning F K Q S M P) where
   call before = pacer_call beginning.words (state_of (settings_of beginning) (pacing before))
 
   -- each call is answered by the balance
-  pub delayed : (events : List (Event Q S M P)) (replies : List (Reply Q)) → Throughout (Told beginning) events replies
-      → Throughout (DelaysByBalance beginning) events replies
+  pub delayed : AllAlong beginning (DelaysByBalance beginning)
   delayed = paced (DelaysByBalance beginning) (λ before event reply told passed.
       at_calls IsByBalance before event reply told (λ now bytes checked.
       delays_by (bucket_of (pacing before).making.pacer) (pacing before).pacing (call before now bytes) refl checked
       passed.0))
 
   -- after an event each pacer keeps its rate
-  pub rate : (events : List (Event Q S M P)) (replies : List (Reply Q)) → Throughout (Told beginning) events replies
-      → Throughout (KeepsPace beginning) events replies
+  pub rate : AllAlong beginning (KeepsPace beginning)
   rate = paced (KeepsPace beginning) (λ before event reply told passed.
       let after = passed_one before event reply told passed in
       (keeps_pace (pacing ((event, reply) ∷ before)) after.0, λ past is. keeps_pace past (after.1 past is)))
 
   -- what was delayed passes soon
-  pub soon : (events : List (Event Q S M P)) (replies : List (Reply Q)) → Throughout (Told beginning) events replies
-      → Throughout (PassesSoon beginning) events replies
+  pub soon : AllAlong beginning (PassesSoon beginning)
   soon = paced (PassesSoon beginning) (λ before event reply told passed.
       at_calls (λ past. PassesBehind (bucket_of past.making.pacer) past.pacing) before event reply told (λ now bytes.
       passes_behind (bucket_of (pacing before).making.pacer) (pacing before).pacing (call before now bytes)))
 
   -- and when it was named, where there is room
-  pub named : (events : List (Event Q S M P)) (replies : List (Reply Q)) → Throughout (Told beginning) events replies
-      → Throughout (PassesWhenNamed beginning) events replies
+  pub named : AllAlong beginning (PassesWhenNamed beginning)
   named = paced (PassesWhenNamed beginning) (λ before event reply told passed.
       at_calls (λ past. PassesAtMoment (bucket_of past.making.pacer) past.pacing) before event reply told (λ now bytes.
       passes_at_moment (bucket_of (pacing before).making.pacer) (pacing before).pacing (call before now bytes)))

@@ -1,22 +1,18 @@
 -- The paths that live, and the generation of each, are those that the history says. `RefusedLaws` and `CountedLaws`
 -- rest on it.
 use Rattle.std.proofs.Common.{◌≡◌, ◌+◌, ℕ, Bool, true, false, List, [], ◌∷◌, ◌++◌, Option, None, Some, Ok, Err, refl, ap, ◌∙◌}
-use Rattle.std.proofs.lemmas.Bool.{false≢true}
 use Rattle.std.specs.Prelude.{option_map}
-use Rattle.std.specs.declared.net.socket_addr.SocketAddr.{SocketAddr}
 use Rattle.recovery_paths.specs.declared.live_paths.PathName.{PathName}
 use Rattle.recovery_paths.specs.declared.live_paths.PathName.TheVariants.{Current, Previous}
 use Rattle.recovery_paths.specs.PathLog.{OfPaths, PathEntry, PathsEntry, PathPast, each_path, path_of, pasts_by, past_with, on, receives, moves, drops_previous, known_of}
 use Rattle.recovery_paths.specs.PathMaking.{PathMaking, PathSettings}
 use Rattle.recovery_events.specs.declared.event.Event.{Event}
 use Rattle.recovery_events.specs.declared.event.Event.TheVariants.{NewPath, DropPrevious}
-use Rattle.recovery_events.specs.declared.event.Answer.{Answer}
-use Rattle.recovery_events.specs.declared.event.Refusal.{Refusal}
-use Rattle.quic_recovery.specs.Entries.{Entries, answered, entries_of, following, logs_of, pasts_of}
+use Rattle.quic_recovery.specs.Entries.{Entries, entries_of, following, logs_of, pasts_of}
 use Rattle.quic_recovery.specs.History.{Beginning, History, QueueMeaning, Reply}
 use Rattle.quic_recovery.specs.Known.{Known, known_by, first_path, settings_of}
 use Rattle.quic_recovery.specs.Promises.Paths.{paths_made, generation_of}
-use Rattle.quic_recovery.proofs.EntryKinds.{PathKind, moving, dropping, path_kind, is_by, paths_kept, refused_keeps}
+use Rattle.quic_recovery.proofs.EntryKinds.{PathKind, moving, dropping, path_kind, paths_kept, refused_keeps}
 
 abbrev both : ℕ → Option ℕ → OfPaths ℕ
 both current previous = record { current = current; previous = previous }
@@ -38,25 +34,22 @@ module _ {K : Type 0} (settings : PathSettings K) (first : PathMaking K) where
   entry_stays (receives bytes) past = refl
   entry_stays entry past = refl
 
-  previous_stays : (entry : PathEntry) (previous : Option (PathPast K))
-      → option_map (λ past. past.generation) (option_map (past_with settings entry) previous)
-      ≡ option_map (λ past. past.generation) previous
-  previous_stays entry None = refl
-  previous_stays entry (Some past) = ap (λ (n : ℕ). Some n) (entry_stays entry past)
-
   on_stays : (name : PathName) (entry : PathEntry) (log : List PathsEntry)
       → generations (on name entry ∷ log) ≡ generations log
-  on_stays Current entry log =
-      ap (λ (n : ℕ). both n (generations log).previous) (entry_stays entry (pasts_by settings first log).current)
+  on_stays Current entry log = rw (entry_stays entry (pasts_by settings first log).current) refl
   on_stays Previous entry log =
-      ap (λ (n : Option ℕ). both (generations log).current n)
-      (previous_stays entry (pasts_by settings first log).previous)
+      ap (λ (n : Option ℕ). both (generations log).current n) (go (pasts_by settings first log).previous)
+    where
+      go : (previous : Option (PathPast K)) → option_map (λ past. past.generation) (option_map (past_with settings entry)
+          previous) ≡ option_map (λ past. past.generation) previous
+      go None = refl
+      go (Some past) = rw (entry_stays entry past) refl
 
   one_stays : (entry : PathsEntry) → stays_there (path_kind entry) ≡ true → (log : List PathsEntry)
       → generations (entry ∷ log) ≡ generations log
   one_stays (on name entry) is log = on_stays name entry log
-  one_stays (moves following) is log = absurd (false≢true is)
-  one_stays drops_previous is log = absurd (false≢true is)
+  one_stays (moves following) is log = absurd cc
+  one_stays drops_previous is log = absurd cc
 
 -- ---- what an event does to the generations
 
@@ -67,37 +60,20 @@ made_by history = both (paths_made history) (generation_of Previous history)
 module _ {K Q S M P : Type 0} (q : QueueMeaning Q S M P) (settings : PathSettings K) (first : PathMaking K)
     (known : Known K P M)
     (earlier : History Q S M P) (log : List PathsEntry) (same : generations settings first log ≡ made_by earlier) where
-  kept : (event : Event Q S M P) (answer : Answer Q) → is_by stays_there event ≡ true
-      → generations settings first ((answered q known event answer).paths ++ log) ≡ made_by earlier
-  kept event answer is =
-      paths_kept q known (λ entries. generations settings first (entries ++ log) ≡ made_by earlier) stays_there same
-      (λ entry entries stays made. one_stays settings first entry stays (entries ++ log) ∙ made) event (Ok answer) is
-
-  moved : (now : ℕ) (remote : SocketAddr) (is_fresh : Bool)
-      → generations settings first (moves (following known now remote is_fresh) ∷ log)
-      ≡ both (paths_made earlier + 1) (Some (paths_made earlier))
-  moved now remote true = ap (λ (g : OfPaths ℕ). both (g.current + 1) (Some g.current)) same
-  moved now remote false = ap (λ (g : OfPaths ℕ). both (g.current + 1) (Some g.current)) same
-
-  answer_makes : (event : Event Q S M P) (answer : Answer Q)
-      → generations settings first ((answered q known event answer).paths ++ log)
-      ≡ made_by ((event, Ok answer) ∷ earlier)
-  answer_makes (NewPath now remote is_fresh) answer = moved now remote is_fresh
-  answer_makes DropPrevious answer = ap (λ (g : OfPaths ℕ). both g.current None) same
-  answer_makes event answer = kept event answer refl
-
-  refusal_makes : (event : Event Q S M P) (refusal : Refusal)
-      → generations settings first log ≡ made_by ((event, Err refusal) ∷ earlier)
-  refusal_makes (NewPath now remote is_fresh) refusal = same
-  refusal_makes event refusal = same
-
   reply_makes : (event : Event Q S M P) (reply : Reply Q)
       → generations settings first ((entries_of q known event reply).paths ++ log) ≡ made_by ((event, reply) ∷ earlier)
-  reply_makes event (Ok answer) = answer_makes event answer
+  reply_makes (NewPath now remote true) (Ok answer) =
+      ap (λ (g : OfPaths ℕ). both (g.current + 1) (Some g.current)) same
+  reply_makes (NewPath now remote false) (Ok answer) =
+      ap (λ (g : OfPaths ℕ). both (g.current + 1) (Some g.current)) same
+  reply_makes DropPrevious (Ok answer) = ap (λ (g : OfPaths ℕ). both g.current None) same
+  reply_makes event (Ok answer) =
+      paths_kept q known (λ entries. generations settings first (entries ++ log) ≡ made_by earlier) stays_there same
+      (λ entry entries stays made. one_stays settings first entry stays (entries ++ log) ∙ made) event (Ok answer) refl
+  reply_makes (NewPath now remote is_fresh) (Err refusal) = same
   reply_makes event (Err refusal) =
       refused_keeps event refusal
-      (λ (e : Entries P M). generations settings first (e.paths ++ log) ≡ made_by ((event, Err refusal) ∷ earlier))
-      (refusal_makes event refusal)
+      (λ (e : Entries P M). generations settings first (e.paths ++ log) ≡ made_by earlier) same
 
 module _ {F K Q S M P : Type 0} (beginning : Beginning F K Q S M P) where
   all_made : (history : History Q S M P) → generations (settings_of beginning) (first_path beginning)

@@ -1,6 +1,6 @@
 -- What an event does to the paths that live, and to the search on the one in use, is a step of them. The calls
 -- `poll_mtu` and `discard` rest on it.
-use Rattle.std.proofs.Common.{◌≡◌, ℕ, ◌≤◌, ◌^◌, arith, ap, ap₂, ◌∙◌, refl, sym, subst, Bool, true, false, MatchBool, [], ◌∷◌, Option, None, Some, option_map, Ok, Err}
+use Rattle.std.proofs.Common.{◌≡◌, ℕ, ◌≤◌, ◌^◌, arith, ap, ◌∙◌, refl, sym, subst, Bool, true, false, MatchBool, [], ◌∷◌, Option, None, Some, Ok, Err}
 use Rattle.recovery_base.specs.declared.below.SpaceId.{SpaceId}
 use Rattle.recovery_base.specs.declared.below.SpaceId.TheVariants.{Data}
 use Rattle.recovery_ledger.specs.declared.discarded.DiscardedSpaces.{DiscardedSpaces}
@@ -47,18 +47,14 @@ module _ {K P M : Type 0} (packets : Packets P M) where
   known_without : (path : Path K) → path_known (on_ledger (ledger_without packets) path) ≡ path_known path
   known_without path = ap (λ g. record { generation = g; state = path.state }) (generation_without packets path.ledger)
 
-  -- the same of a path that may live
-  previous_without : (path : Option (Path K))
-      → option_map path_known (option_map (on_ledger (ledger_without packets)) path) ≡ option_map path_known path
-  previous_without None = refl
-  previous_without (Some path) = ap (λ known. Some known) (known_without path)
-
   -- what is known of all paths stays
   pub paths_known_without : (paths : OfPaths (Path K)) → paths_known (paths_without packets paths) ≡ paths_known paths
-  paths_known_without paths =
-      let both : PathKnown K → Option (PathKnown K) → OfPaths (PathKnown K) =
-      λ current previous. record { current = current; previous = previous } in
-      ap₂ both (known_without paths.current) (previous_without paths.previous)
+  paths_known_without paths = go paths.previous
+    where
+      go : (other : Option (Path K)) → let old : OfPaths (Path K) = record { current = paths.current; previous = other } in
+          paths_known (paths_without packets old) ≡ paths_known old
+      go None = rw (known_without paths.current) refl
+      go (Some path) = rw (known_without paths.current, known_without path) refl
 
 -- ---- a space is discarded
 
@@ -122,7 +118,7 @@ module _ {K Q S M P : Type 0} (q : QueueMeaning Q S M P) (old then : Parts K P M
   nothing_carried = (q.words.empty, q.blank)
 
   carries_nothing : (q.contents queue, frames) ≡ nothing_carried
-  carries_nothing = ap₂ (λ (p : P) (m : M). (p, m)) empty blank
+  carries_nothing = cc
 
   abbrev Over : P × M → Type 0
   Over carried = Overflows (current_in_flight known) (probe_of carried)
@@ -162,7 +158,6 @@ module _ {K Q S M P : Type 0} (q : QueueMeaning Q S M P) (old then : Parts K P M
       let Sending : P × M → Type 0 =
       λ carried. Steps q.words (sending known Data now size true None carried.0 carried.1) old then in
       let steps = subst Sending carries_nothing sent.steps in
-      let fits = sent.told.1.1.1 in
       let told : OfPaths (PathKnown K) = paths_after (known_with old.settings) (known_following old.settings)
       (on_current (tells (sent_call known Data now size)) ∷ []) (paths_known old.paths) in
       let seen : Discovery → OfPaths (PathKnown K) → OfPaths (PathKnown K) = λ found all. record all
@@ -173,7 +168,7 @@ module _ {K Q S M P : Type 0} (q : QueueMeaning Q S M P) (old then : Parts K P M
           (
             sent.told.1.1.0,
             subst Out (sym due) (
-              subst Fitting carries_nothing fits.0,
+              subst Fitting carries_nothing sent.told.1.1.1.0,
               ap (λ n. Probe n size) is,
             ),
           ),

@@ -24,7 +24,7 @@ use Rattle.quic_recovery.specs.Replies.{AlwaysAnswers, Refuses}
 use Rattle.quic_recovery.specs.Told.{Told}
 use Rattle.quic_recovery.specs.Promises.GivenIds.{id_under, retired_below, least_from, active_id}
 use Rattle.quic_recovery.specs.Promises.PeerIds.{AcceptsIds, frame_reply, moved, repeats}
-use Rattle.quic_recovery.proofs.Runs.{throughout_kept}
+use Rattle.quic_recovery.proofs.Runs.{AllAlong, throughout_kept}
 use Rattle.quic_recovery.proofs.EntryKinds.{plainly_keeps, refused_keeps}
 use Rattle.quic_recovery.proofs.ReplyLaws.{refused_by}
 use Rattle.quic_recovery.proofs.TableLaws.{only_refusal}
@@ -336,9 +336,7 @@ module _ {F K Q S M P : Type 0} (beginning : Beginning F K Q S M P) where
     accepts_told event reply told = tt
 
   -- throughout a run
-  pub accepts_ids : (events : List (Event Q S M P)) (replies : List (Reply Q))
-      → Throughout (Told beginning) events replies
-      → Throughout (AcceptsIds initial_id) events replies
+  pub accepts_ids : AllAlong beginning (AcceptsIds initial_id)
   accepts_ids events replies told =
       throughout_kept beginning HoldsIds (AcceptsIds initial_id)
       (λ before event reply here same. keeps_ids before same event reply here)

@@ -1,5 +1,5 @@
 -- What probes, losses, queues and counts of ECN change leaves the balance of the paths. The calls for these rest on it.
-use Rattle.std.proofs.Common.{◌≡◌, ℕ, ◌≤◌, nat_le, Bool, false, ◌&&◌, IsTrue, Option, None, Some, Result, Ok, Err, OnOk, OnErr, refl, sym, ap, subst, arith}
+use Rattle.std.proofs.Common.{◌≡◌, ℕ, ◌≤◌, nat_le, Bool, false, ◌&&◌, IsTrue, Option, None, Some, Result, Ok, Err, OnOk, OnErr, refl, sym, ap, arith}
 use Rattle.std.proofs.lemmas.Bool.Decides.{nat_tests}
 use Rattle.std.specs.Option.{IsSomeAnd}
 use Rattle.std.specs.declared.ops.RangeInclusive.{RangeInclusive}
@@ -20,11 +20,11 @@ use Rattle.recovery_queue.specs.Queues.{QueueWords}
 use Rattle.recovery_skips.specs.Filters.{AcksSkip, range_holds}
 use Rattle.recovery_events.specs.declared.event.Event.{Event}
 use Rattle.recovery_events.specs.declared.event.Refusal.{Refusal}
-use Rattle.quic_recovery.specs.Entries.{Entries, nothing, refused}
+use Rattle.quic_recovery.specs.Entries.{nothing, refused}
 use Rattle.quic_recovery.specs.History.{QueueMeaning}
 use Rattle.quic_recovery.specs.Known.{Known}
 use Rattle.quic_recovery.specs.Parts.{Parts}
-use Rattle.quic_recovery.specs.State.{Changes, Steps, heard_to, known_to}
+use Rattle.quic_recovery.specs.State.{Changes, heard_to, known_to}
 use Rattle.quic_recovery.specs.Told.{ToldBy, skipped_in}
 use Rattle.quic_recovery.proofs.AboveLaws.{marks_refused}
 use Rattle.quic_recovery.proofs.DriverLaws.{nothing_changes, with_same_space}
@@ -37,7 +37,7 @@ pub record Stays {P M : Type 0} (old new : Space P M) : Type 0 where
   pub dedup : new.dedup ≡ old.dedup
 
 pub stays_as : {P M : Type 0} (like old new : Space P M) → new ≡ like → Stays old like → Stays old new
-stays_as {P} {M} like old new same stays = let Holds : Space P M → Type 0 = Stays old in subst Holds (sym same) stays
+stays_as like old new same stays = rw same stays
 
 module _ {K P M : Type 0} (spaces : Spaces P M) (paths : OfPaths (Path K)) (balanced : AreBalanced spaces paths) where
   pub stays_balanced : (space : SpaceId) (here : Space P M) → Stays (space_of space spaces) here
@@ -54,20 +54,18 @@ module _ {K P M : Type 0} (spaces : Spaces P M) (paths : OfPaths (Path K)) (bala
       → OnOk result (SpaceStep words (probes immediate found) (space_of space spaces) here)
       → OnErr result (here ≡ space_of space spaces) → AreBalanced (with_space spaces space here) paths
   probe_balanced words space immediate found (Ok answer) here step same =
-      let Balanced : Space P M → Type 0 = λ there. AreBalanced (with_space spaces space there) paths in
-      subst Balanced (sym step) (probed spaces paths balanced words space immediate found)
+      rw step (probed spaces paths balanced words space immediate found)
   probe_balanced words space immediate found (Err error) here step same =
-      let Balanced : Spaces P M → Type 0 = λ all. AreBalanced all paths in
-      subst Balanced (sym (with_same_space spaces space here same)) balanced
+      rw (with_same_space spaces space here same) balanced
 
 -- counts of ECN are kept, or refused
 pub fed_back_stays : {P M S A B : Type 0} (words : QueueWords P S) (counts : EcnCounts) (result : Result A B)
     (old new : Space P M) → OnOk result (SpaceStep words (feeds_back counts) old new) → OnErr result (new ≡ old)
     → Stays old new
-fed_back_stays words counts (Ok answer) old new step same = stays_as (record old { ecn_feedback = counts }) old new step
-    (record { tracking = refl; next = refl; acks = refl; dedup = refl })
+fed_back_stays words counts (Ok answer) old new step same =
+    rw step (record { tracking = refl; next = refl; acks = refl; dedup = refl })
 fed_back_stays words counts (Err error) old new step same =
-    stays_as old old new same (record { tracking = refl; next = refl; acks = refl; dedup = refl })
+    rw same (record { tracking = refl; next = refl; acks = refl; dedup = refl })
 
 -- a refusal for which a space is put back as it was
 pub put_back : {K Q S M P : Type 0} (q : QueueMeaning Q S M P) (old : Parts K P M) (event : Event Q S M P)
@@ -79,10 +77,9 @@ put_back {K} {Q} {S} {M} {P} q old event refusal space there same is_nothing tol
     let new : Parts K P M = record old { spaces = with_space old.spaces space there } in
     let kept : new ≡ old =
     ap (λ (spaces : Spaces P M). record old { spaces = spaces }) (with_same_space old.spaces space there same) in
-    let Stepped : Entries P M → Type 0 = λ entries. Steps q.words entries old new in
     record {
       told = told;
-      steps = subst Stepped (sym is_nothing) (nothing_changes q.words old new kept);
+      steps = rw is_nothing (nothing_changes q.words old new kept);
       marks = sym (marks_refused event refusal (paths_marks old.paths));
       refused = kept;
     }

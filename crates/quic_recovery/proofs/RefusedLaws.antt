@@ -24,7 +24,7 @@ use Rattle.quic_recovery.specs.Told.{Told, EcnAnswer, InSpace, Is, LeaveReply, O
 use Rattle.quic_recovery.specs.Promises.Paths.{generation_of}
 use Rattle.quic_recovery.specs.Promises.Refused.{unless, in_space, RefusesRightly, first_cause}
 use Rattle.quic_recovery.specs.Promises.Tracked.{is_tracked}
-use Rattle.quic_recovery.proofs.Runs.{throughout_kept}
+use Rattle.quic_recovery.proofs.Runs.{AllAlong, throughout_kept}
 use Rattle.quic_recovery.proofs.NewNumbersLaws.{all_dropped}
 use Rattle.quic_recovery.proofs.PathLaws.{generation_told}
 use Rattle.quic_recovery.proofs.PeerIdsLaws.{HoldsIds, active_told, holds_first, keeps_ids}
@@ -193,9 +193,7 @@ module _ {F K Q S M P : Type 0} (beginning : Beginning F K Q S M P) where
     refused_told event reply told = by_name history event reply (names event reply told)
 
   -- throughout a run
-  pub refuses_rightly : (events : List (Event Q S M P)) (replies : List (Reply Q))
-      → Throughout (Told beginning) events replies
-      → Throughout RefusesRightly events replies
+  pub refuses_rightly : AllAlong beginning RefusesRightly
   refuses_rightly events replies told =
       throughout_kept beginning Stands RefusesRightly
       (λ before event reply here stands. record {

@@ -44,19 +44,15 @@ module _ (Missing : ℕ → Type 0) (decided : (n : ℕ) → Decided (Missing n)
   seek (suc count) = go (seek count) (decided (low + 1 + count))
     where
       go : Found (low + 1 + count) → Decided (Missing (low + 1 + count)) → Found (low + 1 + suc count)
-      go (inl first) last =
-          let below = first.1.1 in
-          let least = first.1.3 in
-          inl (
-            first.0,
-            (
-              first.1.0,
-              omega (arith, below),
-              first.1.2,
-              λ m above inside missing. grind
-                  (arith, below, least m above),
-            ),
-          )
+      go (inl first) last = inl (
+        first.0,
+        (
+          first.1.0,
+          omega (arith, first.1.1),
+          first.1.2,
+          λ m above inside missing. grind (arith, first.1.1, first.1.3 m above),
+        ),
+      )
       go (inr none) (inl last) =
           inl (low + 1 + count, (omega arith, omega arith, last, λ m above inside missing. grind (arith, none m above)))
       go (inr none) (inr other) = inr (λ m above inside missing. grind (arith, none m above))

@@ -1,6 +1,6 @@
 -- Searches for the MTU take few probes and end near the best size, throughout a run. The promises on searches by events
 -- alone (`FewLaws`, `NearLaws`, `TurnsLaws`, `MtuLaws`, `SizesLaws`) rest on it.
-use Rattle.std.proofs.Common.{ℕ, ◌≡◌, ◌<◌, ◌^◌, Bool, true, false, ◌&&◌, if◌then◌else◌, List, [], ◌∷◌, Option, None, Some, Ok, Err, refl, sym, ap, subst, ◌∙◌}
+use Rattle.std.proofs.Common.{arith, ℕ, ◌≡◌, ◌<◌, ◌^◌, Bool, true, false, ◌&&◌, if◌then◌else◌, List, [], ◌∷◌, Option, None, Some, Ok, Err, refl, sym, ap, ◌∙◌}
 use Rattle.std.specs.Prelude.{IsSomeAnd}
 use Rattle.std.specs.Option.{ForSome}
 use Rattle.std.specs.contracts.option.Option.{the_type}
@@ -33,32 +33,25 @@ use Rattle.quic_recovery.specs.Told.{Told, MtuProbeReply}
 use Rattle.quic_recovery.proofs.SearchSaid.{EndsNear, LimitsOutside, ProbesInTurn, TellsProbes, entered_so_far, entries_on, is_in_flight}
 use Rattle.quic_recovery.proofs.AmplificationLaws.{is_allowed}
 
-not_true : (b : Bool) → (¬ (b ≡ true)) → b ≡ false
-not_true true is_not = absurd (is_not refl)
-not_true false is_not = refl
-
-some_same : {A : Type 0} {a b : A} → Some a ≡ Some b → a ≡ b
-some_same e = cc
-
 -- an upper bound is a `u16`
 pub bound_in : (o : Option MtuDiscoveryConfig) (values : List Val) → Is (row (the_type the_row)) o values
     → ForSome o (λ settings. settings.upper_bound < 2 ^ 16)
-bound_in None values is = λ settings none. absurd (cc)
+bound_in None values is = λ settings none. absurd cc
 bound_in (Some own) values is =
-    λ settings some. subst (λ (s : MtuDiscoveryConfig). s.upper_bound < 2 ^ 16) (some_same some) (search (is))
+    λ settings some. let same : own ≡ settings = cc in rw (← same) (search (is))
 
 -- what holds of the settings holds where they are used
 pub where_allowed : {A : Type 0} (P : A → Type 0) (allowed : Bool) (o : Option A) → ForSome o P
     → ForSome (if allowed then o else None) P
 where_allowed P true o holds = holds
-where_allowed P false o holds = λ x is. absurd (cc)
+where_allowed P false o holds = λ x is. absurd cc
 
 module _ {K Q S M P : Type 0} (q : QueueMeaning Q S M P) (known : Known K P M) (now : ℕ) where
   -- a poll that gives none is not answered by a probe
   unanswered : {A : Type 0} (answer : Option ℕ) (number size : ℕ) → answer ≡ None
       → MtuProbeReply q known now answer (Ok (Probe number size)) → A
-  unanswered None number size none told = absurd (cc)
-  unanswered (Some own) number size none told = absurd (cc)
+  unanswered None number size none told = absurd cc
+  unanswered (Some own) number size none told = absurd cc
 
 module _ {K Q S M P : Type 0} (q : QueueMeaning Q S M P) (known : Known K P M) (settings : MtuDiscoveryConfig)
     (now next : ℕ) (earlier : List MtuEntry) where
@@ -66,7 +59,7 @@ module _ {K Q S M P : Type 0} (q : QueueMeaning Q S M P) (known : Known K P M) (
   probe_out : (answer : Option ℕ) (number size : ℕ) → MtuProbeReply q known now answer (Ok (Probe number size))
       → ProbesInSearch settings (poll_entry now next answer ∷ earlier)
       → ProbesInSearch settings (probed now number size ∷ earlier)
-  probe_out None number size told inside = absurd (cc)
+  probe_out None number size told inside = absurd cc
   probe_out (Some own) number size told inside = inside
 
   -- a poll that is answered by no probe gives none
@@ -74,7 +67,7 @@ module _ {K Q S M P : Type 0} (q : QueueMeaning Q S M P) (known : Known K P M) (
       → EndsNearBest made settings (poll_entry now next answer ∷ earlier)
       → EndsNearBest made settings (unprobed now ∷ earlier)
   none_out made None told near = near
-  none_out made (Some own) told near = let is = told.1 in absurd (cc)
+  none_out made (Some own) told near = let is = told.1 in absurd cc
 
 module _ {F K Q S M P : Type 0} (beginning : Beginning F K Q S M P) where
   -- a path is searched by the settings of the run
@@ -167,7 +160,7 @@ module _ {F K Q S M P : Type 0} (beginning : Beginning F K Q S M P) where
       sym (search_runs_by past.making.discovery searched.0.untold past.searched) ∙ told.1
   limits_one before (PeerLimit size) (Ok given) told searched =
       let past = (pasts_of beginning before).current in
-      sym (search_runs_by past.making.discovery searched.0.untold past.searched) ∙ not_true _ told.1.0
+      grind (arith, told.1.0, search_runs_by past.making.discovery searched.0.untold past.searched)
   limits_one before event reply told searched = tt
 
   -- the packet that is a probe by the state is the one in flight by the entries

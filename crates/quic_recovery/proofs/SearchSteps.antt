@@ -1,6 +1,6 @@
 -- What an event is to the search on the path in use, for what is read off the history: one step of its entries. The
 -- promises on searches by events alone rest on it.
-use Rattle.std.proofs.Common.{ℕ, ◌≡◌, Bool, true, false, if◌then◌else◌, List, [], ◌∷◌, ◌++◌, Option, None, Some, Ok, Err, refl, sym, ap, subst, ◌∙◌, is_some}
+use Rattle.std.proofs.Common.{arith, ℕ, ◌≡◌, Bool, true, false, if◌then◌else◌, List, [], ◌∷◌, Option, None, Some, Ok, Err, refl, is_some}
 use Rattle.recovery_base.specs.declared.below.SpaceId.TheVariants.{Data}
 use Rattle.recovery_ledger.specs.Packets.{Packet}
 use Rattle.recovery_mtud.specs.Discovery.{reports}
@@ -8,13 +8,13 @@ use Rattle.recovery_mtud.specs.MtuEntries.{MtuEntry, probed, unprobed, limited, 
 use Rattle.recovery_mtud.specs.SearchRuns.{search_runs}
 use Rattle.recovery_events.specs.declared.event.Event.{Event}
 use Rattle.recovery_events.specs.declared.event.Event.TheVariants.{PollMtu, Acked, Lost, LossesDone, PeerLimit, ResetPath, NewPath}
-use Rattle.recovery_events.specs.declared.event.Answer.{Answer}
 use Rattle.recovery_events.specs.declared.event.Answer.TheVariants as answer
 use Rattle.quic_recovery.specs.Entries.{logs_of}
-use Rattle.quic_recovery.specs.History.{Beginning, History, Reply, Throughout, ThroughoutFrom}
+use Rattle.quic_recovery.specs.History.{Beginning, History, Reply, ThroughoutFrom}
 use Rattle.quic_recovery.specs.Known.{known_by, settings_of}
 use Rattle.quic_recovery.specs.Told.{Told}
-use Rattle.quic_recovery.proofs.SearchSaid.{EntersAsTold, LimitsOutside, TellsProbes, data_packet, entered, entered_so_far, of_packet}
+use Rattle.quic_recovery.proofs.Runs.{AllAlong, throughout_by}
+use Rattle.quic_recovery.proofs.SearchSaid.{EntersAsTold, LimitsOutside, TellsProbes, data_packet, entered_so_far}
 use Rattle.quic_recovery.proofs.EnteredLaws.{entries_told}
 use Rattle.quic_recovery.proofs.SearchLaws.{AreSearched, first_is, limits_one, searched_one, tells_one}
 
@@ -30,22 +30,6 @@ module _ {Q S M P : Type 0} (A B : History Q S M P → Event Q S M P → Reply Q
       ((all.0, others.0), throughout_both ((event, reply) ∷ before) events replies all.1 others.1)
   throughout_both before events replies all others = absurd all
 
--- what is kept by each event of which that holds holds before and after each
-module _ {Q S M P : Type 0} (A Holds : History Q S M P → Event Q S M P → Reply Q → Type 0)
-    (Kept : History Q S M P → Type 0)
-    (keeps : (before : History Q S M P) (event : Event Q S M P) (reply : Reply Q) → A before event reply → Kept before
-    → Kept ((event, reply) ∷ before))
-    (holds : (before : History Q S M P) (event : Event Q S M P) (reply : Reply Q) → A before event reply → Kept before
-    → Kept ((event, reply) ∷ before)
-    → Holds before event reply) where
-  pub throughout_by : (before : History Q S M P) (events : List (Event Q S M P)) (replies : List (Reply Q))
-      → ThroughoutFrom A before events replies → Kept before → ThroughoutFrom Holds before events replies
-  throughout_by before [] [] all kept = tt
-  throughout_by before (event ∷ events) (reply ∷ replies) all kept =
-      let after = keeps before event reply all.0 kept in
-      (holds before event reply all.0 kept after, throughout_by ((event, reply) ∷ before) events replies all.1 after)
-  throughout_by before events replies all kept = absurd all
-
 -- ---- what is known of an event and its reply
 
 pub record Facts {F K Q S M P : Type 0} (beginning : Beginning F K Q S M P) (history : History Q S M P)
@@ -58,28 +42,19 @@ pub record Facts {F K Q S M P : Type 0} (beginning : Beginning F K Q S M P) (his
   pub outside : LimitsOutside beginning history event reply
 
 module _ {F K Q S M P : Type 0} (beginning : Beginning F K Q S M P) where
-  facts_from : (before : History Q S M P) (events : List (Event Q S M P)) (replies : List (Reply Q))
-      → ThroughoutFrom (Told beginning) before events replies
-      → ThroughoutFrom (EntersAsTold beginning) before events replies → AreSearched beginning before
-      → ThroughoutFrom (Facts beginning) before events replies
-  facts_from before [] [] told enters searched = tt
-  facts_from before (event ∷ events) (reply ∷ replies) told enters searched = (
-    record {
-      told = told.0;
-      entered = enters.0;
-      searched = searched;
-      tells = tells_one beginning before event reply told.0 searched;
-      outside = limits_one beginning before event reply told.0 searched;
-    },
-    facts_from ((event, reply) ∷ before) events replies told.1 enters.1
-        (searched_one beginning before event reply told.0 searched),
-  )
-  facts_from before events replies told enters searched = absurd told
-
-  pub facts : (events : List (Event Q S M P)) (replies : List (Reply Q)) → Throughout (Told beginning) events replies
-      → Throughout (Facts beginning) events replies
+  pub facts : AllAlong beginning (Facts beginning)
   facts events replies told =
-      facts_from [] events replies told (entries_told beginning events replies told) (first_is beginning)
+      throughout_by _ (Facts beginning) (AreSearched beginning)
+      (λ before event reply here searched. searched_one beginning before event reply here.0 searched)
+      (λ before event reply here searched after. record {
+        told = here.0;
+        entered = here.1;
+        searched = searched;
+        tells = tells_one beginning before event reply here.0 searched;
+        outside = limits_one beginning before event reply here.0 searched;
+      }) [] events replies
+      (throughout_both (Told beginning) (EntersAsTold beginning) [] events replies told
+      (entries_told beginning events replies told)) (first_is beginning)
 
 -- ---- events whose answer says what they are
 
@@ -130,8 +105,7 @@ module _ {F K Q S M P : Type 0} (beginning : Beginning F K Q S M P) (history : H
 
   turned : {reply other : Reply Q} {after entries : List MtuEntry} → reply ≡ other → after ≡ entries → G other entries
       → G reply after
-  turned {other = other} {after = after} same is holds =
-      subst (λ r. G r after) (sym same) (subst (G other) (sym is) holds)
+  turned same is holds = rw (same, is) holds
 
   -- so it holds
   pub stepped : (event : Event Q S M P) (reply : Reply Q) → Facts beginning history event reply → Shows event reply
@@ -141,25 +115,19 @@ module _ {F K Q S M P : Type 0} (beginning : Beginning F K Q S M P) (history : H
   stepped (PeerLimit size) (Ok given) known step = turned refl known.entered (step known.outside)
   stepped (Acked Data now number app_limited) (Ok given) known step =
       let found = found_packet (data_packet beginning history number) known.told.1.0 in
-      turned (ap (λ (g : Answer Q). Ok g) known.tells)
-      (known.entered ∙ ap (λ (packet : Option (Packet P M)). of_packet (acked number) packet ++ before) found.1)
-      (step found.0.size (sizes number found.0 found.1))
+      grind (arith, known.tells, known.entered, found.1, step found.0.size (sizes number found.0 found.1))
   stepped (Lost Data number) (Ok given) known step =
       let found = found_packet (data_packet beginning history number) known.told.1.0 in
-      let probe = is_probed before number in
-      let entry : ℕ → MtuEntry = λ bytes. if probe then probe_lost else lost number bytes in
-      turned (ap (λ (g : Answer Q). Ok g) known.tells)
-      (known.entered ∙ ap (λ (g : Answer Q). entered beginning history (Lost Data number) g ++ before) known.tells
-      ∙ ap (λ (packet : Option (Packet P M)). of_packet entry packet ++ before) found.1)
-      (step found.0.size (sizes number found.0 found.1))
+      grind (arith, known.tells, known.entered, found.1, step found.0.size (sizes number found.0 found.1))
   stepped (LossesDone now) (Ok given) known step =
-      turned (ap (λ (g : Answer Q). Ok g) known.told)
-      (known.entered ∙ ap (λ (g : Answer Q). entered beginning history (LossesDone now) g ++ before) known.told)
-      (step (reports (known_by beginning (logs_of beginning history)).paths.current.state.discovery))
-  stepped (Acked there now number app_limited) (Ok given) known step =
-      turned (ap (λ (g : Answer Q). Ok g) known.tells) known.entered step
-  stepped (Lost there number) (Ok given) known step =
-      turned (ap (λ (g : Answer Q). Ok g) known.tells) known.entered step
+      grind (
+        arith,
+        known.told,
+        known.entered,
+        step (reports (known_by beginning (logs_of beginning history)).paths.current.state.discovery),
+      )
+  stepped (Acked there now number app_limited) (Ok given) known step = grind (arith, known.tells, known.entered, step)
+  stepped (Lost there number) (Ok given) known step = grind (arith, known.tells, known.entered, step)
   stepped (NewPath now remote true) (Ok given) known step = turned refl known.entered step
   stepped event (Ok given) known step = turned refl known.entered step
   stepped event (Err refusal) known step = turned refl known.entered step

@@ -1,15 +1,12 @@
 -- What is seen of the paths and is not changed by what happens on one of them stays through every event but those that
 -- make a path or drop one. `MadeLaws` and `MtuLaws` rest on it.
 use Rattle.std.proofs.Common.{ℕ, ◌≡◌, Bool, true, false, List, ◌∷◌, ◌++◌, Ok, Err, refl, ◌∙◌}
-use Rattle.std.proofs.lemmas.Bool.{false≢true}
 use Rattle.recovery_paths.specs.PathMaking.{PathMaking, PathSettings}
 use Rattle.recovery_paths.specs.PathLog.{OfPaths, PathEntry, PathPast, PathsEntry, on, moves, drops_previous, is_validated, on_path_of, past_with, pasts_by, receives}
 use Rattle.recovery_paths.specs.declared.live_paths.PathName.{PathName}
 use Rattle.recovery_paths.specs.declared.live_paths.PathName.TheVariants.{Current, Previous}
 use Rattle.recovery_events.specs.declared.event.Event.{Event}
 use Rattle.recovery_events.specs.declared.event.Event.TheVariants.{NewPath, DropPrevious}
-use Rattle.recovery_events.specs.declared.event.Answer.{Answer}
-use Rattle.recovery_events.specs.declared.event.Refusal.{Refusal}
 use Rattle.quic_recovery.specs.Entries.{Entries, logs_of, pasts_of}
 use Rattle.quic_recovery.specs.History.{Beginning, History, Reply}
 use Rattle.quic_recovery.specs.Known.{Known, first_path, known_by, settings_of}
@@ -40,9 +37,9 @@ module _ {K A : Type 0} (settings : PathSettings K) (first : PathMaking K) (see 
   one_seen (on Current entry) log is = still entry (pasts_by settings first log)
   one_seen (on Previous (receives bytes)) log is = (still_on Previous (pasts_by settings first log)).0 bytes
   one_seen (on Previous is_validated) log is = (still_on Previous (pasts_by settings first log)).1
-  one_seen (on Previous entry) log is = absurd (false≢true is)
-  one_seen (moves following) log is = absurd (false≢true is)
-  one_seen drops_previous log is = absurd (false≢true is)
+  one_seen (on Previous entry) log is = absurd cc
+  one_seen (moves following) log is = absurd cc
+  one_seen drops_previous log is = absurd cc
 
 module _ {F K Q S M P A : Type 0} (beginning : Beginning F K Q S M P) (see : OfPaths (PathPast K) → A)
     (still : IsStill (settings_of beginning) see) (still_on : IsStillOn (settings_of beginning) see)
@@ -59,23 +56,17 @@ module _ {F K Q S M P A : Type 0} (beginning : Beginning F K Q S M P) (see : OfP
   Stays DropPrevious (Ok given) = Unit {0}
   Stays event reply = see (pasts_of beginning ((event, reply) ∷ past)) ≡ see (pasts_of beginning past)
 
-  answered_seen : (event : Event Q S M P) (given : Answer Q) → Stays event (Ok given)
-  answered_seen (NewPath now remote is_fresh) given = tt
-  answered_seen DropPrevious given = tt
-  answered_seen event given =
+  pub stays_seen : (event : Event Q S M P) (reply : Reply Q) → Stays event reply
+  stays_seen (NewPath now remote is_fresh) (Ok given) = tt
+  stays_seen DropPrevious (Ok given) = tt
+  stays_seen event (Ok given) =
       let settings = settings_of beginning in
       let first = first_path beginning in
       paths_kept beginning.queue known
       (λ entries. see (pasts_by settings first (entries ++ log)) ≡ see (pasts_of beginning past)) stays_there refl
       (λ entry entries is kept. one_seen settings first see still still_on entry (entries ++ log) is ∙ kept) event
       (Ok given) refl
-
-  refused_seen : (event : Event Q S M P) (refusal : Refusal) → Stays event (Err refusal)
-  refused_seen (NewPath now remote is_fresh) refusal = refl
-  refused_seen event refusal =
+  stays_seen (NewPath now remote is_fresh) (Err refusal) = refl
+  stays_seen event (Err refusal) =
       refused_keeps event refusal (λ (e : Entries P M). see (pasts_by (settings_of beginning) (first_path beginning)
       (e.paths ++ log)) ≡ see (pasts_of beginning past)) refl
-
-  pub stays_seen : (event : Event Q S M P) (reply : Reply Q) → Stays event reply
-  stays_seen event (Ok given) = answered_seen event given
-  stays_seen event (Err refusal) = refused_seen event refusal

@@ -7,7 +7,7 @@ use Rattle.recovery_ledger.specs.Discarded.{is_discarded}
 use Rattle.recovery_ledger.specs.InFlight.{Overflows}
 use Rattle.recovery_ledger.specs.Packets.{Packet, entry_number, forgotten_entry, IsTooLarge}
 use Rattle.recovery_ledger.specs.Paths.{generation_of, counters_of, after_forgetting}
-use Rattle.recovery_ledger.specs.Spaces.{Space, Spaces, space_of, with_space, tracking_of, packets_of, next_number_of, space_sends, HasGreatestCome}
+use Rattle.recovery_ledger.specs.Spaces.{Space, Spaces, space_of, with_space, tracking_of, packets_of, next_number_of, space_sends}
 use Rattle.recovery_ledger.specs.Tracked.{packet_sent}
 use Rattle.recovery_ledger.specs.declared.paths.InFlight.{InFlight}
 use Rattle.recovery_ledger.proofs.LedgerLaws.{generation_after_forgetting, generation_after_sending}
@@ -40,18 +40,15 @@ module _ {K P M : Type 0} (spaces : Spaces P M) (paths : OfPaths (Path K)) (bala
     (space : SpaceId) (number : ℕ) (packet : Packet P M) (own : packet.path_generation
     ≡ generation_of paths.current.ledger) (above : next_number_of (space_of space spaces) ≤ number) where
   pub can_track_here : (here : Space P M) → here ≡ space_of space spaces → CanTrackOn paths number packet here
-  can_track_here here same = let Can : Space P M → Type 0 = CanTrackOn paths number packet in subst Can (sym same)
-      (can_track spaces paths balanced space number packet own above)
+  can_track_here here same = rw same (can_track spaces paths balanced space number packet own above)
 
   pub sent_balanced : (here : Space P M) (then : OfPaths (Path K)) → (¬ IsTooLarge packet.largest_acked)
       → here ≡ space_sends number packet (space_of space spaces)
       → then ≡ paths_after_sending packet (forgotten_entry packet (tracking_of (space_of space spaces))) paths
       → AreBalanced (with_space spaces space here) then
   sent_balanced here then small is counts =
-      let Come : Space P M → Type 0 = HasGreatestCome in
-      let Balanced : OfPaths (Path K) → Type 0 = AreBalanced (with_space spaces space here) in
-      subst Balanced (sym counts) (paths_balanced_sent spaces paths balanced space number packet here own above small
-      (ap tracking_of is) (ap next_number_of is) (subst Come (sym is) (balanced.coherent space).received))
+      rw counts (paths_balanced_sent spaces paths balanced space number packet here own above small
+      (ap tracking_of is) (ap next_number_of is) (rw is (balanced.coherent space).received))
 
 -- what is known of the paths then: the controller was told
 module _ {K P M : Type 0} (packet : Packet P M) (there : Space P M) (change : PathState K → PathState K)
@@ -108,45 +105,19 @@ module _ {K Q S M P : Type 0} (q : QueueMeaning Q S M P) (old : Parts K P M)
       → Changes q old (Send space now size ack_eliciting largest_acked queue frames) (Ok (Sent number forgotten))
       (record old { spaces = with_space old.spaces space there; skipping = skipping; paths = paths })
   send_changes generation number there skipping paths forgotten own is left fits gone sends draws tells =
-      let Reached : ℕ → Type 0 = λ g.
-      (¬ Overflows (counters_of old.paths.current.ledger) (packet_at_generation g)) → forgotten
-      ≡ entry_number (forgotten_entry (packet_at_generation g) (tracking_of here_then))
-      → there ≡ space_sends number (packet_at_generation g) here_then
-      → paths ≡ paths_telling (packet_at_generation g) here_then
-      (after_telling old.settings.words (sends_bytes now size number)) old.paths
-      → Changes q old (Send space now size ack_eliciting largest_acked queue frames) (Ok (Sent number forgotten))
-      (record old { spaces = with_space old.spaces space there; skipping = skipping; paths = paths }) in
-      subst Reached (sym own) by_own fits gone sends tells
-    where
-      by_own : (¬ Overflows (counters_of old.paths.current.ledger)
-          (packet_at_generation (generation_of old.paths.current.ledger))) → forgotten
-          ≡ entry_number (forgotten_entry (packet_at_generation (generation_of old.paths.current.ledger))
-          (tracking_of here_then))
-          → there ≡ space_sends number (packet_at_generation (generation_of old.paths.current.ledger)) here_then
-          → paths ≡ paths_telling (packet_at_generation (generation_of old.paths.current.ledger)) here_then
-          (after_telling old.settings.words (sends_bytes now size number)) old.paths
-          → Changes q old (Send space now size ack_eliciting largest_acked queue frames) (Ok (Sent number forgotten))
-          (record old { spaces = with_space old.spaces space there; skipping = skipping; paths = paths })
-      by_own fits gone sends tells =
-          let packet = packet_at_generation (generation_of old.paths.current.ledger) in
-          let Fits : InFlight → Type 0 = λ f. ¬ Overflows f packet in
-          let is_known = is ∙ number_known old space in
-          let small_number : number_in (known_to old) space < 2 ^ 62 = omega (arith, is_known, left) in
-          let above = number_above old.skipping.filter space (next_number_of here_then) in
-          let above_known : next_number_of here_then ≤ number_in (known_to old) space =
-          omega (arith, above, is, is_known) in
-          let step = sends ∙ ap (λ (n : ℕ). space_sends n packet here_then) is_known in
-          let told = ap (λ (p : OfPaths (Path K)). paths_known p) tells
-          ∙ telling_known packet here_then (after_telling old.settings.words (sends_bytes now size number))
-          old.paths
-          ∙ ap (λ (n : ℕ). known_as packet here_then (after_telling old.settings.words (sends_bytes now size n))
-          old.paths (generation_of old.paths.current.ledger) (option_map path_known old.paths.previous)) is_known in
-          sent_changes q old space now size ack_eliciting largest_acked queue frames there skipping paths number
-          forgotten live small small_number
-          (subst Fits balanced.current fits) is_known (gone ∙ entry_number_of (tracking_of here_then).last_eliciting
-          packet (packets_of here_then)) (above_known, step)
-          (number_skips old.spaces space (number_in (known_to old) space) packet old.skipping skipping
-          (sym (number_known old space)) draws) told
-          (ap (λ (p : OfPaths (Path K)). paths_marks p) tells
-          ∙ telling_marks (packet_at_generation (generation_of old.paths.current.ledger)) here_then
-          (after_telling old.settings.words (sends_bytes now size number)) old.paths)
+      let packet = packet_at_generation (generation_of old.paths.current.ledger) in
+      let Fits : InFlight → Type 0 = λ f. ¬ Overflows f packet in
+      let is_known = is ∙ number_known old space in
+      let above = number_above old.skipping.filter space (next_number_of here_then) in
+      let told = ap (λ (p : OfPaths (Path K)). paths_known p) tells
+      ∙ telling_known packet here_then (after_telling old.settings.words (sends_bytes now size number)) old.paths
+      ∙ ap (λ (n : ℕ). known_as packet here_then (after_telling old.settings.words (sends_bytes now size n))
+      old.paths (generation_of old.paths.current.ledger) (option_map path_known old.paths.previous)) is_known in
+      sent_changes q old space now size ack_eliciting largest_acked queue frames there skipping paths number
+      forgotten live small (omega (arith, is_known, left)) (subst Fits balanced.current fits) is_known
+      (gone ∙ entry_number_of (tracking_of here_then).last_eliciting packet (packets_of here_then))
+      (omega (arith, above, is, is_known), (rw own at sends) ∙ ap (λ (n : ℕ). space_sends n packet here_then) is_known)
+      (number_skips old.spaces space (number_in (known_to old) space) packet old.skipping skipping
+      (sym (number_known old space)) draws) told
+      (ap (λ (p : OfPaths (Path K)). paths_marks p) tells
+      ∙ telling_marks packet here_then (after_telling old.settings.words (sends_bytes now size number)) old.paths)

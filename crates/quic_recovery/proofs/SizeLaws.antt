@@ -1,8 +1,8 @@
 -- Each packet of 1-RTT keys that is tracked has the size with which the history says that it went out. `HolesLaws` rest
 -- on it.
-use Rattle.std.proofs.Common.{ℕ, ◌≡◌, ◌+◌, ◌≤◌, ◌==◌, true, if◌then◌else◌, List, ◌∷◌, Option, None, Some, Ok, Err, refl, sym, subst, arith}
+use Rattle.std.proofs.Common.{ℕ, ◌≡◌, ◌+◌, ◌≤◌, ◌==◌, true, if◌then◌else◌, List, ◌∷◌, Option, None, Some, Ok, Err, refl, arith}
 use Rattle.std.proofs.lemmas.Bool.Decides.{nat_tests}
-use Rattle.recovery_base.specs.declared.below.SpaceId.TheVariants.{Initial, Handshake, Data}
+use Rattle.recovery_base.specs.declared.below.SpaceId.TheVariants.{Data}
 use Rattle.recovery_ledger.specs.Packets.{Packet, Packets, sent_onto}
 use Rattle.recovery_ledger.specs.SpaceLog.{SpaceEntry}
 use Rattle.recovery_ledger.specs.Tracked.{sent_by}
@@ -10,11 +10,9 @@ use Rattle.recovery_queue.specs.Queues.{QueueWords}
 use Rattle.recovery_skips.proofs.SkipLaws.{number_from_above}
 use Rattle.recovery_events.specs.declared.event.Event.{Event}
 use Rattle.recovery_events.specs.declared.event.Event.TheVariants.{Send, PollMtu}
-use Rattle.recovery_events.specs.declared.event.Answer.{Answer}
 use Rattle.recovery_events.specs.declared.event.Answer.TheVariants.{Probe}
-use Rattle.recovery_events.specs.declared.event.Refusal.{Refusal}
 use Rattle.recovery_mtud.specs.Discovery.{poll_of}
-use Rattle.quic_recovery.specs.Entries.{Entries, answered, logs_of}
+use Rattle.quic_recovery.specs.Entries.{entries_of, Entries, logs_of}
 use Rattle.quic_recovery.specs.History.{Beginning, History, Reply}
 use Rattle.quic_recovery.specs.Known.{Known, known_by, packet_now}
 use Rattle.quic_recovery.specs.Logs.{onto}
@@ -58,10 +56,6 @@ module _ {F K Q S M P : Type 0} (beginning : Beginning F K Q S M P) where
     abbrev log : List (SpaceEntry P M)
     log = (logs_of beginning history).spaces Data
 
-    abbrev After : Event Q S M P → Answer Q → Type 0
-    After event answer = IsSizedLog beginning.queue.words (size_of ((event, Ok answer) ∷ history))
-        (onto ((answered beginning.queue known event answer).spaces Data) log)
-
     -- the number that is given out was not given out before
     new_number : (sent_by beginning.queue.words log).next ≤ known.numbers.next
     new_number = number_from_above beginning.config.skips beginning.random (sent_by beginning.queue.words log).next
@@ -72,43 +66,32 @@ module _ {F K Q S M P : Type 0} (beginning : Beginning F K Q S M P) where
     probe_number now number size None told = absurd (cc)
     probe_number now number size (Some own) told = let same = told.1 in cc
 
-    answer_sized : (event : Event Q S M P) (answer : Answer Q) → Told beginning history event (Ok answer)
-        → After event answer
-    answer_sized (Send Data now size eliciting largest queue frames) answer told =
+    reply_sized : (event : Event Q S M P) (reply : Reply Q) → Told beginning history event reply
+        → IsSizedLog beginning.queue.words (size_of ((event, reply) ∷ history))
+        (onto ((entries_of beginning.queue known event reply).spaces Data) log)
+    reply_sized (Send Data now size eliciting largest queue frames) (Ok answer) told =
         let sent = sent_by beginning.queue.words log in
-        subst (After (Send Data now size eliciting largest queue frames)) (sym (past_four told))
-        (sized_sent (size_of history) sent.next known.numbers.next size new_number sent.last sent.tracked
-        (packet_now known now size eliciting largest (beginning.queue.contents queue) frames) refl sized)
-    answer_sized (Send Initial now size eliciting largest queue frames) answer told = sized
-    answer_sized (Send Handshake now size eliciting largest queue frames) answer told = sized
-    answer_sized (PollMtu now) (Probe number size) told =
+        rw (past_four told) (sized_sent (size_of history) sent.next known.numbers.next size new_number sent.last
+        sent.tracked (packet_now known now size eliciting largest (beginning.queue.contents queue) frames) refl sized)
+    reply_sized (Send there now size eliciting largest queue frames) (Ok answer) told = sized
+    reply_sized (PollMtu now) (Ok (Probe number size)) told =
         let sent = sent_by beginning.queue.words log in
         let packet = packet_now known now size true None beginning.queue.words.empty beginning.queue.blank in
         let is = probe_number now number size (poll_of now known.paths.current.state.discovery) told.1.1 in
-        subst (λ n. AreSaid size_in (size_then (size_of history) n size) (known.numbers.next + 1)
-        (sent_onto sent.last known.numbers.next packet sent.tracked)) is
-        (sized_sent
-        (size_of history) sent.next known.numbers.next size new_number sent.last sent.tracked packet refl sized)
-    answer_sized (PollMtu now) answer told = sized
-    answer_sized event answer told =
+        simp (← is) (sized_sent (size_of history) sent.next known.numbers.next size new_number sent.last sent.tracked
+        packet refl sized)
+    reply_sized (PollMtu now) reply told = sized
+    reply_sized event (Ok answer) told =
         let words = beginning.queue.words in
         space_kept beginning.queue known Data (λ entry. IsSizedLog words (size_of history) (onto entry log)) sends_none
         sized (said_after size_in (λ contents packet. refl) words (size_of history) log sized) event (Ok answer) refl
-
-    refusal_sized : (event : Event Q S M P) (refusal : Refusal)
-        → IsSizedLog beginning.queue.words (size_of ((event, Err refusal) ∷ history)) log
-    refusal_sized (Send Data now size eliciting largest queue frames) refusal = sized
-    refusal_sized (Send Initial now size eliciting largest queue frames) refusal = sized
-    refusal_sized (Send Handshake now size eliciting largest queue frames) refusal = sized
-    refusal_sized event refusal = sized
+    reply_sized (Send Data now size eliciting largest queue frames) (Err refusal) told = sized
+    reply_sized event (Err refusal) told =
+        refused_keeps event refusal (λ (e : Entries P M). IsSizedLog beginning.queue.words (size_of history)
+        (onto (e.spaces Data) log)) sized
 
   -- an event keeps that
   pub sized_after : (history : History Q S M P) (event : Event Q S M P) (reply : Reply Q)
       → Told beginning history event reply → Sized history
       → Sized ((event, reply) ∷ history)
-  sized_after history event (Ok answer) told sized = answer_sized history sized event answer told
-  sized_after history event (Err refusal) told sized =
-      refused_keeps event refusal
-      (λ (e : Entries P M). IsSizedLog beginning.queue.words (size_of ((event, Err refusal) ∷ history))
-      (onto (e.spaces Data) ((logs_of beginning history).spaces Data)))
-      (refusal_sized history sized event refusal)
+  sized_after history event reply told sized = reply_sized history sized event reply told

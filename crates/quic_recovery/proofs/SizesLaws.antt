@@ -1,29 +1,30 @@
 -- By the history alone the size of a probe lies within the bounds of its search, as its entries say: the clause `sizes`
 -- of `run`.
-use Rattle.std.proofs.Common.{ℕ, ◌≡◌, ◌<◌, ◌≤◌, ◌^◌, min, max, List, [], ◌∷◌, Option, None, Some, Ok, arith, refl, sym, ap, subst, ◌∙◌, is_some}
+use Rattle.std.proofs.Common.{ℕ, ◌≡◌, ◌<◌, ◌≤◌, ◌^◌, min, max, [], ◌∷◌, Option, None, Some, Ok, arith, refl, ◌∙◌}
 use Rattle.std.specs.Prelude.{IsSomeAnd}
 use Rattle.std.specs.Option.{ForSome}
 use Rattle.recovery_config.specs.Settings.{initial_mtu_of}
 use Rattle.recovery_mtud.specs.declared.config.MtuDiscoveryConfig.{MtuDiscoveryConfig}
-use Rattle.recovery_mtud.specs.Discovery.{Discovery, limit_or_greatest}
+use Rattle.recovery_mtud.specs.Discovery.{limit_or_greatest}
 use Rattle.recovery_mtud.specs.MtuEntries.{probed, mtu_in_use as by_entries}
 use Rattle.recovery_mtud.specs.SearchRuns.{ProbesInSearch, start_upper}
 use Rattle.recovery_events.specs.declared.event.Event.{Event}
 use Rattle.recovery_events.specs.declared.event.Event.TheVariants.{PollMtu}
 use Rattle.recovery_events.specs.declared.event.Answer.TheVariants as answer
 use Rattle.quic_recovery.specs.Entries.{pasts_of}
-use Rattle.quic_recovery.specs.History.{Beginning, History, Reply, Throughout}
-use Rattle.quic_recovery.specs.Promises.Mtu.{limit, mtu, mtu_in_use}
+use Rattle.quic_recovery.specs.History.{Beginning, History, Reply}
+use Rattle.quic_recovery.specs.Promises.Mtu.{limit, mtu_in_use}
 use Rattle.quic_recovery.specs.Promises.Near.{start}
 use Rattle.quic_recovery.specs.Promises.Sizes.{ProbesWithin}
 use Rattle.quic_recovery.specs.Search.{discovery_settings}
-use Rattle.quic_recovery.specs.Told.{Told}
-use Rattle.quic_recovery.proofs.FlightLaws.{IsFlightWithin, flight_within}
+use Rattle.quic_recovery.proofs.FlightLaws.{flight_within}
 use Rattle.quic_recovery.proofs.MadeLaws.{is_made, made_in}
 use Rattle.quic_recovery.proofs.NearLaws.{Kept, kept_by, kept_first, upper_is}
 use Rattle.quic_recovery.proofs.SearchLaws.{probes_one, searched_one}
 use Rattle.quic_recovery.proofs.SearchSaid.{entered_so_far}
-use Rattle.quic_recovery.proofs.SearchSteps.{Facts, facts, throughout_by}
+use Rattle.quic_recovery.proofs.SearchSteps.{Facts, facts}
+use Rattle.quic_recovery.proofs.Runs.{throughout_by}
+use Rattle.quic_recovery.proofs.Runs.{AllAlong}
 
 below_both : (size upper bound most : ℕ) → size ≤ upper → upper ≡ min bound most → (size ≤ most) × (size ≤ bound)
 below_both size upper bound most below is = (omega arith, omega arith)
@@ -47,10 +48,7 @@ module _ {F K Q S M P : Type 0} (beginning : Beginning F K Q S M P) where
         let past = (pasts_of beginning ((PollMtu now, Ok (answer.Probe number size)) ∷ history)).current in
         let after = searched_one beginning history (PollMtu now) (Ok (answer.Probe number size)) known.told
         known.searched in
-        subst (λ (made : Discovery). IsFlightWithin made settings
-        (probed now number size ∷ entered_so_far beginning history))
-        (is_made beginning history (PollMtu now) (Ok (answer.Probe number size)))
-        (subst (IsFlightWithin past.making.discovery settings) known.entered
+        (rw (known.entered, is_made beginning history (PollMtu now) (Ok (answer.Probe number size))) at
         (flight_within past.making.discovery settings after.0.untold (after.0.settings_are ∙ is) past.searched))
         (record { number = number; size = size }) refl
 
@@ -67,11 +65,8 @@ module _ {F K Q S M P : Type 0} (beginning : Beginning F K Q S M P) where
     above_in_use : (settings : MtuDiscoveryConfig) → discovery_settings beginning ≡ Some settings
         → 3 ≤ settings.minimum_change → (mtu_in_use beginning history < size) × (size ≤ settings.upper_bound)
     above_in_use settings is wide =
-        let both = (between settings is).1 wide in (
-          subst (λ some. mtu some first least history < size) (sym (ap is_some is))
-              (subst (λ n. n < size) (sym (kept.searched settings is).tied.2) both.0),
-          both.1,
-        )
+        let both = (between settings is).1 wide in
+        (rw (is, (kept.searched settings is).tied.2) both.0, both.1)
 
   sizes_one : (history : History Q S M P) (event : Event Q S M P) (reply : Reply Q)
       → Facts beginning history event reply → Kept beginning history → Kept beginning ((event, reply) ∷ history)
@@ -84,8 +79,7 @@ module _ {F K Q S M P : Type 0} (beginning : Beginning F K Q S M P) where
 
   -- throughout a run
   pub sizes_told : ForSome (discovery_settings beginning) (λ settings. settings.upper_bound < 2 ^ 16)
-      → (events : List (Event Q S M P)) (replies : List (Reply Q))
-      → Throughout (Told beginning) events replies → Throughout (ProbesWithin beginning) events replies
+      → AllAlong beginning (ProbesWithin beginning)
   sizes_told small events replies told =
       throughout_by (Facts beginning) (ProbesWithin beginning) (Kept beginning) (kept_by beginning) sizes_one [] events
       replies (facts beginning events replies told) (kept_first beginning)

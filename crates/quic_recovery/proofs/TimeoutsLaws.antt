@@ -1,55 +1,44 @@
 -- The next timeout is the least moment that the history itself says is set: the clause `timers` of `run`.
-use Rattle.std.proofs.Common.{◌≡◌, ◌≤◌, ℕ, map, List, [], ◌∷◌, Option, None, Some, Ok, Err, ◌⊎◌, inl, inr, refl, sym, ◌∙◌, ap, subst, arith}
+use Rattle.std.proofs.Common.{◌≡◌, ◌≤◌, ℕ, map, List, [], ◌∷◌, Option, None, Some, Ok, Err, ◌⊎◌, inl, inr, refl, sym, ◌∙◌, ap, arith}
 use Rattle.std.specs.Prelude.{if◌then◌else◌}
 use Rattle.std.proofs.lemmas.Option.{none-some}
 use Rattle.recovery_base.specs.declared.timer.Timer.{Timer}
-use Rattle.recovery_base.specs.declared.timer.Timer.TheVariants.{LossDetection, Idle, Close, KeyDiscard, PathValidation, KeepAlive, Pacing, PushNewCid, MaxAckDelay}
-use Rattle.recovery_base.specs.TimerLog.{TimerEntry, last_set}
+use Rattle.recovery_base.specs.declared.timer.Timer.TheVariants.{LossDetection}
+use Rattle.recovery_base.specs.TimerLog.{last_set}
 use Rattle.recovery_base.specs.Timers.{same_timer, IsLeastMoment}
 use Rattle.recovery_events.specs.declared.event.Event.{Event}
 use Rattle.recovery_events.specs.declared.event.Event.TheVariants.{SetTimer, StopTimer, NextTimeout}
-use Rattle.recovery_events.specs.declared.event.Answer.{Answer}
 use Rattle.recovery_events.specs.declared.event.Answer.TheVariants.{Done, Timeout}
-use Rattle.recovery_events.specs.declared.event.Refusal.{Refusal}
 use Rattle.recovery_events.specs.declared.event.Refusal.TheVariants.{NoMemory}
-use Rattle.quic_recovery.specs.Entries.{Entries, nothing, answered, entries_of, logs_of}
-use Rattle.quic_recovery.specs.History.{Beginning, History, Reply, QueueMeaning}
-use Rattle.quic_recovery.specs.Known.{Known, known_by}
+use Rattle.quic_recovery.specs.Entries.{Entries, logs_of}
+use Rattle.quic_recovery.specs.History.{Beginning, History, Reply}
+use Rattle.quic_recovery.specs.Known.{known_by}
 use Rattle.quic_recovery.specs.Logs.{onto}
+use Rattle.quic_recovery.specs.Replies.{AlwaysAnswers}
 use Rattle.quic_recovery.specs.Told.{Told}
 use Rattle.quic_recovery.specs.Promises.Timeouts.{earlier_of, every_timer, least, moment_of, TellsTimers}
-use Rattle.quic_recovery.proofs.EntryKinds.{plain, plainly_keeps, refused_keeps}
+use Rattle.quic_recovery.proofs.EntryKinds.{plainly_keeps, refused_keeps}
 
 -- ---- the moments are those of the log
-
-module _ {K Q S M P : Type 0} (q : QueueMeaning Q S M P) (known : Known K P M) (earlier : History Q S M P)
-    (log : List TimerEntry) (timer : Timer) (same : moment_of earlier timer ≡ last_set timer log) where
-  abbrev After : Event Q S M P → Reply Q → Entries P M → Type 0
-  After event reply entries = moment_of ((event, reply) ∷ earlier) timer ≡ last_set timer (onto entries.timers log)
-
-  answer_same : (event : Event Q S M P) (answer : Answer Q)
-      → After event (Ok answer) (answered q known (plain event) Done)
-  answer_same (SetTimer other time) answer = ap (λ o. if same_timer timer other then Some time else o) same
-  answer_same (StopTimer other) answer = ap (λ o. if same_timer timer other then None else o) same
-  answer_same event answer = same
-
-  refusal_same : (event : Event Q S M P) (refusal : Refusal) → After event (Err refusal) nothing
-  refusal_same (SetTimer other time) refusal = same
-  refusal_same event refusal = same
-
-  reply_same : (event : Event Q S M P) (reply : Reply Q) → After event reply (entries_of q known event reply)
-  reply_same event (Ok answer) =
-      plainly_keeps q known event answer (After event (Ok answer)) (answer_same event answer)
-  reply_same event (Err refusal) = refused_keeps event refusal (After event (Err refusal)) (refusal_same event refusal)
 
 module _ {F K Q S M P : Type 0} (beginning : Beginning F K Q S M P) where
   all_same : (history : History Q S M P) (timer : Timer)
       → moment_of history timer ≡ last_set timer (logs_of beginning history).timers
   all_same [] timer = refl
-  all_same (happened ∷ earlier) timer =
+  all_same ((SetTimer other time, Ok answer) ∷ earlier) timer =
+      ap (λ o. if same_timer timer other then Some time else o) (all_same earlier timer)
+  all_same ((StopTimer other, Ok answer) ∷ earlier) timer =
+      ap (λ o. if same_timer timer other then None else o) (all_same earlier timer)
+  all_same ((event, Ok answer) ∷ earlier) timer =
       let logs = logs_of beginning earlier in
-      reply_same beginning.queue (known_by beginning logs) earlier logs.timers timer (all_same earlier timer) happened.0
-      happened.1
+      plainly_keeps beginning.queue (known_by beginning logs) event answer
+      (λ (e : Entries P M). moment_of earlier timer ≡ last_set timer (onto e.timers logs.timers))
+      (all_same earlier timer)
+  all_same ((SetTimer other time, Err refusal) ∷ earlier) timer = all_same earlier timer
+  all_same ((event, Err refusal) ∷ earlier) timer =
+      let timers = (logs_of beginning earlier).timers in
+      refused_keeps event refusal
+      (λ (e : Entries P M). moment_of earlier timer ≡ last_set timer (onto e.timers timers)) (all_same earlier timer)
 
 -- ---- the least of them
 
@@ -82,17 +71,10 @@ module _ (f : Timer → Option ℕ) where
 
   each_in : (timer : Timer) → In (f timer) (map f every_timer)
   each_in LossDetection = inl refl
-  each_in Idle = inr (inl refl)
-  each_in Close = inr (inr (inl refl))
-  each_in KeyDiscard = inr (inr (inr (inl refl)))
-  each_in PathValidation = inr (inr (inr (inr (inl refl))))
-  each_in KeepAlive = inr (inr (inr (inr (inr (inl refl)))))
-  each_in Pacing = inr (inr (inr (inr (inr (inr (inl refl))))))
-  each_in PushNewCid = inr (inr (inr (inr (inr (inr (inr (inl refl)))))))
-  each_in MaxAckDelay = inr (inr (inr (inr (inr (inr (inr (inr (inl refl))))))))
+  each_in timer = grind arith
 
   set_in : (timer : Timer) (time : ℕ) → f timer ≡ Some time → In (Some time) (map f every_timer)
-  set_in timer time is = subst (λ m. In m (map f every_timer)) is (each_in timer)
+  set_in timer time is = rw is at (each_in timer)
 
   one_least : (told found : Option ℕ) → IsLeastMoment f told → IsLeast (map f every_timer) found → told ≡ found
   one_least None None told is = refl
@@ -123,14 +105,15 @@ module _ {F K Q S M P : Type 0} (beginning : Beginning F K Q S M P) where
   timeout_told history (Err NoMemory) is = absurd is
   timeout_told history (Err refusal) is = absurd is
 
+  done : (reply : Reply Q) → AlwaysAnswers (λ answer. answer ≡ Done) reply → reply ≡ Ok Done
+  done (Ok answer) told = ap Ok told
+  done (Err NoMemory) told = absurd told
+  done (Err refusal) told = absurd told
+
   -- what an event is told, it is told of timers
   pub timers_told : (history : History Q S M P) (event : Event Q S M P) (reply : Reply Q)
       → Told beginning history event reply → TellsTimers history event reply
   timers_told history NextTimeout reply told = timeout_told history reply told
-  timers_told history (SetTimer timer time) (Ok answer) told = ap Ok told
-  timers_told history (SetTimer timer time) (Err NoMemory) told = absurd told
-  timers_told history (SetTimer timer time) (Err refusal) told = absurd told
-  timers_told history (StopTimer timer) (Ok answer) told = ap Ok told
-  timers_told history (StopTimer timer) (Err NoMemory) told = absurd told
-  timers_told history (StopTimer timer) (Err refusal) told = absurd told
+  timers_told history (SetTimer timer time) reply told = done reply told
+  timers_told history (StopTimer timer) reply told = done reply told
   timers_told history event reply told = tt

@@ -34,7 +34,7 @@ use Rattle.quic_recovery.specs.Promises.Tracked.{is_tracked}
 use Rattle.quic_recovery.specs.Told.{Told, MtuProbeReply}
 use Rattle.quic_recovery.proofs.EntryKinds.{keeps_packets, space_kind, space_kept, refused_keeps}
 use Rattle.quic_recovery.proofs.AnswerLaws.{past_four}
-use Rattle.quic_recovery.proofs.Runs.{throughout_kept}
+use Rattle.quic_recovery.proofs.Runs.{AllAlong, throughout_kept}
 
 -- ---- a number among those that are tracked
 
@@ -332,8 +332,7 @@ module _ {F K Q S M P : Type 0} (beginning : Beginning F K Q S M P) where
         next_rises Data number (probe_number beginning.queue known_before now _ number size told.1.1) told.1.0
     rises event reply told = λ space number goes. absurd (false≢true goes)
 
-  pub keeps_rising : (events : List (Event Q S M P)) (replies : List (Reply Q))
-      → Throughout (Told beginning) events replies → Throughout GivesRising events replies
+  pub keeps_rising : AllAlong beginning GivesRising
   keeps_rising events replies told =
       throughout_kept beginning (AllTracked beginning) GivesRising (keeps_tracked beginning)
       (λ before event reply here all. rises before all event reply here) [] events replies told (none_tracked beginning)

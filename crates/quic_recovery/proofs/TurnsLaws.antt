@@ -1,5 +1,5 @@
 -- By the history alone the search for the MTU goes on in turn, as its entries say: the clause `turns` of `run`.
-use Rattle.std.proofs.Common.{ℕ, ◌≡◌, ◌<◌, ◌^◌, ◌||◌, Bool, true, false, List, [], ◌∷◌, Option, None, Some, Ok, Err, refl, ap, ap₂, ◌∙◌, is_some, arith}
+use Rattle.std.proofs.Common.{ℕ, ◌≡◌, ◌<◌, ◌^◌, ◌||◌, true, false, List, [], ◌∷◌, Option, None, Some, Ok, Err, refl, ap, ◌∙◌, is_some, arith}
 use Rattle.std.specs.Prelude.{IsSomeAnd}
 use Rattle.std.specs.Option.{ForSome}
 use Rattle.std.proofs.lemmas.Bool.Decides.{nat_tests}
@@ -13,17 +13,18 @@ use Rattle.recovery_events.specs.declared.event.Event.TheVariants.{PollMtu, Acke
 use Rattle.recovery_events.specs.declared.event.Answer.TheVariants as answer
 use Rattle.recovery_events.specs.declared.event.Refusal.TheVariants.{Searching, ZeroMtu}
 use Rattle.quic_recovery.specs.Known.{settings_of}
-use Rattle.quic_recovery.specs.History.{Beginning, History, Reply, Throughout}
+use Rattle.quic_recovery.specs.History.{Beginning, History, Reply}
 use Rattle.quic_recovery.specs.Search.{discovery_settings}
 use Rattle.quic_recovery.specs.Promises.Few.{is_in_flight as flies}
 use Rattle.quic_recovery.specs.Promises.Near.{next}
 use Rattle.quic_recovery.specs.Promises.Probes.{runs}
 use Rattle.quic_recovery.specs.Promises.Turns.{SearchesInTurn, is_probe, last_number}
-use Rattle.quic_recovery.specs.Told.{Told}
 use Rattle.quic_recovery.proofs.SearchSaid.{entered_so_far, is_in_flight}
 use Rattle.quic_recovery.proofs.NearLaws.{Kept, kept_by, kept_first, runs_same}
 use Rattle.quic_recovery.proofs.SearchLaws.{probes_one}
-use Rattle.quic_recovery.proofs.SearchSteps.{Facts, Step, facts, stepped, throughout_by}
+use Rattle.quic_recovery.proofs.SearchSteps.{Facts, Step, facts, stepped}
+use Rattle.quic_recovery.proofs.Runs.{throughout_by}
+use Rattle.quic_recovery.proofs.Runs.{AllAlong}
 
 -- ---- the number of the probe in flight
 
@@ -75,19 +76,14 @@ module _ {F K Q S M P : Type 0} (beginning : Beginning F K Q S M P) where
     probe_same space.Handshake number = refl
     probe_same space.Data number = let flying = kept.few.0 in grind (arith, numbered, flying)
 
-    quiet : (flight : Option MtuProbe) → flight ≡ None → is_some flight ≡ false
-    quiet flight none = ap is_some none
-
     turn_of : (now number size : ℕ) (by : Option MtuDiscoveryConfig) → discovery_settings beginning ≡ by
         → IsSomeAnd by (λ settings. ProbesInSearch settings (probed now number size ∷ entries))
         → (flies history ≡ false)
         × IsSomeAnd by (λ settings. (runs history || is_due (next settings history) now) ≡ true)
     turn_of now number size None is inside = absurd inside
     turn_of now number size (Some settings) is inside = (
-      kept.few.0 ∙ quiet (probe_in_flight entries) inside.0,
-      ap₂ (λ (r : Bool) (n : Option ℕ). r || is_due n now) (runs_same history entries kept.few)
-          (kept.searched settings is).tied.3
-          ∙ inside.1,
+      kept.few.0 ∙ ap is_some inside.0,
+      rw (runs_same history entries kept.few, (kept.searched settings is).tied.3) inside.1,
     )
 
     turns_one : (event : Event Q S M P) (reply : Reply Q) → Facts beginning history event reply
@@ -100,15 +96,10 @@ module _ {F K Q S M P : Type 0} (beginning : Beginning F K Q S M P) where
     turns_one (Lost there number) (Ok given) known =
         known.tells ∙ ap (λ probe. answer.Lost probe) (probe_same there number)
     turns_one (PeerLimit size) (Ok given) known =
-        let same = runs_same history entries kept.few ∙ known.outside in
-        let some = known.told.0 in
-        let done = known.told.1.1 in
-        grind (arith, nat_tests, same, some, done)
+        grind (arith, nat_tests, runs_same history entries kept.few, known.outside, known.told)
     turns_one (PeerLimit size) (Err Searching) known =
-        let same = runs_same history entries kept.few ∙ known.outside in
-        let some = known.told.0 in
-        grind (arith, nat_tests, same, some)
-    turns_one (PeerLimit size) (Err ZeroMtu) known = let none = known.told in grind (arith, nat_tests, none)
+        grind (arith, nat_tests, runs_same history entries kept.few, known.outside, known.told.0)
+    turns_one (PeerLimit size) (Err ZeroMtu) known = grind (arith, nat_tests, known.told)
     turns_one (PeerLimit size) (Err refusal) known = absurd known.told.1.1
     turns_one event reply known = tt
 
@@ -117,8 +108,7 @@ module _ {F K Q S M P : Type 0} (beginning : Beginning F K Q S M P) where
 
   -- throughout a run
   pub turns_told : ForSome (discovery_settings beginning) (λ settings. settings.upper_bound < 2 ^ 16)
-      → (events : List (Event Q S M P)) (replies : List (Reply Q))
-      → Throughout (Told beginning) events replies → Throughout (SearchesInTurn beginning) events replies
+      → AllAlong beginning (SearchesInTurn beginning)
   turns_told small events replies told =
       throughout_by (Facts beginning)
       (SearchesInTurn beginning) AllKept
