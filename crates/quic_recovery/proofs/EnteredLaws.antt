@@ -113,7 +113,8 @@ module _ {F K Q S M P : Type 0} (beginning : Beginning F K Q S M P) (past : Hist
       refused_keeps event refusal (λ (e : Entries P M). entries_with e.paths ≡ before) refl
 
 -- throughout a run
-pub entries_told : {F K Q S M P : Type 0} (beginning : Beginning F K Q S M P) AllAlong beginning (EntersAsTold beginning)
+pub entries_told : {F K Q S M P : Type 0} (beginning : Beginning F K Q S M P)
+    → AllAlong beginning (EntersAsTold beginning)
 entries_told {F} {K} {Q} {S} {M} {P} beginning events replies told =
     throughout_kept beginning (λ past. Unit {0}) (EntersAsTold beginning) (λ past event reply told kept. tt)
     (λ past event reply told kept. entered_one beginning past event reply told) [] events replies told tt
