@@ -1,8 +1,7 @@
 -- A draw lies in its range and leaves words that fit 64 bits, so that each skip lies below a power of two. Laws for
 -- users rest on it.
-use Rattle.std.proofs.Common.{◌≡◌, ℕ, zero, suc, ◌+◌, ◌-◌, ◌*◌, ◌/◌, ◌%◌, ◌<◌, ◌≤◌, ◌^◌, [], ◌∷◌, max, Option, None, Some, Bool, true, false, refl, subst, arith, inl, inr}
+use Rattle.std.proofs.Common.{◌≡◌, ℕ, zero, suc, ◌+◌, ◌-◌, ◌*◌, ◌/◌, ◌%◌, ◌<◌, ◌≤◌, ◌^◌, [], ◌∷◌, max, Option, None, Some, Bool, true, false, refl, arith}
 use Rattle.std.specs.Prelude.{nat_lt, nat_le, if◌then◌else◌}
-use Rattle.std.proofs.lemmas.Bool.{cases_lt}
 use Rattle.std.proofs.lemmas.Bool.Decides.{nat_tests}
 use Rattle.std.proofs.lemmas.Nat.{mul-le}
 use Rattle.std.proofs.lemmas.Option.{none-some, same_Some}
@@ -16,52 +15,31 @@ use Rattle.recovery_skips.specs.declared.filter.Skips.TheVariants.{Drawn, Starti
 use Rattle.recovery_skips.specs.Skips.{IsSkips, AreWords, draw, first_skip, next_skip, skip_at}
 use Rattle.recovery_skips.proofs.RangeLaws.{range_wide}
 
--- ---- a product of a word and a range, by its high and low word
-
-high_below : (m range w hi lo : ℕ) → w < m → 0 < range → hi * m + lo ≡ w * range → hi < range
-high_below m range w hi lo fits some product =
+-- the high word of a product of a word and a range lies below the range, and a carry that stays open leaves room
+high_below : (m range w hi lo : ℕ) → w < m → 0 < range → range ≤ m → hi * m + lo ≡ w * range
+    → (hi < range) × (m - range < lo → hi + 1 < range)
+high_below m range w hi lo fits some within product =
     let most : (w + 1) * range ≤ m * range = mul-le (w + 1) range m range (omega arith) (omega arith) in
-    elim (cases_lt hi range) [
-      | inl below ↦ below
-      | inr over ↦
-          let least : range * m ≤ hi * m = mul-le range m hi m over (omega arith) in
-          absurd (omega arith)
-    ]
-
--- a carry that stays open leaves room below the range
-carry_below : (m range w hi lo : ℕ) → w < m → hi * m + lo ≡ w * range → m - range < lo → range ≤ m → hi + 1 < range
-carry_below m range w hi lo fits product carried within =
-    let most : (w + 1) * range ≤ m * range = mul-le (w + 1) range m range (omega arith) (omega arith) in
-    elim (cases_lt (hi + 1) range) [
-      | inl below ↦ below
-      | inr over ↦
-          let least : range * m ≤ (hi + 1) * m = mul-le range m (hi + 1) m over (omega arith) in
-          absurd (omega arith)
-    ]
-
-either_below : (carries : Bool) (hi range : ℕ) → hi + 1 < range → (if carries then hi + 1 else hi) < range
-either_below true hi range room = room
-either_below false hi range room = omega (arith, room)
+    let least : range ≤ hi → range * m ≤ hi * m = λ over. mul-le range m hi m over (omega arith) in
+    let next : range ≤ hi + 1 → range * m ≤ (hi + 1) * m = λ over. mul-le range m (hi + 1) m over (omega arith) in
+    grind (arith, most, least, next, fits, some, within, product)
 
 settled_below : (m range hi lo : ℕ) (next : Stream → ℕ × Stream) (rest : Stream) (opens : Bool) → hi < range
     → (opens ≡ true → hi + 1 < range)
     → (if opens then draw_map (λ w. if nat_le m (lo + w * range / m) then hi + 1 else hi) next rest else (hi, rest)).0
     < range
-settled_below m range hi lo next rest true below room =
-    either_below (nat_le m (lo + (next rest).0 * range / m)) hi range (room refl)
+settled_below m range hi lo next rest true below room = grind (arith, below, room)
 settled_below m range hi lo next rest false below room = below
 
 canon_below : (m range : ℕ) (next : Stream → ℕ × Stream) (words : Stream) → (next words).0 < m → 0 < range → range ≤ m
     → (canon m next range words).0 < range
 unfolding canon
 canon_below m range next words fits some within =
-    let w = (next words).0 in
-    let hi = w * range / m in
-    let lo = w * range % m in
-    let product : hi * m + lo ≡ w * range = (let parts = div-add-mod (w * range) m in omega (arith, parts)) in
-    settled_below m range hi lo next (next words).1 (nat_lt (m - range) lo)
-    (high_below m range w hi lo fits some product)
-    (λ opens. carry_below m range w hi lo fits product (grind (arith, nat_tests, opens)) within)
+    let product = (next words).0 * range in
+    let parts : product / m * m + product % m ≡ product = omega (arith, div-add-mod product m) in
+    let high = high_below m range (next words).0 (product / m) (product % m) fits some within parts in
+    settled_below m range (product / m) (product % m) next (next words).1 (nat_lt (m - range) (product % m)) high.0
+    (λ opens. grind (arith, nat_tests, opens, high.1))
 
 -- ---- words
 
@@ -87,36 +65,33 @@ canon_fits m range words fit =
     (nat_lt (m - range) lo) (rest_fits words fit)
 
 draw_below : (low end : ℕ) (words : Stream) → AreWords words → low < end → end ≤ 2 ^ 64 → (draw low end words).0 < end
-draw_below low end words fit some within =
-    let below = canon_below (2 ^ 64) (end - low) next_u64 words (first_fits words fit) (omega (arith, some))
-    (omega (arith, within)) in
-    omega (arith, below, some)
+draw_below low end words fit some within = omega (
+  arith,
+  some,
+  canon_below (2 ^ 64) (end - low) next_u64 words
+      (first_fits words fit) (omega (arith, some)) (omega (arith, within)),
+)
 
 -- ---- skips
 
 module _ (skips : Skips) (words : Stream) (is_skips : IsSkips skips) (fit : AreWords words) where
-  first_skip_fits : (s : Skips) → AreWords (first_skip s words).words
-  first_skip_fits Drawn = canon_fits (2 ^ 64) 64 words fit
-  first_skip_fits (Starting n) = fit
-  first_skip_fits Disabled = fit
-
-  next_skip_fits : (exponent : ℕ) (skip : Option ℕ) (rest : Stream) → AreWords rest
+  next_fits : (exponent : ℕ) (skip : Option ℕ) (rest : Stream) → AreWords rest
       → AreWords (next_skip exponent skip rest).words
-  next_skip_fits exponent None rest fits = fits
-  next_skip_fits exponent (Some s) rest fits = canon_fits (2 ^ 64) _ rest fits
+  next_fits exponent None rest fits = fits
+  next_fits exponent (Some s) rest fits = canon_fits (2 ^ 64) _ rest fits
 
   skip_fits : (k : ℕ) → AreWords (skip_at skips words k).words
-  skip_fits zero = first_skip_fits skips
-  skip_fits (suc k) = next_skip_fits (6 + k) _ _ (skip_fits k)
+  skip_fits zero = elim skips as (λ s. AreWords (first_skip s words).words) [
+    | Drawn ↦ canon_fits (2 ^ 64) 64 words fit
+    | Starting n ↦ fit
+    | Disabled ↦ fit
+  ]
+  skip_fits (suc k) = next_fits (6 + k) _ _ (skip_fits k)
 
   first_below : (s : Skips) → IsSkips s → (t : ℕ) → (first_skip s words).number ≡ Some t → t < 64
   first_below Drawn sound t is =
-      let drawn = same_Some _ t is in
-      let below = draw_below 0 64 words fit (omega arith) (omega arith) in
-      omega (arith, drawn, below)
-  first_below (Starting n) sound t is =
-      let same = same_Some _ t is in
-      omega (arith, same, sound)
+      omega (arith, same_Some _ t is, draw_below 0 64 words fit (omega arith) (omega arith))
+  first_below (Starting n) sound t is = omega (arith, same_Some _ t is, sound)
   first_below Disabled sound t is = absurd (none-some t is)
 
   next_below : (exponent t : ℕ) (skip : Option ℕ) (rest : Stream) → AreWords rest → 6 ≤ exponent → exponent ≤ 62
@@ -124,18 +99,18 @@ module _ (skips : Skips) (words : Stream) (is_skips : IsSkips skips) (fit : AreW
       → t < 2 ^ (exponent + 1)
   next_below exponent t None rest fits least most below is = absurd (none-some t is)
   next_below exponent t (Some s) rest fits least most below is =
-      let wide = range_wide exponent s least (below s refl) in
-      let power : 2 ^ (exponent + 1) ≤ 2 ^ 64 =
-      pow_mono (let small : exponent + 1 ≤ 64 = omega (arith, most) in small) in
-      let drawn = same_Some _ t is in
-      let under = draw_below (max (2 ^ exponent) (s + 2)) (2 ^ (exponent + 1)) rest fits wide power in
-      omega (arith, drawn, under)
+      let small : exponent + 1 ≤ 64 = omega (arith, most) in
+      omega (
+        arith,
+        same_Some _ t is,
+        draw_below (max (2 ^ exponent) (s + 2)) (2 ^ (exponent + 1)) rest fits
+            (range_wide exponent s least (below s refl)) (pow_mono small),
+      )
 
   -- of the skips that a filter can have, the one counted k from 0 lies below 2^(6 + k)
   pub skip_below_power : (k t : ℕ) → k ≤ 57 → (skip_at skips words k).number ≡ Some t → t < 2 ^ (6 + k)
   skip_below_power zero t small is = first_below skips is_skips t is
   skip_below_power (suc k) t small is =
-      let next = next_below (6 + k) t (skip_at skips words k).number (skip_at skips words k).words (skip_fits k)
-      (omega arith) (omega (arith, small))
-      (λ s here. skip_below_power k s (omega (arith, small)) here) is in
-      subst (λ e. t < 2 ^ e) (let same : 6 + k + 1 ≡ 6 + suc k = omega arith in same) next
+      let same : 6 + k + 1 ≡ 6 + suc k = omega arith in
+      rw same at (next_below (6 + k) t (skip_at skips words k).number (skip_at skips words k).words (skip_fits k)
+      (omega arith) (omega (arith, small)) (λ s here. skip_below_power k s (omega (arith, small)) here) is)
