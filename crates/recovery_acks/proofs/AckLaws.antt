@@ -1,8 +1,9 @@
 -- What an ack-eliciting packet leaves: the call `packet_received` and the log of a space (`HeardLaws`) rest on it.
-use Rattle.std.proofs.Common.{◌≡◌, ℕ, ◌+◌, ◌-◌, ◌<◌, ◌≤◌, max, inl, inr, ◌⊎◌, ◌↔◌, Bool, true, false, nat_lt, Option, None, Some, refl, ap, subst, arith}
+use Rattle.std.proofs.Common.{◌≡◌, ℕ, ◌+◌, ◌-◌, ◌<◌, max, inl, inr, ◌⊎◌, ◌↔◌, Bool, true, false, nat_lt, not, cond, sym, Option, None, Some, refl, ap, arith}
 use Rattle.std.specs.Prelude.{◌≢◌, IsTrue, IfSome, Decides, MatchBool}
 use Rattle.std.specs.Option.{unwrap_or}
-use Rattle.std.proofs.lemmas.Bool.{false≢true, ltb-true, lt-ltb, cases_lt}
+use Rattle.std.proofs.lemmas.Bool.{false≢true, cases_lt}
+use Rattle.std.proofs.lemmas.Bool.Decides.{nat_tests}
 use Rattle.recovery_base.specs.Numbers.{IsLeastMissing}
 use Rattle.recovery_base.specs.Ranges.{InRanges}
 use Rattle.recovery_acks.specs.Acks.{Acks, HasReached, IsOutOfOrder, Receives, ReceivesEliciting, counted, number_or_zero}
@@ -10,13 +11,11 @@ use Rattle.recovery_acks.specs.Acks.{Acks, HasReached, IsOutOfOrder, Receives, R
 -- the greatest number has been reached where both have
 pub reaches : (Known : ℕ → Type 0) (before : Option ℕ) (number : ℕ) → HasReached Known number
     → IfSome before (HasReached Known) → HasReached Known (max (unwrap_or before 0) number)
-reaches Known None number reached earlier =
-    (reached.0, reached.1, let h : number ≤ reached.0 = reached.2 in omega arith)
-reaches Known (Some k) number reached earlier = go (cases_lt k number)
-  where
-    go : (k < number) ⊎ (number ≤ k) → HasReached Known (max k number)
-    go (inl below) = (reached.0, reached.1, let h : number ≤ reached.0 = reached.2 in omega arith)
-    go (inr above) = (earlier.0, earlier.1, let h : k ≤ earlier.0 = earlier.2 in omega arith)
+reaches Known None number reached earlier = (reached.0, reached.1, omega (arith, reached.2))
+reaches Known (Some k) number reached earlier = elim (cases_lt k number) [
+  | inl below ↦ (reached.0, reached.1, omega (arith, reached.2))
+  | inr above ↦ (earlier.0, earlier.1, omega (arith, earlier.2))
+]
 
 pub eliciting_receives : (Known : ℕ → Type 0) (old new : Acks) (now number : ℕ) (ack_eliciting arm : Bool)
     → ack_eliciting ≡ true → ReceivesEliciting Known old now number arm new
@@ -24,7 +23,17 @@ pub eliciting_receives : (Known : ℕ → Type 0) (old new : Acks) (now number :
 eliciting_receives Known old new now number true arm is received = received
 eliciting_receives Known old new now number false arm is received = absurd (false≢true is)
 
-module _ (Known : ℕ → Type 0) (old : Acks) (now number greatest count : ℕ) (out req can noticed : Bool)
+required_by : (Out : Type 0) (threshold count : ℕ) (required out req : Bool) → Decides out Out
+    → Decides req (IsTrue required ⊎ (IsTrue (nat_lt threshold count) ⊎ IsTrue out))
+    → IsTrue req ↔ (IsTrue required ⊎ ((threshold < count) ⊎ Out))
+required_by Out threshold count required out req out_is req_is = grind (arith, nat_tests, out_is, req_is)
+
+armed_by : (Free Sends : Type 0) (can noticed arm : Bool) → Decides can Sends → arm ≡ not noticed
+    → MatchBool noticed ((¬ Free) ⊎ IsTrue can) (Free × ¬ IsTrue can) → IsTrue arm ↔ (Free × ¬ Sends)
+armed_by Free Sends can true arm can_is is told = grind (arith, can_is, is, told)
+armed_by Free Sends can false arm can_is is told = grind (arith, can_is, is, told)
+
+module _ {Known : ℕ → Type 0} {old : Acks} {now number greatest count : ℕ} {out req can : Bool} (noticed : Bool)
     (greatest_is : greatest ≡ max (number_or_zero old.greatest) number)
     (count_is : count ≡ counted old.eliciting)
     (out_is : Decides out (IsOutOfOrder Known old.reordering old.acknowledged (number_or_zero old.greatest) greatest
@@ -32,52 +41,25 @@ module _ (Known : ℕ → Type 0) (old : Acks) (now number greatest count : ℕ)
     (req_is : Decides req (IsTrue old.required ⊎ (IsTrue (nat_lt old.threshold count) ⊎ IsTrue out)))
     (can_is : Decides can (IsTrue req × ((n : ℕ) × InRanges old.ranges n)))
     (noticed_is : MatchBool noticed ((old.base ≢ None) ⊎ IsTrue can) ((old.base ≡ None) × ¬ IsTrue can)) where
-  abbrev pub left_with : Option ℕ → Acks
-  left_with base = record old { required = req; eliciting = count; base = base; greatest = Some greatest }
+  -- whether the base moves is what was noticed
+  received : (arm : Bool) → arm ≡ not noticed → ReceivesEliciting Known old now number arm
+      (record old { required = req; eliciting = count; base = cond arm (Some now) old.base; greatest = Some greatest })
+  received arm is = record {
+    greatest = ap Some greatest_is;
+    eliciting = count_is;
+    required = required_by _ old.threshold count old.required out req out_is req_is;
+    armed = armed_by (old.base ≡ None) _ can noticed arm can_is is noticed_is;
+    base = refl;
+    others = (refl, refl, refl, refl, refl, refl);
+  }
 
-  abbrev pub OutOfOrder : Type 0
-  OutOfOrder = IsOutOfOrder Known old.reordering old.acknowledged (number_or_zero old.greatest) greatest number
+  pub unarmed : noticed ≡ true → ReceivesEliciting Known old now number false
+      (record old { required = req; eliciting = count; greatest = Some greatest })
+  unarmed is = received false (ap not (sym is))
 
-  required : IsTrue req ↔ (IsTrue old.required ⊎ ((old.threshold < count) ⊎ OutOfOrder))
-  required = (
-    λ e. elim (req_is.0 e) [
-      | inl h ↦ inl h
-      | inr h ↦ elim h [ inl k ↦ inr (inl (ltb-true old.threshold count k)) | inr k ↦ inr (inr (out_is.0 k)) ]
-    ],
-    λ why. req_is.1 (elim why [
-      | inl h ↦ inl h
-      | inr h ↦ elim h [ inl k ↦ inr (inl (lt-ltb old.threshold count k)) | inr k ↦ inr (inr (out_is.1 k)) ]
-    ]),
-  )
-
-  pub unarmed : noticed ≡ true → ReceivesEliciting Known old now number false (left_with old.base)
-  unarmed is =
-      let P : Bool → Type 0 = λ b. MatchBool b ((old.base ≢ None) ⊎ IsTrue can) ((old.base ≡ None) × ¬ IsTrue can) in
-      let told : (old.base ≢ None) ⊎ IsTrue can = subst P is noticed_is in
-      record {
-        greatest = ap Some greatest_is;
-        eliciting = count_is;
-        required = required;
-        armed = (
-          λ e. absurd (false≢true e),
-          λ both. absurd (elim told [ inl some ↦ some both.0 | inr send ↦ both.1 (can_is.0 send) ]),
-        );
-        base = refl;
-        others = (refl, refl, refl, refl, refl, refl);
-      }
-
-  pub armed_now : noticed ≡ false → ReceivesEliciting Known old now number true (left_with (Some now))
-  armed_now is =
-      let P : Bool → Type 0 = λ b. MatchBool b ((old.base ≢ None) ⊎ IsTrue can) ((old.base ≡ None) × ¬ IsTrue can) in
-      let told : (old.base ≡ None) × ¬ IsTrue can = subst P is noticed_is in
-      record {
-        greatest = ap Some greatest_is;
-        eliciting = count_is;
-        required = required;
-        armed = (λ _. (told.0, λ send. told.1 (can_is.1 send)), λ _. refl);
-        base = refl;
-        others = (refl, refl, refl, refl, refl, refl);
-      }
+  pub armed_now : noticed ≡ false → ReceivesEliciting Known old now number true
+      (record old { required = req; eliciting = count; base = Some now; greatest = Some greatest })
+  armed_now is = received true (ap not (sym is))
 
 -- what is out of order by one set is so by another, from which the same numbers are missing
 pub out_of_order_by : (A B : ℕ → Type 0)

@@ -1,5 +1,5 @@
 -- The highest runs of a set that is kept as ranges. The limit of 64 ranges (`insert_one`, `HeardLaws`) rests on it.
-use Rattle.std.proofs.Common.{◌≡◌, ℕ, suc, ◌+◌, ◌-◌, ◌<◌, ◌≤◌, inl, inr, ◌⊎◌, ◌↔◌, List, [], ◌∷◌, ◌++◌, length, Option, None, Some, sym, ap, subst, refl, arith}
+use Rattle.std.proofs.Common.{◌≡◌, ℕ, suc, ◌+◌, ◌-◌, ◌<◌, ◌≤◌, inl, inr, ◌↔◌, List, [], ◌∷◌, ◌++◌, length, Option, None, Some, ap, refl, arith}
 use Rattle.std.specs.declared.ops.Range.{Range}
 use Rattle.std.proofs.lemmas.Bool.{cases_lt}
 use Rattle.std.specs.Prelude.{Bool, IfNone}
@@ -9,31 +9,21 @@ use Rattle.recovery_base.specs.Ranges.{InRanges, AreApart, InsertsOne}
 use Rattle.recovery_base.proofs.RangeLaws.{Ranges, in_above, apart_rest}
 use Rattle.recovery_acks.specs.Runs.{EndsRun, Ascend, AtMost, IsInHighest}
 
-ascend_as : (P Q : ℕ → Type 0) (low other : ℕ) (numbers : List ℕ) → other ≤ low → ((n : ℕ) → low ≤ n → P n → Q n)
+ascend_as : {P Q : ℕ → Type 0} (low other : ℕ) (numbers : List ℕ) → other ≤ low → ((n : ℕ) → low ≤ n → P n → Q n)
     → Ascend P low numbers → Ascend Q other numbers
 unfolding Ascend
-ascend_as P Q low other [] less step up = tt
-ascend_as P Q low other (n ∷ others) less step up = let h : low ≤ n =
-    up.0 in (
-      omega arith,
-      step n up.0 up.1,
-      ascend_as P Q (n + 1) (n + 1) others (omega arith)
-          (λ m above p. step m (omega arith) p) up.2,
-    )
+ascend_as low other [] less step up = tt
+ascend_as low other (n ∷ others) less step up = (
+  omega (arith, up.0),
+  step n up.0 up.1,
+  ascend_as (n + 1) (n + 1) others (omega arith) (λ m above. step m (omega (arith, up.0))) up.2,
+)
 
--- the end of a run above the first range is one in the others
-end_behind : (low : ℕ) (range : Range ℕ) (others : Ranges) → AreApart low (range ∷ others) → (n : ℕ) → range.end ≤ n
-    → EndsRun (InRanges (range ∷ others)) n → EndsRun (InRanges others) n
+-- the end of a run above the first range is one in the others, and the other way
+end_behind : (range : Range ℕ) (others : Ranges) (n : ℕ) → range.end ≤ n
+    → EndsRun (InRanges (range ∷ others)) n ↔ EndsRun (InRanges others) n
 unfolding InRanges
-end_behind low range others apart n above ends =
-    let here = ends.0 in (grind (arith, here, above), λ next. ends.1 (inr next))
-
--- and the other way
-end_before : (low : ℕ) (range : Range ℕ) (others : Ranges) → AreApart low (range ∷ others) → (n : ℕ) → range.end ≤ n
-    → EndsRun (InRanges others) n → EndsRun (InRanges (range ∷ others)) n
-unfolding InRanges
-end_before low range others apart n above ends =
-    let last = ends.1 in (inr ends.0, λ next. grind (arith, next, above, last))
+end_behind range others n above = grind (arith, above)
 
 -- there are at most as many ends as ranges
 few_ends : (low from : ℕ) (ranges : Ranges) → AreApart low ranges → (numbers : List ℕ)
@@ -41,29 +31,20 @@ few_ends : (low from : ℕ) (ranges : Ranges) → AreApart low ranges → (numbe
 unfolding Ascend InRanges AreApart
 few_ends low from ranges apart [] up = omega arith
 few_ends low from [] apart (n ∷ numbers) up = absurd up.1.0
-few_ends low from (range ∷ others) apart (n ∷ numbers) up =
-    go (λ start ns u. few_ends (range.end + 1) start others apart.2 ns u) (cases_lt n range.end)
-  where
-    first_ends : n < range.end → range.end ≤ n + 1
-    first_ends below =
-        let here = up.1.0 in
-        let last = up.1.1 in
-        let behind = λ (there : InRanges others n). in_above (range.end + 1) others n apart.2 there in
-        grind (arith, below, here, last, behind)
-
-    go : ((start : ℕ) (ns : List ℕ) → Ascend (EndsRun (InRanges others)) start ns → length ns ≤ length others)
-        → (n < range.end) ⊎ (range.end ≤ n) → length (n ∷ numbers) ≤ length (range ∷ others)
-    go fewer (inl below) =
-        let reached : range.end ≤ n + 1 = first_ends below in
-        let h : length numbers ≤ length others = fewer (n + 1) numbers
-        (ascend_as (EndsRun (InRanges (range ∷ others))) (EndsRun (InRanges others)) (n + 1) (n + 1) numbers
-        (omega arith) (λ m above ends. end_behind low range others apart m (omega arith) ends) up.2) in
-        omega arith
-    go fewer (inr past) =
-        let h : length (n ∷ numbers) ≤ length others = fewer n (n ∷ numbers)
-        (ascend_as (EndsRun (InRanges (range ∷ others))) (EndsRun (InRanges others)) n n (n ∷ numbers) (omega arith)
-        (λ m above ends. end_behind low range others apart m (omega arith) ends) (omega arith, up.1, up.2)) in
-        omega arith
+few_ends low from (range ∷ others) apart (n ∷ numbers) up = elim (cases_lt n range.end) [
+  | inl below ↦
+      let reached : range.end ≤ n + 1 = grind (arith, below, up.1, in_above (range.end + 1) others n apart.2) in
+      omega (
+        arith,
+        few_ends (range.end + 1) (n + 1) others apart.2 numbers (ascend_as (n + 1) (n + 1) numbers
+            (omega arith) (λ m above. (end_behind range others m (omega (arith, reached))).0) up.2),
+      )
+  | inr past ↦ omega (
+    arith,
+    few_ends (range.end + 1) n others apart.2 (n ∷ numbers) (ascend_as n n (n ∷ numbers)
+        (omega arith) (λ m above. (end_behind range others m (omega arith)).0) (omega arith, up.1, up.2)),
+  )
+]
 
 -- the ends of the runs
 ends : Ranges → List ℕ
@@ -75,24 +56,14 @@ unfolding ends
 length-ends [] = refl
 length-ends (range ∷ others) = ap suc (length-ends others)
 
-end_of_first : (low : ℕ) (range : Range ℕ) (others : Ranges) → AreApart low (range ∷ others)
-    → EndsRun (InRanges (range ∷ others)) (range.end - 1)
-unfolding InRanges AreApart
-end_of_first low range others apart =
-    let filled : range.start < range.end = apart.1 in
-    let behind = in_above (range.end + 1) others (range.end - 1 + 1) apart.2 in
-    (inl (omega arith, omega arith), λ next. grind (arith, next, filled, behind))
-
 ends_ascend : (low : ℕ) (ranges : Ranges) → AreApart low ranges → Ascend (EndsRun (InRanges ranges)) low (ends ranges)
-unfolding Ascend AreApart ends
+unfolding Ascend AreApart InRanges ends
 ends_ascend low [] apart = tt
 ends_ascend low (range ∷ others) apart = (
-  let a : low ≤ range.start = apart.0 in let b : range.start < range.end = apart.1 in omega arith,
-  end_of_first low range others apart,
-  ascend_as (EndsRun (InRanges others)) (EndsRun (InRanges (range ∷ others)))
-      (range.end + 1) (range.end - 1 + 1) (ends others) (omega arith)
-      (λ m above here. end_before low range others apart m (omega arith) here)
-      (ends_ascend (range.end + 1) others apart.2),
+  omega (arith, apart.0, apart.1),
+  grind (arith, apart, in_above (range.end + 1) others (range.end - 1 + 1) apart.2),
+  ascend_as (range.end + 1) (range.end - 1 + 1) (ends others) (omega arith)
+      (λ m above. (end_behind range others m (omega arith)).1) (ends_ascend (range.end + 1) others apart.2),
 )
 
 pub highest_all : (ranges : Ranges) → AreApart 0 ranges → length ranges ≤ 64 → (n : ℕ)
@@ -100,10 +71,11 @@ pub highest_all : (ranges : Ranges) → AreApart 0 ranges → length ranges ≤ 
 highest_all ranges apart few n = (
   λ here. (
     here,
-    λ numbers up. let h : length numbers ≤ length ranges = few_ends 0 0
-        ranges apart numbers (ascend_as (λ m. (n ≤ m) × EndsRun (InRanges ranges) m) (EndsRun (InRanges ranges)) 0 0
-        numbers
-        (omega arith) (λ m above both. both.1) up) in omega arith,
+    λ numbers up. omega (
+      arith,
+      few_ends 0 0 ranges apart numbers (ascend_as 0 0 numbers (omega arith)
+          (λ m above both. both.1) up),
+    ),
   ),
   λ both. both.0,
 )
@@ -118,64 +90,59 @@ highest_rest range others apart size n = (to, λ both. from both.0 both.1)
       inr here,
       λ numbers up.
           let past : range.end + 1 ≤ n = in_above (range.end + 1) others n apart.2 here in
-          let h : length numbers ≤ length others = few_ends (range.end + 1) 0 others apart.2 numbers
-          (ascend_as (λ m. (n ≤ m) × EndsRun (InRanges (range ∷ others)) m) (EndsRun (InRanges others)) 0 0 numbers
-          (omega arith) (λ m above both. let k : n ≤ m = both.0 in end_behind 0 range others apart m (omega arith)
-          both.1) up) in
-          omega arith,
+          omega (
+            arith,
+            few_ends (range.end + 1) 0 others apart.2 numbers (ascend_as 0 0 numbers (omega arith)
+                (λ m above both. (end_behind range others m (omega (arith, past, both.0))).0 both.1) up),
+          ),
     )
 
     from : InRanges (range ∷ others) n → AtMost 64 (λ m. (n ≤ m) × EndsRun (InRanges (range ∷ others)) m)
         → InRanges others n
     from (inr here) few = here
     from (inl here) few =
-        let inside : n < range.end = here.1 in
         let all = ends_ascend 0 (range ∷ others) apart in
-        let raised : Ascend (EndsRun (InRanges (range ∷ others))) (range.end - 1) (ends (range ∷ others)) =
-        (omega arith, all.1, all.2) in
-        let many : length (ends (range ∷ others)) ≤ 64 = few (ends (range ∷ others))
-        (ascend_as (EndsRun (InRanges (range ∷ others))) (λ m. (n ≤ m) × EndsRun (InRanges (range ∷ others)) m)
-        (range.end - 1) 0 (ends (range ∷ others)) (omega arith) (λ m above ends'. (omega arith, ends')) raised) in
-        let size' : length (ends (range ∷ others)) ≡ length (range ∷ others) = length-ends (range ∷ others) in
-        absurd (omega arith)
+        absurd (omega (
+          arith,
+          length-ends others,
+          few (ends (range ∷ others)) (ascend_as (range.end - 1) 0
+              (ends (range ∷ others)) (omega arith) (λ m above last. (omega (arith, here.1), last))
+              (omega arith, all.1, all.2)),
+        ))
 
 -- the highest runs of sets with the same numbers
 pub highest_alike : (A B : ℕ → Type 0) → ((n : ℕ) → A n ↔ B n) → (count n : ℕ) → IsInHighest count A n
     → IsInHighest count B n
 highest_alike A B alike count n high = (
   (alike n).0 high.0,
-  λ numbers up. high.1 numbers
-      (ascend_as (λ m. (n ≤ m) × EndsRun B m) (λ m. (n ≤ m) × EndsRun A m) 0 0 numbers (omega arith)
+  λ numbers up. high.1 numbers (ascend_as 0 0 numbers (omega arith)
       (λ m above both. (both.0, ((alike m).1 both.1.0, λ next. both.1.1 ((alike (m + 1)).0 next)))) up),
 )
 
 -- ---- a number more
 
-module _ (old mid : Ranges) (number : ℕ) (is_new : Bool) (inserted : InsertsOne old number is_new mid) where
+module _ {old mid : Ranges} {number : ℕ} {is_new : Bool} (inserted : InsertsOne old number is_new mid) where
   pub inserted_kept : length mid ≤ 64 → (n : ℕ) → InRanges mid n ↔ IsInHighest 64 (With number (InRanges old)) n
-  inserted_kept few n =
-      let all = highest_all mid inserted.apart few n in (
-        λ here. highest_alike (InRanges mid) (With number (InRanges old)) inserted.numbers 64 n (all.0 here),
-        λ high. (inserted.numbers n).1 high.0,
-      )
+  inserted_kept few n = (
+    λ here. highest_alike (InRanges mid) (With number (InRanges old)) inserted.numbers 64 n
+        ((highest_all mid inserted.apart few n).0 here),
+    λ high. (inserted.numbers n).1 high.0,
+  )
 
   pub inserted_cut : length old ≤ 64 → 64 < length mid → (popped : Option (Range ℕ)) (new : Ranges)
       → mid ≡ option_to_list popped ++ new → IfNone popped (mid ≡ [])
       → ((n : ℕ) → InRanges new n ↔ IsInHighest 64 (With number (InRanges old)) n) × (length new ≤ 64) × AreApart 0 new
   inserted_cut few many None new is none = absurd (let h : length mid ≡ 0 = ap length none in omega arith)
   inserted_cut few many (Some range) new is none =
-      let apart : AreApart 0 (range ∷ new) = subst (λ (rs : Ranges). AreApart 0 rs) is inserted.apart in
+      let apart : AreApart 0 (range ∷ new) = rw is at inserted.apart in
       let size : length mid ≡ suc (length new) = ap length is in
-      let bound : length mid ≤ length old + 1 = inserted.count in
-      let sixty_four : length new ≡ 64 = omega arith in (
+      let sixty_four : length new ≡ 64 = omega (arith, inserted.count) in
+      let numbers : (n : ℕ) → InRanges (range ∷ new) n ↔ With number (InRanges old) n = rw is at inserted.numbers in (
         λ n. (
-          λ here. highest_alike (InRanges mid) (With number (InRanges old)) inserted.numbers 64 n
-              (subst (λ (rs : Ranges). IsInHighest 64 (InRanges rs) n) (sym is)
-              ((highest_rest range new apart sixty_four n).0 here)),
-          λ high. (highest_rest range new apart sixty_four n).1
-              (subst (λ (rs : Ranges). IsInHighest 64 (InRanges rs) n) is
-              (highest_alike (With number (InRanges old)) (InRanges mid)
-              (λ m. ((inserted.numbers m).1, (inserted.numbers m).0)) 64 n high)),
+          λ here. highest_alike (InRanges (range ∷ new)) (With number (InRanges old)) numbers 64 n
+              ((highest_rest range new apart sixty_four n).0 here),
+          λ high. (highest_rest range new apart sixty_four n).1 (highest_alike (With number (InRanges old))
+              (InRanges (range ∷ new)) (λ m. ((numbers m).1, (numbers m).0)) 64 n high),
         ),
         omega arith,
         apart_rest 0 range new apart,
