@@ -67,16 +67,13 @@ moved_on Old New next by number same some moves n =
 
 -- ---- a number among the others
 
-module _ (Old New : ℕ → Type 0) (next number place : ℕ) (within : AreWithin Old) (lower : number + 1 < next)
+module _ (Old New : ℕ → Type 0) (next number : ℕ) {place : ℕ} (within : AreWithin Old) (lower : number + 1 < next)
     (close : next ≤ number + 129) (at : place ≡ next - 2 - number) (sets : Sets place Old New) where
   pub set_known : (n : ℕ) → IsKnown New next n ↔ Recent (With number (IsKnown Old next)) n
   set_known n = (
     λ here. grind (arith, sets (next - 2 - n), within (next - 2 - n), here),
     λ r. grind (arith, sets (next - 2 - n), r),
   )
-
-  pub known_after : IsKnown New next number
-  known_after = (set_known number).1 (inl refl, λ m here. grind (arith, here))
 
   -- the answer is whether the place was set
   pub set_inserts : (was : Bool) → MatchBool was (Old place) (¬ Old place) →

@@ -55,8 +55,14 @@ moved_is word lower bits short fits = (
     bit_at_cat_high word bits 0 i (pow_pos bits) above,
     bit_at_above (lower / 2 ^ (32 - bits)) bits i small above,
   ),
-  λ i below. grind (arith, parts i (omega arith), bit_at_cat_low word bits 0 i below, bit_at-zero i, shr-shr lower
-      (32 - bits) i),
+  λ i below. grind (
+    arith,
+    parts i (omega arith),
+    bit_at_cat_low word bits 0 i below,
+    bit_at-zero i,
+    shr-shr lower
+        (32 - bits) i,
+  ),
 )
   where
     small : lower / 2 ^ (32 - bits) < 2 ^ bits
@@ -69,7 +75,7 @@ moved_is word lower bits short fits = (
         let plus : word * 2 ^ bits + 0 ≡ word * 2 ^ bits = omega arith in
         rw plus (bit_at_or (word * 2 ^ bits % 2 ^ 32) (lower / 2 ^ 1 / 2 ^ (31 - bits)) i
         ∙ ap₂ max (bit_in (word * 2 ^ bits) 32 i within) (ap (λ n. bit_at n i)
-            (shr-shr lower 1 (31 - bits) ∙ ap (λ k. lower / 2 ^ k) e)))
+        (shr-shr lower 1 (31 - bits) ∙ ap (λ k. lower / 2 ^ k) e)))
 
 -- ---- four words that move up
 
@@ -124,7 +130,7 @@ module _ (words : List ℕ) (from bits by : ℕ) (short : bits < 32) (some : 0 <
       at : (word upper lower new : ℕ) → Moved (slice_index (padded words) upper) (slice_index (padded words) lower) bits
           new →
           upper ≡ lower + 1 → upper ≡ from + 1 + word → place / 32 ≡ word → bit_at new (place % 32)
-              ≡ bit_of (padded words) (160 + place - by)
+          ≡ bit_of (padded words) (160 + place - by)
       at word upper lower new moved next above here = elim (cases_lt (place % 32) bits) [
         | inl carried ↦ moved.1 (place % 32) carried ∙ sym (place_is (padded words) (160 + place - by) lower
             (32 - bits + place % 32) (omega arith) (omega arith))

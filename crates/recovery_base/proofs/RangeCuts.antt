@@ -10,7 +10,8 @@ use Rattle.recovery_base.proofs.RangeLaws.{Ranges, Changes, changed, drop_at, sa
 
 module _ (n start end : ℕ) where
   abbrev Cut : ℕ → ℕ → Ranges → Ranges → Type 0
-  Cut more = Changes n (start + 1) more ⊥ (IsBetween start end n) (λ between. omega (arith, between))
+  Cut more = Changes n (start + 1) more ⊥ (IsBetween start end n) (λ comes. absurd comes)
+      (λ between. omega (arith, between))
 
   cut : (more : ℕ) (edit : ℕ → Ranges → Ranges) → ((at : ℕ) (range : Range ℕ) (others : Ranges)
       → range.start < range.end
@@ -19,7 +20,8 @@ module _ (n start end : ℕ) where
       → Cut more (floor_above 0 (take at ranges)) (drop at ranges) (edit 0 (drop at ranges))
       → Cut more 0 ranges (edit at ranges)
   cut more edit passes at ranges apart place change = changed n (start + 1) more ⊥ (IsBetween start end n)
-      (λ between. omega (arith, between)) edit passes 0 at ranges apart place.below place.bound change
+      (λ comes. absurd comes) (λ between. omega (arith, between)) edit passes 0 at ranges apart place.below place.bound
+      change
 
   cut_one : (low : ℕ) (range : Range ℕ) (others left : Ranges) → start < end → ((range.start < start) → range.end ≤ end)
       → AreApart low (range ∷ others) → Cut 0 (range.end + 1) others left → (some : Bool)
@@ -104,8 +106,8 @@ module _ {seen ranges : Ranges} {start end at : ℕ} (apart : AreApart 0 ranges)
         (omega arith, omega arith),
       );
       numbers = λ n. grind (arith, all n);
-      apart = (all 0).1;
-      count = λ zero. omega (arith, (all 0).2, few zero);
+      apart = (all 0).2;
+      count = λ zero. omega (arith, (all 0).3, few zero);
     }
 
     pub cut_at : {other : Range ℕ} → other ≡ get_or ranges at other → range.start < end

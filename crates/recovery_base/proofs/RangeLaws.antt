@@ -1,6 +1,6 @@
 -- Ranges that lie apart, and the numbers in them. All calls of the set of ranges rest on it, and `RunLaws` of what is
 -- to be acknowledged.
-use Rattle.std.proofs.Common.{◌≡◌, ℕ, suc, zero, ◌+◌, ◌<◌, ◌≤◌, inl, inr, ◌⊎◌, ◌↔◌, List, [], ◌∷◌, ◌++◌, length, take, drop, set, get_or, sym, ◌∙◌, ap, subst, arith, drop-cons, add-one, refl}
+use Rattle.std.proofs.Common.{◌≡◌, ℕ, suc, zero, ◌+◌, ◌<◌, ◌≤◌, inl, inr, ◌⊎◌, ◌↔◌, List, [], ◌∷◌, ◌++◌, length, take, drop, set, get_or, sym, ◌∙◌, ap, arith, drop-cons, add-one, refl}
 use Rattle.std.proofs.lemmas.Bool.Decides.{nat_tests}
 use Rattle.std.specs.declared.ops.Range.{Range}
 use Rattle.std.specs.List.{insert, remove}
@@ -51,10 +51,11 @@ from_place bound n low (suc at) (range ∷ others) apart below above = grind (
 )
 
 -- what comes and what goes where ranges change, of which `n` may be
-module _ (n bound more : ℕ) (Comes Goes : Type 0) (from : Goes → bound ≤ n + 1) where
+module _ (n bound more : ℕ) (Comes Goes : Type 0) (arrives : Comes → bound ≤ n + 1)
+    (leaves : Goes → bound ≤ n + 1) where
   abbrev pub Changes : ℕ → Ranges → Ranges → Type 0
-  Changes low old new = (InRanges new n ↔ Comes ⊎ (InRanges old n × ¬ Goes)) × AreApart low new
-      × (length new ≤ length old + more)
+  Changes low old new = (InRanges new n ↔ Comes ⊎ (InRanges old n × ¬ Goes)) × (Comes → ¬ InRanges old n)
+      × AreApart low new × (length new ≤ length old + more)
 
   pub changed : (edit : ℕ → Ranges → Ranges) → ((at : ℕ) (range : Range ℕ) (others : Ranges)
       → range.start < range.end → range.end < bound → edit (suc at) (range ∷ others) ≡ range ∷ edit at others)
@@ -70,7 +71,8 @@ module _ (n bound more : ℕ) (Comes Goes : Type 0) (from : Goes → bound ≤ n
       (grind (
         arith,
         apart,
-        from,
+        arrives,
+        leaves,
         grows,
         changed edit passes (range.end + 1) at others apart.2 below (omega arith)
             change,
@@ -102,38 +104,26 @@ module _ {seen ranges : Ranges} {x at : ℕ} (apart : AreApart 0 ranges) (same :
     low = floor_above 0 (take at ranges)
 
     -- what an insertion has to do from the place on
-    abbrev Local : Bool → Ranges → Ranges → Type 0
-    Local some old new = low ≤ x → AreApart low old → EndsFrom x old → (n : ℕ) → (some ≡ true → ¬ InRanges old x)
-        × (some ≡ false → InRanges old x) × Changes n x 1 (n ≡ x) ⊥ (λ goes. absurd goes) low old new
+    abbrev Local : ℕ → ℕ → Ranges → Ranges → Type 0
+    Local n = Changes n x 1 (n ≡ x) ⊥ (λ same. omega (arith, same)) (λ goes. absurd goes)
 
-    inserted : (some : Bool) (edit : ℕ → Ranges → Ranges) → ((at : ℕ) (range : Range ℕ) (others : Ranges)
+    inserted : (edit : ℕ → Ranges → Ranges) → ((at : ℕ) (range : Range ℕ) (others : Ranges)
         → edit (suc at) (range ∷ others) ≡ range ∷ edit at others) → (old : Ranges) → drop at ranges ≡ old
-        → Local some old (edit 0 old) → InsertsOne ranges x some (edit at ranges)
+        → (low ≤ x → AreApart low old → EndsFrom x old → (n : ℕ) → Local n low old (edit 0 old))
+        → InsertsOne ranges x true (edit at ranges)
     unfolding low
-    inserted some edit passes old is local = record {
-      answer = answer some (told 0).0 (told 0).1;
-      numbers = λ n. grind (arith, all n);
-      apart = (all 0).1;
-      count = (all 0).2;
-    }
+    inserted edit passes old is local =
+        record { answer = (all x).1 refl; numbers = λ n. grind (arith, all n); apart = (all 0).2; count = (all 0).3 }
       where
-        told : (n : ℕ) → (some ≡ true → ¬ InRanges (drop at ranges) x) × (some ≡ false → InRanges (drop at ranges) x)
-            × Changes n x 1 (n ≡ x) ⊥ (λ goes. absurd goes) low (drop at ranges) (edit 0 (drop at ranges))
-        told = (subst (λ (rs : Ranges). Local some rs (edit 0 rs)) (sym is) local) here.below
-            (from_there 0 at ranges apart).1 here.above
-
-        all : (n : ℕ) → Changes n x 1 (n ≡ x) ⊥ (λ goes. absurd goes) 0 ranges (edit at ranges)
-        all n = changed n x 1 (n ≡ x) ⊥ (λ goes. absurd goes) edit (λ i range others _ _. passes i range others) 0 at
-            ranges apart here.below here.bound (told n).2
-
-        answer : (some : Bool) → (some ≡ true → ¬ InRanges (drop at ranges) x)
-            → (some ≡ false → InRanges (drop at ranges) x) → MatchBool some (¬ InRanges ranges x) (InRanges ranges x)
-        answer true none one = λ there. none refl ((from_place x x 0 at ranges apart here.below (omega arith)).0 there)
-        answer false none one = (from_place x x 0 at ranges apart here.below (omega arith)).1 (one refl)
+        all : (n : ℕ) → Local n 0 ranges (edit at ranges)
+        all n = changed n x 1 (n ≡ x) ⊥ (λ same. omega (arith, same)) (λ goes. absurd goes) edit
+            (λ i range others _ _. passes i range others) 0 at
+            ranges apart here.below here.bound (rw is (local here.below (rw is at (from_there 0 at ranges apart).1)
+            (rw is at here.above) n))
 
     pub inserts_last : at ≡ length seen → InsertsOne ranges x true (ranges ++ span x (x + 1) ∷ [])
     unfolding InRanges AreApart
-    inserts_last last = inserted true (λ i rs. rs ++ span x (x + 1) ∷ []) (λ i range others. refl) []
+    inserts_last last = inserted (λ i rs. rs ++ span x (x + 1) ∷ []) (λ i range others. refl) []
         (drop_all at ranges (let e : length seen ≡ length ranges = ap length same in omega arith))
         (λ below apart ends n. grind (arith, below))
 
@@ -152,18 +142,20 @@ module _ {seen ranges : Ranges} {x at : ℕ} (apart : AreApart 0 ranges) (same :
 
       pub inserts_known : range.start ≤ x → x < other.end → InsertsOne ranges x false ranges
       unfolding InRanges AreApart
-      inserts_known from to = inserted false (λ i rs. rs) (λ i range others. refl) (range ∷ after) rest
-          (λ below apart ends n. grind (arith, apart, from, to, as_other))
+      inserts_known from to =
+          let known : InRanges ranges x = (from_place x x 0 at ranges apart here.below (omega arith)).1
+          (rw rest (inl (from, rw as_other to))) in
+          record { answer = known; numbers = λ n. grind (arith, known); apart = apart; count = omega arith }
 
       pub inserts_between : x + 1 < range.start → InsertsOne ranges x true (insert ranges at (span x (x + 1)))
       unfolding InRanges AreApart
-      inserts_between above = inserted true (λ i rs. insert rs i (span x (x + 1))) (λ i range others. refl)
+      inserts_between above = inserted (λ i rs. insert rs i (span x (x + 1))) (λ i range others. refl)
           (range ∷ after) rest
           (λ below apart ends n. grind (arith, below, apart, above, in_above (range.end + 1) after x))
 
       pub inserts_below : x + 1 ≡ other.start → InsertsOne ranges x true (set ranges at (span x range.end))
       unfolding InRanges AreApart
-      inserts_below touches = inserted true (λ i rs. set rs i (span x range.end)) (λ i range others. refl)
+      inserts_below touches = inserted (λ i rs. set rs i (span x range.end)) (λ i range others. refl)
           (range ∷ after) rest
           (λ below apart ends n. grind (arith, below, apart, touches, as_other, in_above (range.end + 1) after x))
 
@@ -181,11 +173,11 @@ module _ {seen ranges : Ranges} {x at : ℕ} (apart : AreApart 0 ranges) (same :
             → InsertsOne ranges x true (set ranges at (span range.start (x + 1)))
         unfolding InRanges AreApart after
         inserts_above (inl last) = let e : length seen ≡ length ranges = ap length same in
-            inserted true (λ i rs. set rs i (span range.start (x + 1))) (λ i range others. refl) (range ∷ [])
+            inserted (λ i rs. set rs i (span range.start (x + 1))) (λ i range others. refl) (range ∷ [])
             (rest ∙ ap (λ (rs : Ranges). range ∷ rs) (drop_all (suc at) ranges (omega arith)))
             (λ below apart ends n. grind (arith, below, apart, past, as_other))
         inserts_above (inr next) = let alone = next.3 in
-            inserted true (λ i rs. set rs i (span range.start (x + 1))) (λ i range others. refl)
+            inserted (λ i rs. set rs i (span range.start (x + 1))) (λ i range others. refl)
             (range ∷ next.0 ∷ drop (suc (suc at)) ranges) (rest_two next.0 next.1 next.2)
             (λ below apart ends n. grind (
               arith,
@@ -202,7 +194,7 @@ module _ {seen ranges : Ranges} {x at : ℕ} (apart : AreApart 0 ranges) (same :
             (span range.start next.end))
         unfolding InRanges AreApart
         inserts_joining next within is' follows =
-            inserted true (λ i rs. set (remove rs (i + 1)) i (span range.start next.end))
+            inserted (λ i rs. set (remove rs (i + 1)) i (span range.start next.end))
             (λ i range others. let e : suc i + 1 ≡ suc (i + 1) = omega arith in rw e refl)
             (range ∷ next ∷ drop (suc (suc at)) ranges) (rest_two next within is')
             (λ below apart ends n. grind (

@@ -30,7 +30,7 @@ returns c =
     let size : length seen ≡ length items = ap length c.deref_mut-range-items.ensures.value in
     let whole : take (vec_len c.args.ranges.now) (now ++ drop (length now) items) ≡ now =
     rw (drop_all (length now) items (omega arith)) (rw (append-nil now) (take_all (vec_len c.args.ranges.now) now
-        (omega arith))) in
+    (omega arith))) in
     let all = rw (append-nil (map (clipped c.args.start c.args.end) (take at seen))) at
     (rw (drop_all at seen (omega arith)) at c.loop-range.invariant) in
     filter_same _ (λ (r : Range ℕ). nat_lt r.start r.end) _ (λ x b f h. search rules) _ _ c.retain.ensures.filtered
