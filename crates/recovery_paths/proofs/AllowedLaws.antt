@@ -1,6 +1,6 @@
 -- What checked transmissions keep on one path holds of each path that lives, whatever happens. `ThreefoldLaws`,
 -- `PassedLaws` and `SearchedLaws` rest on it.
-use Rattle.std.proofs.Common.{◌≡◌, false, List, [], ◌∷◌, ◌++◌, Option, None, Some, option_map, refl, subst}
+use Rattle.std.proofs.Common.{◌≡◌, false, List, [], ◌∷◌, ◌++◌, Option, None, Some, option_map, refl}
 use Rattle.std.specs.Option.{ForSome}
 use Rattle.std.proofs.lemmas.Option.{none-some}
 use Rattle.recovery_congestion.specs.Controllers.{ControllerWords}
@@ -62,7 +62,7 @@ module _ {K : Type 0} (settings : PathSettings K) where
         → ForSome (option_map (past_with settings entry) path) Holds
     previous_kept entry None nothing holds = λ past is. absurd (none-some _ is)
     previous_kept entry (Some path) nothing holds = λ past is.
-        subst Holds (some_same is) (kept.by_entry entry path (allowed_anywhere entry (state_of settings path) nothing)
+        rw (← some_same is) (kept.by_entry entry path (allowed_anywhere entry (state_of settings path) nothing)
         (holds path refl))
 
     -- an entry keeps it
@@ -72,7 +72,7 @@ module _ {K : Type 0} (settings : PathSettings K) where
     entry_kept (on Current entry) pasts allowed holds = (kept.by_entry entry pasts.current allowed holds.0, holds.1)
     entry_kept (on Previous entry) pasts allowed holds = (holds.0, previous_kept entry pasts.previous allowed holds.1)
     entry_kept (moves following) pasts allowed holds =
-        (kept.following following pasts.current holds.0, λ past is. subst Holds (some_same is) holds.0)
+        (kept.following following pasts.current holds.0, λ past is. rw (← some_same is) holds.0)
     entry_kept drops_previous pasts allowed holds = (holds.0, λ past is. absurd (none-some _ is))
 
     -- an event's entries keep it
@@ -81,6 +81,5 @@ module _ {K : Type 0} (settings : PathSettings K) where
         → OnEachPath Holds (pasts_by settings first (entries ++ log))
     kept_after first [] log allowed holds = holds
     kept_after first (entry ∷ earlier) log allowed holds =
-        let Q : OfPaths (PathKnown K) → Type 0 = λ paths. IsAllowedOn paths entry in
         entry_kept entry (pasts_by settings first (earlier ++ log))
-        (subst Q (each-after settings first earlier log) allowed.0) (kept_after first earlier log allowed.1 holds)
+        (rw (← each-after settings first earlier log) allowed.0) (kept_after first earlier log allowed.1 holds)

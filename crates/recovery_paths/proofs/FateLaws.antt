@@ -1,9 +1,8 @@
 -- How often the search of the path in use is told that a number was acknowledged or lost: at most as often as that
 -- happened. The driver's `FateLaws` rest on it.
-use Rattle.std.proofs.Common.{◌≡◌, ⊎_elim, ℕ, ◌+◌, ◌≤◌, Bool, true, false, List, [], ◌∷◌, ◌++◌, refl, arith}
+use Rattle.std.proofs.Common.{◌≡◌, ℕ, ◌+◌, ◌≤◌, Bool, true, List, [], ◌∷◌, ◌++◌, refl, arith}
 use Rattle.std.specs.Prelude.{nat_eq}
 use Rattle.std.specs.Set.{is_member}
-use Rattle.std.proofs.lemmas.Bool.{or_cases}
 use Rattle.std.proofs.lemmas.Bool.Decides.{nat_tests}
 use Rattle.recovery_ledger.specs.Departures.{one_if_same}
 use Rattle.recovery_mtud.specs.BurstRuns.{AreFatesApart}
@@ -12,7 +11,7 @@ use Rattle.recovery_mtud.specs.DiscoveryLog.{MtuCall, acks, loses}
 use Rattle.recovery_mtud.specs.MtuEntries.{entries_by}
 use Rattle.recovery_mtud.proofs.BurstRunLaws.{acked_in_calls, lost_in_calls, fates_apart_by}
 use Rattle.recovery_paths.specs.declared.live_paths.PathName.TheVariants.{Current, Previous}
-use Rattle.recovery_paths.specs.PathLog.{PathsEntry, PathEntry, PathPast, Following, pasts_by, past_with, past_following, on, moves, drops_previous, fresh, goes_on, receives, searches}
+use Rattle.recovery_paths.specs.PathLog.{PathsEntry, PathEntry, PathPast, Following, pasts_by, past_with, past_following, on, moves, drops_previous, searches}
 use Rattle.recovery_paths.specs.PathMaking.{PathMaking, PathSettings}
 
 -- ---- the fates of a number, by the calls of a search
@@ -41,36 +40,24 @@ has number numbers = is_member nat_eq numbers number
 fates_are : (number : ℕ) (calls : List MtuCall)
     → fates number calls ≡ times number (acked_in_calls calls) + times number (lost_in_calls calls)
 fates_are number [] = refl
-fates_are number (acks other bytes ∷ earlier) = omega (arith, fates_are number earlier)
-fates_are number (call ∷ earlier) = omega (arith, fates_are number earlier)
-
--- a number that is another stands there
-one_here : (number other : ℕ) → nat_eq number other ≡ true → one_if_same other number ≡ 1
-one_here number other is = grind (arith, nat_tests)
+fates_are number (call ∷ earlier) = grind (arith, fates_are number earlier)
 
 -- what is among others stands there once at least
 stands : (number : ℕ) (numbers : List ℕ) → has number numbers ≡ true → 1 ≤ times number numbers
 stands number [] is = absurd (cc)
-stands number (other ∷ numbers) is =
-    ⊎_elim (λ (here : nat_eq number other ≡ true). omega (arith, one_here number other here))
-    (λ (there : has number numbers ≡ true). omega (arith, stands number numbers there)) (or_cases _ _ is)
+stands number (other ∷ numbers) is = grind (arith, nat_tests, stands number numbers)
 
 -- where each number has one fate at most, none is both acknowledged and lost
 pub apart_once : (made : Discovery) (calls : List MtuCall) → ((number : ℕ) → fates number calls ≤ 1)
     → AreFatesApart (entries_by made calls)
 apart_once made calls once =
-    fates_apart_by made calls (λ number good. go number good (has number (lost_in_calls calls)) refl)
-  where
-    go : (number : ℕ) → has number (acked_in_calls calls) ≡ true → (bad : Bool) → has number (lost_in_calls calls) ≡ bad
-        → has number (lost_in_calls calls) ≡ false
-    go number good true bad = absurd (omega (
+    fates_apart_by made calls (λ number good. grind (
       arith,
       once number,
       fates_are number calls,
       stands number (acked_in_calls calls) good,
-      stands number (lost_in_calls calls) bad,
+      stands number (lost_in_calls calls),
     ))
-    go number good false none = none
 
 -- ---- what happens on the paths
 
@@ -103,14 +90,12 @@ module _ {K : Type 0} (settings : PathSettings K) (number : ℕ) where
   -- an entry adds its own
   fates_with : (entry : PathEntry) (past : PathPast K)
       → fates_on (past_with settings entry past) ≤ fates_on past + told_on_path number entry
-  fates_with (receives bytes) past = omega arith
-  fates_with entry past = omega arith
+  fates_with entry past = grind arith
 
   -- a path that follows begins with none, or with those of the path before it
   fates_following : (following : Following) (past : PathPast K)
       → fates_on (past_following settings following past) ≤ fates_on past
-  fates_following (fresh remote limit now) past = omega arith
-  fates_following (goes_on remote now) past = omega arith
+  fates_following following past = grind arith
 
   -- on the path in use a number has at most the fates that were told
   pub fates_by : (first : PathMaking K) (log : List PathsEntry)
@@ -118,7 +103,6 @@ module _ {K : Type 0} (settings : PathSettings K) (number : ℕ) where
   fates_by first [] = omega arith
   fates_by first (on Current entry ∷ log) =
       omega (arith, fates_by first log, fates_with entry (pasts_by settings first log).current)
-  fates_by first (on Previous entry ∷ log) = omega (arith, fates_by first log)
   fates_by first (moves following ∷ log) =
       omega (arith, fates_by first log, fates_following following (pasts_by settings first log).current)
-  fates_by first (drops_previous ∷ log) = omega (arith, fates_by first log)
+  fates_by first (entry ∷ log) = grind (arith, fates_by first log)

@@ -26,16 +26,11 @@ module _ {K : Type 0} (settings : PathSettings K) where
   each-with : (entry : PathsEntry) (pasts : OfPaths (PathPast K))
       → paths_with (known_with settings) (known_following settings) entry (each_path (known_of settings) pasts)
       ≡ each_path (known_of settings) (paths_with (past_with settings) (past_following settings) entry pasts)
-  each-with (on Current entry) pasts = ap (λ (k : PathKnown K). let all : OfPaths (PathKnown K) =
-      record { current = k; previous = option_map (known_of settings) pasts.previous } in all)
-      (known_of-with entry pasts.current)
-  each-with (on Previous entry) pasts = ap (λ (k : Option (PathKnown K)). let all : OfPaths (PathKnown K) =
-      record { current = known_of settings pasts.current; previous = k } in all)
-      (option-each (known_of settings) (past_with settings entry) (known_with settings entry) (known_of-with entry)
-      pasts.previous)
-  each-with (moves following) pasts = ap (λ (k : PathKnown K). let all : OfPaths (PathKnown K) =
-      record { current = k; previous = Some (known_of settings pasts.current) } in all)
-      (known_of-following following pasts.current)
+  each-with (on Current entry) pasts = rw (known_of-with entry pasts.current) refl
+  each-with (on Previous entry) pasts =
+      rw (option-each (known_of settings) (past_with settings entry) (known_with settings entry) (known_of-with entry)
+      pasts.previous) refl
+  each-with (moves following) pasts = rw (known_of-following following pasts.current) refl
   each-with drops_previous pasts = refl
 
   -- entries before a log, as they change what the log leaves
@@ -44,11 +39,10 @@ module _ {K : Type 0} (settings : PathSettings K) where
       (each_path (known_of settings) (pasts_by settings first log))
       ≡ each_path (known_of settings) (pasts_by settings first (entries ++ log))
   each-after first [] log = refl
-  each-after first (entry ∷ entries) log = ap (paths_with (known_with settings) (known_following settings) entry)
-      (each-after first entries log) ∙ each-with entry (pasts_by settings first (entries ++ log))
+  each-after first (entry ∷ entries) log =
+      rw (each-after first entries log) (each-with entry (pasts_by settings first (entries ++ log)))
 
   pub paths_law : (first : PathMaking K) (entries log : List PathsEntry) (old new : OfPaths (PathKnown K))
       → PathsLeft settings first log old → PathsStep settings entries old new
       → PathsLeft settings first (entries ++ log) new
-  paths_law first entries log old new left step = step ∙ ap (paths_after (known_with settings)
-      (known_following settings) entries) left ∙ each-after first entries log
+  paths_law first entries log old new left step = step ∙ rw left (each-after first entries log)

@@ -1,24 +1,22 @@
 -- The responses stay sound: `push` rests on it, and that they are a model.
-use Rattle.std.proofs.Common.{◌≡◌, ℕ, zero, suc, ◌<◌, Bool, true, false, ◌&&◌, ◌||◌, List, [], ◌∷◌, ◌++◌, length, map, take, nat_le, nat_lt, refl, sym, ap, subst, ◌∙◌, arith, rules}
+use Rattle.std.proofs.Common.{◌≡◌, ℕ, zero, suc, ◌<◌, Bool, false, List, [], ◌∷◌, ◌++◌, length, map, take, refl, ◌∙◌, arith, rules}
 use Rattle.std.specs.List.{IsDistinct, AllByRecursion, list_any}
-use Rattle.std.specs.Prelude.{if◌then◌else◌}
 use Rattle.std.proofs.lemmas.List.{take-map, length-map, length-append, length-take, map-append}
 use Rattle.std.proofs.lemmas.Bool.{or_parts}
+use Rattle.std.proofs.lemmas.Bool.Decides.{nat_tests}
 use Rattle.std.specs.declared.net.socket_addr.SocketAddr.{SocketAddr}
 use Rattle.recovery_paths.specs.declared.responses.PathResponse.{PathResponse}
 use Rattle.recovery_paths.specs.Responses.{AreSound, goes_to, remotes, renewed, same_address, with_response}
 
 -- the front of a list whose elements have a property
 all_take : {X : Type 0} (P : X → Type 0) (n : ℕ) (xs : List X) → AllByRecursion P xs → AllByRecursion P (take n xs)
-all_take P zero [] all = all
-all_take P zero (x ∷ xs) all = search rules
+all_take P zero xs all = search rules
 all_take P (suc n) [] all = all
 all_take P (suc n) (x ∷ xs) all = (all.0, all_take P n xs all.1)
 
 distinct_take : {K : Type 0} (e : K → K → Bool) (n : ℕ) (ks : List K) → IsDistinct e ks → IsDistinct e (take n ks)
 unfolding IsDistinct
-distinct_take e zero [] apart = apart
-distinct_take e zero (k ∷ ks) apart = search rules
+distinct_take e zero ks apart = search rules
 distinct_take e (suc n) [] apart = apart
 distinct_take e (suc n) (k ∷ ks) apart = (all_take (λ y. e k y ≡ false) n ks apart.0, distinct_take e n ks apart.1)
 
@@ -29,8 +27,8 @@ none_sound = record { few = omega arith; apart = search rules }
 -- the first n of sound responses
 pub take_sound : (n : ℕ) (responses : List PathResponse) → AreSound responses → AreSound (take n responses)
 take_sound n responses sound = record {
-  few = let shorter = length-take n responses in omega (arith, shorter, sound.few);
-  apart = subst (IsDistinct same_address) (take-map (λ (response : PathResponse). response.remote) n responses)
+  few = omega (arith, length-take n responses, sound.few);
+  apart = rw (← take-map (λ (response : PathResponse). response.remote) n responses)
       (distinct_take same_address n (remotes responses) sound.apart);
 }
 
@@ -51,46 +49,32 @@ distinct_push e (x ∷ ks) k apart none =
 any_remote : (remote : SocketAddr) (responses : List PathResponse)
     → list_any (λ x. same_address x remote) (remotes responses) ≡ list_any (goes_to remote) responses
 any_remote remote [] = refl
-any_remote remote (response ∷ others) = ap (λ b. goes_to remote response || b) (any_remote remote others)
+any_remote remote (response ∷ others) = grind (arith, any_remote remote others)
 
 -- one more response, to an address that none goes to
 push_sound : (new : PathResponse) (responses : List PathResponse) → AreSound responses
     → list_any (goes_to new.remote) responses ≡ false → length responses < 16 → AreSound (responses ++ new ∷ [])
 push_sound new responses sound unknown room = record {
-  few = let longer = length-append responses (new ∷ []) in omega (arith, longer, room);
-  apart = subst (IsDistinct same_address)
-      (sym (map-append (λ (response : PathResponse). response.remote) responses (new ∷ [])))
-      (distinct_push same_address (remotes responses) new.remote sound.apart (any_remote new.remote responses
-      ∙ unknown));
+  few = omega (arith, length-append responses (new ∷ []), room);
+  apart = rw (map-append (λ (response : PathResponse). response.remote) responses (new ∷ []))
+      (distinct_push same_address (remotes responses) new.remote sound.apart
+      (any_remote new.remote responses ∙ unknown));
 }
-
-remote_renewed : (new kept : PathResponse) → (renewed new kept).remote ≡ kept.remote
-remote_renewed new kept = go (goes_to new.remote kept && nat_le kept.packet new.packet)
-  where
-    go : (b : Bool) → (if b then record kept { packet = new.packet; token = new.token } else kept).remote ≡ kept.remote
-    go true = refl
-    go false = refl
 
 -- responses keep their addresses
 remotes_renewed : (new : PathResponse) (responses : List PathResponse)
     → remotes (map (renewed new) responses) ≡ remotes responses
 remotes_renewed new [] = refl
-remotes_renewed new (kept ∷ others) = λ i. remote_renewed new kept i ∷ remotes_renewed new others i
+remotes_renewed new (kept ∷ others) = grind (arith, remotes_renewed new others)
 
 renewed_sound : (new : PathResponse) (responses : List PathResponse) → AreSound responses
     → AreSound (map (renewed new) responses)
 renewed_sound new responses sound = record {
-  few = let same = length-map responses (renewed new) in omega (arith, same, sound.few);
-  apart = subst (IsDistinct same_address) (sym (remotes_renewed new responses)) sound.apart;
+  few = omega (arith, length-map responses (renewed new), sound.few);
+  apart = rw (remotes_renewed new responses) sound.apart;
 }
 
 pub with_response_sound : (new : PathResponse) (responses : List PathResponse) → AreSound responses
     → AreSound (with_response new responses)
 with_response_sound new responses sound =
-    go (list_any (goes_to new.remote) responses) (nat_lt (length responses) 16) refl refl
-  where
-    go : (known room : Bool) → list_any (goes_to new.remote) responses ≡ known → nat_lt (length responses) 16 ≡ room
-        → AreSound (if known then map (renewed new) responses else if room then responses ++ new ∷ [] else responses)
-    go true room known_is room_is = renewed_sound new responses sound
-    go false true known_is room_is = push_sound new responses sound known_is (search rules)
-    go false false known_is room_is = sound
+    grind (arith, nat_tests, renewed_sound new responses sound, push_sound new responses sound)
