@@ -1,7 +1,6 @@
 -- The packets among those that are tracked, when one is sent, taken or has other contents. `CoherentLaws` and
 -- `GenerationLaws` rest on it.
-use Rattle.std.proofs.Common.{arith, ◌≡◌, ℕ, ◌⊎◌, inl, inr, [], ◌∷◌, ◌++◌, Option, None, Some, refl, subst}
-use Rattle.std.specs.Prelude.{option_map}
+use Rattle.std.proofs.Common.{arith, ◌≡◌, ℕ, ◌⊎◌, inl, inr, [], ◌∷◌, ◌++◌, Option, None, Some}
 use Rattle.recovery_ledger.specs.Packets.{Packet, Packets, packet_at, without, without_some, with_contents, replaced, carrying, sent_onto, forgotten_number, IsAmong, AreAcknowledging, IsTooLarge}
 
 module _ {P M : Type 0} where
@@ -36,33 +35,21 @@ module _ {P M : Type 0} (Holds : Packet P M → Type 0) where
   pub all_without : (packets : Packets P M) (number : ℕ) → OfAll packets → OfAll (without packets number)
   all_without packets number all packet among = all packet (among_without packets number packet among)
 
-  all_without_some : (packets : Packets P M) (forgotten : Option ℕ) → OfAll packets
-      → OfAll (without_some packets forgotten)
-  all_without_some packets None all = all
-  all_without_some packets (Some number) all = all_without packets number all
-
   pub all_sent : (last : Option ℕ) (number : ℕ) (sent : Packet P M) (packets : Packets P M) → OfAll packets → Holds sent
       → OfAll (sent_onto last number sent packets)
   all_sent last number sent packets all one packet among =
-      go (among_push (without_some packets (forgotten_number last sent packets)) number sent packet among)
+      go (forgotten_number last sent packets) (among_push _ number sent packet among)
     where
-      go : IsAmong (without_some packets (forgotten_number last sent packets)) packet ⊎ (sent ≡ packet) → Holds packet
-      go (inl there) = all_without_some packets (forgotten_number last sent packets) all packet there
-      go (inr same) = subst Holds same one
+      go : (forgotten : Option ℕ) → IsAmong (without_some packets forgotten) packet ⊎ (sent ≡ packet) → Holds packet
+      go None (inl there) = all packet there
+      go (Some least) (inl there) = all_without packets least all packet there
+      go forgotten (inr same) = rw (← same) one
 
   pub all_carrying : (packets : Packets P M) (number : ℕ) (contents : P)
       → ((packet : Packet P M) → Holds packet → Holds (with_contents contents packet)) → OfAll packets
       → OfAll (carrying number contents packets)
-  all_carrying packets number contents alike all =
-      go (packet_at packets number) (λ packet found. all packet (among_found packets number packet found))
-    where
-      go : (found : Option (Packet P M)) → ((packet : Packet P M) → found ≡ Some packet → Holds packet)
-          → OfAll (replaced number (option_map (with_contents contents) found) packets)
-      go None none packet among = all packet among
-      go (Some old) one packet among = elim (among_replaced packets number (with_contents contents old) packet among) [
-        | inl there ↦ all packet there
-        | inr same ↦ subst Holds same (alike old (one old refl))
-      ]
+  all_carrying packets number contents alike all packet among =
+      grind (arith, among_replaced packets number, among_found packets number, all, alike)
 
 -- ---- what packets acknowledge
 

@@ -1,9 +1,9 @@
 -- A tracked packet whose contents are exchanged. `queue_lost` and `lose` rest on it.
-use Rattle.std.proofs.Common.{arith, ◌≡◌, ℕ, [], ◌∷◌, Option, None, Some, refl, sym, ap, subst, ◌∙◌}
+use Rattle.std.proofs.Common.{arith, ◌≡◌, ℕ, [], ◌∷◌, Option, None, Some, refl, sym, subst, ◌∙◌}
 use Rattle.std.specs.Prelude.{IfNone, option_map, sum_by}
 use Rattle.recovery_queue.specs.Queues.{QueueWords}
 use Rattle.recovery_ledger.specs.Packets.{Packet, Packets, Tracking, packet_at, without, with_contents, replaced, carrying, contents_or, after_carrying}
-use Rattle.recovery_ledger.specs.Spaces.{Space, packets_of, tracking_of, space_moves, space_loses, space_takes}
+use Rattle.recovery_ledger.specs.Spaces.{Space, packets_of, space_moves, space_loses, space_takes}
 use Rattle.recovery_ledger.proofs.PacketLaws.{some_packet, none_found, sum-replaced, without-absent}
 
 module _ {P M : Type 0} where
@@ -35,13 +35,8 @@ module _ {P M : Type 0} where
     pub carrying_found : (contents : P)
         → packet_at (carrying number contents packets) number ≡ option_map (with_contents contents)
         (packet_at packets number)
-    carrying_found contents = go (packet_at packets number) refl
-      where
-        go : (found : Option (Packet P M)) → packet_at packets number ≡ found
-            → packet_at (replaced number (option_map (with_contents contents) found) packets) number
-            ≡ option_map (with_contents contents) found
-        go None absent = absent
-        go (Some packet) e = replaced_found packets number packet (with_contents contents packet) e
+    carrying_found contents =
+        grind (arith, λ (packet : Packet P M). replaced_found packets number packet (with_contents contents packet))
 
     -- without the packet of the number nothing has changed
     pub carrying_gone : (contents : P) → without (carrying number contents packets) number ≡ without packets number
@@ -51,30 +46,24 @@ module _ {P M : Type 0} where
     pub carrying_back : (contents other : P)
         → carrying number (contents_or other (packet_at packets number)) (carrying number contents packets) ≡ packets
     carrying_back contents other =
-        ap (λ (found : Option (Packet P M)). replaced number (option_map
-        (with_contents (contents_or other (packet_at packets number))) found) (carrying number contents packets))
-        (carrying_found contents)
-        ∙ go (packet_at packets number) refl
-      where
-        go : (found : Option (Packet P M)) → packet_at packets number ≡ found
-            → replaced number (option_map (with_contents (contents_or other found))
-            (option_map (with_contents contents) found)) (replaced number (option_map (with_contents contents) found)
-            packets) ≡ packets
-        go None absent = refl
-        go (Some packet) e = replaced_again packets number (with_contents contents packet) packet
-            ∙ replaced_same packets number packet e
+        grind (
+          arith,
+          carrying_found contents,
+          λ (packet : Packet P M). replaced_again packets number (with_contents contents packet) packet,
+          λ (packet : Packet P M). replaced_same packets number packet,
+        )
 
     -- a sum that does not look at the contents
     pub sum-carrying : (f : ℕ × Packet P M → ℕ) (contents : P)
         → ((n : ℕ) (packet : Packet P M) → f (n, with_contents contents packet) ≡ f (n, packet))
         → sum_by f (carrying number contents packets) ≡ sum_by f packets
-    sum-carrying f contents alike = go (packet_at packets number) refl
-      where
-        go : (found : Option (Packet P M)) → packet_at packets number ≡ found
-            → sum_by f (replaced number (option_map (with_contents contents) found) packets) ≡ sum_by f packets
-        go None absent = refl
-        go (Some packet) e = sum-replaced f packets number packet (with_contents contents packet) e
-            (λ n. alike n packet)
+    sum-carrying f contents alike =
+        grind (
+          arith,
+          alike,
+          λ (packet : Packet P M). sum-replaced f packets number packet
+              (with_contents contents packet),
+        )
 
   -- what holds of a tracked packet, whatever its contents, holds of it as it is handed back when it is lost
   pub lost_holds : (Holds : Packet P M → Type 0) (found : Option (Packet P M)) (contents : P) (packet : Packet P M)
@@ -87,17 +76,13 @@ module _ {P M : Type 0} where
   pub tracking_back : (tracking : Tracking P M) (number : ℕ) (contents other : P)
       → after_carrying number (contents_or other (packet_at tracking.packets number))
       (after_carrying number contents tracking) ≡ tracking
-  tracking_back tracking number contents other = ap (λ (es : Packets P M). let t : Tracking P M = record tracking
-      { packets = es } in t) (carrying_back tracking.packets number contents other)
+  tracking_back tracking number contents other = grind (arith, carrying_back tracking.packets number contents other)
 
 module _ {P M S : Type 0} (words : QueueWords P S) where
   -- a packet whose contents were moved, and that is taken, was lost
   pub moved_taken : (number : ℕ) (space : Space P M)
       → space_takes number (space_moves words number space) ≡ space_loses words number space
-  moved_taken number space =
-      ap (λ (es : Packets P M). let s : Space P M = record (space_loses words number space)
-      { sent_packets = record (tracking_of space) { packets = es } } in s)
-      (carrying_gone (packets_of space) number words.empty)
+  moved_taken number space = grind (arith, carrying_gone (packets_of space) number words.empty)
 
   -- a packet that is not tracked is not lost
   pub lost_absent : (number : ℕ) (space : Space P M)

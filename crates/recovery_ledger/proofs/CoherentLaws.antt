@@ -1,13 +1,12 @@
 -- The parts of a space go together, whatever happens in it. The balance of the paths, and so each call of the driver on
 -- a space, rests on it.
-use Rattle.recovery_ledger.proofs.SpaceLaws.{of_each}
-use Rattle.std.proofs.Common.{◌≡◌, ℕ, ◌+◌, ◌<◌, ◌≤◌, Bool, true, false, cond, [], Some, refl, sym, ap, ◌∙◌, arith}
+use Rattle.recovery_ledger.proofs.SpaceLaws.{each_with}
+use Rattle.std.proofs.Common.{◌≡◌, ℕ, ◌+◌, ◌≤◌, Bool, [], refl, sym, ◌∙◌, arith}
 use Rattle.recovery_base.specs.declared.below.SpaceId.{SpaceId}
-use Rattle.recovery_base.specs.declared.below.SpaceId.TheVariants.{Initial, Handshake, Data}
 use Rattle.recovery_acks.specs.Acks.{new_acks}
 use Rattle.recovery_queue.specs.Queues.{QueueWords}
 use Rattle.recovery_ledger.specs.Ledger.{AreCoherent}
-use Rattle.recovery_ledger.specs.Packets.{Packet, Tracking, no_packets, forgotten_number, IsTooLarge, AreBelow, AreAcknowledging, after_sending, after_taking, after_carrying}
+use Rattle.recovery_ledger.specs.Packets.{Packet, no_packets, forgotten_number, IsTooLarge, AreBelow, AreAcknowledging, after_sending, after_taking, after_carrying}
 use Rattle.recovery_ledger.specs.Probes.{ProbeFound, moves}
 use Rattle.recovery_ledger.specs.Spaces.{Space, Spaces, space_of, with_space, tracking_of, packets_of, acks_of, next_number_of, HasGreatestCome, IsCoherent, one_probe_more, space_probes, space_loses}
 use Rattle.recovery_ledger.proofs.AmongLaws.{Acknowledges, all_without, all_sent, all_carrying}
@@ -18,12 +17,7 @@ module _ {P M : Type 0} where
 
   pub coherent_with : (spaces : Spaces P M) (space : SpaceId) (here : Space P M) → AreCoherent spaces → IsCoherent here
       → AreCoherent (with_space spaces space here)
-  coherent_with spaces Initial here all one =
-      of_each IsCoherent (with_space spaces Initial here) one (all Handshake) (all Data)
-  coherent_with spaces Handshake here all one =
-      of_each IsCoherent (with_space spaces Handshake here) (all Initial) one (all Data)
-  coherent_with spaces Data here all one =
-      of_each IsCoherent (with_space spaces Data here) (all Initial) (all Handshake) one
+  coherent_with spaces space here all one = each_with IsCoherent spaces space here all one
 
   -- what was received and asks for an ACK stays
   pub come_kept : (old here : Space P M) → HasGreatestCome old → acks_of here ≡ acks_of old → here.dedup ≡ old.dedup
@@ -40,7 +34,7 @@ module _ {P M : Type 0} where
     coherent_by next last below acknowledging = record {
       packets = are_below _ _ (AllBelow-more (packets_of here) (next_number_of old) (next_number_of here) next
           (all_below _ _ below));
-      last = λ m is. let h : m < next_number_of old = coherent.last m (sym last ∙ is) in omega (arith, h, next);
+      last = λ m is. omega (arith, coherent.last m (sym last ∙ is), next);
       acknowledging = acknowledging;
       received = received;
     }
@@ -87,16 +81,11 @@ module _ {P M : Type 0} where
         (all_below _ _ coherent.packets)) in
         record {
           packets = rw (tracking, next) (are_below _ _ (AllBelow-push _ number packet below));
-          last = λ m is. let h : m < number + 1 = go packet.ack_eliciting m
-              (sym (ap (λ (t : Tracking P M). t.last_eliciting) tracking) ∙ is) in omega (arith, h, next);
+          last = λ m is. grind (arith, tracking, is, coherent.last m, above, next);
           acknowledging = rw tracking (all_sent Acknowledges (tracking_of old).last_eliciting number
               packet (packets_of old) coherent.acknowledging small);
           received = received;
         }
-      where
-        go : (b : Bool) (m : ℕ) → cond b (Some number) (tracking_of old).last_eliciting ≡ Some m → m < number + 1
-        go true m e = let h : number ≡ m = cc in omega arith
-        go false m e = let h : m < next_number_of old = coherent.last m e in omega (arith, h, above)
 
   -- ---- probes and queues
 

@@ -1,12 +1,12 @@
 -- No tracked packet is of a generation above the newest path's. `BalanceLaws` of the paths rest on it.
 use Rattle.std.proofs.Common.{◌≡◌, ℕ, ◌≤◌, Bool, [], Option, subst, arith}
 use Rattle.recovery_base.specs.declared.below.SpaceId.{SpaceId}
-use Rattle.recovery_base.specs.declared.below.SpaceId.TheVariants.{Initial, Handshake, Data}
 use Rattle.recovery_queue.specs.Queues.{QueueWords}
 use Rattle.recovery_ledger.specs.Ledger.{IsUpTo, AreUpTo}
 use Rattle.recovery_ledger.specs.Packets.{Packet, Packets, Tracking, no_packets, IsAmong, without, carrying, sent_onto}
 use Rattle.recovery_ledger.specs.Probes.{ProbeFound, moves}
 use Rattle.recovery_ledger.specs.Spaces.{Space, Spaces, space_of, with_space, tracking_of, packets_of, one_probe_more, space_probes}
+use Rattle.recovery_ledger.proofs.SpaceLaws.{each_with}
 use Rattle.recovery_ledger.proofs.AmongLaws.{all_without, all_sent, all_carrying}
 
 module _ {P M : Type 0} (generation : ℕ) where
@@ -15,15 +15,8 @@ module _ {P M : Type 0} (generation : ℕ) where
 
   pub up_to_with : (spaces : Spaces P M) (space : SpaceId) (here : Space P M) → AreUpTo generation spaces
       → IsUpTo generation (packets_of here) → AreUpTo generation (with_space spaces space here)
-  up_to_with spaces Initial here all one Initial = one
-  up_to_with spaces Initial here all one Handshake = all Handshake
-  up_to_with spaces Initial here all one Data = all Data
-  up_to_with spaces Handshake here all one Initial = all Initial
-  up_to_with spaces Handshake here all one Handshake = one
-  up_to_with spaces Handshake here all one Data = all Data
-  up_to_with spaces Data here all one Initial = all Initial
-  up_to_with spaces Data here all one Handshake = all Handshake
-  up_to_with spaces Data here all one Data = one
+  up_to_with spaces space here all one =
+      each_with (λ (s : Space P M). IsUpTo generation (packets_of s)) spaces space here all one
 
   -- nothing is tracked yet
   pub up_to_fresh : (spaces : Spaces P M) → ((space : SpaceId) → tracking_of (space_of space spaces) ≡ no_packets)

@@ -1,6 +1,6 @@
 -- Tracked packets: what sums over them and look-ups among them do when one is sent or taken. All that is said of
 -- tracked packets rests on it.
-use Rattle.std.proofs.Common.{◌≡◌, ◌≢◌, ℕ, ◌+◌, ◌<◌, ◌≤◌, Bool, true, false, cond, [], ◌∷◌, ◌++◌, length, filter, Option, None, Some, refl, sym, ap, arith}
+use Rattle.std.proofs.Common.{◌≡◌, ◌≢◌, ℕ, ◌+◌, ◌≤◌, Bool, true, false, [], ◌∷◌, ◌++◌, length, filter, Option, None, Some, refl, sym, ap, arith}
 use Rattle.std.specs.Prelude.{sum_by}
 use Rattle.std.specs.Ordering.{nat_cmp, is_eq}
 use Rattle.std.specs.Cmp.{nat_cmp_total, Equal-is, tied_itself}
@@ -96,14 +96,6 @@ module _ {P M : Type 0} where
       → packet_at packets number ≡ Some packet → f (number, packet) ≤ sum_by f packets
   found-le-sum f packets number packet found = omega (arith, sum-without f packets number packet found)
 
-  pub none_counted : (f : ℕ × Packet P M → ℕ) (packets : Packets P M) (limit : ℕ)
-      → ((number : ℕ) (packet : Packet P M) → number < limit → f (number, packet) ≡ 0) → AllBelow packets limit
-      → sum_by f packets ≡ 0
-  none_counted f [] limit none below = refl
-  none_counted f (entry ∷ packets) limit none below =
-      let later = none_counted f packets limit none below.1 in
-      omega (arith, sum_by-cons f entry packets, none entry.0 entry.1 below.0, later)
-
   pub sizes-le-length : (packets : Packets P M) → sum_by (λ entry. size_count entry.1) packets ≤ length packets
   sizes-le-length [] = omega arith
   sizes-le-length (entry ∷ packets) =
@@ -139,39 +131,26 @@ module _ {P M : Type 0} where
   all_silent last (entry ∷ packets) none =
       grind (arith, sum_by-cons (eliciting_count last) entry packets, all_silent last packets)
 
+  -- the first number that passes a test is that of a packet
   pub first_found : (test : ℕ × Packet P M → Bool) (packets : Packets P M) (number : ℕ)
-      → least_number (filter test packets) ≡ Some number
-      → (packet : Packet P M) × (packet_at packets number ≡ Some packet)
+      → least_number (filter test packets) ≡ Some number → packet_at packets number ≢ None
   first_found test [] number e = no_number number e
-  first_found test (entry ∷ packets) number e = go (test entry) e (first_found test packets number)
-    where
-      here : (m : ℕ) → Some m ≡ Some number → is_at (nat_cmp number) m ≡ true
-      here m e = cc (at_itself number)
-
-      either : (b : Bool) → (packet : Packet P M) × (packet_at packets number ≡ Some packet)
-          → (packet : Packet P M) × (cond b (Some entry.1) (packet_at packets number) ≡ Some packet)
-      either true found = (entry.1, refl)
-      either false found = found
-
-      go : (b : Bool) → least_number (cond b (entry ∷ filter test packets) (filter test packets)) ≡ Some number
-          → (least_number (filter test packets) ≡ Some number → (packet : Packet P M)
-          × (packet_at packets number ≡ Some packet))
-          → (packet : Packet P M) × (packet_at (entry ∷ packets) number ≡ Some packet)
-      go true f later = (entry.1, ap (λ b. cond b (Some entry.1) (packet_at packets number)) (here entry.0 f))
-      go false f later = either (is_at (nat_cmp number) entry.0) (later f)
+  first_found test (entry ∷ packets) number e = grind (arith, at_itself number, first_found test packets number)
 
   first_passes : (last : Option ℕ) (packets : Packets P M) (number : ℕ)
       → least_number (filter (λ entry. is_above last entry.0) packets) ≡ Some number → is_above last number ≡ true
   first_passes last [] number e = no_number number e
   first_passes last (entry ∷ packets) number e = grind (arith, first_passes last packets number)
 
-  -- the first number above another is that of a packet
   pub first_above_found : (last : Option ℕ) (packets : Packets P M) (number : ℕ)
       → least_number (filter (λ entry. is_above last entry.0) packets) ≡ Some number
       → (packet : Packet P M) × (packet_at packets number ≡ Some packet) × (is_above last number ≡ true)
-  first_above_found last packets number e =
-      let found = first_found (λ entry. is_above last entry.0) packets number e in
-      (found.0, found.1, grind (arith, first_passes last packets number))
+  first_above_found last packets number e = go (packet_at packets number) refl
+    where
+      go : (found : Option (Packet P M)) → packet_at packets number ≡ found
+          → (packet : Packet P M) × (packet_at packets number ≡ Some packet) × (is_above last number ≡ true)
+      go None is = absurd (first_found (λ entry. is_above last entry.0) packets number e is)
+      go (Some packet) is = (packet, is, first_passes last packets number e)
 
   -- a packet above the last eliciting number elicits none itself
   pub silent_found : (last : Option ℕ) (packets : Packets P M) (number : ℕ) (packet : Packet P M)

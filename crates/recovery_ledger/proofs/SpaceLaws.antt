@@ -17,7 +17,7 @@ use Rattle.recovery_ledger.specs.Received.{CameIn}
 use Rattle.recovery_ledger.specs.SpaceLog.{SpaceEntry, heard, heard_again, sends, acknowledged, probes}
 use Rattle.recovery_base.specs.declared.below.SpaceId.{SpaceId}
 use Rattle.recovery_base.specs.declared.below.SpaceId.TheVariants.{Initial, Handshake, Data}
-use Rattle.recovery_ledger.specs.Spaces.{Spaces, space_of, Space, tracking_of, queued_of, kept_of, acks_of, next_number_of, SpaceStep, SpaceLeft}
+use Rattle.recovery_ledger.specs.Spaces.{Spaces, space_of, with_space, Space, tracking_of, queued_of, kept_of, acks_of, next_number_of, SpaceStep, SpaceLeft}
 use Rattle.recovery_ledger.specs.Tracked.{Sent}
 use Rattle.recovery_ledger.proofs.HeardLaws.{heard_law, acknowledged_law, ack_goes_law, ack_is_late_law, asked_law}
 use Rattle.recovery_ledger.proofs.ReceivedLaws.{fails, came_greatest}
@@ -101,3 +101,11 @@ pub of_each : {P M : Type 0} (Holds : Space P M → Type 0) (spaces : Spaces P M
 of_each {P} {M} Holds spaces initial handshake other Initial = initial
 of_each {P} {M} Holds spaces initial handshake other Handshake = handshake
 of_each {P} {M} Holds spaces initial handshake other Data = other
+
+-- and where one changes, it holds of each still
+pub each_with : {P M : Type 0} (Holds : Space P M → Type 0) (spaces : Spaces P M) (space : SpaceId) (here : Space P M)
+    → ((other : SpaceId) → Holds (space_of other spaces)) → Holds here
+    → (other : SpaceId) → Holds (space_of other (with_space spaces space here))
+each_with Holds spaces Initial here all one = of_each Holds _ one (all Handshake) (all Data)
+each_with Holds spaces Handshake here all one = of_each Holds _ (all Initial) one (all Data)
+each_with Holds spaces Data here all one = of_each Holds _ (all Initial) (all Handshake) one
