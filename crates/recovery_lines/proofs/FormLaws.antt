@@ -223,7 +223,7 @@ line_read (name ∷ words) said rest e =
       form = b.0;
       is_form = n.1;
       values = r.values;
-      is = ap₂ (λ (first : List ℕ) (ws : List (List ℕ)). first ∷ ws) n.0 r.is;
+      is = grind (arith, n.0, r.is);
       fit = r.fit;
       same = r.same;
     }
@@ -239,15 +239,13 @@ pub line_takes : (words : List (List ℕ)) (said : Line) (rest : List (List ℕ)
     → (event : ItemEvent) → Means said event → Takes words event rest
 line_takes words said rest e event means =
     let r = line_read words said rest e in
-    let meant : Means (r.form.line r.values) event = subst (λ (l : Line). Means l event) (sym r.same) means in
+    let meant : Means (r.form.line r.values) event = rw r.same means in
     let own = r.is_form.own r.values event meant in
     record {
       unkept = own.0;
-      is = r.is ∙ ap (λ (s : Saying). words_said s ++ rest) (sym own.1);
-      within = subst (λ (s : Saying). AllFit s.0.tail s.0.fields s.1 × Means (s.0.line s.1) event) (sym own.1) (
-        r.fit,
-        meant,
-      );
+      is = grind (arith, r.is, own.1);
+      within = subst (λ (s : Saying). AllFit s.0.tail s.0.fields s.1 × Means (s.0.line s.1) event) (sym own.1)
+          (r.fit, meant);
       plain = subst (λ (s : Saying). AllByRecursion IsPlain (words_said s)) (sym own.1)
           (tested_plain r.form.name r.is_form.plain, fields_plain r.form.tail r.form.fields r.values r.fit);
     }
@@ -258,7 +256,7 @@ pub line_words : (words rest : List (List ℕ)) (now first count : ℕ) → line
 line_words words rest now first count e =
     let r = line_read words (Ids now first count) rest e in
     let t = r.is_form.ids r.values now first count r.fit r.same in
-    (r.is ∙ ap (λ (ws : List (List ℕ)). ws ++ rest) t.0, t.1, t.2)
+    (grind (arith, r.is, t.0), t.1, t.2)
 
 -- a line is read that means the event
 pub record Again (read : Option (Line × List (List ℕ))) (event : ItemEvent) : Type 0 where

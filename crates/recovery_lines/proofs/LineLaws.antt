@@ -38,8 +38,7 @@ pub line_only : (line : List ℕ) (event : ItemEvent) → Spells line event → 
 unfolding line_of
 line_only line event spells =
     let again = line_again spells.unkept event spells.within in
-    let read : line_at (words_of line) ≡ Some (again.said, []) = ap line_at spells.words ∙ again.is in
-    (again.said, rw read refl, again.means)
+    (again.said, grind (arith, spells.words, again.is), again.means)
 
 one_meant : (said : Line) (first second : ItemEvent) → Means said first → Means said second → IsSame first second
 one_meant (Said event) first second m n = inl (m ∙ sym n)
@@ -108,10 +107,7 @@ send_line words rest name first same = rw (first, same) refl
 pub took_line : (line : List ℕ) (words : List (List ℕ)) → words ≡ words_of line → IsSomeAnd (line_at words) TookAll
     → IsSomeAnd (line_of line) TookMemory
 unfolding line_of
-took_line line words is took = rw (← is) (go (line_at words) took) where
-  go : (read : Option (Line × List (List ℕ))) → IsSomeAnd read TookAll → IsSomeAnd (whole read) TookMemory
-  go (Some (said, rest)) h = rw h.1 h.0
-  go None h = absurd h
+took_line line words is took = grind (arith, nat_tests, is, took)
 
 pub none_spelled : (line : List ℕ) (event : ItemEvent) → line_of line ≡ None → Spells line event → ⊥
 none_spelled line event none spells = let s = line_only line event spells in grind (arith, s.1, none)

@@ -80,8 +80,7 @@ too_large limit most word i large = no_number limit word (λ n less same.
     omega arith)
 
 digit_is : (c : ℕ) → 48 ≤ c → c < 58 → digit_value c ≡ c - 48
-digit_is c low high = let t : nat_lt c 48 ≡ false = le-ltb c 48 low in let u : nat_lt c 58 ≡ true =
-    lt-ltb c 58 high in rw (t, u) refl
+digit_is c low high = grind (arith, nat_tests)
 
 -- one digit more
 pub one_digit : (word : List ℕ) (i value : ℕ) → i < length word → get_or word i 0 < 256
