@@ -308,13 +308,12 @@ module _ {F K Q S M P : Type 0} (beginning : Beginning F K Q S M P) where
     tally : (path : Option (PathKnown K)) (reply : Reply Q)
         → OnPath path (λ there. AlwaysAnswers (Is (counters_answer known_then there))) reply
         → IsTally before (option_map (λ p. p.generation) path) reply
-    tally None (Ok answer) told = absurd told.1
     tally None (Err NoSuchPath) told = refl
-    tally None (Err refusal) told = absurd told.1
+    tally None reply told = absurd told.1
     tally (Some path) (Ok answer) told =
         grind (arith, told, bytes_same path.generation, count_same path.generation)
     tally (Some path) (Err NoMemory) told = absurd told
-    tally (Some path) (Err refusal) told = absurd told
+    tally (Some path) reply told = absurd told
 
   holds : (before : History Q S M P) (event : Event Q S M P) (reply : Reply Q) → Told beginning before event reply
       → Kept before → CountsInFlight before event reply

@@ -107,13 +107,13 @@ module _ {K Q S M P : Type 0} (q : QueueMeaning Q S M P) (old : Parts K P M) (sp
       (record old { spaces = with_space old.spaces space there })
   kept_changes NumberTooLarge large same = record {
     told = (fails _ live, large);
-    steps = nothing_changes q.words old (record old { spaces = with_space old.spaces space there }) same;
+    steps = nothing_changes q.words old _ same;
     marks = refl;
     refused = same;
   }
   kept_changes NoMemory grows same = record {
     told = (fails _ live, ((λ most. absurd (omega (arith, grows.0))), grows.1));
-    steps = nothing_changes q.words old (record old { spaces = with_space old.spaces space there }) same;
+    steps = nothing_changes q.words old _ same;
     marks = refl;
     refused = same;
   }

@@ -26,18 +26,8 @@ use Rattle.quic_recovery.specs.Known.{Known, tracked_known}
 -- ---- kinds
 
 pub data SpaceKind : Type 0 where
-  hearing : SpaceKind
-  sending : SpaceKind
-  acknowledging : SpaceKind
-  losing : SpaceKind
-  probing : SpaceKind
-  taking : SpaceKind
-  counting : SpaceKind
-  emptying : SpaceKind
-  answering : SpaceKind
-  delaying : SpaceKind
-  requesting : SpaceKind
-  idling : SpaceKind
+  hearing sending acknowledging losing probing taking : SpaceKind
+  counting emptying answering delaying requesting idling : SpaceKind
 
 abbrev pub space_kind : {P M : Type 0} → SpaceEntry P M → SpaceKind
 space_kind (heard now number eliciting) = hearing
@@ -66,23 +56,11 @@ keeps_packets losing = false
 keeps_packets emptying = false
 keeps_packets kind = true
 
+-- the search sees a packet leave, takes a limit, or sees something else; and what happens on the previous path is
+-- elsewhere
 pub data PathKind : Type 0 where
-  receiving : PathKind
-  validating : PathKind
-  sampling : PathKind
-  telling : PathKind
-  -- the search sees a packet leave, takes a limit, or sees something else
-  departing : PathKind
-  limiting : PathKind
-  searching : PathKind
-  asking : PathKind
-  transmitting : PathKind
-  passing : PathKind
-  resetting : PathKind
-  moving : PathKind
-  dropping : PathKind
-  -- on the previous path
-  elsewhere : PathKind
+  receiving validating sampling telling departing limiting searching : PathKind
+  asking transmitting passing resetting moving dropping elsewhere : PathKind
 
 abbrev pub call_kind : MtuCall → PathKind
 call_kind (acks_packet number bytes) = departing

@@ -53,7 +53,6 @@ module _ {Q S M P : Type 0} (first least : ℕ) where
         step_tied : (event : Event Q S M P) (reply : Reply Q)
             → Step first least entries (λ number bytes. Unit {0}) (After event) event reply
         step_tied (PollMtu now) (Ok (answer.Probe number size)) = λ none. absurd none
-        step_tied (PollMtu now) (Ok answer.NoProbe) = λ none. tied
         step_tied (PeerLimit size) (Ok given) = grind arith
         step_tied (Acked space.Data now number app_limited) (Ok given) = grind arith
         step_tied (Lost space.Data number) (Ok given) = grind arith
@@ -82,8 +81,7 @@ module _ {F K Q S M P : Type 0} (beginning : Beginning F K Q S M P) (is : discov
 
   probes_none : (history : History Q S M P) (event : Event Q S M P) (reply : Reply Q)
       → ProbesInTurn beginning history event reply → ProbesNone first least event reply
-  probes_none history (PollMtu now) (Ok (answer.Probe number size)) turn =
-      grind (arith, is, turn)
+  probes_none history (PollMtu now) (Ok (answer.Probe number size)) turn = grind (arith, is, turn)
   probes_none history event reply turn = tt
 
   pub unsearched_after : (history : History Q S M P) → Unsearched history
@@ -191,14 +189,12 @@ module _ {F K Q S M P : Type 0} (beginning : Beginning F K Q S M P) where
       }
 
   kept_first : Kept []
-  kept_first =
-      let config = beginning.config.transport in
-      record {
-        near = near.kept_first beginning;
-        unsearched = λ is. unsearched_first beginning is;
-        now = sym (in_use_same [] (near.kept_first beginning) (λ is. unsearched_first beginning is));
-        left = λ size found. absurd (cc);
-      }
+  kept_first = record {
+    near = near.kept_first beginning;
+    unsearched = unsearched_first beginning;
+    now = sym (in_use_same [] (near.kept_first beginning) (unsearched_first beginning));
+    left = λ size found. absurd (cc);
+  }
 
   state_mtu : (previous : Option (PathPast K)) (path : PathKnown K)
       → option_map (known_of (settings_of beginning)) previous ≡ Some path
@@ -211,8 +207,7 @@ module _ {F K Q S M P : Type 0} (beginning : Beginning F K Q S M P) where
       → Kept ((event, reply) ∷ history) → UsesMtu beginning history event reply
   uses_mtu history event reply known kept after = (
     after.now,
-    λ path lives. after.left path.state.discovery.mtu
-        (state_mtu (pasts_of beginning ((event, reply) ∷ history)).previous path lives),
+    λ path lives. after.left path.state.discovery.mtu (state_mtu _ path lives),
   )
 
   pub mtu_told : ForSome (discovery_settings beginning) (λ settings. settings.upper_bound < 2 ^ 16)

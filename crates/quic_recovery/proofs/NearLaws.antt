@@ -186,16 +186,14 @@ module _ {F K Q S M P : Type 0} (beginning : Beginning F K Q S M P) (settings : 
         let so_far = entered_so_far beginning history in
         let limit = last_limit (logs_of beginning history).limits in
         let fresh = (settings_of beginning).discovery limit in
-        let Fresh : Option ℕ → Type 0 =
-        λ l. (kept_limit fresh ≡ Some (limit_or_greatest l)) × (within first l ≡ fresh.mtu) in
-        let fresh_is = subst Fresh (sym (limit_known beginning history))
-        (fresh_searched limit beginning.config.transport settings (discovery_settings beginning) is) in
         let Now : Discovery → Type 0 =
         λ d. TiedTo first least settings d ((event, reply) ∷ history) entries × Carries d made entries so_far in
         let both = subst Now (sym (is_made beginning history event reply))
         (stepped beginning history (λ number bytes. Unit {0}) (λ number packet found. tt {0})
         (After first least settings fresh made history so_far event) event reply known
-        (step_tied first least settings fresh made history so_far before searched.tied least_is fresh_is event reply))
+        (step_tied first least settings fresh made history so_far before searched.tied least_is
+        (rw (limit_known beginning history)
+        (fresh_searched limit beginning.config.transport settings (discovery_settings beginning) is)) event reply))
         in
         record {
           tied = both.0;

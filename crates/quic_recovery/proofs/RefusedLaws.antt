@@ -1,5 +1,5 @@
 -- Refusals that follow from the history are given exactly where it says so: the clause `refused` of `run`.
-use Rattle.std.proofs.Common.{◌≡◌, ℕ, ◌==◌, Bool, true, false, List, [], Option, None, Some, Ok, Err, refl, sym, ap, ◌∙◌, MatchBool, arith}
+use Rattle.std.proofs.Common.{◌≡◌, ℕ, ◌==◌, Bool, false, List, [], Option, None, Some, Ok, Err, refl, sym, ap, ◌∙◌, arith}
 use Rattle.std.specs.Prelude.{is_some, option_map}
 use Rattle.std.proofs.lemmas.Bool.Decides.{nat_tests}
 use Rattle.recovery_base.specs.declared.below.SpaceId.{SpaceId}
@@ -19,7 +19,7 @@ use Rattle.quic_recovery.proofs.TableLaws.{only_refusal}
 use Rattle.quic_recovery.specs.Entries.{logs_of}
 use Rattle.quic_recovery.specs.History.{Beginning, History, Reply, Throughout}
 use Rattle.quic_recovery.specs.Known.{SpaceKnown, Known, known_by}
-use Rattle.quic_recovery.specs.Replies.{Refuses, Answers, same_refusal}
+use Rattle.quic_recovery.specs.Replies.{Refuses, Answers}
 use Rattle.quic_recovery.specs.Told.{Told, EcnAnswer, InSpace, Is, LeaveReply, OnPath, MtuProbeReply}
 use Rattle.quic_recovery.specs.Promises.Paths.{generation_of}
 use Rattle.quic_recovery.specs.Promises.Refused.{unless, in_space, RefusesRightly, first_cause}
@@ -71,20 +71,13 @@ module _ {Q : Type 0} where
   cause_names cause no_text is Cause Otherwise rest expected named_so else_so names (Ok answer) told =
       names (Ok answer) told.1 ∙ sym (else_so told.0)
   cause_names cause no_text is Cause Otherwise rest expected named_so else_so names (Err given) told =
-      go (same_refusal given cause) refl told
-    where
-      go : (b : Bool) → same_refusal given cause ≡ b → MatchBool b Cause ((¬ Cause) × Otherwise (Err given))
-          → named (Err given) ≡ expected
-      go true same holds =
-          ap (λ (r : Refusal). named (Err r)) (only_refusal given cause no_text same) ∙ is ∙ sym (named_so holds)
-      go false same other = names (Err given) other.1 ∙ sym (else_so other.0)
+      grind (arith, only_refusal given cause no_text, is, named_so, else_so, names (Err given))
 
   path_names : {K : Type 0} (found : Option (PathKnown K)) (Replies : PathKnown K → Reply Q → Type 0)
       → ((path : PathKnown K) → Names None (Replies path))
       → Names (unless (is_some found) NoSuchPath) (OnPath found Replies)
-  path_names None Replies names (Ok answer) told = absurd told.1
   path_names None Replies names (Err NoSuchPath) told = refl
-  path_names None Replies names (Err refusal) told = absurd told.1
+  path_names None Replies names reply told = absurd told.1
   path_names (Some path) Replies names reply told = names path reply told
 
   ecn_names : {P M : Type 0} (here : SpaceKnown P M) (newly : ℕ) (counts : EcnCounts)
