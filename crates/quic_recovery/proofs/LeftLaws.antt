@@ -1,6 +1,6 @@
 -- What the parts know is what their logs say, and one event more leaves what its entries say. The loop of `run` and
 -- `PastLaws` carry it from event to event.
-use Rattle.std.proofs.Common.{arith, ◌≡◌, ℕ, List, [], Option, None, Some, refl, sym, ap, subst, ◌∙◌}
+use Rattle.std.proofs.Common.{arith, ◌≡◌, ℕ, List, [], Option, None, Some, refl, sym, ap, ◌∙◌}
 use Rattle.std.proofs.Math.Path.{fun_ext}
 use Rattle.recovery_base.specs.declared.below.SpaceId.{SpaceId}
 use Rattle.recovery_base.specs.declared.below.SpaceId.TheVariants.{Data}
@@ -9,7 +9,7 @@ use Rattle.recovery_base.proofs.TimerLogLaws.{timer_law}
 use Rattle.recovery_acks.specs.Acks.{new_acks}
 use Rattle.recovery_acks.specs.RequestLog.{RequestStep, FrequencyLeft}
 use Rattle.recovery_acks.proofs.RequestLogLaws.{request_law}
-use Rattle.recovery_ids.specs.LocalLog.{FirstIds, LocalStep, LocalIdsLeft}
+use Rattle.recovery_ids.specs.LocalLog.{LocalStep, LocalIdsLeft}
 use Rattle.recovery_ids.specs.RemoteLog.{RemoteStep, RemoteIdsLeft}
 use Rattle.recovery_ids.proofs.LocalLogLaws.{local_law}
 use Rattle.recovery_ids.proofs.RemoteLogLaws.{remote_law}
@@ -25,8 +25,8 @@ use Rattle.recovery_ledger.specs.Tracked.{Sent, sent_by, sent_moved}
 use Rattle.recovery_ledger.proofs.CoherentLaws.{fresh_coherent}
 use Rattle.recovery_ledger.proofs.SpaceLaws.{space_law}
 use Rattle.recovery_paths.specs.Balance.{AreBalanced}
-use Rattle.recovery_paths.specs.PathLog.{OfPaths, PathsLeft, PathsStep, path_known, paths_known}
-use Rattle.recovery_paths.specs.PathMaking.{PathMaking, PathSettings, state_made}
+use Rattle.recovery_paths.specs.PathLog.{OfPaths, PathsLeft, path_known, paths_known}
+use Rattle.recovery_paths.specs.PathMaking.{state_made}
 use Rattle.recovery_paths.specs.PathStates.{Path}
 use Rattle.recovery_paths.proofs.BalanceLaws.{fresh}
 use Rattle.recovery_paths.proofs.PathLogLaws.{paths_law}
@@ -35,7 +35,7 @@ use Rattle.recovery_skips.proofs.SkipLaws.{allocated, number_at, last_at}
 use Rattle.recovery_events.specs.declared.event.Event.{Event}
 use Rattle.quic_recovery.specs.Entries.{Entries, logs_with}
 use Rattle.quic_recovery.specs.History.{Beginning, Reply}
-use Rattle.quic_recovery.specs.Known.{Logs, known_by, numbering_by, in_flight_on, first_ids, first_path, settings_of, last_limit}
+use Rattle.quic_recovery.specs.Known.{Logs, known_by, numbering_by, in_flight_on, first_path, settings_of, last_limit}
 use Rattle.quic_recovery.specs.Logs.{onto}
 use Rattle.quic_recovery.specs.Parts.{Parts}
 use Rattle.quic_recovery.specs.State.{InFlightLeft, LeftBy, LimitStep, SkippingStep, Steps, ChangesBy, Changes, known_to, numbering_of}
@@ -145,14 +145,14 @@ module _ {F K Q S M P : Type 0} (beginning : Beginning F K Q S M P) where
         steps.discarded;
     skipping = skipping_law (entries.spaces Data) (logs.spaces Data) (next_number_of (space_of Data old.spaces))
         old.skipping new.skipping (ap (λ (s : Sent P M). s.next) (left.spaces Data).sent) left.skipping steps.skipping;
-    frequency = left_by_entry RequestStep (FrequencyLeft first) (request_law first) entries.requests logs.requests _ _
+    frequency = left_by_entry RequestStep (FrequencyLeft _) (request_law _) entries.requests logs.requests _ _
         left.frequency steps.frequency;
     timers = left_by_entry TimerStep TimersLeft timer_law entries.timers logs.timers _ _ left.timers steps.timers;
     remote_ids =
-        left_by_entry RemoteStep (RemoteIdsLeft initial) (remote_law initial) entries.remote_ids logs.remote_ids _ _
+        left_by_entry RemoteStep (RemoteIdsLeft _) (remote_law _) entries.remote_ids logs.remote_ids _ _
         left.remote_ids steps.remote_ids;
     local_ids =
-        left_by_entry LocalStep (LocalIdsLeft ids) (local_law ids) entries.local_ids logs.local_ids _ _ left.local_ids
+        left_by_entry LocalStep (LocalIdsLeft _) (local_law _) entries.local_ids logs.local_ids _ _ left.local_ids
         steps.local_ids;
     paths = paths;
     limits =
@@ -161,15 +161,6 @@ module _ {F K Q S M P : Type 0} (beginning : Beginning F K Q S M P) where
     in_flight = in_flight_law beginning (logs_with entries logs) new.spaces new.paths spaces balanced;
   }
     where
-      first : ℕ
-      first = beginning.config.max_ack_delay
-
-      initial : List ℕ
-      initial = beginning.config.initial_cid
-
-      ids : FirstIds
-      ids = first_ids beginning
-
       spaces : (space : SpaceId)
           → SpaceLeft beginning.queue.words beginning.start ((logs_with entries logs).spaces space)
           (space_of space new.spaces)
@@ -177,15 +168,11 @@ module _ {F K Q S M P : Type 0} (beginning : Beginning F K Q S M P) where
           (space_law beginning.queue.words beginning.start) (entries.spaces space) (logs.spaces space) _ _
           (left.spaces space) (steps.spaces space)
 
-      path : PathMaking K
-      path = first_path beginning
-
-      paths : PathsLeft (settings_of beginning) path (logs_with entries logs).paths (paths_known new.paths)
+      paths : PathsLeft (settings_of beginning) (first_path beginning) (logs_with entries logs).paths
+          (paths_known new.paths)
       paths =
-          let Step : PathSettings K → Type 0 =
-          λ settings. PathsStep settings entries.paths (paths_known old.paths) (paths_known new.paths) in
-          paths_law (settings_of beginning) path entries.paths logs.paths _ _ left.paths
-          (subst Step left.settings steps.paths)
+          paths_law (settings_of beginning) (first_path beginning) entries.paths logs.paths _ _ left.paths
+          (rw (← left.settings) steps.paths)
 
 -- ---- a fresh start
 
@@ -202,5 +189,4 @@ module _ {F K Q S M P : Type 0} (beginning : Beginning F K Q S M P) where
   pub paths_first : (path : Path K) (paths : OfPaths (Path K)) → paths ≡ record { current = path; previous = None }
       → path.ledger ≡ fresh_ledger 0 → path.state ≡ state_made (first_path beginning)
       → PathsLeft (settings_of beginning) (first_path beginning) [] (paths_known paths)
-  paths_first path paths is ledger state =
-      grind (arith, is, ledger, state)
+  paths_first path paths is ledger state = grind (arith, is, ledger, state)

@@ -95,11 +95,8 @@ module _ {Q S M P : Type 0} (q : QueueMeaning Q S M P) where
   same_answer (Queue queue) = refl
   same_answer other = refl
 
-  equal_agree : (a b : Answer Q) → a ≡ b → SameAnswer q.contents a b
-  equal_agree a b equal = rw (← equal) (same_answer a)
-
   is_agree : (given : Answer Q) → Agree (Is given)
-  is_agree given one other is_one is_other = equal_agree one other (is_one ∙ sym is_other)
+  is_agree given one other is_one is_other = rw (is_one, is_other) (same_answer given)
 
   -- ---- the causes in their order, and the answer
 
@@ -163,7 +160,7 @@ module _ {Q S M P : Type 0} (q : QueueMeaning Q S M P) where
 
   ecn_decides : (here : SpaceKnown P M) (newly : ℕ) (counts : EcnCounts) → Decides (EcnAnswer here newly counts)
   ecn_decides here newly counts (Ok one) (Ok other) m n is_one is_other =
-      equal_agree one other (is_one.1 ∙ sym is_other.1)
+      is_agree _ one other is_one.1 is_other.1
   ecn_decides here newly counts (Err (refusal.Ecn text)) (Err (refusal.Ecn too)) m n is_one is_other =
       same_Some text.now too.now (sym is_one ∙ is_other)
   ecn_decides here newly counts one other m n is_one is_other = grind (arith, is_one, is_other)
