@@ -1,6 +1,6 @@
 -- What an event does to one space is a step of all three. The steps of calls (`SendLaws`, `ProbeStepLaws`,
 -- `PathStepLaws`, `AckedLostLaws`) rest on it.
-use Rattle.std.proofs.Common.{◌≡◌, ℕ, ◌<◌, ◌^◌, ap₂, arith, Bool, false, List, [], ◌∷◌, Option, Some, Result, IfOk, OnErr, Ok, Err, refl, ap}
+use Rattle.std.proofs.Common.{◌≡◌, ℕ, ◌<◌, ◌^◌, arith, Bool, false, List, [], ◌∷◌, Option, Some, Result, IfOk, OnErr, Ok, Err, refl, ap}
 use Rattle.recovery_base.specs.declared.below.SpaceId.{SpaceId}
 use Rattle.recovery_base.specs.declared.below.SpaceId.TheVariants.{Initial, Handshake, Data}
 use Rattle.recovery_ledger.specs.declared.spaces.ReceiveError.{ReceiveError}
@@ -17,7 +17,6 @@ use Rattle.recovery_ledger.specs.Tracked.{packet_sent}
 use Rattle.recovery_ledger.specs.SpaceLog.{SpaceEntry, heard, heard_again, sends}
 use Rattle.recovery_ledger.specs.Spaces.{Space, Spaces, space_of, with_space, tracking_of, acks_of, counts_of, next_number_of, HasGreatestCome, ReceiveReply, heard_of, SpaceStep, came}
 use Rattle.recovery_ledger.proofs.AckLaws.{heard_greatest}
-use Rattle.recovery_ledger.proofs.ReceivedLaws.{fails}
 use Rattle.recovery_paths.specs.PathLog.{PathsEntry, OfPaths, PathsStep, paths_known, paths_marks, on_current, tells}
 use Rattle.recovery_paths.specs.PathStates.{Path}
 use Rattle.recovery_queue.specs.Queues.{QueueWords}
@@ -60,18 +59,7 @@ module _ {P M S : Type 0} (words : QueueWords P S) where
 module _ {K P M S : Type 0} (words : QueueWords P S) where
   -- an event that is nothing to any part
   pub nothing_changes : (old new : Parts K P M) → new ≡ old → Steps words nothing old new
-  nothing_changes old new same = rw same (record {
-    settings = refl;
-    spaces = λ space. refl;
-    discarded = refl;
-    skipping = refl;
-    frequency = refl;
-    timers = refl;
-    remote_ids = refl;
-    local_ids = refl;
-    paths = refl;
-    limits = refl;
-  })
+  nothing_changes old new same = rw same (grind arith)
 
   -- an event in one space, which may draw the next skip, and be something to the paths
   pub space_changes : (old : Parts K P M) (space : SpaceId) (entry : SpaceEntry P M) (there : Space P M)
@@ -81,42 +69,17 @@ module _ {K P M S : Type 0} (words : QueueWords P S) where
       → PathsStep old.settings entries (paths_known old.paths) (paths_known paths)
       → Steps words (record (in_space space entry) { paths = entries }) old
       (record old { spaces = with_space old.spaces space there; skipping = skipping; paths = paths })
-  space_changes old space entry there skipping entries paths step skips same = record {
-    settings = refl;
-    spaces = spaces_step words entry old.spaces space there step;
-    discarded = refl;
-    skipping = skips;
-    frequency = refl;
-    timers = refl;
-    remote_ids = refl;
-    local_ids = refl;
-    paths = same;
-    limits = refl;
-  }
+  space_changes old space entry there skipping entries paths step skips same =
+      grind (arith, spaces_step words entry old.spaces space there step, skips, same)
 
 -- ---- a received packet
 
 module _ {K Q S M P : Type 0} (q : QueueMeaning Q S M P) (old : Parts K P M) (space : SpaceId) (now number : ℕ)
     (ack_eliciting : Bool) (there : Space P M) (live : is_discarded space old.discarded ≡ false) where
   -- the space is put back as it was
-  kept_changes : (error : ReceiveError)
-      → ReceiveReply (heard_of (space_of space old.spaces)) (counts_of (acks_of (space_of space old.spaces))) number
-      ack_eliciting (Err error)
-      → (record old { spaces = with_space old.spaces space there }) ≡ old
-      → Changes {M = M} q old (Received space now number ack_eliciting) (reply_to (Err error))
-      (record old { spaces = with_space old.spaces space there })
-  kept_changes NumberTooLarge large same = record {
-    told = (fails _ live, large);
-    steps = nothing_changes q.words old _ same;
-    marks = refl;
-    refused = same;
-  }
-  kept_changes NoMemory grows same = record {
-    told = (fails _ live, ((λ most. absurd (omega (arith, grows.0))), grows.1));
-    steps = nothing_changes q.words old _ same;
-    marks = refl;
-    refused = same;
-  }
+  same_parts : there ≡ space_of space old.spaces → (record old { spaces = with_space old.spaces space there }) ≡ old
+  same_parts kept =
+      ap (λ (spaces : Spaces P M). record old { spaces = spaces }) (with_same_space old.spaces space there kept)
 
   pub received_changes : (receipt : Result Receipt ReceiveError)
       → ReceiveReply (heard_of (space_of space old.spaces)) (counts_of (acks_of (space_of space old.spaces))) number
@@ -126,22 +89,30 @@ module _ {K Q S M P : Type 0} (q : QueueMeaning Q S M P) (old : Parts K P M) (sp
       → Changes {M = M} q old (Received space now number ack_eliciting) (reply_to receipt)
       (record old { spaces = with_space old.spaces space there })
   received_changes (Ok (New arm)) is step kept = record {
-    told = (fails _ live, ((λ most. absurd (omega (arith, is.0))), is.1));
-    steps = space_changes q.words old space (heard now number ack_eliciting) there old.skipping [] old.paths step
-        (skips_nothing space (heard now number ack_eliciting) _ old.skipping refl) refl;
+    told = grind (arith, live, is);
+    steps = space_changes q.words old space (heard now number ack_eliciting) there _ _ _ step
+        (skips_nothing space _ _ _ refl) refl;
     marks = refl;
     refused = tt;
   }
   received_changes (Ok Duplicate) is step kept = record {
-    told = (fails _ live, ((λ most. absurd (omega (arith, is.0))), is.1));
-    steps = space_changes q.words old space (heard_again number) there old.skipping [] old.paths step
-        (skips_nothing space (heard_again number) _ old.skipping refl) refl;
+    told = grind (arith, live, is);
+    steps = space_changes q.words old space (heard_again number) there _ _ _ step (skips_nothing space _ _ _ refl) refl;
     marks = refl;
     refused = tt;
   }
-  received_changes (Err error) is step kept =
-      kept_changes error is (ap (λ (spaces : Spaces P M). record old { spaces = spaces })
-      (with_same_space old.spaces space there kept))
+  received_changes (Err NumberTooLarge) is step kept = record {
+    told = grind (arith, live, is);
+    steps = nothing_changes q.words old _ (same_parts kept);
+    marks = refl;
+    refused = same_parts kept;
+  }
+  received_changes (Err NoMemory) is step kept = record {
+    told = grind (arith, live, is);
+    steps = nothing_changes q.words old _ (same_parts kept);
+    marks = refl;
+    refused = same_parts kept;
+  }
 
 -- what a received packet changes leaves the tracked packets, and the greatest ack-eliciting number was received
 pub received_keeps : {P M S : Type 0} (words : QueueWords P S) (now number : ℕ) (ack_eliciting : Bool)
@@ -180,10 +151,7 @@ module _ {K Q S M P : Type 0} (q : QueueMeaning Q S M P) (old : Parts K P M) (sp
       (record old { spaces = with_space old.spaces space there; skipping = skipping; paths = paths })
   sent_changes there skipping paths number forgotten live small left fits is_next is_forgotten step skips told marked =
       record {
-        told = (
-          fails _ live,
-          (small, ((λ most. absurd (omega (arith, most, left))), (fits, ap₂ (λ n f. Sent n f) is_next is_forgotten))),
-        );
+        told = grind (arith, live, small, left, fits, is_next, is_forgotten);
         steps = space_changes q.words old space (sends (number_in (known_to old) space) packet_then) there skipping
             (on_current (tells (sends_bytes now size (number_in (known_to old) space))) ∷ []) paths step skips told;
         marks = marked;

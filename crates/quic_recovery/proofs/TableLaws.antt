@@ -23,7 +23,7 @@ use Rattle.recovery_ledger.specs.declared.paths.InFlight.{InFlight as Counters}
 use Rattle.recovery_paths.specs.PathLog.{OfPaths, PathKnown, each_path, path_known, path_of, paths_known}
 use Rattle.recovery_paths.specs.PathStates.{Path}
 use Rattle.recovery_events.specs.declared.event.Answer.{Answer}
-use Rattle.recovery_events.specs.declared.event.Answer.TheVariants.{Queue, Flag, New, Duplicate, Timeout, Sendable, Retire}
+use Rattle.recovery_events.specs.declared.event.Answer.TheVariants.{Queue, Flag, New, Timeout, Sendable, Retire}
 use Rattle.recovery_events.specs.declared.event.Refusal.{Refusal}
 use Rattle.recovery_events.specs.declared.event.Refusal.TheVariants as refusal
 use Rattle.recovery_events.specs.declared.event.Refusal.TheVariants.{NoMemory, SpaceDiscarded, NoSuchPath, Overflow, NumberTooLarge, NumbersExhausted, NotTracked, BadRetirePriorTo, Retired, ExceedsLimit, Conflict, NotInitialId, BadRange, CidsNotInUse, UnissuedCid, DelayTooSmall, ZeroMtu, Searching, SkippedAcked}
@@ -66,7 +66,6 @@ same_refusals e f of no_text is_e is_f =
     rw (only_refusal e of no_text is_e) (rw (only_refusal f of no_text is_f) (same_as_itself of))
 
 -- ---- the least id that is held
-
 
 pub least_held : (held : Table) (low one other : ℕ) → IsLeastHeld held low one → IsLeastHeld held low other
     → one ≡ other
@@ -124,15 +123,12 @@ module _ {Q S M P : Type 0} (q : QueueMeaning Q S M P) where
   -- ---- answers
 
   flag_agree : (Holds : Type 0) → Agree (IsFlag Holds)
-  flag_agree Holds (Flag one) (Flag other) is_one is_other =
-      ap (λ flag. Flag flag) (same_test Holds one other is_one is_other)
-  flag_agree Holds one other is_one is_other = grind (arith, is_one, is_other)
+  flag_agree Holds (Flag one) other is_one is_other = grind (arith, is_one, is_other)
+  flag_agree Holds one other is_one is_other = absurd is_one
 
   received_agree : (heard : Heard) (counts : AckCounts) (number : ℕ) (eliciting : Bool)
       → Agree (ReceivedAnswer heard counts number eliciting)
-  received_agree heard counts number eliciting (New one) (New other) is_one is_other =
-      ap (λ arm. New arm) (same_test _ one other is_one.1 is_other.1)
-  received_agree heard counts number eliciting Duplicate Duplicate is_one is_other = refl
+  received_agree heard counts number eliciting (New one) other is_one is_other = grind (arith, is_one, is_other)
   received_agree heard counts number eliciting one other is_one is_other = grind (arith, is_one, is_other)
 
   least_same : (moment_of : Timer → Option ℕ) (one other : Option ℕ) → IsLeastMoment moment_of one
@@ -149,8 +145,8 @@ module _ {Q S M P : Type 0} (q : QueueMeaning Q S M P) where
   timeout_agree moment_of one other is_one is_other = grind (arith, is_one, is_other)
 
   pending_agree : (here : SpaceKnown P M) → Agree (IsPending q here)
-  pending_agree here (Queue one) (Queue other) is_one is_other = is_one ∙ sym is_other
-  pending_agree here one other is_one is_other = grind (arith, is_one, is_other)
+  pending_agree here (Queue one) other is_one is_other = grind (arith, is_one, is_other)
+  pending_agree here one other is_one is_other = absurd is_one
 
   probe_agree : (here : SpaceKnown P M) (streams : S) (heard : Heard) (immediate : Bool) (found : ProbeFound)
       → Agree (IsQueueProbeAnswer q here streams heard immediate found)
@@ -184,9 +180,8 @@ module _ {Q S M P : Type 0} (q : QueueMeaning Q S M P) where
   next_agree ids one other is_one is_other = grind (arith, is_one, is_other)
 
   room_agree : (ids : LocalIds) (limit : ℕ) → Agree (IsRoom ids limit)
-  room_agree ids limit (Flag one) (Flag other) is_one is_other =
-      ap (λ flag. Flag flag) (same_test _ one other is_one is_other)
-  room_agree ids limit one other is_one is_other = grind (arith, is_one, is_other)
+  room_agree ids limit (Flag one) other is_one is_other = grind (arith, is_one, is_other)
+  room_agree ids limit one other is_one is_other = absurd is_one
 
   -- ---- the table
 
