@@ -1,9 +1,6 @@
 -- Bytes in flight by events and answers are the sums over what the spaces track: the clause `counted` of `run`.
-use Rattle.std.proofs.Common.{◌≡◌, ◌≤◌, ◌+◌, ℕ, ◌==◌, ◌&&◌, ◌||◌, Bool, true, false, cond, if◌then◌else◌, List, [], ◌∷◌, Option, None, Some, Ok, Err, refl, sym, ap, subst, ◌∙◌, arith}
+use Rattle.std.proofs.Common.{◌≡◌, ◌≤◌, ◌+◌, ℕ, ◌==◌, ◌&&◌, ◌||◌, Bool, true, false, cond, if◌then◌else◌, List, [], ◌∷◌, Option, None, Some, Ok, Err, refl, sym, ◌∙◌, arith}
 use Rattle.std.specs.Prelude.{sum_by, option_map}
-use Rattle.std.specs.BTreeMap.{is_at}
-use Rattle.std.specs.Cmp.{nat_cmp_total, tied_itself}
-use Rattle.std.specs.Ordering.{nat_cmp, is_eq}
 use Rattle.std.proofs.lemmas.Bool.Decides.{nat_tests}
 use Rattle.std.proofs.lemmas.List.Sums.{sum_by-cons, sum_by_push}
 use Rattle.recovery_base.specs.declared.below.SpaceId.{SpaceId}
@@ -36,12 +33,9 @@ use Rattle.quic_recovery.proofs.AnswerLaws.{past_four}
 use Rattle.quic_recovery.proofs.Runs.{AllAlong, throughout_kept}
 use Rattle.quic_recovery.proofs.EntryKinds.{keeps_packets, space_kind, space_kept, refused_keeps}
 use Rattle.quic_recovery.proofs.PathLaws.{generation_told}
-use Rattle.quic_recovery.proofs.TrackedLaws.{AllTracked, keeps_tracked, none_tracked, probe_number, one_space, sent_in, times}
+use Rattle.quic_recovery.proofs.TrackedLaws.{at_itself, AllTracked, keeps_tracked, none_tracked, probe_number, one_space, sent_in, times}
 
 -- ---- sums over tracked packets, but for the numbers that are gone
-
-at_itself : (n : ℕ) → is_at (nat_cmp n) n ≡ true
-at_itself n = ap is_eq (tied_itself nat_cmp_total n)
 
 -- a number is gone too
 abbrev gone_too : (ℕ → Bool) → ℕ → ℕ → Bool
@@ -318,7 +312,7 @@ module _ {F K Q S M P : Type 0} (beginning : Beginning F K Q S M P) where
   holds : (before : History Q S M P) (event : Event Q S M P) (reply : Reply Q) → Told beginning before event reply
       → Kept before → CountsInFlight before event reply
   holds before (InFlight name) reply told kept =
-      subst (λ g. IsTally before g reply) (generation_told beginning before name)
+      rw (← generation_told beginning before name)
       (tally before kept.1 (path_of name (known_by beginning (logs_of beginning before)).paths) reply told)
   holds before event reply told kept = tt
 

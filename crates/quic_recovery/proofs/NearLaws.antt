@@ -153,19 +153,12 @@ module _ {F K Q S M P : Type 0} (beginning : Beginning F K Q S M P) (settings : 
   abbrev least : ℕ
   least = beginning.config.transport.min_mtu
 
-  abbrev pub TiedAt : History Q S M P → Type 0
-  TiedAt history = TiedTo first least settings (made_in beginning history) history (entered_so_far beginning history)
-
   -- ---- what is kept
 
-  abbrev StartsAt : History Q S M P → Type 0
-  StartsAt history =
-      start first least history ≡ mtu_in_use (made_in beginning history)
-      (before_search (entered_so_far beginning history))
-
   pub record Searched (history : History Q S M P) : Type 0 where
-    pub tied : TiedAt history
-    start : StartsAt history
+    pub tied : TiedTo first least settings (made_in beginning history) history (entered_so_far beginning history)
+    start : start first least history ≡ mtu_in_use (made_in beginning history)
+        (before_search (entered_so_far beginning history))
 
   -- the MTU before a search stays so while it runs
   start_after : (now before : Discovery) (history : History Q S M P) (happened : Event Q S M P × Reply Q)

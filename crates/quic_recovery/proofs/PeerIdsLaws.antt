@@ -114,10 +114,6 @@ module _ {Q S M P : Type 0} (initial : List ℕ) where
         ap (λ (least : Option ℕ). unwrap_or least 0) (least_held_found (retired_below history) ids.active (omega arith)
         (grind (arith, same.retired, same.window.active_held, same.window.within)))
 
--- what is not refuted is so, where a test decides it
-settled : (b : Bool) (P : Type 0) → Decides b P → ¬ (¬ P) → P
-settled b P decides not_not = grind (arith, decides)
-
 -- ---- what an event makes of them
 
 module _ {Q S M P : Type 0} (initial : List ℕ) (history : History Q S M P) (ids : RemoteIds)
@@ -161,7 +157,7 @@ module _ {Q S M P : Type 0} (initial : List ℕ) (history : History Q S M P) (id
       fine = record { ordered = ordered; ahead = ahead; near = near }
 
       again : Repeats frame ids.held
-      again = settled _ _ (repeats_decides frame (ids.held frame.sequence)) unlike
+      again = grind (arith, unlike, repeats_decides frame (ids.held frame.sequence))
 
       go : (answer : Answer Q) → IsFrameAnswer ids frame answer
           → SameIds initial ((NewId frame, Ok answer) ∷ history) (remote_ids_with (given frame) ids)
@@ -210,7 +206,7 @@ module _ {Q S M P : Type 0} (initial : List ℕ) (history : History Q S M P) (id
       → SameIds initial ((InitialId id, Ok answer) ∷ history) (remote_ids_with (replaced id) ids)
   initial_step id answer told =
       let new : RemoteIds = record { active = ids.active; held = with_id 0 (id, None) ids.held } in
-      let first : ids.active ≡ 0 = settled _ _ (Decides-eqb ids.active 0) told.0 in
+      let first : ids.active ≡ 0 = grind (arith, nat_tests, told.0) in
       rw (← replaces ids new id first first (λ n. refl))
       (grind (arith, nat_tests, same.held, same.retired, same.window.within, first))
 

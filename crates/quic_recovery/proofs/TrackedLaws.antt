@@ -46,7 +46,7 @@ times n packets = sum_by (λ entry. one_if_same entry.0 n) packets
 abbrev IsTracked : {P M : Type 0} → Sent P M → ℕ → Type 0
 IsTracked {P} {M} sent number = (packet : Packet P M) × (packet_at sent.tracked number ≡ Some packet)
 
-at_itself : (n : ℕ) → is_at (nat_cmp n) n ≡ true
+pub at_itself : (n : ℕ) → is_at (nat_cmp n) n ≡ true
 at_itself n = ap is_eq (tied_itself nat_cmp_total n)
 
 module _ (n : ℕ) where
