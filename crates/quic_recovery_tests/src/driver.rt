@@ -36,7 +36,7 @@ const LOST_1: Event = Event::Lost {
 };
 
 /// What went right, or the end of the test with what went wrong.
-fn right<T>(rt: &impl Abort, found: Result<T, Wrong>) -> T {
+pub(crate) fn right<T>(rt: &impl Abort, found: Result<T, Wrong>) -> T {
     match found {
         Ok(value) => value,
         Err(wrong) => panic!(rt; "{wrong}"),
@@ -49,12 +49,12 @@ pub(crate) fn holds(rt: &impl Abort, is_right: bool, row: u64) {
 }
 
 /// A recovery to which nothing has happened yet.
-fn fresh(rt: &impl Abort, alloc: Global) -> Reno {
+pub(crate) fn fresh(rt: &impl Abort, alloc: Global) -> Reno {
     right(rt, runs::fresh(alloc))
 }
 
 /// Asserts what one event is replied.
-fn told<R: Rng + Drop>(
+pub(crate) fn told<R: Rng + Drop>(
     rt: &impl Abort,
     recovery: &mut Recovery<NewRenoConfig, Tally, R>,
     row: u64,
@@ -65,14 +65,14 @@ fn told<R: Rng + Drop>(
 }
 
 /// Asserts what the events of a run are replied, one a row.
-fn check<const N: usize>(rt: &impl Abort, alloc: Global, rows: [(Event, Reply); N])
+pub(crate) fn check<const N: usize>(rt: &impl Abort, alloc: Global, rows: [(Event, Reply); N])
     requires { N < 1000 }
 {
     drop(walk(rt, alloc, settings(8), words(), rows));
 }
 
 /// Asserts what the events of a run are replied, one a row, and something of what they leave.
-fn check_left<const N: usize, F: FnOnce(&Reno) -> bool>(
+pub(crate) fn check_left<const N: usize, F: FnOnce(&Reno) -> bool>(
     rt: &impl Abort,
     alloc: Global,
     rows: [(Event, Reply); N],
@@ -88,7 +88,7 @@ fn check_left<const N: usize, F: FnOnce(&Reno) -> bool>(
 }
 
 /// Asserts what the events of a run with these settings are replied: what it leaves.
-fn walk<const N: usize>(
+pub(crate) fn walk<const N: usize>(
     rt: &impl Abort,
     alloc: Global,
     config: RecoveryConfig<NewRenoConfig>,

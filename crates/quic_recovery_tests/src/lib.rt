@@ -1,8 +1,9 @@
-//! Tests of the driver, and of the spaces and paths below it, over their public calls. What the driver does with paths is
-//! tested in a crate of its own.
+//! Tests of the driver, and of the spaces and paths below it, over their public calls.
 #![tactic(auto)]
 
 #[cfg(test)]
 mod driver;
 #[cfg(test)]
 mod ledger;
+#[cfg(test)]
+mod paths;

@@ -1,5 +1,6 @@
-//! Tests of ids, ACKs, skipped numbers and what is below them, over their public calls: here and not in the parts, so that none of
-//! them is proved a second time for its tests.
+//! Tests of the parts, over their public calls: of ids, ACKs, skipped numbers and what is below them; of what controls the sending, from
+//! RTT to settings; of tracked packets in their slots, a queue of item numbers, and responses to path challenges. They stand here and
+//! not in the parts, so that none of them is proved a second time for its tests.
 #![tactic(auto)]
 
 #[cfg(test)]
@@ -7,12 +8,28 @@ mod acks;
 #[cfg(test)]
 mod base;
 #[cfg(test)]
+mod config;
+#[cfg(test)]
 mod conflicts;
+#[cfg(test)]
+mod congestion;
 #[cfg(test)]
 mod ecn;
 #[cfg(test)]
 mod ids;
 #[cfg(test)]
+mod items;
+#[cfg(test)]
+mod mtud;
+#[cfg(test)]
+mod pacing;
+#[cfg(test)]
+mod responses;
+#[cfg(test)]
 mod rows;
 #[cfg(test)]
+mod rtt;
+#[cfg(test)]
 mod skips;
+#[cfg(test)]
+mod slots;

@@ -2,7 +2,7 @@
 use super::moves::{
     DROP, congestion, kept_used, leaves_kept, move_to, reset, sample, transmit, used,
 };
-use super::paths::end_acks;
+use super::sending::end_acks;
 use super::*;
 use quic_recovery::congestion::NewReno;
 use quic_recovery::paths::{PathData, PathMarks, PathResponses};

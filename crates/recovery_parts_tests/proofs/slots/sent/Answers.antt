@@ -1,7 +1,7 @@
 use Rattle.std.proofs.Common.{◌≡◌, arith, sym}
 use Rattle.recovery_queue.specs.declared.items.ItemQueue.{ItemQueue}
-use Rattle.recovery_ledger_tests.proofs.Sending.{sent_below, none_below}
-use Rattle.recovery_ledger_tests.proofs.slots.sent.Goals as goal
+use Rattle.recovery_parts_tests.proofs.Sending.{sent_below, none_below}
+use Rattle.recovery_parts_tests.proofs.slots.sent.Goals as goal
 
 pub loop-number-init : goal.loop-number-init
 loop-number-init g c = none_below c.new-space.result c.new-space.ensures.packets

@@ -1,5 +1,5 @@
-use Rattle.recovery_ledger_tests.proofs.Sending.{IsBelow}
-use Rattle.recovery_ledger_tests.proofs.slots.sent.Given as goal
+use Rattle.recovery_parts_tests.proofs.Sending.{IsBelow}
+use Rattle.recovery_parts_tests.proofs.slots.sent.Given as goal
 
 abbrev pub invariant-loop-number : goal.invariant-loop-number
 invariant-loop-number g l = IsBelow l.space l.number-counter
