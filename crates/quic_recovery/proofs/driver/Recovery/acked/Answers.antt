@@ -37,17 +37,13 @@ invariant_of-self-2 g c =
     ∙ ap (λ (s : Space _ _). after_taking c.args.number (tracking_of s)) there in
     let next = ap next_number_of c.on_acked.ensures.others ∙ ap next_number_of c.take.ensures.after
     ∙ ap next_number_of there in
-    let Holds : Space _ _ → Type 0 = HasGreatestCome in
-    let came = subst Holds (sym (c.take.ensures.after ∙ ap (space_takes c.args.number) there))
-    (balanced.coherent c.args.space).received in
-    let come = acked_greatest c.args.number c.in-Some.packet c.take.new.self c.on_acked.new.self came
+    let come = acked_greatest c.args.number c.in-Some.packet c.take.new.self c.on_acked.new.self
+    (rw (c.take.ensures.after, there) (balanced.coherent c.args.space).received)
     c.on_acked.ensures.subtracts c.on_acked.ensures.others in
     let coherent = coherent_taken (space_of c.args.space c.args.self.now.spaces) c.on_acked.new.self
     (balanced.coherent c.args.space) come c.args.number tracking next in
-    let Sums : OfPaths (Path _) → Type 0 =
-    AreBalanced (with_space c.args.self.now.spaces c.args.space c.on_acked.new.self) in
     record {
-      balanced = subst Sums (sym c.on_packet_acked-probe.ensures.after)
+      balanced = rw c.on_packet_acked-probe.ensures.after
           (paths_balanced_acked c.args.self.now.spaces c.args.self.now.paths balanced c.args.space c.args.number
           c.in-Some.packet
           c.on_acked.new.self found (ap (λ (t : Tracking _ _). t.packets) tracking) coherent
@@ -61,8 +57,6 @@ returns g c =
     let found = ap (λ (s : Space _ _). packet_at (packets_of s) c.args.number) (sym there) ∙ sym c.take.ensures.packet
     ∙ c.in-Some.is in
     let taken = c.take.ensures.after ∙ ap (space_takes c.args.number) there in
-    let R : Space _ _ → Type 0 =
-    λ s. SubtractsLargest c.in-Some.packet.largest_acked (acks_of s) (acks_of c.on_acked.new.self) in
     acked_changes (queue_meaning g.Q.RetransmitQueue.contents g.Q.RetransmitQueue.words g.Q.RetransmitQueue.blank)
     (parts_of c.args.self.now) c.args.space c.args.number c.in-Some.packet c.on_acked.new.self
     c.on_packet_acked-probe.new.self c.on_packet_acked-probe.result (sym c.if-contains.ensures) found
@@ -70,7 +64,7 @@ returns g c =
     (record {
       packet = c.in-Some.packet;
       found = found;
-      subtracts = subst R taken c.on_acked.ensures.subtracts;
+      subtracts = rw taken at c.on_acked.ensures.subtracts;
       others = c.on_acked.ensures.others ∙ ap (λ (s : Space _ _). with_acks (acks_of c.on_acked.new.self)
           (after_acknowledging c.args.number c.in-Some.packet.time_sent s)) taken;
     })

@@ -21,15 +21,12 @@ invariant_of-self-2 g c =
     let there = c.index_mut-here.ensures.value in
     let empty : here ≡ space_discards words old = c.take_pending.ensures.step
     ∙ ap (space_hands_out words) (c.forget_all.ensures.space ∙ ap (λ (s : Space _ _). space_empties s) there) in
-    let Holds : Space _ _ → Type 0 = HasGreatestCome in
-    let come = subst Holds (sym empty) (balanced.coherent c.args.space).received in
-    let coherent = coherent_emptied old here (balanced.coherent c.args.space) come (ap tracking_of empty)
+    let coherent = coherent_emptied old here (balanced.coherent c.args.space)
+    (rw empty (balanced.coherent c.args.space).received) (ap tracking_of empty)
     (ap next_number_of empty) in
     let left = c.forget_all.ensures.paths ∙ ap (λ (s : Space _ _). paths_without (packets_of s) now.paths) there in
-    let Balanced : OfPaths (Path _) → Type 0 = AreBalanced (with_space now.spaces c.args.space here) in
     record {
-      balanced = subst Balanced (sym left)
-          (emptied now.spaces now.paths balanced c.args.space here (ap packets_of empty) coherent);
+      balanced = rw left (emptied now.spaces now.paths balanced c.args.space here (ap packets_of empty) coherent);
       limited = now.limited;
     }
 

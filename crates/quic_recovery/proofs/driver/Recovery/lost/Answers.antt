@@ -30,16 +30,13 @@ invariant_of-self g c =
     let handed = ap (λ (s : Space _ _). option_map (with_contents words.empty) (packet_at (packets_of s) c.args.number))
     (sym there) ∙ sym c.in-Ok-Some.ensures.packet ∙ c.in-Ok-Some.field-0-is in
     let left = c.in-Ok-Some.ensures.step ∙ ap (space_loses words c.args.number) there in
-    let Coherent : Space _ _ → Type 0 = IsCoherent in
-    let coherent = subst Coherent (sym left) (coherent_lost words (space_of c.args.space c.args.self.now.spaces)
-    (balanced.coherent c.args.space) c.args.number) in
-    let Sums : OfPaths (Path _) → Type 0 =
-    AreBalanced (with_space c.args.self.now.spaces c.args.space c.lose.new.self) in
     record {
-      balanced = subst Sums (sym c.on_packet_lost-probe.ensures.after)
+      balanced = rw c.on_packet_lost-probe.ensures.after
           (paths_balanced_lost c.args.self.now.spaces c.args.self.now.paths balanced c.args.space c.args.number
           c.in-Ok-Some.packet
-          c.lose.new.self words.empty handed (ap packets_of left) coherent);
+          c.lose.new.self words.empty handed (ap packets_of left)
+          (rw left (coherent_lost words (space_of c.args.space c.args.self.now.spaces) (balanced.coherent c.args.space)
+          c.args.number)));
       limited = c.args.self.now.limited;
     }
 

@@ -35,9 +35,8 @@ invariant_of-self g c =
       | else-fresh+in-Ok w ↦ ap (λ (p : Path _). p.ledger) w.path-is ∙ w.in-Ok.ensures.ledger
     ] in
     let next : c.in-Some.generation ≡ generation_of now.paths.current.ledger + 1 = search (rules, c.in-Some.ensures) in
-    let Balanced : OfPaths (Path _) → Type 0 = AreBalanced now.spaces in
     record {
-      balanced = subst Balanced (sym c.move_to.ensures) (moved now.spaces now.paths now.balanced c.if-fresh.path (ledger
+      balanced = rw c.move_to.ensures (moved now.spaces now.paths now.balanced c.if-fresh.path (ledger
           ∙ ap fresh_ledger next));
       limited = now.limited;
     }

@@ -14,25 +14,20 @@ pub invariant_of-self : goal.invariant_of-self
 invariant_of-self g c =
     let words = g.Q.RetransmitQueue.words in
     let there = space_of c.args.space c.args.self.now.spaces in
-    let Stepped : Space _ _ → Type 0 = λ s. OnOk c.queue_probe.result
-    (SpaceStep words (probes c.args.immediate_ack (probe_found words c.args.streams s.pending (packets_of s))) s
-    c.queue_probe.new.self) in
-    let Kept : Space _ _ → Type 0 = λ s. OnErr c.queue_probe.result (c.queue_probe.new.self ≡ s) in
     record {
       balanced = probe_balanced c.args.self.now.spaces c.args.self.now.paths c.args.self.now.balanced words c.args.space
           c.args.immediate_ack (probe_found words c.args.streams there.pending (packets_of there))
-          c.queue_probe.result c.queue_probe.new.self (subst Stepped c.index_mut.ensures.value
-          c.queue_probe.ensures.step) (subst Kept c.index_mut.ensures.value c.queue_probe.ensures.err);
+          c.queue_probe.result c.queue_probe.new.self (rw c.index_mut.ensures.value at c.queue_probe.ensures.step)
+          (rw c.index_mut.ensures.value at c.queue_probe.ensures.err);
       limited = c.args.self.now.limited;
     }
 
 pub returns : goal.returns
 returns g c =
     let words = g.Q.RetransmitQueue.words in
-    let Moved : Space _ _ → Type 0 = λ s. Moves (probe_found words c.args.streams s.pending (packets_of s)) in
     put_back (queue_meaning g.Q.RetransmitQueue.contents words g.Q.RetransmitQueue.blank) (parts_of c.args.self.now)
     (QueueProbe c.args.space c.args.immediate_ack c.args.streams) NoMemory c.args.space c.queue_probe.new.self
     (c.in-Err.ensures.err ∙ c.index_mut.ensures.value) refl (
       fails _ (sym c.if-contains.ensures),
-      subst Moved c.index_mut.ensures.value c.in-Err.ensures.moves,
+      rw c.index_mut.ensures.value at c.in-Err.ensures.moves,
     )

@@ -53,9 +53,8 @@ invariant_of-self-2 g c =
     (sends_bytes c.args.now c.from.result c.number_behind-number.result) in
     let tells = c.on_sent-2.ensures ∙ ap (λ (all : OfPaths (Path _)). on_path_of Current (on_state change) all)
     counts in
-    let Sums : OfPaths (Path _) → Type 0 = AreBalanced spaces in
     record {
-      balanced = subst Sums (sym tells) (on_state_kept spaces counted
+      balanced = rw tells (on_state_kept spaces counted
           (sent_balanced c.args.self.now.spaces paths c.args.self.now.balanced c.args.space
           c.number_behind-number.result packet c.generation.ensures
           (omega (arith, next, behind, c.number_behind-number.ensures))
