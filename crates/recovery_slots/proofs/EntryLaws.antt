@@ -35,20 +35,15 @@ module _ {T : Type 0} where
 
   -- ---- one slot replaced
 
-  pub replaced_count : (slots : List (Slot T)) (place : ℕ) (slot : Slot T) (item : Option T) → IsSlotAt slots place slot
-      → length (entries_of (set slots place (slot_of slot.number item))) + one_if (is_some slot.item)
-      ≡ length (entries_of slots) + one_if (is_some item)
-  replaced_count [] place slot item at = absurd at
-  replaced_count (first ∷ slots) zero slot item at = grind (arith, at)
-  replaced_count (first ∷ slots) (suc place) slot item at = grind (arith, replaced_count slots place slot item at)
-
-  pub replaced_rises : (slots : List (Slot T)) (first end place : ℕ) (slot : Slot T) (item : Option T)
+  pub replaced_sound : (slots : List (Slot T)) (first end place : ℕ) (slot : Slot T) (item : Option T)
       → AreRising first slots end → IsSlotAt slots place slot
-      → AreRising first (set slots place (slot_of slot.number item)) end
-  replaced_rises [] first end place slot item rising at = absurd at
-  replaced_rises (head ∷ slots) first end zero slot item rising at = grind (arith, at)
-  replaced_rises (head ∷ slots) first end (suc place) slot item rising at =
-      grind (arith, replaced_rises slots (head.number + 1) end place slot item rising.2 at)
+      → (let new = set slots place (slot_of slot.number item) in
+      (length (entries_of new) + one_if (is_some slot.item) ≡ length (entries_of slots) + one_if (is_some item))
+      × AreRising first new end)
+  replaced_sound [] first end place slot item rising at = absurd at
+  replaced_sound (head ∷ slots) first end zero slot item rising at = grind (arith, at)
+  replaced_sound (head ∷ slots) first end (suc place) slot item rising at =
+      grind (arith, replaced_sound slots (head.number + 1) end place slot item rising.2 at)
 
   pub replaced_length : (old new : List (Slot T)) (place : ℕ) (item found : Option T)
       → Replaces old place item found new → length new ≡ length old
@@ -91,9 +86,11 @@ module _ {T : Type 0} where
 
   module _ (slots : List (Slot T)) (number place : ℕ) (item : T) (held : IsHeldAt slots number place item) where
     pub item_held : item_at slots number ≡ Some item
-    item_held =
-        let found = behind (entries_of held.before) (entries_of held.after) number item item held.none in
-        cc (held.is, entries-append held.before (slot_of number (Some item) ∷ held.after), found.0)
+    item_held = cc (
+      held.is,
+      entries-append held.before (slot_of number (Some item) ∷ held.after),
+      (behind (entries_of held.before) (entries_of held.after) number item item held.none).0,
+    )
 
     pub slot_held : IsSlotAt slots place (record { number = number; item = Some item })
     slot_held = rw (held.is, ← held.place_is) (slot_behind held.before held.after (slot_of number (Some item)))
@@ -149,14 +146,10 @@ module _ {T : Type 0} where
   rises_within (slot ∷ slots) first lower end upper low high rising =
       grind (arith, rises_within slots (slot.number + 1) (slot.number + 1) end upper)
 
-  pub kept_entries : (slots : List (Slot T)) → entries_of (filter is_filled slots) ≡ entries_of slots
-  kept_entries [] = refl
-  kept_entries (slot ∷ slots) = grind (arith, kept_entries slots)
-
-  pub kept_count : (slots : List (Slot T))
-      → length (filter is_filled slots) ≡ length (entries_of (filter is_filled slots))
-  kept_count [] = refl
-  kept_count (slot ∷ slots) = grind (arith, kept_count slots)
+  pub kept : (slots : List (Slot T)) → (entries_of (filter is_filled slots) ≡ entries_of slots)
+      × (length (filter is_filled slots) ≡ length (entries_of slots))
+  kept [] = (refl, refl)
+  kept (slot ∷ slots) = grind (arith, kept slots)
 
   pub kept_rises : (slots : List (Slot T)) (first end : ℕ) → AreRising first slots end
       → AreRising first (filter is_filled slots) end
@@ -238,27 +231,26 @@ module _ {T : Type 0} where
 
   pub divided : (slots : List (Slot T)) (number place : ℕ) → Divides slots number place
       → entries_of (drop place slots) ≡ filter (is_from number) (entries_of slots)
-  divided [] number zero divides = refl
-  divided [] number (suc place) divides = refl
-  divided (slot ∷ slots) number zero divides =
-      grind (
+  divided slots number place divides = go slots place divides.below divides.above
+    where
+      go : (slots : List (Slot T)) (place : ℕ)
+          → ((p : ℕ) (slot : Slot T) → IsSlotAt slots p slot → p < place → slot.number < number)
+          → ((p : ℕ) (slot : Slot T) → IsSlotAt slots p slot → place ≤ p → number ≤ slot.number)
+          → entries_of (drop place slots) ≡ filter (is_from number) (entries_of slots)
+      go [] zero below above = refl
+      go [] (suc place) below above = refl
+      go (slot ∷ slots) zero below above = grind (
         arith,
         nat_tests,
-        divides.above zero slot refl,
-        divided slots number zero (record {
-          below = λ p s at under. absurd (omega arith);
-          above = λ p s at over. divides.above (suc p) s at (omega arith);
-        }),
+        above zero slot refl,
+        go slots zero (λ p s at under. absurd (omega arith)) (λ p s at over. above (suc p) s at (omega arith)),
       )
-  divided (slot ∷ slots) number (suc place) divides =
-      grind (
+      go (slot ∷ slots) (suc place) below above = grind (
         arith,
         nat_tests,
-        divides.below zero slot refl,
-        divided slots number place (record {
-          below = λ p s at under. divides.below (suc p) s at (omega arith);
-          above = λ p s at over. divides.above (suc p) s at (omega arith);
-        }),
+        below zero slot refl,
+        go slots place
+            (λ p s at under. below (suc p) s at (omega arith)) (λ p s at over. above (suc p) s at (omega arith)),
       )
 
   pub all_from : (entries : List (ℕ × T)) (number : ℕ) → AreFrom number (filter (is_from number) entries)

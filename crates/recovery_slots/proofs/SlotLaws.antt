@@ -1,6 +1,6 @@
 -- Slots by their places: what stands at one, what is filed there, and what stands before and behind it. `EntryLaws` and
 -- the look-ups of `SlotQueue` rest on it.
-use Rattle.std.proofs.Common.{◌≡◌, ◌≢◌, ℕ, zero, suc, ◌+◌, ◌-◌, ◌/◌, ◌^◌, ◌<◌, ◌≤◌, true, List, [], ◌∷◌, length, min, Option, None, Some, MatchOption, refl, sym, ap, subst, ◌∙◌, arith, get_or}
+use Rattle.std.proofs.Common.{◌≡◌, ℕ, zero, suc, ◌+◌, ◌-◌, ◌/◌, ◌^◌, ◌<◌, ◌≤◌, true, List, [], ◌∷◌, length, min, Option, None, Some, MatchOption, refl, sym, ap, subst, ◌∙◌, arith, get_or}
 use Rattle.std.specs.Ordering.{nat_cmp, is_eq}
 use Rattle.std.specs.Cmp.{nat_cmp_total, tied_itself}
 use Rattle.std.specs.BTreeMap.{is_at}
@@ -46,22 +46,14 @@ module _ {T : Type 0} where
   rises_room [] first end rising some = absurd (omega arith)
   rises_room (slot ∷ slots) first end rising some = grind (arith, rises_room slots (slot.number + 1) end)
 
-  -- a number is at least as far from the first as its place
-  from_first : (slots : List (Slot T)) (first end place : ℕ) (slot : Slot T) → AreRising first slots end
-      → IsSlotAt slots place slot → first + place ≤ slot.number
-  from_first [] first end place slot rising at = absurd at
-  from_first (head ∷ slots) first end zero slot rising at = grind (arith, at)
-  from_first (head ∷ slots) first end (suc place) slot rising at =
-      omega (arith, from_first slots (head.number + 1) end place slot rising.2 at)
-
-  -- and as far from the end as there are places behind it
-  to_end : (slots : List (Slot T)) (first end place : ℕ) (slot : Slot T) → AreRising first slots end
-      → IsSlotAt slots place slot → slot.number + length slots ≤ end + place
-  to_end [] first end place slot rising at = absurd at
-  to_end (head ∷ slots) first end zero slot rising at =
+  -- a number is at least as far from the first as its place, and from the end as there are places behind it
+  stands : (slots : List (Slot T)) (first end place : ℕ) (slot : Slot T) → AreRising first slots end
+      → IsSlotAt slots place slot → (first + place ≤ slot.number) × (slot.number + length slots ≤ end + place)
+  stands [] first end place slot rising at = absurd at
+  stands (head ∷ slots) first end zero slot rising at =
       grind (arith, at, rises_room slots (head.number + 1) end rising.2)
-  to_end (head ∷ slots) first end (suc place) slot rising at =
-      omega (arith, to_end slots (head.number + 1) end place slot rising.2 at)
+  stands (head ∷ slots) first end (suc place) slot rising at =
+      grind (arith, stands slots (head.number + 1) end place slot rising.2 at)
 
   -- numbers are at least as far from one another as their places
   apart : (slots : List (Slot T)) (place other : ℕ) (slot later : Slot T) → Rises slots → IsSlotAt slots place slot
@@ -69,16 +61,16 @@ module _ {T : Type 0} where
   apart [] place other slot later rises at there upto = absurd at
   apart (head ∷ slots) zero zero slot later rises at there upto = grind (arith, at, there)
   apart (head ∷ slots) zero (suc other) slot later rises at there upto =
-      grind (arith, at, from_first slots (head.number + 1) rises.1 other later rises.2.2 there)
+      grind (arith, at, stands slots (head.number + 1) rises.1 other later rises.2.2 there)
   apart (head ∷ slots) (suc place) zero slot later rises at there upto = absurd (omega arith)
   apart (head ∷ slots) (suc place) (suc other) slot later rises at there upto =
       omega (arith, apart slots place other slot later (head.number + 1, rises.1, rises.2.2) at there)
 
   -- ---- what is filed
 
-  -- nothing is filed under a number that no slot has
-  pub none_filed : (slots : List (Slot T)) (number : ℕ)
-      → ((place : ℕ) (slot : Slot T) → IsSlotAt slots place slot → slot.number ≢ number) → item_at slots number ≡ None
+  -- nothing is filed under a number that no filled slot has
+  pub none_filed : (slots : List (Slot T)) (number : ℕ) → ((place : ℕ) (slot : Slot T) → IsSlotAt slots place slot
+      → slot.number ≡ number → slot.item ≡ None) → item_at slots number ≡ None
   none_filed [] number none = refl
   none_filed (slot ∷ slots) number none =
       grind (arith, nat_tests, none zero slot refl, none_filed slots number (λ place s at. none (suc place) s at))
@@ -87,18 +79,15 @@ module _ {T : Type 0} where
   pub held_at : (slots : List (Slot T)) (place number : ℕ) (item : Option T) → Rises slots
       → IsSlotAt slots place (record { number = number; item = item })
       → MatchOption item (item_at slots number ≡ None) (IsHeldAt slots number place)
-  held_at [] place number item rises at = absurd at
-  held_at (head ∷ slots) zero number None rises at =
-      grind (
+  held_at slots place number None rises at = none_filed slots number (λ p slot there same.
+      let here : p ≡ place = grind (
         arith,
-        at,
-        none_filed slots number (λ place slot there e. omega (
-          arith,
-          e,
-          ap (λ (s : Slot T). s.number) at,
-          from_first slots (head.number + 1) rises.1 place slot rises.2.2 there,
-        )),
-      )
+        same,
+        apart slots p place slot _ rises there at,
+        apart slots place p _ slot rises at there,
+      ) in
+      ap (λ (s : Slot T). s.item) (one_slot slots place slot _ (rw here at there) at))
+  held_at [] place number (Some item) rises at = absurd at
   held_at (head ∷ slots) zero number (Some item) rises at = record {
     before = [];
     after = slots;
@@ -106,13 +95,6 @@ module _ {T : Type 0} where
     place_is = refl;
     none = refl;
   }
-  held_at (head ∷ slots) (suc place) number None rises at =
-      grind (
-        arith,
-        nat_tests,
-        from_first slots (head.number + 1) rises.1 place _ rises.2.2 at,
-        held_at slots place number None (head.number + 1, rises.1, rises.2.2) at,
-      )
   held_at (head ∷ slots) (suc place) number (Some item) rises at =
       let later = held_at slots place number (Some item) (head.number + 1, rises.1, rises.2.2) at in record {
         before = head ∷ later.before;
@@ -123,7 +105,7 @@ module _ {T : Type 0} where
           arith,
           nat_tests,
           later.none,
-          from_first slots (head.number + 1) rises.1 place (record { number = number; item = Some item }) rises.2.2 at,
+          stands slots (head.number + 1) rises.1 place (record { number = number; item = Some item }) rises.2.2 at,
         );
       }
 
@@ -134,14 +116,14 @@ module _ {T : Type 0} where
   enclosed_below slots first end number rising low = record {
     within = omega arith;
     below = λ p slot at under. absurd (omega arith);
-    above = λ p slot at over. omega (arith, from_first slots first end p slot rising at);
+    above = λ p slot at over. omega (arith, stands slots first end p slot rising at);
   }
 
   pub enclosed_above : (slots : List (Slot T)) (first end number : ℕ) → AreRising first slots end → end ≤ number
       → Encloses slots number (length slots) (length slots)
   enclosed_above slots first end number rising high = record {
     within = omega arith;
-    below = λ p slot at under. omega (arith, to_end slots first end p slot rising at);
+    below = λ p slot at under. omega (arith, stands slots first end p slot rising at);
     above = λ p slot at over. absurd (omega (arith, slot_within slots p slot at));
   }
 
@@ -151,9 +133,8 @@ module _ {T : Type 0} where
       → Encloses slots number low high
   enclosed_by slots first last number low high rising within under over lower upper = record {
     within = within;
-    below = λ p slot at h. omega (arith, to_end slots first (last + 1) p slot rising at);
-    above = λ p slot at h.
-        omega (arith, from_first slots first (last + 1) p slot rising at, slot_within slots p slot at);
+    below = λ p slot at h. omega (arith, stands slots first (last + 1) p slot rising at);
+    above = λ p slot at h. omega (arith, stands slots first (last + 1) p slot rising at, slot_within slots p slot at);
   }
 
   -- ---- a search
@@ -229,4 +210,5 @@ halved looks after range next slots halves some is half digits fits = go (halves
 
 -- fewer than 2^63 slots take fewer than 64 looks
 pub few_looks : (looks range slots : ℕ) → Halves looks range slots → slots < 2 ^ 63 → looks < 64
-few_looks looks range slots halves few = let h = halves 63 few in let total : looks + h.0 ≡ 63 = h.1 in omega arith
+few_looks looks range slots halves few =
+    let h = halves 63 few in grind (arith, h)
