@@ -121,21 +121,20 @@ module _ (words : List ℕ) (from bits by : ℕ) (short : bits < 32) (some : 0 <
   moved_place : (place : ℕ) → place < 128 → bit_of (a ∷ b ∷ c ∷ d ∷ []) place ≡ bit_of (padded words) (160 + place - by)
   moved_place place within = four_words (λ word. place / 32 ≡ word →
       bit_at (slice_index (a ∷ b ∷ c ∷ d ∷ []) word) (place % 32) ≡ bit_of (padded words) (160 + place - by))
-      (at 0 (from + 1) from a first (omega arith) (omega arith)) (at 1 (from + 2) (from + 1) b second (omega arith)
-      (omega arith))
-      (at 2 (from + 3) (from + 2) c third (omega arith) (omega arith)) (at 3 (from + 4) (from + 3) d fourth
-      (omega arith) (omega arith))
+      (at 0 (from + 1) from a first (omega arith, omega arith)) (at 1 (from + 2) (from + 1) b second
+      (omega arith, omega arith))
+      (at 2 (from + 3) (from + 2) c third (omega arith, omega arith)) (at 3 (from + 4) (from + 3) d fourth
+      (omega arith, omega arith))
       (place / 32) (omega arith) refl
     where
       at : (word upper lower new : ℕ) → Moved (slice_index (padded words) upper) (slice_index (padded words) lower) bits
-          new →
-          upper ≡ lower + 1 → upper ≡ from + 1 + word → place / 32 ≡ word → bit_at new (place % 32)
-          ≡ bit_of (padded words) (160 + place - by)
-      at word upper lower new moved next above here = elim (cases_lt (place % 32) bits) [
+          new → (upper ≡ lower + 1) × (lower ≡ from + word) → place / 32 ≡ word
+          → bit_at new (place % 32) ≡ bit_of (padded words) (160 + place - by)
+      at word upper lower new moved above here = elim (cases_lt (place % 32) bits) [
         | inl carried ↦ moved.1 (place % 32) carried ∙ sym (place_is (padded words) (160 + place - by) lower
-            (32 - bits + place % 32) (omega arith) (omega arith))
+            (32 - bits + place % 32) (omega arith) (omega (arith, above)))
         | inr stays ↦ moved.0 (place % 32) stays (omega arith) ∙ sym (place_is (padded words) (160 + place - by) upper
-            (place % 32 - bits) (omega arith) (omega arith))
+            (place % 32 - bits) (omega arith) (omega (arith, above)))
       ]
 
   pub moved_words : MovesBy by (IsSet words) (IsSet (a ∷ b ∷ c ∷ d ∷ []))
@@ -151,40 +150,36 @@ module _ (words : List ℕ) (from bits by : ℕ) (short : bits < 32) (some : 0 <
 -- all places moved out of the window
 pub moved_away : (words : List ℕ) (by : ℕ) → 128 < by → MovesBy by (IsSet words) (IsSet (0 ∷ 0 ∷ 0 ∷ 0 ∷ []))
 moved_away words by far place =
-    let none = four_words (λ word. bit_at (slice_index (0 ∷ 0 ∷ 0 ∷ 0 ∷ []) word) (place % 32) ≡ 0)
-    (bit_at-zero (place % 32)) (bit_at-zero (place % 32)) (bit_at-zero (place % 32)) (bit_at-zero (place % 32))
+    let zero = bit_at-zero (place % 32) in
+    let none = four_words (λ word. bit_at (slice_index (0 ∷ 0 ∷ 0 ∷ 0 ∷ []) word) (place % 32) ≡ 0) zero zero zero zero
     (place / 32) in
     grind (arith, none, places_within (0 ∷ 0 ∷ 0 ∷ 0 ∷ []) refl place)
 
 -- ---- one place more
 
 module _ (words : List ℕ) (one : ℕ) (four : length words ≡ 4) (inside : one < 128) where
-  abbrev word : ℕ
+  abbrev pub word : ℕ
   word = slice_index words (one / 32)
 
-  abbrev mask : ℕ
+  abbrev pub mask : ℕ
   mask = 1 * 2 ^ (one % 32) % 2 ^ 32
 
-  abbrev with_one : List ℕ
+  abbrev pub with_one : List ℕ
   with_one = slice_set words (one / 32) (bit_or word mask)
 
   tested : bit_and word mask ≡ bit_of words one * 2 ^ (one % 32)
   tested = ap (λ m. bit_and word m) (one_shl (one % 32) 32 (omega arith)) ∙ and_pow word (one % 32)
 
-  pub set_by_bit : ¬ (bit_and (slice_index words (one / 32)) (1 * 2 ^ (one % 32) % 2 ^ 32) ≡ 0) → IsSet words one
+  pub set_by_bit : ¬ (bit_and word mask ≡ 0) → IsSet words one
   set_by_bit some = grind (arith, some, tested, zero-mul (2 ^ (one % 32)), bit_at-lt word (one % 32))
 
-  pub clear_by_bit : bit_and (slice_index words (one / 32)) (1 * 2 ^ (one % 32) % 2 ^ 32) ≡ 0 → ¬ IsSet words one
+  pub clear_by_bit : bit_and word mask ≡ 0 → ¬ IsSet words one
   clear_by_bit none set = grind (arith, none, set, tested, pow_pos (one % 32))
 
-  word_set : slice_index with_one (one / 32) ≡ bit_or word mask
-  word_set = get_or-set_same words (one / 32) (bit_or word mask) 0 (omega arith)
-
-  pub sets_one : Sets one (IsSet words) (IsSet
-      (slice_set words (one / 32) (bit_or (slice_index words (one / 32)) (1 * 2 ^ (one % 32) % 2 ^ 32))))
+  pub sets_one : Sets one (IsSet words) (IsSet with_one)
   sets_one place = grind (
     arith,
-    word_set,
+    get_or-set_same words (one / 32) (bit_or word mask) 0,
     bit_at_set_same w32 word (one % 32),
     bit_at_set_other w32 word (one % 32) (omega arith) (place % 32),
     get_or-set_other words (one / 32) (place / 32) (bit_or word mask) 0,
@@ -197,7 +192,7 @@ sets_again Places one here place = grind (arith, here)
 
 -- what the ones of `!word` below a place say of the word
 module _ (word bits : ℕ) (fits : word < 2 ^ 32) (some : 0 < bits) (few : bits ≤ 32) where
-  abbrev zeros : ℕ
+  abbrev pub zeros : ℕ
   zeros = bit_and (bit_not w32 word) ((2 ^ 32 - 1) / 2 ^ (32 - bits))
 
   mask_is : (2 ^ 32 - 1) / 2 ^ (32 - bits) ≡ 2 ^ bits - 1
@@ -218,7 +213,7 @@ module _ (word bits : ℕ) (fits : word < 2 ^ 32) (some : 0 < bits) (few : bits 
   zeros_fit = let below : bit_not w32 word < 2 ^ 32 = omega arith in
       lt_of_le_of_lt (and_le_l (bit_not w32 word) ((2 ^ 32 - 1) / 2 ^ (32 - bits))) below
 
-  pub all_ones : bit_and (bit_not w32 word) ((2 ^ 32 - 1) / 2 ^ (32 - bits)) ≡ 0 → AreSet (IsOne word) 0 bits
+  pub all_ones : zeros ≡ 0 → AreSet (IsOne word) 0 bits
   all_ones none i from below = grind (arith, none, turned i, bit_at-zero i, bit_at-lt word i)
 
   top : (j : ℕ) → 2 ^ j ≤ zeros → zeros < 2 ^ suc j → bit_at zeros j ≡ 1
@@ -229,9 +224,7 @@ module _ (word bits : ℕ) (fits : word < 2 ^ 32) (some : 0 < bits) (few : bits 
       split : zeros ≡ 1 * 2 ^ j + (zeros - 2 ^ j)
       split = omega arith
 
-  pub highest_zero_is : ¬ (bit_and (bit_not w32 word) ((2 ^ 32 - 1) / 2 ^ (32 - bits)) ≡ 0) →
-      IsHighestClear (IsOne word) bits (31 - leading_zeros w32
-      (bit_and (bit_not w32 word) ((2 ^ 32 - 1) / 2 ^ (32 - bits))))
+  pub highest_zero_is : ¬ (zeros ≡ 0) → IsHighestClear (IsOne word) bits (31 - leading_zeros w32 zeros)
   highest_zero_is positive =
       let t = leading_top 32 zeros (omega (arith, positive)) zeros_fit in
       let e : leading_zeros w32 zeros + suc t.0 ≡ 32 = t.1 in
