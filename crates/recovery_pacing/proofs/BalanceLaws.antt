@@ -1,5 +1,5 @@
 -- Laws of the balance and of the rate, on histories alone. `PacerLogLaws` rest on it.
-use Rattle.std.proofs.Common.{◌≡◌, ℕ, ◌+◌, ◌-◌, ◌*◌, ◌≤◌, max, List, [], ◌∷◌, ◌++◌, refl, sym, ap, subst, arith, inl, inr}
+use Rattle.std.proofs.Common.{◌≡◌, ℕ, ◌+◌, ◌-◌, ◌*◌, ◌≤◌, max, List, [], ◌∷◌, ◌++◌, refl, ap, arith, inl, inr}
 use Rattle.std.proofs.Math.Nat.{mul-le-mul, mul-le-mul_left, mul-add}
 use Rattle.std.proofs.lemmas.Bool.{cases_lt}
 use Rattle.recovery_pacing.specs.Pacing.{Bucket, PacerCall, capacity_of}
@@ -15,7 +15,7 @@ within_wider : (w w' r r' l l' : ℕ) (calls : List PacerCall) → w ≤ w' → 
     → AreWithin w' r' l' calls
 within_wider w w' r r' l l' [] p q o h = tt
 within_wider w w' r r' l l' (call ∷ calls) p q o h =
-    ((omega arith, omega arith, omega arith), within_wider w w' r r' l l' calls p q o h.1)
+    grind (arith, within_wider w w' r r' l l' calls p q o)
 
 within_own : (calls : List PacerCall) → AreWithin (greatest_window calls) (least_rtt calls) (latest_moment calls) calls
 within_own [] = tt
@@ -25,9 +25,6 @@ within_own (call ∷ other ∷ calls) = (
   within_wider _ _ _ _ _ _ (other ∷ calls) (omega arith) (omega arith)
       (omega arith) (within_own (other ∷ calls)),
 )
-
-swap_last : (a b c : ℕ) → a + b + c ≡ a + c + b
-swap_last a b c = omega arith
 
 -- one credit more
 step_bound : (r r' w w' x c n g g0 : ℕ) → r ≤ r' → w' ≤ w → g0 ≤ g → 4 * r' * x ≤ 5 * w' * (n - g)
@@ -94,13 +91,15 @@ module _ (made : Bucket) where
   no_debt_less credits bytes taken (mark ∷ past) h low =
       grind (arith, h, low, λ (c b : ℕ). no_debt_less c b taken past)
 
-  -- what was transmitted after a cap point is within its capacity and the credits after it
-  covered : (credits bytes : ℕ) (later past : List PacerMark) → IsCapPoint past → NoDebt credits bytes (later ++ past)
-      → bytes + bytes_in later ≤ capacity_in made past + credits + credits_in later
-  covered credits bytes [] (changed call ∷ past) p h = omega arith
-  covered credits bytes [] past p h = grind (arith, p, h)
-  covered credits bytes (changed call ∷ later) past p h = covered credits bytes later past p h.1
-  covered credits bytes (mark ∷ later) past p h = grind (arith, h, λ (c b : ℕ). covered c b later past p)
+  -- what was transmitted after a cap point is within its capacity and the credits after it, by the balance at least
+  below_each : (credits bytes : ℕ) (later past : List PacerMark) → IsCapPoint past
+      → NoDebt credits bytes (later ++ past)
+      → balance_from made credits bytes (later ++ past) + bytes + bytes_in later ≤ capacity_in made past + credits +
+      credits_in later
+  below_each credits bytes [] (changed call ∷ past) p h = omega arith
+  below_each credits bytes [] past p h = grind (arith, p, h)
+  below_each credits bytes (changed call ∷ later) past p h = omega (arith, below_each credits bytes later past p h.1)
+  below_each credits bytes (mark ∷ later) past p h = grind (arith, h, λ (c b : ℕ). below_each c b later past p)
 
   -- the greatest moment rises, and is at most the latest of the calls
   greatest_rises : (later past : List PacerMark) → greatest_moment made past ≤ greatest_moment made (later ++ past)
@@ -132,26 +131,17 @@ module _ (made : Bucket) where
       → 4 * least_rtt (calls_in later) * (bytes_in later - capacity_in made past) ≤ 5 * greatest_window (calls_in later)
       * (latest_moment (calls_in later) - greatest_moment made past)
   rate_bound history later past debt earned is point =
-      let debt' = subst (λ h. NoDebt 0 0 h) (sym is) debt in
-      let earned' = subst (λ h. AreEarned h) (sym is) earned in
+      let debt' : NoDebt 0 0 (later ++ past) = rw is debt in
+      let earned' : AreEarned (later ++ past) = rw is earned in
       let within = within_own (calls_in later) in
       let all : bytes_in later ≤ capacity_in made past + credits_in later =
-      omega (arith, covered 0 0 later past point debt') in
+      omega (arith, below_each 0 0 later past point debt') in
       bound_at (least_rtt (calls_in later)) (greatest_window (calls_in later)) (bytes_in later) (capacity_in made past)
       (credits_in later) (greatest_moment made (later ++ past)) (latest_moment (calls_in later))
       (greatest_moment made past) all
       (credits_below _ _ _ later past within earned') (greatest_below _ _ _ later past within)
 
   -- ---- the balance is the least over the cap points
-
-  below_each : (credits bytes : ℕ) (later past : List PacerMark) → IsCapPoint past
-      → NoDebt credits bytes (later ++ past)
-      → balance_from made credits bytes (later ++ past) + bytes + bytes_in later ≤ capacity_in made past + credits +
-      credits_in later
-  below_each credits bytes [] (changed call ∷ past) p h = omega arith
-  below_each credits bytes [] past p h = grind (arith, p, h)
-  below_each credits bytes (changed call ∷ later) past p h = omega (arith, below_each credits bytes later past p h.1)
-  below_each credits bytes (mark ∷ later) past p h = grind (arith, h, λ (c b : ℕ). below_each c b later past p)
 
   abbrev Met : ℕ → ℕ → List PacerMark → Type 0
   Met credits bytes history =
@@ -200,7 +190,7 @@ module _ (made : Bucket) where
   pub balance_is : (history : List PacerMark) → NoDebt 0 0 history → IsBalance made history (balance_in made history)
   unfolding balance_in
   balance_is history h = record {
-    at_most = λ later past is point. let e = ap (balance_from made 0 0) is in omega
-        (arith, e, below_each 0 0 later past point (subst (λ v. NoDebt 0 0 v) (sym is) h));
+    at_most = λ later past is point.
+        omega (arith, ap (balance_from made 0 0) is, below_each 0 0 later past point (rw is h));
     met = let found = met_at 0 0 history h in (found.0, found.1, found.2, found.3, omega (arith, found.4));
   }

@@ -1,45 +1,23 @@
 -- A bucket that is only asked fills up as it was said: what was delayed until a moment passes from that moment on. The
 -- clause `named` of `run` rests on it.
 use Rattle.std.proofs.lemmas.Bool.Decides.{nat_tests}
-use Rattle.std.proofs.Common.{◌≡◌, ℕ, suc, ◌+◌, ◌-◌, ◌*◌, ◌/◌, ◌%◌, ◌^◌, ◌<◌, ◌≤◌, min, max, Bool, true, false, List, [], ◌∷◌, ◌++◌, map, length, cond, None, Some, refl, sym, ap, ap₂, subst, ◌∙◌, arith, inl, inr}
+use Rattle.std.proofs.Common.{◌≡◌, ℕ, suc, ◌+◌, ◌-◌, ◌*◌, ◌%◌, ◌^◌, ◌<◌, ◌≤◌, min, max, Bool, true, false, List, [], ◌∷◌, ◌++◌, map, length, cond, None, Some, refl, ap, subst, ◌∙◌, arith, inl, inr}
 use Rattle.std.specs.List.{AllByRecursion}
-use Rattle.std.proofs.Math.Nat.{div-add-mod, mod-lt, mul-le-mul_left, mul-le-mul_right}
+use Rattle.std.proofs.Math.Nat.{div-add-mod, mod-lt, mul-le-mul_left}
 use Rattle.std.proofs.lemmas.Bool.{cases_lt}
 use Rattle.recovery_base.specs.Times.{longest_span}
 use Rattle.recovery_pacing.specs.NamedMoment.{HasRoom, IsAlike, PassesAtMoment}
 use Rattle.recovery_pacing.specs.PacerLog.{PacerEntry, asked, bucket_by}
 use Rattle.recovery_pacing.specs.Pacing.{Bucket, PacerCall, credit_of, wait_of, resized, refilled, may_send, paced, next_moment, delay_of}
 use Rattle.recovery_pacing.proofs.PacerLogLaws.{paced-knows}
-use Rattle.recovery_pacing.proofs.ProgressLaws.{short_of}
+use Rattle.recovery_pacing.proofs.ProgressLaws.{short_of, wait_comes}
 
 -- a credit is rounded down by less than one byte
 credit_comes : (rtt window elapsed : ℕ) → 0 < rtt
     → 5 * window * elapsed + 1 ≤ 4 * rtt * (credit_of rtt window elapsed + 1)
 credit_comes rtt window elapsed some =
-    let e = div-add-mod (5 * window * elapsed) (4 * rtt) in
     let lt : 5 * window * elapsed % (4 * rtt) < 4 * rtt = mod-lt (5 * window * elapsed) (omega (arith, some)) in
-    omega (arith, e, lt)
-
--- a wait is rounded down by less than four nanoseconds
-wait_comes : (rtt window short : ℕ) → 0 < window → rtt * short ≤ longest_span
-    → 4 * (rtt * short) + 4 ≤ 5 * window * wait_of rtt window short + 20 * window
-wait_comes rtt window short some_window uncut =
-    let fifths = mul-le-mul_right window fifth in
-    omega (arith, whole, fifths, same)
-  where
-    q : ℕ
-    q = rtt * short / window
-
-    whole : rtt * short + 1 ≤ (q + 1) * window
-    whole = let e = div-add-mod (rtt * short) window in let lt =
-        mod-lt (rtt * short) some_window in omega (arith, e, lt)
-
-    fifth : q + 1 ≤ 5 * (q / 5 + 1)
-    fifth = let e = div-add-mod q 5 in let lt : q % 5 < 5 = mod-lt q (omega arith) in omega (arith, e, lt)
-
-    same : 5 * window * wait_of rtt window short ≡ 5 * window * (4 * (q / 5))
-    same = let least : min (rtt * short) longest_span ≡ rtt * short =
-        omega (arith, uncut) in ap (λ (n : ℕ). 5 * window * (4 * (n / window / 5))) least
+    omega (arith, div-add-mod (5 * window * elapsed) (4 * rtt), lt)
 
 -- a factor that is not zero keeps the order
 le_by_product : (k a b : ℕ) → 0 < k → k * a ≤ k * b → a ≤ b
@@ -79,8 +57,8 @@ module _ (call : PacerCall) (first : Bucket) where
     mtu = fills.mtu;
     bounded = omega arith;
     elapsed = fills.elapsed + (now - bucket.last);
-    last = let last = fills.last in omega (arith, last);
-    filled = λ below. filled below;
+    last = omega (arith, fills.last);
+    filled = filled;
   }
     where
       credit : ℕ
@@ -90,31 +68,23 @@ module _ (call : PacerCall) (first : Bucket) where
           → 4 * call.rtt * first.tokens + 5 * call.window * (fills.elapsed + (now - bucket.last))
           ≤ 4 * call.rtt * (min (bucket.tokens + credit) bucket.capacity + suc questions)
       filled below =
-          let capacity = fills.capacity in
           let least : min (bucket.tokens + credit) bucket.capacity ≡ bucket.tokens + credit =
-          omega (arith, below, capacity) in
-          let before = fills.filled (omega (arith, below, capacity)) in
-          let comes = credit_comes call.rtt call.window (now - bucket.last) some in
-          subst (λ (n : ℕ). 4 * call.rtt * first.tokens + 5 * call.window * (fills.elapsed + (now - bucket.last))
-          ≤ 4 * call.rtt * (n + suc questions))
-          (sym least) (omega (arith, before, comes))
+          omega (arith, below, fills.capacity) in
+          rw least (omega (
+            arith,
+            fills.filled (omega (arith, below, fills.capacity)),
+            credit_comes call.rtt call.window (now - bucket.last) some,
+          ))
 
   -- one question more, whatever it asks
   fills_asked : (other : PacerCall) (questions : ℕ) (bucket : Bucket) → 0 < call.rtt → IsAlike call other
       → Fills questions bucket
       → Fills (suc questions) (paced other bucket)
   fills_asked other questions bucket some alike fills =
-      subst (Fills (suc questions))
-      (sym (ap (λ (b : Bucket). cond (may_send other b) b (refilled other.rtt other.window other.now b)) same))
-      (by_test (may_send other bucket))
+      rw same (by_test (may_send other bucket))
     where
       same : resized other.rtt other.window other.mtu bucket ≡ bucket
-      same = let window = fills.window in let mtu = fills.mtu in grind (arith, nat_tests, alike, window, mtu)
-
-      again : Fills (suc questions) (refilled other.rtt other.window other.now bucket)
-      again = subst (λ (b : Bucket). Fills (suc questions) b)
-          (ap₂ (λ (r w : ℕ). refilled r w other.now bucket) (sym alike.rtt) (sym alike.window))
-          (fills_refilled other.now questions bucket some fills)
+      same = grind (arith, nat_tests, alike, fills.window, fills.mtu)
 
       by_test : (pass : Bool)
           → Fills (suc questions) (cond pass bucket (refilled other.rtt other.window other.now bucket))
@@ -125,9 +95,9 @@ module _ (call : PacerCall) (first : Bucket) where
         bounded = fills.bounded;
         elapsed = fills.elapsed;
         last = fills.last;
-        filled = λ below. let before = fills.filled below in omega (arith, before);
+        filled = λ below. omega (arith, fills.filled below);
       }
-      by_test false = again
+      by_test false = rw (alike.rtt, alike.window) (fills_refilled other.now questions bucket some fills)
 
   -- what so many questions leave
   fills_by : (made : Bucket) (earlier : List PacerEntry) (between : List PacerCall) → 0 < call.rtt
@@ -169,29 +139,22 @@ module _ (call : PacerCall) (first : Bucket) where
 
       within : call.rtt * lacking ≤ longest_span
       within =
-          let uncut = room.uncut in
           let less : lacking ≤ first.capacity = omega arith in
-          let product = mul-le-mul_left call.rtt less in
-          omega (arith, uncut, product)
+          omega (arith, room.uncut, mul-le-mul_left call.rtt less)
 
       waits : wait_of call.rtt call.window lacking ≤ after.elapsed
-      waits = let last = after.last in omega (arith, last, late)
+      waits = omega (arith, after.last, late)
 
       contradicts : tokens < call.bytes → call.bytes ≤ tokens
       contradicts below =
-          let fits = room.room in
           let whole : call.bytes ≤ first.capacity =
-          le_by_product call.rtt call.bytes first.capacity some (omega (arith, fits)) in
-          let filled = after.filled (omega (arith, below, whole)) in
-          let wait = wait_comes call.rtt call.window lacking room.window within in
-          let time = mul-le-mul_left (5 * call.window) waits in
-          let one_less = mul-le-mul_left (4 * call.rtt) below in
+          le_by_product call.rtt call.bytes first.capacity some (omega (arith, room.room)) in
           let all : first.tokens + lacking ≡ first.capacity = omega (arith, sound) in
-          let split : call.rtt * (first.tokens + lacking) ≡ call.rtt * first.capacity =
-          ap (λ (n : ℕ). call.rtt * n) all in
           absurd (no_room call.rtt call.window call.bytes questions first.capacity first.tokens lacking after.elapsed
           tokens
-          (wait_of call.rtt call.window lacking) filled wait time (omega (arith, one_less)) split fits)
+          (wait_of call.rtt call.window lacking) (after.filled (omega (arith, below, whole)))
+          (wait_comes call.rtt call.window lacking room.window within) (mul-le-mul_left (5 * call.window) waits)
+          (omega (arith, mul-le-mul_left (4 * call.rtt) below)) (ap (λ (n : ℕ). call.rtt * n) all) room.room)
 
 -- a moment that is not the last one was not cut
 late_by : (moment until now : ℕ) → until ≡ min moment (2 ^ 64 - 1) → until < 2 ^ 64 - 1 → until ≤ now → moment ≤ now
@@ -205,7 +168,7 @@ refilled_sound call old until delays = grind (arith, nat_tests, delays)
 pub passes_at_moment : (made : Bucket) (entries : List PacerEntry) (later : PacerCall)
     → PassesAtMoment made entries later (delay_of later (paced later (bucket_by made entries)))
 passes_at_moment made entries later between call earlier until is alike like same_bytes delays before_end room late =
-    subst (λ (e : List PacerEntry). delay_of later (paced later (bucket_by made e)) ≡ None) (sym is) goes
+    rw is goes
   where
     first : Bucket
     first = paced call (bucket_by made earlier)
@@ -217,7 +180,7 @@ passes_at_moment made entries later between call earlier until is alike like sam
     short = short_of call first until delays
 
     some_rtt : 0 < call.rtt
-    some_rtt = let fails = short.0 in grind (arith, nat_tests, fails)
+    some_rtt = grind (arith, nat_tests, short.0)
 
     sound : first.tokens ≤ first.capacity
     sound = refilled_sound call (bucket_by made earlier) until delays
@@ -229,7 +192,7 @@ passes_at_moment made entries later between call earlier until is alike like sam
     lacking = first.capacity - first.tokens
 
     fits : call.bytes ≤ first.capacity
-    fits = let room = room.room in le_by_product call.rtt call.bytes first.capacity some_rtt (omega (arith, room))
+    fits = le_by_product call.rtt call.bytes first.capacity some_rtt (omega (arith, room.room))
 
     moment : until ≡ min (first.last + wait_of call.rtt call.window lacking) (2 ^ 64 - 1)
     moment = let most : max call.bytes first.capacity - first.tokens ≡ lacking = omega (arith, fits) in
@@ -242,6 +205,4 @@ passes_at_moment made entries later between call earlier until is alike like sam
     enough = covers call first (length between) bucket some_rtt fills later.now room waited sound
 
     goes : delay_of later (paced later bucket) ≡ None
-    goes =
-        let window = fills.window in
-        let mtu = fills.mtu in grind (arith, nat_tests, window, mtu, like, enough, same_bytes)
+    goes = grind (arith, nat_tests, fills.window, fills.mtu, like, enough, same_bytes)

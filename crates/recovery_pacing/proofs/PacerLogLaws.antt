@@ -1,12 +1,11 @@
 -- What a pacer holds is what its history says, as long as all that was transmitted was checked. The clauses of `run` on
 -- pacers rest on it.
 use Rattle.std.proofs.lemmas.Bool.Decides.{nat_tests}
-use Rattle.std.proofs.Common.{◌≡◌, ℕ, ◌+◌, ◌-◌, ◌*◌, ◌^◌, ◌<◌, ◌≤◌, min, max, Bool, true, false, List, [], ◌∷◌, None, Some, SomeIff, refl, subst, arith}
-use Rattle.std.specs.Prelude.{◌||◌, nat_le, if◌then◌else◌}
+use Rattle.std.proofs.Common.{◌≡◌, ℕ, ◌-◌, ◌*◌, ◌^◌, ◌<◌, ◌≤◌, true, false, List, [], ◌∷◌, None, arith}
+use Rattle.std.specs.Prelude.{if◌then◌else◌}
 use Rattle.std.proofs.Math.Nat.{mul-div-le}
-use Rattle.std.proofs.lemmas.Bool.{leb-true, leb-false, true≢false}
-use Rattle.recovery_pacing.specs.Pacing.{Bucket, PacerCall, wait_of, resized, refilled, is_unpaced, may_send, paced, next_moment, delay_of, less_tokens}
-use Rattle.recovery_pacing.specs.PacerLog.{PacerEntry, asked, took, bucket_by, AreChecked, PacerMark, credited, answered, transmitted, window_in, mtu_in, capacity_in, greatest_moment, balance_in, with_change, credit_in, with_refill, marks_by, marks_asking, moment_by, DelaysBy, KeepsRate}
+use Rattle.recovery_pacing.specs.Pacing.{Bucket, PacerCall, resized, refilled, is_unpaced, may_send, paced, delay_of, less_tokens}
+use Rattle.recovery_pacing.specs.PacerLog.{PacerEntry, asked, took, bucket_by, AreChecked, PacerMark, credited, answered, transmitted, window_in, mtu_in, capacity_in, greatest_moment, balance_in, with_change, credit_in, with_refill, marks_by, marks_asking, DelaysBy, KeepsRate}
 use Rattle.recovery_pacing.proofs.BalanceLaws.{NoDebt, AreEarned, no_debt_more, no_debt_less, balance_more, balance_less, balance_is, rate_bound}
 
 -- the window is within 32 bits, and the RTT above zero
@@ -75,7 +74,7 @@ module _ (made : Bucket) where
       bucket)
   tied_refill call past bucket window mtu t =
       let credits = tied_credit call past bucket window mtu t in
-      let tokens = t.tokens in grind (arith, nat_tests, t, tokens, credits)
+      grind (arith, nat_tests, t, t.tokens, credits)
 
   -- it is answered
   tied_answered : (call : PacerCall) (past : List PacerMark) (bucket : Bucket) → bucket.window ≡ call.window
@@ -94,12 +93,11 @@ module _ (made : Bucket) where
 resized-knows : (call : PacerCall) (old : Bucket)
     → ((resized call.rtt call.window call.mtu old).window ≡ call.window)
     × ((resized call.rtt call.window call.mtu old).mtu ≡ call.mtu)
-resized-knows call old = (grind (arith, nat_tests), grind (arith, nat_tests))
+resized-knows call old = grind (arith, nat_tests)
 
 pub paced-knows : (call : PacerCall) (old : Bucket) → ((paced call old).window ≡ call.window)
     × ((paced call old).mtu ≡ call.mtu)
-paced-knows call old =
-    let known = resized-knows call old in (grind (arith, nat_tests, known), grind (arith, nat_tests, known))
+paced-knows call old = grind (arith, nat_tests, resized-knows call old)
 
 -- a call within the bounds is paced
 is_bounded : (call : PacerCall) → IsPaced call → is_unpaced call ≡ false
@@ -137,8 +135,7 @@ module _ (made : Bucket) where
   tied_by (took bytes flag ∷ asked call ∷ earlier) full checked passed =
       let bucket = paced call (bucket_by made earlier) in
       let pass = passed.0 checked.0 in
-      let low : bytes ≤ bucket.tokens =
-      subst (λ n. n ≤ bucket.tokens) pass.0 (passed_is_covered call bucket checked.1.0 pass.1) in
+      let low : bytes ≤ bucket.tokens = omega (arith, pass.0, passed_is_covered call bucket checked.1.0 pass.1) in
       tied_took made bytes (marks_by made (asked call ∷ earlier)) bucket low
       (tied_by (asked call ∷ earlier) full checked.1 passed.1)
 
@@ -148,7 +145,7 @@ module _ (made : Bucket) where
       → DelaysBy made earlier call (delay_of call (paced call (bucket_by made earlier)))
   delays_by earlier call full checked passed = record {
     balance = balance_is made (marks_asking made call earlier) tied.no_debt;
-    delayed = go (nat_le call.bytes bucket.tokens) (is_unpaced call) refl (is_bounded call checked.0);
+    delayed = grind (arith, nat_tests, is_bounded call checked.0, tied.tokens, tied.last, tied.capacity);
   }
     where
       bucket : Bucket
@@ -156,19 +153,6 @@ module _ (made : Bucket) where
 
       tied : Tied made (marks_asking made call earlier) bucket
       tied = tied_asking call (marks_by made earlier) (bucket_by made earlier) (tied_by earlier full checked.1 passed)
-
-      go : (covered free : Bool) → nat_le call.bytes bucket.tokens ≡ covered → free ≡ false →
-          SomeIff (if covered || free then None else Some (next_moment call bucket))
-          (balance_in made (marks_asking made call earlier) < call.bytes)
-          (moment_by made call (marks_asking made call earlier))
-      go true free is bounds = λ short. let low =
-          leb-true call.bytes bucket.tokens is in omega (arith, low, short, tied.tokens)
-      go false true is bounds = absurd (true≢false bounds)
-      go false false is bounds = (
-        let low = leb-false call.bytes bucket.tokens is in omega (arith, low, tied.tokens),
-        λ i. min (tied.last i + wait_of call.rtt call.window (max call.bytes (tied.capacity i) - tied.tokens i))
-            (2 ^ 64 - 1),
-      )
 
   -- the pacing bound
   pub keeps_rate : (entries : List PacerEntry) → made.tokens ≡ made.capacity → AreChecked entries

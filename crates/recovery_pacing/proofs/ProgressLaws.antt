@@ -5,48 +5,40 @@ use Rattle.std.proofs.Math.Nat.{div-add-mod, mod-lt, mul-le-mul_left, mul-le-mul
 use Rattle.std.proofs.lemmas.Nat.{le-div}
 use Rattle.recovery_base.specs.Times.{longest_span}
 use Rattle.recovery_pacing.specs.PacerLog.{PacerEntry, asked, took, bucket_by}
-use Rattle.recovery_pacing.specs.Pacing.{Bucket, PacerCall, credit_of, wait_of, resized, refilled, may_send, paced, next_moment, delay_of}
+use Rattle.recovery_pacing.specs.Pacing.{Bucket, PacerCall, credit_of, wait_of, refilled, may_send, paced, next_moment, delay_of}
 use Rattle.recovery_pacing.proofs.PacerLogLaws.{paced-knows}
 use Rattle.recovery_pacing.specs.Progress.{PassesInTime, PassesBehind}
 
--- in the time of the wait and the slack the bytes that were short have come
-waited : (rtt window short elapsed : ℕ) → 0 < rtt → 0 < window → rtt * short ≤ longest_span
-    → wait_of rtt window short + 4 ≤ elapsed → short ≤ credit_of rtt window elapsed
-waited rtt window short elapsed some_rtt some_window uncut waits =
-    le-div short (5 * window * elapsed) (4 * rtt) (omega (arith, some_rtt)) enough
+-- a wait is rounded down by less than four nanoseconds
+pub wait_comes : (rtt window short : ℕ) → 0 < window → rtt * short ≤ longest_span
+    → 4 * (rtt * short) + 4 ≤ 5 * window * wait_of rtt window short + 20 * window
+wait_comes rtt window short some_window uncut =
+    omega (arith, whole, mul-le-mul_right window fifth, same)
   where
     q : ℕ
     q = rtt * short / window
 
     whole : rtt * short + 1 ≤ (q + 1) * window
-    whole = let e = div-add-mod (rtt * short) window in let lt =
-        mod-lt (rtt * short) some_window in omega (arith, e, lt)
+    whole = omega (arith, div-add-mod (rtt * short) window, mod-lt (rtt * short) some_window)
 
     fifth : q + 1 ≤ 5 * (q / 5 + 1)
-    fifth = let e = div-add-mod q 5 in let lt : q % 5 < 5 = mod-lt q (omega arith) in omega (arith, e, lt)
+    fifth = let lt : q % 5 < 5 = mod-lt q (omega arith) in omega (arith, div-add-mod q 5, lt)
 
-    same : wait_of rtt window short ≡ 4 * (q / 5)
+    same : 5 * window * wait_of rtt window short ≡ 5 * window * (4 * (q / 5))
     same = let least : min (rtt * short) longest_span ≡ rtt * short =
-        omega (arith, uncut) in ap (λ (n : ℕ). 4 * (n / window / 5)) least
+        omega (arith, uncut) in ap (λ (n : ℕ). 5 * window * (4 * (n / window / 5))) least
 
-    longer : 4 * (q / 5) + 4 ≤ elapsed
-    longer = omega (arith, waits, same)
-
-    enough : short * (4 * rtt) ≤ 5 * window * elapsed
-    enough =
-        let fifths = mul-le-mul_right window fifth in
-        let spans = mul-le-mul_left (5 * window) longer in
-        omega (arith, whole, fifths, spans)
-
--- the window and MTU of the call before compute no capacity anew
-pub resized_alike : (rtt window mtu : ℕ) (bucket : Bucket) → window ≡ bucket.window → mtu ≡ bucket.mtu
-    → resized rtt window mtu bucket ≡ bucket
-resized_alike rtt window mtu bucket same_window same_mtu = grind (arith, nat_tests, same_window, same_mtu)
+-- in the time of the wait and the slack the bytes that were short have come
+waited : (rtt window short elapsed : ℕ) → 0 < rtt → 0 < window → rtt * short ≤ longest_span
+    → wait_of rtt window short + 4 ≤ elapsed → short ≤ credit_of rtt window elapsed
+waited rtt window short elapsed some_rtt some_window uncut waits =
+    le-div short (5 * window * elapsed) (4 * rtt) (omega (arith, some_rtt))
+    (omega (arith, wait_comes rtt window short some_window uncut, mul-le-mul_left (5 * window) waits))
 
 -- a call that is delayed is paced, and the tokens do not cover it
 pub short_of : (call : PacerCall) (bucket : Bucket) (until : ℕ) → delay_of call bucket ≡ Some until
     → (may_send call bucket ≡ false) × (until ≡ next_moment call bucket)
-short_of call bucket until delays = (grind (arith, nat_tests, delays), grind (arith, nat_tests, delays))
+short_of call bucket until delays = grind (arith, nat_tests, delays)
 
 pub passes_in_time : (call later : PacerCall) (old : Bucket)
     → PassesInTime old call later (delay_of later (paced later (paced call old)))
@@ -58,42 +50,32 @@ passes_in_time call later old until delays again reach late before_end = goes
     short : (may_send call bucket ≡ false) × (until ≡ next_moment call bucket)
     short = short_of call bucket until delays
 
-    lacks : bucket.tokens < call.bytes
-    lacks = let fails = short.0 in grind (arith, nat_tests, fails)
-
-    some_rtt : 0 < call.rtt
-    some_rtt = let fails = short.0 in grind (arith, nat_tests, fails)
+    some : (bucket.tokens < call.bytes) × (0 < call.rtt)
+    some = grind (arith, nat_tests, short.0)
 
     lacking : ℕ
     lacking = bucket.capacity - bucket.tokens
 
     moment : until ≡ min (bucket.last + wait_of call.rtt call.window lacking) (2 ^ 64 - 1)
-    moment = let most : max call.bytes bucket.capacity - bucket.tokens ≡ lacking = let fits =
-        reach.fits in omega (arith, fits) in
+    moment = let most : max call.bytes bucket.capacity - bucket.tokens ≡ lacking = omega (arith, reach.fits) in
         short.1 ∙ ap (λ (n : ℕ). min (bucket.last + wait_of call.rtt call.window n) (2 ^ 64 - 1)) most
 
     elapsed : wait_of call.rtt call.window lacking + 4 ≤ later.now - bucket.last
     elapsed = omega (arith, moment, late, before_end)
 
-    at_most : lacking ≤ bucket.capacity
-    at_most = omega arith
-
     within : call.rtt * lacking ≤ longest_span
-    within = let uncut = reach.uncut in let less = mul-le-mul_left call.rtt at_most in omega (arith, uncut, less)
+    within =
+        let at_most : lacking ≤ bucket.capacity = omega arith in
+        omega (arith, reach.uncut, mul-le-mul_left call.rtt at_most)
 
     credited : lacking ≤ credit_of call.rtt call.window (later.now - bucket.last)
-    credited = waited call.rtt call.window lacking (later.now - bucket.last) some_rtt reach.window within elapsed
+    credited = waited call.rtt call.window lacking (later.now - bucket.last) some.1 reach.window within elapsed
 
-    after : Bucket
-    after = refilled call.rtt call.window later.now bucket
-
-    covers : call.bytes ≤ after.tokens
-    covers = let fits = reach.fits in omega (arith, credited, fits, lacks)
+    covers : call.bytes ≤ (refilled call.rtt call.window later.now bucket).tokens
+    covers = omega (arith, credited, reach.fits, some.0)
 
     goes : delay_of later (paced later bucket) ≡ None
-    goes =
-        let knows = paced-knows call old in
-        let like = again in grind (arith, nat_tests, knows, like, covers)
+    goes = grind (arith, nat_tests, paced-knows call old, again, covers)
 
 pub passes_behind : (made : Bucket) (entries : List PacerEntry) (later : PacerCall)
     → PassesBehind made entries later (delay_of later (paced later (bucket_by made entries)))
