@@ -1,6 +1,6 @@
 -- Counts over the sizes that are kept of bursts, and numbers among others. `BurstTies` rest on it.
 use Rattle.std.proofs.Common.{◌≡◌, ℕ, suc, ◌+◌, ◌<◌, ◌≤◌, min, max, Bool, true, false, List, [], ◌∷◌, ◌++◌, length, arith, refl, length-append}
-use Rattle.std.specs.Prelude.{nat_lt, nat_eq, ◌&&◌, filter}
+use Rattle.std.specs.Prelude.{nat_lt, nat_eq, filter}
 use Rattle.std.specs.List.{list_all}
 use Rattle.std.specs.Set.{is_member}
 use Rattle.std.proofs.lemmas.Bool.Decides.{nat_tests}
@@ -28,16 +28,6 @@ pub tally-append : {X : Type 0} (test : X → Bool) (xs ys : List X)
     → tally test (xs ++ ys) ≡ tally test xs + tally test ys
 tally-append test [] ys = omega arith
 tally-append test (x ∷ xs) ys = omega (arith, tally-append test xs ys)
-
-pub tally-filter : {X : Type 0} (test keeps : X → Bool) (xs : List X)
-    → tally test (filter keeps xs) ≡ tally (λ x. keeps x && test x) xs
-tally-filter test keeps [] = refl
-tally-filter test keeps (x ∷ xs) = grind (arith, tally-filter test keeps xs)
-
-pub tally-same : {X : Type 0} (test other : X → Bool) (xs : List X) → ((x : X) → test x ≡ other x)
-    → tally test xs ≡ tally other xs
-tally-same test other [] same = refl
-tally-same test other (x ∷ xs) same = grind (arith, same x, tally-same test other xs same)
 
 tally-in_place : (low this that : ℕ) (sizes : List ℕ)
     → tally (λ size. nat_lt low size) (in_place this that sizes) ≤ tally (λ size. nat_lt low size) sizes + one
@@ -78,9 +68,6 @@ pub tally-raise : (low bytes least : ℕ) (sizes : List ℕ) → bytes ≤ least
 tally-raise low bytes least [] below all = refl
 tally-raise low bytes least (size ∷ sizes) below all =
     grind (arith, nat_tests, tally-raise low bytes least sizes below all.1)
-
-pub max_test : (low bytes size : ℕ) → (nat_lt bytes size && nat_lt low size) ≡ nat_lt (max low bytes) size
-max_test low bytes size = grind (arith, nat_tests)
 
 -- ---- one more size
 

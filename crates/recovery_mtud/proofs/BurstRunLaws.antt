@@ -1,10 +1,7 @@
 -- Whole runs of the detection of black holes: a report needs four bursts, and comes at four. The driver's `BurstLaws`
 -- rest on it.
-use Rattle.std.proofs.Common.{◌≡◌, ℕ, Option, Some, None, true, false, List, [], ◌∷◌, refl, sym, ap, arith, ◌∙◌, subst}
-use Rattle.std.specs.Prelude.{nat_lt, ◌||◌, is_some, filter, if◌then◌else◌}
-use Rattle.recovery_mtud.specs.Bursts.{LossBursts}
-use Rattle.recovery_mtud.specs.BurstRuns.{is_above}
-use Rattle.recovery_mtud.specs.Discovery.{Discovery, reports, size_of_probe, taking}
+use Rattle.std.proofs.Common.{◌≡◌, ℕ, true, false, List, [], ◌∷◌, refl, ap, arith, ◌∙◌}
+use Rattle.recovery_mtud.specs.Discovery.{Discovery, reports, size_of_probe}
 use Rattle.recovery_mtud.specs.DiscoveryLog.{MtuCall, polls, acks, loses, losses_end, discovery_after, discovery_by}
 use Rattle.recovery_mtud.specs.MtuEntries.{IsUntold, MtuEntry, probe_in_flight, size_at, entry_of, entries_by, min_mtu_in_use}
 use Rattle.recovery_mtud.specs.BurstRuns.{open_run, standing, unanswered, larger_acked, acked_numbers, lost_numbers, AreFatesApart, AreFourStanding, AreFourUnanswered}
@@ -41,17 +38,12 @@ module _ (made : Discovery) (entries : List MtuEntry) (old : Discovery) (holds :
   needy_after : (call : MtuCall) → AreFatesApart entries → NeedyAt made entries old
       → NeedyAt made (entry_of call old ∷ entries) (discovery_after call old)
   needy_after (acks number bytes) apart tie =
-      subst (λ size. Left size (discovery_after (acks number bytes) old).bursts) (size_is number)
-      (taken (size_of_probe number old))
-    where
-      Left : Option ℕ → LossBursts → Type 0
-      Left size = Needy (min_mtu_in_use made entries) (open_run entries)
-          (if is_some size then [] else filter (is_above bytes) (standing entries)) (number ∷ acked_numbers entries)
-          (lost_numbers entries)
-
-      taken : (size : Option ℕ) → Left size (taking size number bytes old).bursts
-      taken None = needy_acked _ _ _ _ _ old.bursts tie number bytes
-      taken (Some size) = needy_probed _ _ _ _ _ old.bursts tie number bytes
+      grind (
+        arith,
+        size_is number,
+        needy_acked _ _ _ _ _ old.bursts tie number bytes,
+        needy_probed _ _ _ _ _ old.bursts tie number bytes,
+      )
   needy_after (loses number bytes) apart tie =
       needy_lost _ _ _ _ _ old.bursts tie (never_both entries apart) number bytes
   needy_after (losses_end now) apart tie =
@@ -63,17 +55,12 @@ module _ (made : Discovery) (entries : List MtuEntry) (old : Discovery) (holds :
   coming_after : (call : MtuCall) → ComingAt made entries old
       → ComingAt made (entry_of call old ∷ entries) (discovery_after call old)
   coming_after (acks number bytes) tie =
-      subst (λ size. Left size (discovery_after (acks number bytes) old).bursts) (size_is number)
-      (taken (size_of_probe number old))
-    where
-      Left : Option ℕ → LossBursts → Type 0
-      Left size = let least = min_mtu_in_use made entries in let larger = is_some size || nat_lt least bytes in
-          Coming least (open_run entries) (if larger then [] else unanswered least entries)
-          (if larger then number ∷ larger_acked least entries else larger_acked least entries)
-
-      taken : (size : Option ℕ) → Left size (taking size number bytes old).bursts
-      taken None = coming_acked _ _ _ _ old.bursts tie number bytes
-      taken (Some size) = coming_probed _ _ _ _ old.bursts tie number bytes
+      grind (
+        arith,
+        size_is number,
+        coming_acked _ _ _ _ old.bursts tie number bytes,
+        coming_probed _ _ _ _ old.bursts tie number bytes,
+      )
   coming_after (loses number bytes) tie = coming_lost _ _ _ _ old.bursts tie number bytes
   coming_after (losses_end now) tie = grind (arith, coming_ended _ _ _ _ old.bursts tie)
   coming_after (polls now next) tie = polled
@@ -85,7 +72,7 @@ module _ (made : Discovery) (entries : List MtuEntry) (old : Discovery) (holds :
 needy_by : (made : Discovery) → IsUntold made → (calls : List MtuCall) → AreFatesApart (entries_by made calls)
     → NeedyAt made (entries_by made calls) (discovery_by made calls)
 needy_by made new [] apart =
-    subst (Needy made.bursts.min_mtu [] [] [] []) (sym new.bursts) (needy_made made.bursts.min_mtu [] [])
+    rw new.bursts (needy_made made.bursts.min_mtu [] [])
 needy_by made new (call ∷ earlier) apart =
     let before = apart_before (entry_of call (discovery_by made earlier)) (entries_by made earlier) apart in
     needy_after made _ _ (holds_by made new earlier) call before (needy_by made new earlier before)
@@ -93,7 +80,7 @@ needy_by made new (call ∷ earlier) apart =
 coming_by : (made : Discovery) → IsUntold made → (calls : List MtuCall)
     → ComingAt made (entries_by made calls) (discovery_by made calls)
 coming_by made new [] =
-    subst (Coming made.bursts.min_mtu [] [] []) (sym new.bursts) (coming_made made.bursts.min_mtu [])
+    rw new.bursts (coming_made made.bursts.min_mtu [])
 coming_by made new (call ∷ earlier) =
     coming_after made _ _ (holds_by made new earlier) call (coming_by made new earlier)
 
@@ -134,5 +121,4 @@ pub fates_apart_by : (made : Discovery) (calls : List MtuCall)
     → ((number : ℕ) → has number (acked_in_calls calls) ≡ true → has number (lost_in_calls calls) ≡ false)
     → AreFatesApart (entries_by made calls)
 fates_apart_by made calls apart number good =
-    let same = numbers_by made calls in
-    ap (has number) same.1 ∙ apart number (sym (ap (has number) same.0) ∙ good)
+    grind (arith, numbers_by made calls, apart number, good)

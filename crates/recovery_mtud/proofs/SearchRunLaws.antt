@@ -1,7 +1,7 @@
 -- Whole searches: at most 16 sizes and 48 probes, and an end near the best size of an honest link. The driver's
 -- `SearchLaws` rest on it.
-use Rattle.std.proofs.Common.{◌≡◌, ℕ, ◌^◌, ◌<◌, ◌≤◌, Option, Some, None, true, false, List, [], ◌∷◌, arith, refl, sym, ap, subst}
-use Rattle.std.specs.Prelude.{⊤, ◌||◌, if◌then◌else◌, unwrap_or, IfSome}
+use Rattle.std.proofs.Common.{◌≡◌, ℕ, ◌^◌, ◌<◌, ◌≤◌, Option, Some, None, true, false, List, [], ◌∷◌, arith, refl, sym, ap}
+use Rattle.std.specs.Prelude.{⊤, ◌||◌, unwrap_or, IfSome}
 use Rattle.std.specs.Option.{option_map}
 use Rattle.std.specs.List.{AllByRecursion}
 use Rattle.std.proofs.lemmas.Bool.Decides.{nat_tests}
@@ -24,11 +24,11 @@ use Rattle.recovery_mtud.proofs.SearchTies.{Narrows, narrows_begun, left, narrow
 -- where none runs, there are none
 idle_before : (entries : List MtuEntry) → search_runs entries ≡ false → before_search entries ≡ entries
 idle_before [] idle = refl
-idle_before (entry ∷ earlier) idle = ap (λ b. if b then before_search earlier else entry ∷ earlier) idle
+idle_before (entry ∷ earlier) idle = grind (arith, idle)
 
 idle_search : (entries : List MtuEntry) → search_runs entries ≡ false → search_of entries ≡ []
 idle_search [] idle = refl
-idle_search (entry ∷ earlier) idle = ap (λ b. if b then entry ∷ search_of earlier else []) idle
+idle_search (entry ∷ earlier) idle = grind (arith, idle)
 
 -- they have the probe in flight
 search_probe : (entries : List MtuEntry) → search_runs entries ≡ true
@@ -168,7 +168,7 @@ module _ (made : Discovery) (link : ℕ) (settings : MtuDiscoveryConfig) (new : 
       → Leaves made link settings entries call old')
   told_next further call entries old None holds kept = absurd kept
   told_next further call entries old (Some search) holds kept =
-      subst (λ own. Leaves made link own entries call (record old { search = Some search })) kept.0
+      rw (← kept.0)
       (told made link search.settings entries old.mtu search.limit old.bursts further call search.phase holds kept.1)
 
   abbrev KeptBy : List MtuCall → Type 0
@@ -192,8 +192,7 @@ few_in : (made : Discovery) (settings : MtuDiscoveryConfig) → IsWide settings 
     → unwrap_or (option_map (λ own. is_running own.phase) search) false ≡ search_runs entries
     → KeptIn made 0 settings further entries mtu search → TakesFew entries
 few_in made settings wide further entries mtu None runs kept = absurd kept
-few_in made settings wide further entries mtu (Some own) runs kept = go own.phase runs kept.1
-    (subst IsWide (sym kept.0) wide)
+few_in made settings wide further entries mtu (Some own) runs kept = go own.phase runs kept.1 (rw kept.0 wide)
   where
     go : (phase : Phase) → is_running phase ≡ search_runs entries
         → Kept made 0 own.settings further entries mtu phase → IsWide own.settings → TakesFew entries
