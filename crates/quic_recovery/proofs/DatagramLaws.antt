@@ -134,32 +134,16 @@ module _ {F K Q S M P : Type 0} (beginning : Beginning F K Q S M P) (earlier : H
 
     -- ---- on the previous path, where it lives
 
-    abbrev validated_so_far : Bool
-    validated_so_far = is_validated first Previous earlier
-
-    abbrev here : History Q S M P
-    here = datagrams_on Previous earlier
-
-    came_previous : (bytes : ℕ) (answer : Answer Q) (Replies : PathKnown K → Reply Q
-        → Type 0) (past : Option (PathPast K))
+    where_lives : (answer : Answer Q) (Replies : PathKnown K → Reply Q → Type 0) (past : Option (PathPast K))
+        (validated validated_then : Bool) (here after : History Q S M P) (change : PathPast K → PathPast K)
         → OnPath (option_map (known_of (settings_of beginning)) past) Replies (Ok answer)
-        → IsFlowWhereLives validated_so_far here (option_map flow_of past)
-        → IsFlowWhereLives validated_so_far ((DatagramIn Previous bytes, Ok answer) ∷ here)
-        (option_map flow_of (option_map (past_with (settings_of beginning) (receives bytes)) past))
-    came_previous bytes answer Replies past told is =
-        grind (
-          arith,
-          told,
-          is,
-          λ (past : PathPast K). came_more validated_so_far here Previous bytes (Ok answer) (flow_of past),
-        )
-
-    validated_previous : (answer : Answer Q) (Replies : PathKnown K → Reply Q → Type 0) (past : Option (PathPast K))
-        → OnPath (option_map (known_of (settings_of beginning)) past) Replies (Ok answer)
-        → IsFlowWhereLives validated_so_far here (option_map flow_of past)
-        → IsFlowWhereLives true here
-        (option_map flow_of (option_map (past_with (settings_of beginning) validates) past))
-    validated_previous answer Replies past told is = grind (arith, told, is)
+        → ((past : PathPast K) → flow_by validated here ≡ flow_of past
+        → flow_by validated_then after ≡ flow_of (change past))
+        → IsFlowWhereLives validated here (option_map flow_of past)
+        → IsFlowWhereLives validated_then after (option_map flow_of (option_map change past))
+    where_lives answer Replies None validated validated_then here after change told changes is = absurd told.1
+    where_lives answer Replies (Some past) validated validated_then here after change told changes is =
+        changes past is
 
     -- one event more
     pub reply_flows : (event : Event Q S M P) (reply : Reply Q) → Told beginning earlier event reply
@@ -167,10 +151,20 @@ module _ {F K Q S M P : Type 0} (beginning : Beginning F K Q S M P) (earlier : H
     reply_flows (DatagramIn Current bytes) (Ok answer) told =
         (came_more _ (datagrams_on Current earlier) Current bytes (Ok answer) _ same.0, same.1)
     reply_flows (DatagramIn Previous bytes) (Ok answer) told =
-        (same.0, came_previous bytes answer _ pasts.previous told same.1)
+        (
+          same.0,
+          where_lives answer _ pasts.previous _ _ _ _ (past_with (settings_of beginning) (receives bytes)) told
+              (λ past is. came_more _ (datagrams_on Previous earlier) Previous bytes (Ok answer) (flow_of past) is)
+              same.1,
+        )
     reply_flows (Validated Current) (Ok answer) told =
         (ap (λ (f : Flow). flow true f.checked f.came f.went) same.0, same.1)
-    reply_flows (Validated Previous) (Ok answer) told = (same.0, validated_previous answer _ pasts.previous told same.1)
+    reply_flows (Validated Previous) (Ok answer) told =
+        (
+          same.0,
+          where_lives answer _ pasts.previous _ _ _ _ (past_with (settings_of beginning) validates) told
+              (λ past is. ap (λ (f : Flow). flow true f.checked f.came f.went) is) same.1,
+        )
     reply_flows (Transmit now bytes true) (Ok Transmitted) told =
         (went_more _ (datagrams_on Current earlier) now bytes true (Ok Transmitted) _ same.0, same.1)
     reply_flows (Transmit now bytes true) (Ok answer) told = same

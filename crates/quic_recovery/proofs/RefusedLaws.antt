@@ -13,7 +13,7 @@ use Rattle.recovery_events.specs.declared.event.Event.TheVariants.{Received, Sen
 use Rattle.recovery_events.specs.declared.event.Answer.{Answer}
 use Rattle.recovery_events.specs.declared.event.Refusal.{Refusal}
 use Rattle.recovery_events.specs.declared.event.Refusal.TheVariants as refusal
-use Rattle.recovery_events.specs.declared.event.Refusal.TheVariants.{SpaceDiscarded, NotTracked, NoSuchPath, NotInitialId, NoMemory}
+use Rattle.recovery_events.specs.declared.event.Refusal.TheVariants.{NumberTooLarge, NumbersExhausted, Overflow, DelayTooSmall, BadRange, SkippedAcked, SpaceDiscarded, NotTracked, NoSuchPath, NotInitialId, NoMemory}
 use Rattle.recovery_events.specs.Refusals.{refusal_number}
 use Rattle.quic_recovery.proofs.TableLaws.{only_refusal}
 use Rattle.quic_recovery.specs.Entries.{logs_of}
@@ -44,10 +44,10 @@ module _ {Q : Type 0} where
   abbrev Names : Option Refusal → (Reply Q → Type 0) → Type 0
   Names cause Holds = (reply : Reply Q) → Holds reply → named reply ≡ cause
 
-  answers_name : (Grows : Type 0) (IsAnswer : Answer Q → Type 0) → Names None (Answers Grows IsAnswer)
-  answers_name Grows IsAnswer (Ok answer) told = refl
-  answers_name Grows IsAnswer (Err NoMemory) told = refl
-  answers_name Grows IsAnswer (Err refusal) told = absurd told
+  answers : (Grows : Type 0) (IsAnswer : Answer Q → Type 0) → Names None (Answers Grows IsAnswer)
+  answers Grows IsAnswer (Ok answer) told = refl
+  answers Grows IsAnswer (Err NoMemory) told = refl
+  answers Grows IsAnswer (Err refusal) told = absurd told
 
   -- none of them is allowed
   none_named : (Holds : Reply Q → Type 0) → ¬ Holds (Err SpaceDiscarded) → ¬ Holds (Err NotTracked)
@@ -56,12 +56,12 @@ module _ {Q : Type 0} where
   none_named Holds space tracked path initial reply told = grind (arith, tracked, path, initial, told)
 
   -- another cause is none of them
-  passes_name : (other : Refusal) (Cause : Type 0) (Otherwise : Reply Q → Type 0)
+  passes : (other : Refusal) (Cause : Type 0) (Otherwise : Reply Q → Type 0)
       → (let reply : Reply Q = Err other in named reply ≡ None) → Names None Otherwise
       → Names None (Refuses other Cause Otherwise)
-  passes_name other Cause Otherwise is names (Err SpaceDiscarded) told =
+  passes other Cause Otherwise is names (Err SpaceDiscarded) told =
       grind (arith, is, names (Err SpaceDiscarded), told)
-  passes_name other Cause Otherwise is names reply told = grind (arith, is, names reply, told)
+  passes other Cause Otherwise is names reply told = grind (arith, is, names reply, told)
 
   -- a cause that is one of them is named where it holds, and else what the others name
   cause_names : (cause : Refusal) → (refusal_number cause == 17) ≡ false
@@ -124,7 +124,7 @@ module _ {F K Q S M P : Type 0} (beginning : Beginning F K Q S M P) where
     leave_names space Grows number given =
         let found = tracked_found beginning history stands.tracked space number in
         in_one space _ _ (cause_names NotTracked refl refl _ _ None _ (λ none. grind (arith, none, found))
-        (λ some. grind (arith, some, found)) (answers_name Grows (Is given)))
+        (λ some. grind (arith, some, found)) (answers Grows (Is given)))
 
     -- a path that lives
     on_path : (name : PathName) (Replies : PathKnown K → Reply Q → Type 0)
@@ -139,43 +139,39 @@ module _ {F K Q S M P : Type 0} (beginning : Beginning F K Q S M P) where
         mapped found = grind arith
 
     probe_names : (now : ℕ) (due : Option ℕ) → Names None (MtuProbeReply beginning.queue known now due)
-    probe_names now None = answers_name ⊥ _
-    probe_names now (Some size) = passes_name refusal.Overflow _ _ refl (answers_name _ _)
+    probe_names now None = answers ⊥ _
+    probe_names now (Some size) = passes Overflow _ _ refl (answers _ _)
 
     names : (event : Event Q S M P) → Names (first_cause history event) (Told beginning history event)
     names (Received space now number eliciting) =
-        only_in space _ (passes_name refusal.NumberTooLarge _ _ refl (answers_name _ _))
+        only_in space _ (passes NumberTooLarge _ _ refl (answers _ _))
     names (Send space now size eliciting largest queue frames) =
-        only_in space _
-        (passes_name refusal.NumberTooLarge _ _ refl
-        (passes_name refusal.NumbersExhausted _ _ refl
-        (passes_name refusal.Overflow _ _ refl (answers_name _ _))))
+        only_in space _ (passes NumberTooLarge _ _ refl (passes NumbersExhausted _ _ refl
+        (passes Overflow _ _ refl (answers _ _))))
     names (Acked space now number app_limited) = leave_names space ⊥ number _
     names (Lost space number) = leave_names space (Unit {0}) number _
     names (InitialId id) =
         let active = active_told beginning history stands.ids in
         cause_names NotInitialId refl refl _ _ None _ (λ late. grind (arith, nat_tests, late, active))
-        (λ first. grind (arith, nat_tests, first, active)) (answers_name _ _)
+        (λ first. grind (arith, nat_tests, first, active)) (answers _ _)
     names (AckFrequencyIn frame) =
-        only_in Data _ (passes_name refusal.DelayTooSmall _ _ refl (answers_name _ _))
-    names (AcksSent space) = only_in space _ (answers_name _ _)
-    names (AckDelayTimeout space) = only_in space _ (answers_name _ _)
-    names (DiscardSpace space) = only_in space _ (answers_name _ _)
-    names (InFlight path) = on_path path _ (λ there. answers_name _ _)
+        only_in Data _ (passes DelayTooSmall _ _ refl (answers _ _))
+    names (AcksSent space) = only_in space _ (answers _ _)
+    names (AckDelayTimeout space) = only_in space _ (answers _ _)
+    names (DiscardSpace space) = only_in space _ (answers _ _)
+    names (InFlight path) = on_path path _ (λ there. answers _ _)
     names (DatagramIn path bytes) =
-        on_path path _ (λ there. passes_name refusal.Overflow _ _ refl (answers_name _ _))
-    names (Validated path) = on_path path _ (λ there. answers_name _ _)
+        on_path path _ (λ there. passes Overflow _ _ refl (answers _ _))
+    names (Validated path) = on_path path _ (λ there. answers _ _)
     names (PollMtu now) =
-        only_in Data _ (passes_name refusal.NumbersExhausted _ _ refl (probe_names now _))
+        only_in Data _ (passes NumbersExhausted _ _ refl (probe_names now _))
     names (Ecn space newly counts) = only_in space _ (ecn_names (known.spaces space) newly counts)
     names (CheckAck space low high) =
-        only_in space _
-        (passes_name refusal.NumberTooLarge _ _ refl
-        (passes_name refusal.BadRange _ _ refl
-        (passes_name refusal.SkippedAcked _ _ refl (answers_name _ _))))
-    names (QueueProbe space immediate streams) = only_in space _ (answers_name _ _)
-    names (TakePending space) = only_in space _ (answers_name _ _)
-    names DropPrevious = on_path Previous _ (λ there. answers_name _ _)
+        only_in space _ (passes NumberTooLarge _ _ refl (passes BadRange _ _ refl
+        (passes SkippedAcked _ _ refl (answers _ _))))
+    names (QueueProbe space immediate streams) = only_in space _ (answers _ _)
+    names (TakePending space) = only_in space _ (answers _ _)
+    names DropPrevious = on_path Previous _ (λ there. answers _ _)
     names event =
         none_named _ (λ told. grind (arith, told)) (λ told. grind (arith, told)) (λ told. grind (arith, told))
         (λ told. grind (arith, told))
