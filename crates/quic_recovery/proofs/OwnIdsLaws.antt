@@ -84,7 +84,8 @@ module _ {F K Q S M P : Type 0} (beginning : Beginning F K Q S M P) where
       let logs = logs_of beginning earlier in
       let same = all_same earlier in
       plainly_keeps beginning.queue (known_by beginning logs) event answer
-      (λ (e : Entries P M). SameOwn (first_ids beginning) ((event, Ok answer) ∷ earlier) (onto e.local_ids logs.local_ids))
+      (λ (e : Entries P M). SameOwn (first_ids beginning) ((event, Ok answer) ∷ earlier)
+      (onto e.local_ids logs.local_ids))
       (record { count = same.count; gone = same.gone })
   all_same ((IssueIds now ids, Err refusal) ∷ earlier) =
       let same = all_same earlier in record { count = same.count; gone = same.gone }

@@ -51,7 +51,8 @@ module _ {K P M : Type 0} (packets : Packets P M) where
   pub paths_known_without : (paths : OfPaths (Path K)) → paths_known (paths_without packets paths) ≡ paths_known paths
   paths_known_without paths = go paths.previous
     where
-      go : (other : Option (Path K)) → let old : OfPaths (Path K) = record { current = paths.current; previous = other } in
+      go : (other : Option (Path K))
+          → let old : OfPaths (Path K) = record { current = paths.current; previous = other } in
           paths_known (paths_without packets old) ≡ paths_known old
       go None = rw (known_without paths.current) refl
       go (Some path) = rw (known_without paths.current, known_without path) refl
@@ -158,6 +159,7 @@ module _ {K Q S M P : Type 0} (q : QueueMeaning Q S M P) (old then : Parts K P M
       let Sending : P × M → Type 0 =
       λ carried. Steps q.words (sending known Data now size true None carried.0 carried.1) old then in
       let steps = subst Sending carries_nothing sent.steps in
+      let fits = sent.told.1.1.1 in
       let told : OfPaths (PathKnown K) = paths_after (known_with old.settings) (known_following old.settings)
       (on_current (tells (sent_call known Data now size)) ∷ []) (paths_known old.paths) in
       let seen : Discovery → OfPaths (PathKnown K) → OfPaths (PathKnown K) = λ found all. record all
@@ -168,7 +170,7 @@ module _ {K Q S M P : Type 0} (q : QueueMeaning Q S M P) (old then : Parts K P M
           (
             sent.told.1.1.0,
             subst Out (sym due) (
-              subst Fitting carries_nothing sent.told.1.1.1.0,
+              subst Fitting carries_nothing fits.0,
               ap (λ n. Probe n size) is,
             ),
           ),

@@ -77,7 +77,12 @@ tail_takes no_tail make words made rest e =
 tail_takes an_item_tail make words made rest e =
     let b = bind_some (items_read words) (λ items. Some (make items, [])) (made, rest) e in
     let t = items_take words b.0 b.1 in
-    record { values = b.0; is = grind (arith, b.2, t.0, append-nil (map decimal b.0)); fit = t.1; same = grind (arith, b.2) }
+    record {
+      values = b.0;
+      is = grind (arith, b.2, t.0, append-nil (map decimal b.0));
+      fit = t.1;
+      same = grind (arith, b.2);
+    }
 
 -- at the end of the words
 tail_again : {A : Type 0} (tail : Tail) (make : TailValue tail → A) (x : TailValue tail) → TailFits tail x
@@ -106,7 +111,8 @@ fields_again : {A : Type 0} (tail : Tail) (fields : List Field) (make : Values t
 unfolding fields_read
 fields_again tail [] make x h = tail_again tail make x h
 fields_again tail (f ∷ fields) make x h =
-    rw (field_again (is_field f) x.0 (words_for tail fields x.1) h.0) (fields_again tail fields (λ y. make (x.0, y)) x.1 h.1)
+    rw (field_again (is_field f) x.0 (words_for tail fields x.1) h.0)
+    (fields_again tail fields (λ y. make (x.0, y)) x.1 h.1)
 
 fields_plain : (tail : Tail) (fields : List Field) (x : Values tail fields) → AllFit tail fields x
     → AllByRecursion IsPlain (words_for tail fields x)
@@ -140,7 +146,11 @@ says : {name : List ℕ} {tail : Tail} {fields : List Field} {event : Values tai
     → ((x : Values tail fields) → saying 0 (event x) ≡ (saying_form name tail fields event, x)) → is_plain name ≡ true
     → IsForm (saying_form name tail fields event)
 says {event = event} same plain =
-    record { own = λ x e means. (0, ap (saying 0) means ∙ same x); ids = λ x now first count h e. absurd cc; plain = plain }
+    record {
+      own = λ x e means. (0, ap (saying 0) means ∙ same x);
+      ids = λ x now first count h e. absurd cc;
+      plain = plain;
+    }
 
 ids_own : (x : FormValues issue_ids) (event : ItemEvent) → Means (issue_ids.line x) event
     → (unkept : ℕ) × (saying unkept event ≡ (issue_ids, x))

@@ -51,7 +51,8 @@ joined_feedless (word ∷ next ∷ words) h = feedless_then word (32 ∷ join_wi
 -- a line of plain words has no line feed
 pub plain_no_feed : (line : List ℕ) → AllByRecursion IsPlain (words_of line) → All (λ b. b ≢ 10) line
 plain_no_feed line h =
-    All-from_recursion (λ b. b ≢ 10) line (rw (← join_with_byte-slice_split 32 line) (joined_feedless (words_of line) h))
+    All-from_recursion (λ b. b ≢ 10) line
+    (rw (← join_with_byte-slice_split 32 line) (joined_feedless (words_of line) h))
 
 no_space : (word : List ℕ) → IsPlain word → AllByRecursion (λ b. (b == 32) ≡ false) word
 no_space [] h = tt
