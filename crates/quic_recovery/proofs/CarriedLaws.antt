@@ -65,7 +65,8 @@ module _ {F K Q S M P : Type 0} (beginning : Beginning F K Q S M P) (before : Hi
           let IsNext : SpaceId → Type 0 = λ s. (sent_in beginning before s).next ≤ k in
           let new : sent.next ≤ k = subst IsNext (one_space there space at) (is_new beginning before there) in
           said_sent carried_by largest sent.next k new (then_by k true)
-          (λ n below. grind (arith, nat_tests, new, below)) sent.last sent.tracked packet (grind (arith, nat_tests)) carried
+          (λ n below. grind (arith, nat_tests, new, below)) sent.last sent.tracked packet (grind (arith, nat_tests))
+          carried
 
   reply_carries : (event : Event Q S M P) (reply : Reply Q) → Told beginning before event reply
       → Carries ((entries_of beginning.queue known event reply).spaces space)

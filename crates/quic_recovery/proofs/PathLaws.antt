@@ -41,7 +41,8 @@ module _ {K : Type 0} (settings : PathSettings K) (first : PathMaking K) where
       ap (λ (n : Option ℕ). both (generations log).current n) (go (pasts_by settings first log).previous)
     where
       go : (previous : Option (PathPast K))
-          → option_map (λ past. past.generation) (option_map (past_with settings entry) previous) ≡ option_map (λ past. past.generation) previous
+          → option_map (λ past. past.generation) (option_map (past_with settings entry) previous) ≡ option_map
+          (λ past. past.generation) previous
       go None = refl
       go (Some past) = rw (entry_stays entry past) refl
 
