@@ -59,7 +59,7 @@ deadlines_with-rise : (lifetime : Option ℕ) (now low number : ℕ) (deadlines 
     → Rise low number (numbers_of deadlines)
     → Rise low (number + 1) (numbers_of (deadlines_with lifetime now number deadlines))
 deadlines_with-rise None now low number deadlines rise =
-    Rise-wider low number low (number + 1) (numbers_of deadlines) rise (omega arith) (omega arith)
+    Rise-wider _ _ _ _ _ rise (omega arith) (omega arith)
 deadlines_with-rise (Some lifetime) now low number deadlines rise = grind (
   arith,
   nat_tests,
@@ -75,7 +75,7 @@ deadlines_with_last-rise lifetime now low bound zero deadlines rise below = absu
 deadlines_with_last-rise lifetime now low bound (suc number) deadlines rise below =
     let next : suc number ≡ number + 1 = omega arith in
     rw next (deadlines_with-rise lifetime now low number deadlines
-    (Rise-wider low bound low number (numbers_of deadlines) rise (omega arith) (omega arith)))
+    (Rise-wider _ _ _ _ _ rise (omega arith) (omega arith)))
 
 pub deadlines_with_last-rise_first : (lifetime : Option ℕ) (now issued : ℕ)
     → Rise 0 issued (numbers_of (deadlines_with_last lifetime now issued []))

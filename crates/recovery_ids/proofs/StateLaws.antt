@@ -24,10 +24,9 @@ mark_rises mark issued (oldest ∷ later) rise = grind (
   Rise-wider (oldest.sequence + 1) issued mark issued (map (λ deadline. deadline.sequence) later),
 )
 
-module _ (ids : LocalIds) (sound : AreSound ids) where
+module _ {ids : LocalIds} (sound : AreSound ids) where
   asked : holds_unretired ids.retired_below ids.retire_prior_to ids ≡ any_below ids.retire_prior_to ids
-  asked = list_any-between ids.retired_below ids.issued ids.retired_below ids.retire_prior_to ids.unretired
-      sound.unretired (omega arith)
+  asked = list_any-between _ _ _ _ ids.unretired sound.unretired (omega arith)
 
   abbrev timely : LocalIds
   timely = record ids { deadlines = drop 1 ids.deadlines }
@@ -42,7 +41,7 @@ module _ (ids : LocalIds) (sound : AreSound ids) where
       × Rise ids.retire_prior_to ids.issued (map (λ deadline. deadline.sequence) timely.deadlines)
       × Rise (next_mark ids.retire_prior_to ids.deadlines) ids.issued
       (map (λ deadline. deadline.sequence) timely.deadlines)
-  marks = mark_rises ids.retire_prior_to ids.issued ids.deadlines sound.deadlines
+  marks = mark_rises _ _ ids.deadlines sound.deadlines
 
   -- where a number below the mark is not retired, the deadline alone goes
   pub waits : any_below ids.retire_prior_to ids ≡ true → timely ≡ timed_out ids
@@ -60,15 +59,13 @@ module _ (ids : LocalIds) (sound : AreSound ids) where
     moves = rw (asked, none) refl
 
     rises : Rise ids.retire_prior_to ids.issued ids.unretired
-    rises = Rise-from ids.retired_below ids.issued ids.retire_prior_to ids.unretired sound.unretired none
-        (Rise-bound ids.retire_prior_to ids.issued (map (λ deadline. deadline.sequence) ids.deadlines) sound.deadlines)
+    rises = Rise-from _ _ _ ids.unretired sound.unretired none (Rise-bound _ _ _ sound.deadlines)
 
     pub moves_sound : AreSound moved
     moves_sound = record { small = sound.small; marks = marks.0; unretired = rises; deadlines = marks.2 }
 
     pub moves_answer : (next : ℕ) → any_below next ids ≡ holds_unretired ids.retire_prior_to next ids
-    moves_answer next = sym (list_any-between ids.retire_prior_to ids.issued ids.retire_prior_to next ids.unretired
-        rises (omega arith))
+    moves_answer next = sym (list_any-between _ _ _ next ids.unretired rises (omega arith))
 
   -- ---- numbers issued and retired
 
@@ -88,10 +85,8 @@ module _ (ids : LocalIds) (sound : AreSound ids) where
         record {
           small = small;
           marks = sound.marks;
-          unretired = Rise-append ids.retired_below ids.issued (suc count) (ids.issued + suc count) ids.unretired
-              sound.unretired refl;
-          deadlines = deadlines_with_last-rise ids.cid_lifetime now ids.retire_prior_to ids.issued
-              (ids.issued + suc count) ids.deadlines sound.deadlines (omega arith);
+          unretired = Rise-append _ _ (suc count) _ ids.unretired sound.unretired refl;
+          deadlines = deadlines_with_last-rise _ now _ _ _ ids.deadlines sound.deadlines (omega arith);
         },
       )
 
@@ -99,7 +94,7 @@ module _ (ids : LocalIds) (sound : AreSound ids) where
   retired_sound number = record {
     small = sound.small;
     marks = sound.marks;
-    unretired = Rise-filter (λ n. not (n == number)) ids.retired_below ids.issued ids.unretired sound.unretired;
+    unretired = Rise-filter (λ n. not (n == number)) _ _ ids.unretired sound.unretired;
     deadlines = sound.deadlines;
   }
 
