@@ -112,40 +112,42 @@ moves_by : (New Old : Type 0) (place by : ℕ) → (New → place < 128) → (pl
     → New ↔ ((place < 128) × ((place + 1 ≡ by) ⊎ ((by ≤ place) × Old)))
 moves_by New Old place by within last below above = grind (arith, within, last, below, above)
 
-module _ (words : List ℕ) (from bits by : ℕ) (short : bits < 32) (some : 0 < by) (few : by ≤ 128)
-    (is : by + 32 * from ≡ 128 + bits) (a b c d : ℕ)
-    (first : Moved (slice_index (padded words) (from + 1)) (slice_index (padded words) from) bits a)
-    (second : Moved (slice_index (padded words) (from + 2)) (slice_index (padded words) (from + 1)) bits b)
-    (third : Moved (slice_index (padded words) (from + 3)) (slice_index (padded words) (from + 2)) bits c)
-    (fourth : Moved (slice_index (padded words) (from + 4)) (slice_index (padded words) (from + 3)) bits d) where
-  moved_place : (place : ℕ) → place < 128 → bit_of (a ∷ b ∷ c ∷ d ∷ []) place ≡ bit_of (padded words) (160 + place - by)
-  moved_place place within = four_words (λ word. place / 32 ≡ word →
-      bit_at (slice_index (a ∷ b ∷ c ∷ d ∷ []) word) (place % 32) ≡ bit_of (padded words) (160 + place - by))
-      (at 0 (from + 1) from a first (omega arith, omega arith)) (at 1 (from + 2) (from + 1) b second
-      (omega arith, omega arith))
-      (at 2 (from + 3) (from + 2) c third (omega arith, omega arith)) (at 3 (from + 4) (from + 3) d fourth
-      (omega arith, omega arith))
-      (place / 32) (omega arith) refl
-    where
-      at : (word upper lower new : ℕ) → Moved (slice_index (padded words) upper) (slice_index (padded words) lower) bits
-          new → (upper ≡ lower + 1) × (lower ≡ from + word) → place / 32 ≡ word
-          → bit_at new (place % 32) ≡ bit_of (padded words) (160 + place - by)
-      at word upper lower new moved above here = elim (cases_lt (place % 32) bits) [
-        | inl carried ↦ moved.1 (place % 32) carried ∙ sym (place_is (padded words) (160 + place - by) lower
-            (32 - bits + place % 32) (omega arith) (omega (arith, above)))
-        | inr stays ↦ moved.0 (place % 32) stays (omega arith) ∙ sym (place_is (padded words) (160 + place - by) upper
-            (place % 32 - bits) (omega arith) (omega (arith, above)))
-      ]
+module _ (words : List ℕ) (bits : ℕ) (short : bits < 32) where
+  abbrev pub Up : ℕ → ℕ → ℕ → Type 0
+  Up upper lower = Moved (slice_index (padded words) upper) (slice_index (padded words) lower) bits
 
-  pub moved_words : MovesBy by (IsSet words) (IsSet (a ∷ b ∷ c ∷ d ∷ []))
-  moved_words place = moves_by (IsSet (a ∷ b ∷ c ∷ d ∷ []) place) (IsSet words (place - by)) place by
-      (places_within (a ∷ b ∷ c ∷ d ∷ []) refl place)
-      (λ within same. let e : 160 + place - by ≡ 159 = omega arith in (rw e at (moved_place place within)))
-      (λ within less set. let e = moved_place place within in
-      omega (arith, e, set, below_greatest words (160 + place - by) (omega arith)))
-      (λ within above. let e : 160 + place - by ≡ 160 + (place - by) = omega arith in
-      let is = (rw e at (moved_place place within)) ∙ above_greatest words (place - by) (omega arith) in
-      (λ set. sym is ∙ set, λ set. is ∙ set))
+  module _ (from by : ℕ) (some : 0 < by) (few : by ≤ 128) (is : by + 32 * from ≡ 128 + bits) (a b c d : ℕ)
+      (first : Up (from + 1) from a) (second : Up (from + 2) (from + 1) b) (third : Up (from + 3) (from + 2) c)
+      (fourth : Up (from + 4) (from + 3) d) where
+    moved_place : (place : ℕ) → place < 128 → bit_of (a ∷ b ∷ c ∷ d ∷ []) place ≡ bit_of (padded words)
+        (160 + place - by)
+    moved_place place within = four_words (λ word. place / 32 ≡ word →
+        bit_at (slice_index (a ∷ b ∷ c ∷ d ∷ []) word) (place % 32) ≡ bit_of (padded words) (160 + place - by))
+        (at 0 (from + 1) from a first (omega arith, omega arith)) (at 1 (from + 2) (from + 1) b second
+        (omega arith, omega arith))
+        (at 2 (from + 3) (from + 2) c third (omega arith, omega arith)) (at 3 (from + 4) (from + 3) d fourth
+        (omega arith, omega arith))
+        (place / 32) (omega arith) refl
+      where
+        at : (word upper lower new : ℕ) → Up upper lower new → (upper ≡ lower + 1) × (lower ≡ from + word) → place / 32
+            ≡ word
+            → bit_at new (place % 32) ≡ bit_of (padded words) (160 + place - by)
+        at word upper lower new moved above here = elim (cases_lt (place % 32) bits) [
+          | inl carried ↦ moved.1 (place % 32) carried ∙ sym (place_is (padded words) (160 + place - by) lower
+              (32 - bits + place % 32) (omega arith) (omega (arith, above)))
+          | inr stays ↦ moved.0 (place % 32) stays (omega arith) ∙ sym (place_is (padded words) (160 + place - by) upper
+              (place % 32 - bits) (omega arith) (omega (arith, above)))
+        ]
+
+    pub moved_words : MovesBy by (IsSet words) (IsSet (a ∷ b ∷ c ∷ d ∷ []))
+    moved_words place = moves_by (IsSet (a ∷ b ∷ c ∷ d ∷ []) place) (IsSet words (place - by)) place by
+        (places_within (a ∷ b ∷ c ∷ d ∷ []) refl place)
+        (λ within same. let e : 160 + place - by ≡ 159 = omega arith in (rw e at (moved_place place within)))
+        (λ within less set. let e = moved_place place within in
+        omega (arith, e, set, below_greatest words (160 + place - by) (omega arith)))
+        (λ within above. let e : 160 + place - by ≡ 160 + (place - by) = omega arith in
+        let is = (rw e at (moved_place place within)) ∙ above_greatest words (place - by) (omega arith) in
+        (λ set. sym is ∙ set, λ set. is ∙ set))
 
 -- all places moved out of the window
 pub moved_away : (words : List ℕ) (by : ℕ) → 128 < by → MovesBy by (IsSet words) (IsSet (0 ∷ 0 ∷ 0 ∷ 0 ∷ []))

@@ -13,16 +13,6 @@ module _ (n start end : ℕ) where
   Cut more = Changes n (start + 1) more ⊥ (IsBetween start end n) (λ comes. absurd comes)
       (λ between. omega (arith, between))
 
-  cut : (more : ℕ) (edit : ℕ → Ranges → Ranges) → ((at : ℕ) (range : Range ℕ) (others : Ranges)
-      → range.start < range.end
-      → range.end < start + 1 → edit (suc at) (range ∷ others) ≡ range ∷ edit at others) → (at : ℕ) (ranges : Ranges)
-      → AreApart 0 ranges → IsPlace ranges (start + 1) at
-      → Cut more (floor_above 0 (take at ranges)) (drop at ranges) (edit 0 (drop at ranges))
-      → Cut more 0 ranges (edit at ranges)
-  cut more edit passes at ranges apart place change = changed n (start + 1) more ⊥ (IsBetween start end n)
-      (λ comes. absurd comes) (λ between. omega (arith, between)) edit passes 0 at ranges apart place.below place.bound
-      change
-
   cut_one : (low : ℕ) (range : Range ℕ) (others left : Ranges) → start < end → ((range.start < start) → range.end ≤ end)
       → AreApart low (range ∷ others) → Cut 0 (range.end + 1) others left → (some : Bool)
       → is_some_range (clipped start end range) ≡ some
@@ -94,11 +84,14 @@ module _ {seen ranges : Ranges} {start end at : ℕ} (apart : AreApart 0 ranges)
     none_before past = none (λ n between. rw rest
         (grind (arith, between, past, apart_here, in_above (range.end + 1) after n)))
 
-    -- numbers leave, and what is left is known number by number
-    taken : (more : ℕ) (new : Ranges) → range.start < end → (start ≡ 0 → more ≡ 0)
-        → ((n : ℕ) → Cut n start end more 0 ranges new) → Removes ranges start end true new
+    -- numbers leave, and the change from the place on is known number by number
+    taken : (more : ℕ) (edit : ℕ → Ranges → Ranges) → ((at : ℕ) (range : Range ℕ) (others : Ranges)
+        → range.start < range.end → range.end < start + 1 → edit (suc at) (range ∷ others) ≡ range ∷ edit at others)
+        → range.start < end → (start ≡ 0 → more ≡ 0)
+        → ((n : ℕ) → Cut n start end more (floor_above 0 (take at ranges)) (range ∷ after) (edit 0 (range ∷ after)))
+        → Removes ranges start end true (edit at ranges)
     unfolding InRanges AreApart
-    taken more new before few all = record {
+    taken more edit passes before few change = record {
       answer = (
         max range.start start,
         (there (max range.start start) (omega arith)).1
@@ -109,27 +102,28 @@ module _ {seen ranges : Ranges} {start end at : ℕ} (apart : AreApart 0 ranges)
       apart = (all 0).2;
       count = λ zero. omega (arith, (all 0).3, few zero);
     }
+      where
+        all : (n : ℕ) → Cut n start end more 0 ranges (edit at ranges)
+        all n = changed n (start + 1) more ⊥ (IsBetween start end n) (λ comes. absurd comes)
+            (λ between. omega (arith, between)) edit passes 0 at ranges apart here.below here.bound (rw rest (change n))
 
     pub cut_at : {other : Range ℕ} → other ≡ get_or ranges at other → range.start < end
         → ((range.start < start) → other.end ≤ end) → Removes ranges start end true (cut_ranges start end ranges)
     unfolding AreApart
-    cut_at also before short = taken 0 (cut_ranges start end ranges) before (λ _. refl) (λ n. cut n start end 0
-        (λ i rs. cut_ranges start end rs) (λ i first others filled below. grind (arith, nat_tests, filled, below)) at
-        ranges apart here (rw rest (cut_one n start end (floor_above 0 (take at ranges)) range after
-        (cut_ranges start end after) some (λ lower. rw (same_read same place.bound inside is also) (short lower))
-        apart_here
+    cut_at also before short = taken 0 (λ i rs. cut_ranges start end rs)
+        (λ i first others filled below. grind (arith, nat_tests, filled, below)) before (λ _. refl)
+        (λ n. cut_one n start end (floor_above 0 (take at ranges)) range after (cut_ranges start end after) some
+        (λ lower. rw (same_read same place.bound inside is also) (short lower)) apart_here
         (cut_all n start end (range.end + 1) after some (omega (arith, ends_past)) apart_here.2)
-        (is_some_range (clipped start end range)) refl)))
+        (is_some_range (clipped start end range)) refl)
 
     -- a range that holds numbers on both sides becomes two
     pub splits : {other : Range ℕ} → other ≡ get_or ranges at other → range.start < start → end < other.end
         → Removes ranges start end true (set (insert ranges (at + 1) (span end other.end)) at (span range.start start))
     unfolding InRanges AreApart
     splits {other} also lower upper =
-        let high : end < range.end = rw (same_read same place.bound inside is also) upper in
-        rw (same_read same place.bound inside also is)
-        (taken 1 (set (insert ranges (at + 1) (span end range.end)) at (span range.start start)) (omega arith)
-        (λ zero. absurd (omega arith)) (λ n. cut n start end 1
-        (λ i rs. set (insert rs (i + 1) (span end range.end)) i (span range.start start))
-        (λ i first others _ _. let e : suc i + 1 ≡ suc (i + 1) = omega arith in rw e refl) at ranges apart here
-        (rw rest (grind (arith, apart_here, lower, high, some, in_above (range.end + 1) after n)))))
+        let as_other = same_read same place.bound inside is also in
+        taken 1 (λ i rs. set (insert rs (i + 1) (span end other.end)) i (span range.start start))
+        (λ i first others _ _. let e : suc i + 1 ≡ suc (i + 1) = omega arith in rw e refl)
+        (rw as_other (grind (arith, lower, upper, as_other, some))) (λ zero. absurd (omega arith))
+        (λ n. grind (arith, apart_here, lower, upper, some, as_other, in_above (range.end + 1) after n))

@@ -4,6 +4,6 @@ use Rattle.recovery_base.proofs.dedup.move_by.Goals as goal
 
 pub returns : goal.returns
 returns c =
-    moved_words c.args.window.now 4 1 c.args.places (omega arith) (omega arith) (omega arith) (omega arith) _ _ _ _
+    moved_words c.args.window.now 1 (omega arith) 4 c.args.places (omega arith) (omega arith) (omega arith) _ _ _ _
     (c.moved.ensures.stays, c.moved.ensures.carries) (c.moved-2.ensures.stays, c.moved-2.ensures.carries)
     (c.moved-3.ensures.stays, c.moved-3.ensures.carries) (c.moved-4.ensures.stays, c.moved-4.ensures.carries)
