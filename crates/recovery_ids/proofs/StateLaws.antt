@@ -12,7 +12,7 @@ any_below end ids = list_any (λ n. nat_lt n end) ids.unretired
 -- ---- timeouts
 
 -- the oldest deadline goes, and the mark may move behind its number
-mark_rises : (mark issued : ℕ) (deadlines : List CidTimestamp)
+pub mark_rises : (mark issued : ℕ) (deadlines : List CidTimestamp)
     → Rise mark issued (map (λ deadline. deadline.sequence) deadlines) →
     (mark ≤ next_mark mark deadlines)
     × Rise mark issued (map (λ deadline. deadline.sequence) (drop 1 deadlines))
@@ -37,19 +37,14 @@ module _ {ids : LocalIds} (sound : AreSound ids) where
     retire_prior_to = next_mark ids.retire_prior_to ids.deadlines;
   }
 
-  pub marks : (ids.retire_prior_to ≤ next_mark ids.retire_prior_to ids.deadlines)
-      × Rise ids.retire_prior_to ids.issued (map (λ deadline. deadline.sequence) timely.deadlines)
-      × Rise (next_mark ids.retire_prior_to ids.deadlines) ids.issued
-      (map (λ deadline. deadline.sequence) timely.deadlines)
-  marks = mark_rises _ _ ids.deadlines sound.deadlines
-
   -- where a number below the mark is not retired, the deadline alone goes
   pub waits : any_below ids.retire_prior_to ids ≡ true → timely ≡ timed_out ids
   waits here = rw (asked, here) refl
 
   pub waits_sound : AreSound timely
   waits_sound =
-      record { small = sound.small; marks = sound.marks; unretired = sound.unretired; deadlines = marks.1 }
+      record { small = sound.small; marks = sound.marks; unretired = sound.unretired; deadlines =
+          (mark_rises _ _ ids.deadlines sound.deadlines).1 }
 
   pub waits_answer : holds_unretired ids.retire_prior_to ids.retire_prior_to ids ≡ false
   waits_answer = list_any-nowhere ids.retire_prior_to ids.unretired
@@ -62,7 +57,8 @@ module _ {ids : LocalIds} (sound : AreSound ids) where
     rises = Rise-from _ _ _ ids.unretired sound.unretired none (Rise-bound _ _ _ sound.deadlines)
 
     pub moves_sound : AreSound moved
-    moves_sound = record { small = sound.small; marks = marks.0; unretired = rises; deadlines = marks.2 }
+    moves_sound = let mark = mark_rises _ _ ids.deadlines sound.deadlines in
+        record { small = sound.small; marks = mark.0; unretired = rises; deadlines = mark.2 }
 
     pub moves_answer : (next : ℕ) → any_below next ids ≡ holds_unretired ids.retire_prior_to next ids
     moves_answer next = sym (list_any-between _ _ _ next ids.unretired rises (omega arith))

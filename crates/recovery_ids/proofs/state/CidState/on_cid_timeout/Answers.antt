@@ -1,6 +1,6 @@
 use Rattle.std.proofs.Common.{sym, ◌∙◌, ◌^◌, arith}
 use Rattle.recovery_ids.proofs.RiseLaws.{Rise-wider}
-use Rattle.recovery_ids.proofs.StateLaws.{waits, waits_sound, waits_answer, moves, moves_sound, moves_answer, marks}
+use Rattle.recovery_ids.proofs.StateLaws.{waits, waits_sound, waits_answer, moves, moves_sound, moves_answer, mark_rises}
 use Rattle.recovery_ids.proofs.state.CidState.on_cid_timeout.Goals as goal
 
 pub pop_mark-next-requires : goal.pop_mark-next-requires
@@ -42,7 +42,7 @@ returns-clause-answer c = rw (← c.self.view_is) (c.is_any_below-2.ensures ∙ 
 
 pub returns-clause-never_falls : goal.returns-clause-never_falls
 returns-clause-never_falls c =
-    rw (c.pop_mark-next.ensures.mark, ← c.self.view_is) (marks c.self.invariant).0
+    rw (c.pop_mark-next.ensures.mark, ← c.self.view_is) (mark_rises _ _ _ c.self.invariant.deadlines).0
 
 pub returns-clause-sound : goal.returns-clause-sound
 returns-clause-sound c = rw (c.pop_mark-next.ensures.items, c.pop_mark-next.ensures.mark) (moves_sound
