@@ -1,6 +1,6 @@
 -- Slots by their places: what stands at one, what is filed there, and what stands before and behind it. `EntryLaws` and
 -- the look-ups of `SlotQueue` rest on it.
-use Rattle.std.proofs.Common.{◌≡◌, ℕ, zero, suc, ◌+◌, ◌-◌, ◌/◌, ◌^◌, ◌<◌, ◌≤◌, true, List, [], ◌∷◌, length, min, Option, None, Some, MatchOption, refl, sym, ap, subst, ◌∙◌, arith, get_or}
+use Rattle.std.proofs.Common.{◌≡◌, ℕ, zero, suc, ◌+◌, ◌-◌, ◌/◌, ◌^◌, ◌<◌, ◌≤◌, true, List, [], ◌∷◌, length, Option, None, Some, MatchOption, refl, sym, ap, subst, ◌∙◌, arith, get_or}
 use Rattle.std.specs.Ordering.{nat_cmp, is_eq}
 use Rattle.std.specs.Cmp.{nat_cmp_total, tied_itself}
 use Rattle.std.specs.BTreeMap.{is_at}
@@ -111,30 +111,15 @@ module _ {T : Type 0} where
 
   -- ---- between which places a number stands
 
-  pub enclosed_below : (slots : List (Slot T)) (first end number : ℕ) → AreRising first slots end → number < first
-      → Encloses slots number 0 0
-  enclosed_below slots first end number rising low = record {
-    within = omega arith;
-    below = λ p slot at under. absurd (omega arith);
-    above = λ p slot at over. omega (arith, stands slots first end p slot rising at);
-  }
-
-  pub enclosed_above : (slots : List (Slot T)) (first end number : ℕ) → AreRising first slots end → end ≤ number
-      → Encloses slots number (length slots) (length slots)
-  enclosed_above slots first end number rising high = record {
-    within = omega arith;
-    below = λ p slot at under. omega (arith, stands slots first end p slot rising at);
-    above = λ p slot at over. absurd (omega (arith, slot_within slots p slot at));
-  }
-
-  pub enclosed_by : (slots : List (Slot T)) (first last number low high : ℕ) → AreRising first slots (last + 1)
-      → high ≤ length slots → number ≤ last → first ≤ number
-      → low ≤ length slots - (last - number + 1) → min (number - first + 1) (length slots) ≤ high
-      → Encloses slots number low high
-  enclosed_by slots first last number low high rising within under over lower upper = record {
+  -- slots before one place stand so near the end, and those from another on so far from the first
+  pub enclosed : (slots : List (Slot T)) (first end number low high : ℕ) → AreRising first slots end
+      → high ≤ length slots → (0 < low → end + low ≤ number + length slots)
+      → (high < length slots → number < first + high) → Encloses slots number low high
+  enclosed slots first end number low high rising within lower upper = record {
     within = within;
-    below = λ p slot at h. omega (arith, stands slots first (last + 1) p slot rising at);
-    above = λ p slot at h. omega (arith, stands slots first (last + 1) p slot rising at, slot_within slots p slot at);
+    below = λ p slot at under. grind (arith, under, lower, stands slots first end p slot rising at);
+    above = λ p slot at over.
+        grind (arith, over, upper, stands slots first end p slot rising at, slot_within slots p slot at);
   }
 
   -- ---- a search
