@@ -1,6 +1,6 @@
 -- Slots by their places: what stands at one, what is filed there, and what stands before and behind it. `EntryLaws` and
 -- the look-ups of `SlotQueue` rest on it.
-use Rattle.std.proofs.Common.{◌≡◌, ℕ, zero, suc, ◌+◌, ◌-◌, ◌/◌, ◌^◌, ◌<◌, ◌≤◌, true, List, [], ◌∷◌, length, Option, None, Some, MatchOption, refl, sym, ap, subst, ◌∙◌, arith, get_or}
+use Rattle.std.proofs.Common.{◌≡◌, ℕ, zero, suc, ◌+◌, ◌-◌, ◌/◌, ◌^◌, ◌<◌, ◌≤◌, true, List, [], ◌∷◌, length, Option, None, Some, MatchOption, refl, sym, ap, ◌∙◌, arith, get_or}
 use Rattle.std.specs.Ordering.{nat_cmp, is_eq}
 use Rattle.std.specs.Cmp.{nat_cmp_total, tied_itself}
 use Rattle.std.specs.BTreeMap.{is_at}
@@ -160,9 +160,7 @@ module _ {T : Type 0} where
 
     pub held_here : slot.number ≡ number
         → MatchOption slot.item (item_at slots number ≡ None) (IsHeldAt slots number (low + (high - low) / 2))
-    held_here same =
-        subst (λ n. MatchOption slot.item (item_at slots n ≡ None) (IsHeldAt slots n (low + (high - low) / 2))) same
-        (held_at slots _ slot.number slot.item rises middle)
+    held_here same = rw same at (held_at slots _ slot.number slot.item rises middle)
 
   -- where a range has closed no slot has the number
   module _ {slots : List (Slot T)} {number low high : ℕ} (old : Encloses slots number low high) (closed : high ≤ low)
