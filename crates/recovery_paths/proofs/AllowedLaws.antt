@@ -1,7 +1,6 @@
 -- What checked transmissions keep on one path holds of each path that lives, whatever happens. `ThreefoldLaws`,
 -- `PassedLaws` and `SearchedLaws` rest on it.
-use Rattle.std.proofs.Common.{◌≡◌, false, List, [], ◌∷◌, ◌++◌, Option, None, Some, option_map, refl}
-use Rattle.std.specs.Option.{ForSome}
+use Rattle.std.proofs.Common.{◌≡◌, false, List, [], ◌∷◌, ◌++◌, None}
 use Rattle.std.proofs.lemmas.Option.{none-some}
 use Rattle.recovery_congestion.specs.Controllers.{ControllerWords}
 use Rattle.recovery_mtud.proofs.SearchRunLaws.{IsInTurn}
@@ -9,7 +8,7 @@ use Rattle.recovery_paths.specs.declared.live_paths.PathName.TheVariants.{Curren
 use Rattle.recovery_paths.specs.PathMaking.{PathMaking, PathSettings}
 use Rattle.recovery_paths.specs.PathStates.{PathState, is_blocked, path_delay}
 use Rattle.recovery_paths.specs.PathLog.{OfPaths, OnEachPath, PathsEntry, PathEntry, PathPast, PathKnown, Following, paths_with, paths_after, pasts_by, each_path, state_of, known_of, known_with, known_following, past_with, past_following, on, moves, drops_previous, searches, passes}
-use Rattle.recovery_paths.proofs.PathLogLaws.{each-after}
+use Rattle.recovery_paths.proofs.PathLogLaws.{some_same, for_changed, each-after}
 
 -- what passes was neither blocked nor delayed, and a limit is told while no search runs
 abbrev pub IsAllowed : {K : Type 0} → ControllerWords K → PathState K → PathEntry → Type 0
@@ -22,9 +21,6 @@ abbrev pub PassesNothing : PathEntry → Type 0
 PassesNothing (passes now bytes) = ⊥
 PassesNothing (searches call) = ⊥
 PassesNothing entry = Unit {0}
-
-some_same : {A : Type 0} {a b : A} → Some a ≡ Some b → a ≡ b
-some_same e = cc
 
 module _ {K : Type 0} (settings : PathSettings K) where
   -- it goes on to hold of a path as long as what happens is allowed, and of a path that follows on it
@@ -57,20 +53,16 @@ module _ {K : Type 0} (settings : PathSettings K) where
   allowed_anywhere entry state nothing = tt
 
   module _ (Holds : PathPast K → Type 0) (kept : IsKept Holds) where
-    -- on the previous path nothing passes
-    previous_kept : (entry : PathEntry) (path : Option (PathPast K)) → PassesNothing entry → ForSome path Holds
-        → ForSome (option_map (past_with settings entry) path) Holds
-    previous_kept entry None nothing holds = λ past is. absurd (none-some _ is)
-    previous_kept entry (Some path) nothing holds = λ past is.
-        rw (← some_same is) (kept.by_entry entry path (allowed_anywhere entry (state_of settings path) nothing)
-        (holds path refl))
-
     -- an entry keeps it
     entry_kept : (entry : PathsEntry) (pasts : OfPaths (PathPast K))
         → IsAllowedOn (each_path (known_of settings) pasts) entry → OnEachPath Holds pasts
         → OnEachPath Holds (paths_with (past_with settings) (past_following settings) entry pasts)
     entry_kept (on Current entry) pasts allowed holds = (kept.by_entry entry pasts.current allowed holds.0, holds.1)
-    entry_kept (on Previous entry) pasts allowed holds = (holds.0, previous_kept entry pasts.previous allowed holds.1)
+    entry_kept (on Previous entry) pasts allowed holds = (
+      holds.0,
+      for_changed Holds (past_with settings entry) pasts.previous (λ path is.
+          kept.by_entry entry path (allowed_anywhere entry (state_of settings path) allowed) (holds.1 path is)),
+    )
     entry_kept (moves following) pasts allowed holds =
         (kept.following following pasts.current holds.0, λ past is. rw (← some_same is) holds.0)
     entry_kept drops_previous pasts allowed holds = (holds.0, λ past is. absurd (none-some _ is))

@@ -1,7 +1,6 @@
 -- The paths stay tied to what the spaces track, whatever comes to a packet, a space or a path. The invariant of
 -- `Recovery`, and so each of its calls, rests on it.
 use Rattle.std.proofs.Common.{◌≡◌, ℕ, ◌+◌, ◌<◌, ◌≤◌, Bool, [], ◌∷◌, Option, None, Some, option_map, refl, ap, subst, arith}
-use Rattle.std.specs.Option.{ForSome}
 use Rattle.std.proofs.lemmas.Option.{none-some}
 use Rattle.recovery_base.specs.declared.below.SpaceId.{SpaceId}
 use Rattle.recovery_congestion.specs.Controllers.{ControllerWords}
@@ -17,6 +16,7 @@ use Rattle.std.proofs.lemmas.List.Sums.{sum_by-cons}
 use Rattle.recovery_ledger.specs.InFlight.{size_in, eliciting_in, IsCountedIn}
 use Rattle.recovery_ledger.specs.Probes.{moves}
 use Rattle.recovery_ledger.proofs.LedgerLaws.{Follows, carrying_follows, taken_follows, lost_follows, forgotten_counted, sent_follows, sent_elsewhere_follows, first_leaves, space_counted, balanced_by, none_balanced}
+use Rattle.recovery_paths.proofs.PathLogLaws.{some_same, for_changed}
 use Rattle.recovery_paths.specs.Balance.{AreBalanced}
 use Rattle.recovery_paths.specs.declared.live_paths.PathName.{PathName}
 use Rattle.recovery_paths.specs.declared.live_paths.PathName.TheVariants.{Current, Previous}
@@ -24,9 +24,6 @@ use Rattle.recovery_paths.specs.LivePaths.{on_ledger, ledger_without, IsCountedO
 use Rattle.recovery_paths.specs.PathLog.{OfPaths, on_path_of, moved_to}
 use Rattle.recovery_paths.specs.PathStates.{PathState, Path, on_state, path_acked, path_lost}
 use Rattle.recovery_queue.specs.Queues.{QueueWords}
-
-some_same : {A : Type 0} {a b : A} → Some a ≡ Some b → a ≡ b
-some_same e = cc
 
 -- all packets of a space leave, one after another
 emptied_follows : {P M : Type 0} (ledger : PathLedger) (packets : Packets P M)
@@ -54,23 +51,20 @@ module _ {K P M : Type 0} (spaces : Spaces P M) (paths : OfPaths (Path K)) (bala
         current = now;
         previous = option_map change paths.previous;
       } in all)
-  changed space here now change follows earlier up_to coherent = record {
-    current = balanced_by spaces paths.current.ledger balanced.current space here now.ledger follows;
-    previous = λ path is. (each paths.previous refl path is).0;
-    older = λ path is. (each paths.previous refl path is).1;
-    up_to = rw follows.generation
-        (up_to_with (generation_of paths.current.ledger) spaces space here balanced.up_to up_to);
-    coherent = coherent_with spaces space here balanced.coherent coherent;
-  }
-    where
-      each : (previous : Option (Path K)) → paths.previous ≡ previous → ForSome (option_map change previous)
-          (λ path. IsBalancedOn (with_space spaces space here) path.ledger
-          × (generation_of path.ledger < generation_of now.ledger))
-      each None is = λ other none. absurd (none-some _ none)
-      each (Some path) is = λ other some. rw (← some_same some) (
+  changed space here now change follows earlier up_to coherent =
+      let each = for_changed (λ path. IsBalancedOn (with_space spaces space here) path.ledger
+      × (generation_of path.ledger < generation_of now.ledger)) change paths.previous (λ path is. (
         balanced_by spaces path.ledger (balanced.previous path is) space here (change path).ledger (earlier path is),
         omega (arith, balanced.older path is, (earlier path is).generation, follows.generation),
-      )
+      )) in
+      record {
+        current = balanced_by spaces paths.current.ledger balanced.current space here now.ledger follows;
+        previous = λ path is. (each path is).0;
+        older = λ path is. (each path is).1;
+        up_to = rw follows.generation
+            (up_to_with (generation_of paths.current.ledger) spaces space here balanced.up_to up_to);
+        coherent = coherent_with spaces space here balanced.coherent coherent;
+      }
 
   -- nothing that is counted changes
   staying : (space : SpaceId) (here : Space P M)
@@ -102,19 +96,17 @@ module _ {K P M : Type 0} (spaces : Spaces P M) (paths : OfPaths (Path K)) (bala
     up_to = balanced.up_to;
     coherent = balanced.coherent;
   }
-  on_state_kept Previous change = record {
-    current = balanced.current;
-    previous = λ path is. (each paths.previous refl path is).0;
-    older = λ path is. (each paths.previous refl path is).1;
-    up_to = balanced.up_to;
-    coherent = balanced.coherent;
-  }
-    where
-      each : (previous : Option (Path K)) → paths.previous ≡ previous → ForSome (option_map (on_state change) previous)
-          (λ path. IsBalancedOn spaces path.ledger
-          × (generation_of path.ledger < generation_of paths.current.ledger))
-      each None is = λ other none. absurd (none-some _ none)
-      each (Some path) is = λ other some. rw (← some_same some) (balanced.previous path is, balanced.older path is)
+  on_state_kept Previous change =
+      let each = for_changed (λ path. IsBalancedOn spaces path.ledger
+      × (generation_of path.ledger < generation_of paths.current.ledger)) (on_state change) paths.previous
+      (λ path is. (balanced.previous path is, balanced.older path is)) in
+      record {
+        current = balanced.current;
+        previous = λ path is. (each path is).0;
+        older = λ path is. (each path is).1;
+        up_to = balanced.up_to;
+        coherent = balanced.coherent;
+      }
 
   -- ---- the paths that live change
 

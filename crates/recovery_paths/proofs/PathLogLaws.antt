@@ -1,8 +1,18 @@
 -- What is known of the paths, one entry at a time. `AllowedLaws` and the driver's `LeftLaws` rest on it.
 use Rattle.std.proofs.Common.{◌≡◌, List, [], ◌∷◌, ◌++◌, Option, None, Some, option_map, refl, ap, ◌∙◌}
+use Rattle.std.specs.Option.{ForSome}
 use Rattle.recovery_paths.specs.declared.live_paths.PathName.TheVariants.{Current, Previous}
 use Rattle.recovery_paths.specs.PathMaking.{PathMaking, PathSettings}
 use Rattle.recovery_paths.specs.PathLog.{OfPaths, PathsEntry, PathEntry, PathPast, PathKnown, Following, paths_with, paths_after, pasts_by, each_path, past_with, past_following, known_of, known_with, known_following, PathsStep, PathsLeft, on, moves, drops_previous, fresh, goes_on, receives}
+
+pub some_same : {A : Type 0} {a b : A} → Some a ≡ Some b → a ≡ b
+some_same e = cc
+
+-- what holds of a changed value holds where that is
+pub for_changed : {A : Type 0} (Holds : A → Type 0) (change : A → A) (old : Option A)
+    → ((a : A) → old ≡ Some a → Holds (change a)) → ForSome (option_map change old) Holds
+for_changed Holds change None holds = λ other is. absurd (cc (is))
+for_changed Holds change (Some a) holds = λ other is. rw (← some_same is) (holds a refl)
 
 -- what is mapped after a change is the change of what is mapped
 option-each : {P Q : Type 0} (f : P → Q) (change : P → P) (changed : Q → Q) → ((p : P) → changed (f p) ≡ f (change p))

@@ -1,7 +1,7 @@
-use Rattle.std.proofs.Common.{sym, ap, subst, ◌∙◌}
+use Rattle.std.proofs.Common.{sym, ap, ◌∙◌}
 use Rattle.recovery_ledger.specs.Packets.{Packets}
 use Rattle.recovery_ledger.specs.Spaces.{Space, tracking_of, with_tracking, packets_of}
-use Rattle.recovery_paths.specs.LivePaths.{AreCountedOnEach, paths_without}
+use Rattle.recovery_paths.specs.LivePaths.{paths_without}
 use Rattle.recovery_paths.specs.PathLog.{OfPaths}
 use Rattle.recovery_paths.specs.PathStates.{Path}
 use Rattle.recovery_paths.proofs.LivePathsLaws.{counted_first, without_first}
@@ -9,23 +9,20 @@ use Rattle.recovery_paths.proofs.live_paths.LivePaths.forget_all.Goals as goal
 
 pub remove_in_flight-requires : goal.remove_in_flight-requires
 remove_in_flight-requires g c =
-    let P : Packets _ _ → Type 0 = λ packets. AreCountedOnEach c.loop-packet.self packets in
     (counted_first (c.in-Some.field-0-0, c.in-Some.packet) (packets_of c.take_first.new.self) c.loop-packet.self
-    (subst P c.in-Some.ensures.first c.loop-packet.invariant.counted)).0
+    (rw c.in-Some.ensures.first at c.loop-packet.invariant.counted)).0
 
 pub loop-packet-preserved : goal.loop-packet-preserved
 loop-packet-preserved g c =
     let i = c.loop-packet.invariant in
     let rest = packets_of c.take_first.new.self in
-    let P : Packets _ _ → Type 0 = λ packets. AreCountedOnEach c.loop-packet.self packets in
     let both = counted_first (c.in-Some.field-0-0, c.in-Some.packet) rest c.loop-packet.self
-    (subst P c.in-Some.ensures.first i.counted) in
-    let Q : OfPaths (Path _) → Type 0 = λ paths. AreCountedOnEach paths rest in
+    (rw c.in-Some.ensures.first at i.counted) in
     record {
       others = c.in-Some.ensures.others ∙ ap (λ (s : Space _ _). with_tracking (tracking_of c.take_first.new.self) s)
           i.others;
       last = c.in-Some.ensures.last ∙ i.last;
-      counted = subst Q (sym c.remove_in_flight.ensures) both.1;
+      counted = rw c.remove_in_flight.ensures both.1;
       paths = ap (λ (p : OfPaths (Path _)). paths_without rest p) c.remove_in_flight.ensures
           ∙ without_first (c.in-Some.field-0-0, c.in-Some.packet) rest c.loop-packet.self
           ∙ ap (λ (packets : Packets _ _). paths_without packets c.loop-packet.self) (sym c.in-Some.ensures.first)
