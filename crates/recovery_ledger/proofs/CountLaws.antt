@@ -5,7 +5,7 @@ use Rattle.std.specs.Prelude.{sum_by}
 use Rattle.std.proofs.lemmas.List.Sums.{sum_by_push, sum_by-cons}
 use Rattle.recovery_ledger.specs.Packets.{forgotten_entry, Packet, Packets, Tracking, IsAboveLast, packet_at, without, with_contents, replaced, HasSize, is_above, silent_above, least_number, forgotten_silent, forgotten_number, without_some, after_sending}
 use Rattle.recovery_ledger.specs.Counts.{silent_count, eliciting_count, size_count, AreCounted}
-use Rattle.recovery_ledger.proofs.PacketLaws.{AllBelow-push, packet_at-append, without-append, AllBelow, sum-without, sum-replaced, silent_found, sized_from_count, count_from_sized, silent_count-length, sizes-le-length, all_silent, first_above_found}
+use Rattle.recovery_ledger.proofs.PacketLaws.{AllBelow-push, packet_at-append, without-append, AllBelow, sum-without, sum-replaced, silent_found, sized_counted, silent_count-length, sizes-le-length, all_silent, first_above_found}
 
 module _ {P M : Type 0} where
   -- a packet is forgotten where another is sent: it was tracked before, above the last eliciting number, and counted
@@ -111,7 +111,7 @@ module _ {P M : Type 0} where
         -- the count of sizes tells whether there is one
         pub has_size_counted : IsTrue (not (sized == 0)) ↔ HasSize tracking.packets
         has_size_counted = rw (← is)
-            (grind (arith, nat_tests, counted.sized_is, sized_from_count packets, count_from_sized packets))
+            (grind (arith, nat_tests, counted.sized_is, sized_counted packets))
 
         -- ---- what is forgotten
 

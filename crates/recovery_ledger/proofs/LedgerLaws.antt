@@ -27,22 +27,6 @@ module _ {P M : Type 0} where
       ≡ (counters_of path).ack_eliciting)
   leaves path entry size eliciting = grind (arith, nat_tests)
 
-  -- a space that is emptied packet by packet: the first leaves the counters, and the rest is counted still
-  pub first_leaves : (path : PathLedger) (entry : ℕ × Packet P M) (rest : Packets P M)
-      → IsCountedIn (counters_of path) (generation_of path) (entry ∷ rest)
-      → IsCountedOn path entry.1 × IsCountedIn (counters_of (after_leaving path entry.1)) (generation_of path) rest
-      × ((counters_of (after_leaving path entry.1)).bytes + size_in (generation_of path) entry
-      ≡ (counters_of path).bytes)
-      × ((counters_of (after_leaving path entry.1)).ack_eliciting + eliciting_in (generation_of path) entry
-      ≡ (counters_of path).ack_eliciting)
-  first_leaves path entry rest counted =
-      grind (
-        arith,
-        sum_by-cons (size_in (generation_of path)) entry rest,
-        sum_by-cons (eliciting_in (generation_of path)) entry rest,
-        leaves path entry,
-      )
-
   -- ---- the packets of a space change, and the counters by as much
 
   pub record Follows (path : PathLedger) (old new : Packets P M) (after : PathLedger) : Type 0 where
@@ -51,6 +35,19 @@ module _ {P M : Type 0} where
         ≡ (counters_of path).bytes + sum_by (size_in (generation_of path)) new
     pub count : (counters_of after).ack_eliciting + sum_by (eliciting_in (generation_of path)) old
         ≡ (counters_of path).ack_eliciting + sum_by (eliciting_in (generation_of path)) new
+
+  -- a space that is emptied packet by packet: the first leaves the counters, and the rest is counted still
+  pub first_leaves : (path : PathLedger) (entry : ℕ × Packet P M) (rest : Packets P M)
+      → IsCountedIn (counters_of path) (generation_of path) (entry ∷ rest)
+      → IsCountedOn path entry.1 × IsCountedIn (counters_of (after_leaving path entry.1)) (generation_of path) rest
+      × Follows path (entry ∷ rest) rest (after_leaving path entry.1)
+  first_leaves path entry rest counted =
+      grind (
+        arith,
+        sum_by-cons (size_in (generation_of path)) entry rest,
+        sum_by-cons (eliciting_in (generation_of path)) entry rest,
+        leaves path entry,
+      )
 
   -- what a packet that is forgotten takes from a sum
   abbrev pub gone : (ℕ × Packet P M → ℕ) → Option (ℕ × Packet P M) → ℕ

@@ -1,6 +1,6 @@
 -- Tracked packets: what sums over them and look-ups among them do when one is sent or taken. All that is said of
 -- tracked packets rests on it.
-use Rattle.std.proofs.Common.{◌≡◌, ◌≢◌, ℕ, ◌+◌, ◌≤◌, Bool, true, false, [], ◌∷◌, ◌++◌, length, filter, Option, None, Some, refl, sym, ap, arith}
+use Rattle.std.proofs.Common.{◌≡◌, ◌≢◌, ◌↔◌, ℕ, ◌+◌, ◌≤◌, Bool, true, false, [], ◌∷◌, ◌++◌, length, filter, Option, None, Some, refl, sym, ap, arith}
 use Rattle.std.specs.Prelude.{sum_by}
 use Rattle.std.specs.Ordering.{nat_cmp, is_eq}
 use Rattle.std.specs.Cmp.{nat_cmp_total, Equal-is, tied_itself}
@@ -110,17 +110,15 @@ module _ {P M : Type 0} where
 
   -- ---- sizes
 
-  pub sized_from_count : (packets : Packets P M) → sum_by (λ entry. size_count entry.1) packets ≢ 0 → HasSize packets
-  sized_from_count [] some = absurd (some refl)
-  sized_from_count (entry ∷ packets) some =
-      let cons = sum_by-cons (λ (p : ℕ × Packet P M). size_count p.1) entry packets in
-      grind (arith, nat_tests, cons, sized_from_count packets)
-
-  pub count_from_sized : (packets : Packets P M) → HasSize packets → sum_by (λ entry. size_count entry.1) packets ≢ 0
-  count_from_sized [] sized none = sized
-  count_from_sized (entry ∷ packets) sized none =
-      let cons = sum_by-cons (λ (p : ℕ × Packet P M). size_count p.1) entry packets in
-      grind (arith, nat_tests, cons, count_from_sized packets)
+  pub sized_counted : (packets : Packets P M) → (sum_by (λ entry. size_count entry.1) packets ≢ 0) ↔ HasSize packets
+  sized_counted [] = (λ some. some refl, λ sized none. sized)
+  sized_counted (entry ∷ packets) =
+      grind (
+        arith,
+        nat_tests,
+        sum_by-cons (λ (p : ℕ × Packet P M). size_count p.1) entry packets,
+        sized_counted packets,
+      )
 
   -- ---- silent packets
 

@@ -12,8 +12,7 @@ use Rattle.recovery_ledger.specs.Probes.{ProbeFound}
 use Rattle.recovery_ledger.specs.Spaces.{Space, Spaces, space_of, with_space, tracking_of, packets_of, next_number_of, HasGreatestCome, IsCoherent, one_probe_more, space_probes}
 use Rattle.recovery_ledger.proofs.CoherentLaws.{coherent_with, coherent_sent, coherent_probed}
 use Rattle.recovery_ledger.proofs.GenerationLaws.{up_to_with, up_to_fresh, up_to_more, up_to_none, up_to_taken, up_to_sent, up_to_probed}
-use Rattle.std.proofs.lemmas.List.Sums.{sum_by-cons}
-use Rattle.recovery_ledger.specs.InFlight.{size_in, eliciting_in, IsCountedIn}
+use Rattle.recovery_ledger.specs.InFlight.{IsCountedIn}
 use Rattle.recovery_ledger.specs.Probes.{moves}
 use Rattle.recovery_ledger.proofs.LedgerLaws.{Follows, carrying_follows, taken_follows, lost_follows, forgotten_counted, sent_follows, sent_elsewhere_follows, first_leaves, space_counted, balanced_by, none_balanced}
 use Rattle.recovery_paths.proofs.PathLogLaws.{some_same, for_changed}
@@ -32,13 +31,7 @@ emptied_follows : {P M : Type 0} (ledger : PathLedger) (packets : Packets P M)
 emptied_follows ledger [] counted = record { generation = refl; bytes = refl; count = refl }
 emptied_follows ledger (entry ∷ packets) counted =
     let first = first_leaves ledger entry packets counted in
-    grind (
-      arith,
-      first,
-      sum_by-cons (size_in (generation_of ledger)) entry packets,
-      sum_by-cons (eliciting_in (generation_of ledger)) entry packets,
-      emptied_follows (after_leaving ledger entry.1) packets first.1,
-    )
+    grind (arith, first, emptied_follows (after_leaving ledger entry.1) packets first.1)
 
 module _ {K P M : Type 0} (spaces : Spaces P M) (paths : OfPaths (Path K)) (balanced : AreBalanced spaces paths) where
   -- the packets of a space change, and the counters of each path by as much
