@@ -33,34 +33,28 @@ module _ {P M : Type 0} where
 module _ {P M S : Type 0} (words : QueueWords P S) where
   pub space_law : (start : ℕ) (entry : SpaceEntry P M) (log : List (SpaceEntry P M)) (old new : Space P M)
       → SpaceLeft words start log old → SpaceStep words entry old new → SpaceLeft words start (entry ∷ log) new
-  space_law start (heard now number ack_eliciting) log old new left step = record {
-    numbers = numbers_law log old.dedup new.dedup number left.numbers step.numbers;
-    acks = heard_law words log (acks_of old) left.acks (Has old.dedup) left.numbers now number ack_eliciting
-        (acks_of new) step.hears;
-    greatest = grind (arith, step.others, left.greatest);
-    sent = rw step.others left.sent;
-    kept = rw step.others left.kept;
-    queued = rw step.others left.queued;
-  }
-  space_law start (heard_again number) log old new left step = record {
-    numbers = numbers_law log old.dedup new.dedup number left.numbers step.0;
-    acks = rw step.1 left.acks;
-    greatest = rw step.1 left.greatest;
-    sent = rw step.1 left.sent;
-    kept = rw step.1 left.kept;
-    queued = rw step.1 left.queued;
-  }
+  space_law start (heard now number ack_eliciting) log old new left step =
+      grind (
+        arith,
+        step.others,
+        left,
+        numbers_law log old.dedup new.dedup number left.numbers step.numbers,
+        heard_law words log (acks_of old) left.acks (Has old.dedup) left.numbers now number ack_eliciting (acks_of new)
+            step.hears,
+      )
+  space_law start (heard_again number) log old new left step =
+      grind (arith, step.1, left, numbers_law log old.dedup new.dedup number left.numbers step.0)
   space_law start (sends number packet) log old new left step =
       grind (arith, nat_tests, step, left)
-  space_law start (acknowledged number) log old new left step = record {
-    numbers = rw step.others left.numbers;
-    acks = acknowledged_law words log (acks_of old) left.acks number (acks_of new) step.packet
-        (sym (ap (λ (s : Sent P M). packet_at s.tracked number) left.sent) ∙ step.found) step.subtracts;
-    greatest = rw step.others left.greatest;
-    sent = grind (arith, step.others, left.sent);
-    kept = grind (arith, step.others, step.found, left.sent, left.kept);
-    queued = rw step.others left.queued;
-  }
+  space_law start (acknowledged number) log old new left step =
+      grind (
+        arith,
+        step.others,
+        step.found,
+        left,
+        acknowledged_law words log (acks_of old) left.acks number (acks_of new) step.packet
+            (sym (ap (λ (s : Sent P M). packet_at s.tracked number) left.sent) ∙ step.found) step.subtracts,
+      )
   space_law start (probes immediate (moves number)) log old new left step =
       grind (arith, step, left)
   space_law start entry log old new left step =

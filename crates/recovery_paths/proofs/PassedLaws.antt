@@ -5,7 +5,7 @@ use Rattle.std.proofs.lemmas.Option.{none-some}
 use Rattle.recovery_pacing.proofs.PacerLogLaws.{HavePassed}
 use Rattle.recovery_paths.specs.PathMaking.{PathMaking, PathSettings, bucket_of}
 use Rattle.recovery_paths.specs.PathLog.{OnEachPath, PathsEntry, PathEntry, PathPast, Following, pasts_by, each_path, state_of, known_of, past_with, past_following, fresh, goes_on, transmits, passes, is_reset}
-use Rattle.recovery_paths.proofs.AllowedLaws.{IsAllowed, IsKept, AreAllowed, kept_after}
+use Rattle.recovery_paths.proofs.AllowedLaws.{IsAllowed, AreAllowed, kept_after}
 
 -- on one path, since its pacer was made
 abbrev pub HavePassedOn : {K : Type 0} → PathPast K → Type 0
@@ -31,8 +31,7 @@ module _ {K : Type 0} (settings : PathSettings K) where
       AreAllowed settings (each_path (known_of settings) pasts) entries → OnEachPath HavePassedOn pasts
       → OnEachPath HavePassedOn (pasts_by settings first (entries ++ log))
   passed_after =
-      let kept : IsKept settings HavePassedOn = record { by_entry = passed_law; following = follows_passed } in
-      kept_after settings HavePassedOn kept
+      kept_after settings HavePassedOn (record { by_entry = passed_law; following = follows_passed })
 
   pub passed_at_first : (first : PathMaking K) → OnEachPath HavePassedOn (pasts_by settings first [])
   passed_at_first first = (tt, λ past is. absurd (none-some _ is))

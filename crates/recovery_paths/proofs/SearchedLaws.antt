@@ -13,7 +13,7 @@ use Rattle.recovery_mtud.proofs.EntryLaws.{discovery_made_untold, discovery_disa
 use Rattle.recovery_mtud.proofs.SearchRunLaws.{IsInTurn, limits_outside_after}
 use Rattle.recovery_paths.specs.PathMaking.{PathMaking, PathSettings, discovery_with, first_discovery, reset_call}
 use Rattle.recovery_paths.specs.PathLog.{OnEachPath, PathsEntry, PathEntry, PathPast, Following, pasts_by, each_path, state_of, known_of, past_with, past_following, fresh, goes_on, searches, is_reset}
-use Rattle.recovery_paths.proofs.AllowedLaws.{IsAllowed, IsKept, AreAllowed, kept_after}
+use Rattle.recovery_paths.proofs.AllowedLaws.{IsAllowed, AreAllowed, kept_after}
 
 -- a discovery that was made so and called so is searched by these settings, if any
 pub record IsSearchedBy (settings : Option MtuDiscoveryConfig) (made : Discovery) (calls : List MtuCall) : Type 0 where
@@ -73,9 +73,7 @@ module _ {K : Type 0} (settings : PathSettings K) (by : Option MtuDiscoveryConfi
       AreAllowed settings (each_path (known_of settings) pasts) entries → OnEachPath (IsPathSearchedBy by) pasts
       → OnEachPath (IsPathSearchedBy by) (pasts_by settings first (entries ++ log))
   searched_over =
-      let kept : IsKept settings (IsPathSearchedBy by) =
-      record { by_entry = searched_law; following = follows_searched } in
-      kept_after settings (IsPathSearchedBy by) kept
+      kept_after settings (IsPathSearchedBy by) (record { by_entry = searched_law; following = follows_searched })
 
   pub searched_at_first : (first : PathMaking K) → IsSearchedBy by first.discovery []
       → OnEachPath (IsPathSearchedBy by) (pasts_by settings first [])

@@ -6,7 +6,7 @@ use Rattle.std.proofs.lemmas.Option.{none-some}
 use Rattle.recovery_paths.specs.PathMaking.{PathMaking, PathSettings}
 use Rattle.recovery_paths.specs.PathLog.{OnEachPath, PathsEntry, PathEntry, PathPast, Following, pasts_by, each_path, state_of, known_of, past_with, past_following, receives, is_validated, transmits, passes}
 use Rattle.recovery_paths.specs.Threefold.{IsWithinThreefold}
-use Rattle.recovery_paths.proofs.AllowedLaws.{IsAllowed, IsKept, AreAllowed, kept_after}
+use Rattle.recovery_paths.proofs.AllowedLaws.{IsAllowed, AreAllowed, kept_after}
 
 -- what is not blocked, though the address is not validated, is within the limit
 unblocked : (validated : Bool) (received sent : ℕ) → (not validated && nat_lt (3 * received) sent) ≡ false
@@ -36,8 +36,7 @@ module _ {K : Type 0} (settings : PathSettings K) where
       AreAllowed settings (each_path (known_of settings) pasts) entries → OnEachPath IsWithinThreefold pasts
       → OnEachPath IsWithinThreefold (pasts_by settings first (entries ++ log))
   threefold_after =
-      let kept : IsKept settings IsWithinThreefold = record { by_entry = threefold_law; following = follows_within } in
-      kept_after settings IsWithinThreefold kept
+      kept_after settings IsWithinThreefold (record { by_entry = threefold_law; following = follows_within })
 
   pub within_at_first : (first : PathMaking K) → OnEachPath IsWithinThreefold (pasts_by settings first [])
   within_at_first first = (λ unproved checked. omega arith, λ past is. absurd (none-some _ is))
