@@ -6,11 +6,11 @@ use Rattle.recovery_base.specs.declared.below.SpaceId.{SpaceId}
 use Rattle.recovery_acks.specs.Acks.{new_acks}
 use Rattle.recovery_queue.specs.Queues.{QueueWords}
 use Rattle.recovery_ledger.specs.Ledger.{AreCoherent}
-use Rattle.recovery_ledger.specs.Packets.{Packet, no_packets, forgotten_number, IsTooLarge, AreBelow, AreAcknowledging, after_sending, after_taking, after_carrying}
+use Rattle.recovery_ledger.specs.Packets.{Packet, no_packets, forgotten_number, IsTooLarge, AreAcknowledging, after_sending, after_taking, after_carrying}
 use Rattle.recovery_ledger.specs.Probes.{ProbeFound, moves}
 use Rattle.recovery_ledger.specs.Spaces.{Space, Spaces, space_of, with_space, tracking_of, packets_of, acks_of, next_number_of, HasGreatestCome, IsCoherent, one_probe_more, space_probes, space_loses}
 use Rattle.recovery_ledger.proofs.AmongLaws.{Acknowledges, all_without, all_sent, all_carrying}
-use Rattle.recovery_ledger.proofs.PacketLaws.{all_below, are_below, AllBelow-without, AllBelow-push, AllBelow-more, AllBelow-carrying, AllBelow-without_some}
+use Rattle.recovery_ledger.proofs.PacketLaws.{AllBelow, all_below, are_below, AllBelow-without, AllBelow-push, AllBelow-more, AllBelow-carrying, AllBelow-without_some}
 
 module _ {P M : Type 0} where
   -- ---- one space among three
@@ -27,13 +27,15 @@ module _ {P M : Type 0} where
   -- ---- one space
 
   module _ (old here : Space P M) (coherent : IsCoherent old) (received : HasGreatestCome here) where
+    own : AllBelow (packets_of old) (next_number_of old)
+    own = all_below _ _ coherent.packets
+
     -- the packets have numbers below the next one, and acknowledge numbers of packets
     coherent_by : next_number_of old ≤ next_number_of here
         → (tracking_of here).last_eliciting ≡ (tracking_of old).last_eliciting
-        → AreBelow (packets_of here) (next_number_of old) → AreAcknowledging (packets_of here) → IsCoherent here
+        → AllBelow (packets_of here) (next_number_of old) → AreAcknowledging (packets_of here) → IsCoherent here
     coherent_by next last below acknowledging = record {
-      packets = are_below _ _ (AllBelow-more (packets_of here) (next_number_of old) (next_number_of here) next
-          (all_below _ _ below));
+      packets = are_below _ _ (AllBelow-more (packets_of here) (next_number_of old) (next_number_of here) next below);
       last = λ m is. omega (arith, coherent.last m (sym last ∙ is), next);
       acknowledging = acknowledging;
       received = received;
@@ -41,26 +43,21 @@ module _ {P M : Type 0} where
 
     -- nothing that is tracked changes
     pub coherent_kept : tracking_of here ≡ tracking_of old → next_number_of here ≡ next_number_of old → IsCoherent here
-    coherent_kept same next =
-        coherent_by (omega arith) (rw same refl) (rw same coherent.packets) (rw same coherent.acknowledging)
+    coherent_kept same next = coherent_by (omega arith) (rw same refl) (rw same own) (rw same coherent.acknowledging)
 
     -- a tracked packet leaves
     pub coherent_taken : (number : ℕ) → tracking_of here ≡ after_taking number (tracking_of old)
         → next_number_of here ≡ next_number_of old → IsCoherent here
     coherent_taken number same next =
-        coherent_by (omega arith) (rw same refl)
-        (rw same (are_below _ _ (AllBelow-without (packets_of old) number (next_number_of old)
-        (all_below _ _ coherent.packets))))
-        (rw same (all_without Acknowledges (packets_of old) number coherent.acknowledging))
+        coherent_by (omega arith) (rw same refl) (rw same (AllBelow-without _ number _ own))
+        (rw same (all_without Acknowledges _ number coherent.acknowledging))
 
     -- a tracked packet has other contents
     pub coherent_carrying : (number : ℕ) (contents : P)
         → tracking_of here ≡ after_carrying number contents (tracking_of old) → next_number_of here ≡ next_number_of old
         → IsCoherent here
     coherent_carrying number contents same next =
-        coherent_by (omega arith) (rw same refl)
-        (rw same (are_below _ _ (AllBelow-carrying (packets_of old) number contents (next_number_of old)
-        (all_below _ _ coherent.packets))))
+        coherent_by (omega arith) (rw same refl) (rw same (AllBelow-carrying (packets_of old) number contents _ own))
         (rw same (all_carrying Acknowledges (packets_of old) number contents (λ packet holds. holds)
         coherent.acknowledging))
 
@@ -68,8 +65,7 @@ module _ {P M : Type 0} where
     pub coherent_emptied : tracking_of here ≡ record (tracking_of old) { packets = [] }
         → next_number_of here ≡ next_number_of old → IsCoherent here
     coherent_emptied same next =
-        coherent_by (omega arith) (rw same refl) (rw same (λ number packet e. absurd (cc)))
-        (rw same (λ packet among. absurd among))
+        coherent_by (omega arith) (rw same refl) (rw same tt) (rw same (λ packet among. absurd among))
 
     -- a packet is sent under the next number, or one above it
     pub coherent_sent : (number : ℕ) (packet : Packet P M) → next_number_of old ≤ number
@@ -77,8 +73,7 @@ module _ {P M : Type 0} where
         → next_number_of here ≡ number + 1 → IsCoherent here
     coherent_sent number packet above small tracking next =
         let below = AllBelow-without_some (packets_of old) (forgotten_number (tracking_of old).last_eliciting packet
-        (packets_of old)) number (AllBelow-more (packets_of old) (next_number_of old) number above
-        (all_below _ _ coherent.packets)) in
+        (packets_of old)) number (AllBelow-more (packets_of old) (next_number_of old) number above own) in
         record {
           packets = rw (tracking, next) (are_below _ _ (AllBelow-push _ number packet below));
           last = λ m is. grind (arith, tracking, is, coherent.last m, above, next);
