@@ -7,15 +7,13 @@ pub appends_more : (before mid after : Option (List ℕ)) (front bytes : List �
     → Appends mid after bytes → Appends before after (front ++ bytes)
 appends_more None mid after front bytes a b = tt
 appends_more (Some old) (Some now) (Some new) front bytes a b = rw (b, a) (append_assoc old front bytes)
-appends_more (Some old) None after front bytes a b = absurd a
-appends_more (Some old) (Some now) None front bytes a b = absurd b
+appends_more before mid after front bytes a b = grind (arith, a, b)
 
 pub appends_kept : (before mid after : Option (List ℕ)) (bytes : List ℕ) → Appends before mid bytes → Keeps mid after
     → Appends before after bytes
 appends_kept None mid after bytes a k = tt
 appends_kept (Some old) (Some now) (Some new) bytes a k = k ∙ a
-appends_kept (Some old) None after bytes a k = absurd a
-appends_kept (Some old) (Some now) None bytes a k = absurd k
+appends_kept before mid after bytes a k = grind (arith, a, k)
 
 -- what is written up to w of the bytes
 pub record Written (before after : Option (List ℕ)) (bytes : List ℕ) (w : ℕ) : Type 0 where
