@@ -54,9 +54,8 @@ module _ {P M S : Type 0} (words : QueueWords P S) (measure : P → ℕ) (adds :
   sum_replaced (entry ∷ packets) n packet other found =
       grind (
         arith,
-        sum_by-cons carries entry packets,
-        sum_by-cons carries (entry.0, other) packets,
-        sum_by-cons carries entry (replaced n (Some other) packets),
+        sum_by-cons carries entry,
+        sum_by-cons carries (entry.0, other),
         sum_replaced packets n packet other,
       )
 

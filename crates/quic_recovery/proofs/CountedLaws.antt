@@ -120,9 +120,6 @@ module _ {P M : Type 0} (weigh : ℕ → Bool → ℕ) (generation : ℕ) where
 spaces_same : (f g : SpaceId → ℕ) → ((space : SpaceId) → f space ≡ g space) → over_spaces f ≡ over_spaces g
 spaces_same f g same = omega (arith, same Initial, same Handshake, same Data)
 
-none_more : (b : Bool) (x y : ℕ) → x ≡ y → cond b 0 0 + x ≡ y
-none_more b x y is = grind (arith, nat_tests, is)
-
 -- ---- the table
 
 -- what spaces track weighs as much as the history says, whatever numbers are gone
@@ -160,7 +157,7 @@ module _ {F K Q S M P : Type 0} (beginning : Beginning F K Q S M P) (before : Hi
   once space m = grind (arith, nat_tests, (all space m).same)
 
   nothing : cond is_path 0 0 + sum_on weigh generation gone before ≡ over_spaces (λ space. sum_of space (sent space))
-  nothing = none_more is_path _ _ (same weigh generation gone)
+  nothing = grind (arith, nat_tests, same weigh generation gone)
 
   -- an entry of a space that keeps the sum
   unmoved : (space : SpaceId) (entry : SpaceEntry P M) → keeps_packets (space_kind entry) ≡ true

@@ -14,10 +14,9 @@ use Rattle.recovery_ids.specs.RemoteLog.{RemoteStep, RemoteIdsLeft}
 use Rattle.recovery_ids.proofs.LocalLogLaws.{local_law}
 use Rattle.recovery_ids.proofs.RemoteLogLaws.{remote_law}
 use Rattle.recovery_ledger.specs.Discarded.{DiscardedStep, DiscardedLeft}
-use Rattle.recovery_ledger.specs.InFlight.{in_flight}
-use Rattle.recovery_ledger.specs.Ledger.{tracked_by, IsBalancedOn}
-use Rattle.recovery_ledger.specs.Packets.{Packets, no_packets}
-use Rattle.recovery_ledger.specs.Paths.{generation_of, counters_of, fresh_ledger}
+use Rattle.recovery_ledger.specs.Ledger.{tracked_by}
+use Rattle.recovery_ledger.specs.Packets.{no_packets}
+use Rattle.recovery_ledger.specs.Paths.{counters_of, fresh_ledger}
 use Rattle.recovery_ledger.specs.Probes.{ProbeFound, moves}
 use Rattle.recovery_ledger.specs.SpaceLog.{SpaceEntry, sends, probes}
 use Rattle.recovery_ledger.specs.Spaces.{Spaces, space_of, tracking_of, acks_of, next_number_of, SpaceStep, SpaceLeft}
@@ -25,7 +24,7 @@ use Rattle.recovery_ledger.specs.Tracked.{Sent, sent_by, sent_moved}
 use Rattle.recovery_ledger.proofs.CoherentLaws.{fresh_coherent}
 use Rattle.recovery_ledger.proofs.SpaceLaws.{space_law}
 use Rattle.recovery_paths.specs.Balance.{AreBalanced}
-use Rattle.recovery_paths.specs.PathLog.{OfPaths, PathsLeft, path_known, paths_known}
+use Rattle.recovery_paths.specs.PathLog.{OfPaths, PathsLeft, paths_known}
 use Rattle.recovery_paths.specs.PathMaking.{state_made}
 use Rattle.recovery_paths.specs.PathStates.{Path}
 use Rattle.recovery_paths.proofs.BalanceLaws.{fresh}
@@ -35,7 +34,7 @@ use Rattle.recovery_skips.proofs.SkipLaws.{allocated, number_at, last_at}
 use Rattle.recovery_events.specs.declared.event.Event.{Event}
 use Rattle.quic_recovery.specs.Entries.{Entries, logs_with}
 use Rattle.quic_recovery.specs.History.{Beginning, Reply}
-use Rattle.quic_recovery.specs.Known.{Logs, known_by, numbering_by, in_flight_on, first_path, settings_of, last_limit}
+use Rattle.quic_recovery.specs.Known.{Logs, known_by, numbering_by, first_path, settings_of, last_limit}
 use Rattle.quic_recovery.specs.Logs.{onto}
 use Rattle.quic_recovery.specs.Parts.{Parts}
 use Rattle.quic_recovery.specs.State.{InFlightLeft, LeftBy, LimitStep, SkippingStep, Steps, ChangesBy, Changes, known_to, numbering_of}
@@ -57,14 +56,9 @@ module _ {F K Q S M P : Type 0} (beginning : Beginning F K Q S M P) where
       → ((space : SpaceId) → SpaceLeft beginning.queue.words beginning.start (logs.spaces space)
       (space_of space spaces)) → AreBalanced spaces paths → InFlightLeft (known_by beginning logs) paths
   in_flight_law logs spaces paths left balanced = record {
-    current = on_path paths.current balanced.current;
-    previous = λ path is. on_path path (balanced.previous path is);
+    current = rw (← tracked_same logs spaces left) balanced.current;
+    previous = λ path is. rw (← tracked_same logs spaces left) (balanced.previous path is);
   }
-    where
-      on_path : (path : Path K) → IsBalancedOn spaces path.ledger
-          → counters_of path.ledger ≡ in_flight_on (known_by beginning logs) (path_known path)
-      on_path path sums = sums ∙ ap (λ (tracked : SpaceId → Packets P M). in_flight (generation_of path.ledger) tracked)
-          (tracked_same logs spaces left)
 
   -- ---- what is known
 

@@ -130,8 +130,7 @@ module _ {Q S M P : Type 0} (first least : ℕ) (settings : MtuDiscoveryConfig) 
     step_tied (ResetPath now) (Ok given) = grind arith
     step_tied (NewPath now remote true) (Ok given) =
         ((tt, fresh_is.0, fresh_is.1, refl, refl, refl, tt), λ runs. absurd (cc))
-    step_tied (NewPath now remote true) (Err refusal) =
-        ((tied.0, tied.1, tied.2, tied.3, stays.0, stays.1, tied.6), λ runs. (refl, refl))
+    step_tied (NewPath now remote true) (Err refusal) = grind (arith, seen entries)
     step_tied event (Ok given) =
         ((tied.0, tied.1, tied.2, tied.3, stays.0, stays.1, tied.6), λ runs. (refl, refl))
     step_tied event (Err refusal) =

@@ -57,18 +57,17 @@ module _ (n : ℕ) where
 
 -- ---- what became of a number that was given out
 
--- so often it was given out, and so often it is gone; and whether it is tracked
-abbrev Adds : ℕ → Bool → ℕ → Type 0
-Adds given tracked departed = given ≡ more_if tracked departed
-
 module _ {P M : Type 0} (n : ℕ) where
   -- the number stands there once where it is tracked, and else not; it was given out once at most, and not yet from the
   -- next one on; and where it was it is tracked, or gone
   pub record Tracks (sent : Sent P M) (tracked : Bool) (given departed : ℕ) : Type 0 where
     pub same : times n sent.tracked ≡ cond tracked 1 0
-    pub adds : Adds given tracked departed
+    pub adds : given ≡ more_if tracked departed
     pub once : given ≤ 1
     pub late : sent.next ≤ n → given ≡ 0
+
+  abbrev counts : ℕ × Packet P M → ℕ
+  counts entry = one_if_same entry.0 n
 
   -- a number stands nowhere where it is not found, and else once at least
   abbrev Stands : Option (Packet P M) → ℕ → Type 0
@@ -81,7 +80,7 @@ module _ {P M : Type 0} (n : ℕ) where
       grind (
         arith,
         nat_tests,
-        sum_by-cons (λ (e : ℕ × Packet P M). one_if_same e.0 n) entry packets,
+        sum_by-cons counts entry packets,
         number_at n entry.0,
         at_itself n,
         stands packets,
@@ -90,9 +89,8 @@ module _ {P M : Type 0} (n : ℕ) where
   -- what is forgotten takes the number from a count where it is that one, and tracked
   forgotten_counts : (packets : Packets P M) (forgotten : Option ℕ) (tracked : Bool)
       → times n packets ≡ cond tracked 1 0
-      → gone (λ entry. one_if_same entry.0 n) (entry_at packets forgotten) ≡ cond (is_it n forgotten && tracked) 1 0
-  forgotten_counts packets None tracked same = refl
-  forgotten_counts packets (Some m) tracked same = grind (arith, nat_tests, stands packets, same)
+      → gone counts (entry_at packets forgotten) ≡ cond (is_it n forgotten && tracked) 1 0
+  forgotten_counts packets forgotten tracked same = grind (arith, nat_tests, stands packets, same)
 
   -- what is forgotten stands there
   least_counts : (last : Option ℕ) (packets : Packets P M) → least_number (silent_above last packets) ≡ Some n
@@ -102,14 +100,10 @@ module _ {P M : Type 0} (n : ℕ) where
       grind (
         arith,
         nat_tests,
-        sum_by-cons (λ (e : ℕ × Packet P M). one_if_same e.0 n) entry packets,
+        sum_by-cons counts entry packets,
         least_counts last packets,
         is,
       )
-
-  forgotten_stands : (sent : Sent P M) (packet : Packet P M) → is_it n (forgotten_by sent packet) ≡ true
-      → 1 ≤ times n sent.tracked
-  forgotten_stands sent packet is = grind (arith, nat_tests, least_counts sent.last sent.tracked, is)
 
   module _ (sent : Sent P M) (tracked : Bool) (given departed : ℕ) (here : Tracks sent tracked given departed) where
     -- a packet goes out under a number that was not given out, and another is perhaps forgotten
@@ -121,9 +115,9 @@ module _ {P M : Type 0} (n : ℕ) where
         grind (
           arith,
           nat_tests,
-          sum-sent_onto (λ entry. one_if_same entry.0 n) sent.last number packet sent.tracked,
+          sum-sent_onto counts sent.last number packet sent.tracked,
           forgotten_counts sent.tracked (forgotten_by sent packet) tracked here.same,
-          forgotten_stands sent packet,
+          least_counts sent.last sent.tracked,
           here.same,
           here.adds,
           here.once,
@@ -134,13 +128,13 @@ module _ {P M : Type 0} (n : ℕ) where
     taken_tracks : (number : ℕ) → IsTracked sent number
         → Tracks (sent_less number sent) (not (number == n) && tracked) given (more_if (number == n) departed)
     taken_tracks number there =
-        let sum = sum-without (λ entry. one_if_same entry.0 n) sent.tracked number there.0 there.1 in
+        let sum = sum-without counts sent.tracked number there.0 there.1 in
         grind (arith, nat_tests, sum, here.same, here.adds, here.once, here.late)
 
     -- contents are moved out of a packet
     moved_tracks : (empty : P) (found : ProbeFound) → Tracks (sent_moved empty found sent) tracked given departed
     moved_tracks empty (moves number) =
-        let sum = sum-carrying sent.tracked number (λ entry. one_if_same entry.0 n) empty (λ m packet. refl) in
+        let sum = sum-carrying sent.tracked number counts empty (λ m packet. refl) in
         record { same = omega (arith, here.same, sum); adds = here.adds; once = here.once; late = here.late }
     moved_tracks empty found = here
 
