@@ -209,17 +209,11 @@ module _ {F K Q S M P : Type 0} (beginning : Beginning F K Q S M P) (before : Hi
 -- ---- throughout a run
 
 module _ {F K Q S M P : Type 0} (beginning : Beginning F K Q S M P) where
-  keeps : (before : History Q S M P) (event : Event Q S M P) (reply : Reply Q) → Told beginning before event reply
-      → LosesNothing beginning before → LosesNothing beginning ((event, reply) ∷ before)
-  keeps before event reply told before_it =
-      λ measure adds space. reply_keeps beginning before measure adds space (before_it measure adds space) event reply
-      told
-
-  nothing_yet : LosesNothing beginning []
-  nothing_yet = λ measure adds space. omega (arith, adds.empty)
-
   pub loses_nothing : (events : List (Event Q S M P)) (replies : List (Reply Q))
       → Throughout (Told beginning) events replies
       → LosesNothing beginning (history events replies)
   loses_nothing events replies told =
-      kept_after (Told beginning) (LosesNothing beginning) keeps [] events replies told nothing_yet
+      kept_after (Told beginning) (LosesNothing beginning)
+      (λ before event reply here kept measure adds space.
+      reply_keeps beginning before measure adds space (kept measure adds space) event reply here) [] events replies
+      told (λ measure adds space. omega (arith, adds.empty))

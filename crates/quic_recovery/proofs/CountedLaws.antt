@@ -261,13 +261,6 @@ module _ {F K Q S M P : Type 0} (beginning : Beginning F K Q S M P) where
   abbrev Kept : History Q S M P → Type 0
   Kept history = AllTracked beginning history × Counts beginning history
 
-  keeps : (before : History Q S M P) (event : Event Q S M P) (reply : Reply Q) → Told beginning before event reply
-      → Kept before → Kept ((event, reply) ∷ before)
-  keeps before event reply told kept = (
-    keeps_tracked beginning before event reply told kept.0,
-    λ weigh generation gone. reply_counts beginning before kept.0 kept.1 weigh generation gone event reply told,
-  )
-
   module _ (before : History Q S M P) (counts : Counts beginning before) where
     abbrev known_then : Known K P M
     known_then = known_by beginning (logs_of beginning before)
@@ -316,5 +309,9 @@ module _ {F K Q S M P : Type 0} (beginning : Beginning F K Q S M P) where
   -- throughout a run
   pub counts_in_flight : AllAlong beginning CountsInFlight
   counts_in_flight events replies told =
-      throughout_kept beginning Kept CountsInFlight keeps holds [] events replies told
+      throughout_kept beginning Kept CountsInFlight
+      (λ before event reply here kept. (
+      keeps_tracked beginning before event reply here kept.0,
+      λ weigh generation gone. reply_counts beginning before kept.0 kept.1 weigh generation gone event reply here))
+      holds [] events replies told
       (none_tracked beginning, λ weigh generation gone. refl)

@@ -101,8 +101,7 @@ module _ {F K Q S M P : Type 0} (beginning : Beginning F K Q S M P) where
   pub changes_by_logs : (logs : Logs P M) (old : Parts K P M) (event : Event Q S M P) (reply : Reply Q)
       (new : Parts K P M) → LeftBy beginning logs old → Changes beginning.queue old event reply new
       → ChangesBy beginning.queue (known_by beginning logs) old event reply new
-  changes_by_logs logs old event reply new left changes =
-      rw (← known_same beginning logs old left) changes
+  changes_by_logs logs old event reply new left changes = rw (← known_same beginning logs old left) changes
 
 -- a queue that is moved leaves the numbers as they are
 moved_next : {P M : Type 0} (empty : P) (found : ProbeFound) (sent : Sent P M)

@@ -201,17 +201,11 @@ module _ {F K Q S M P : Type 0} (beginning : Beginning F K Q S M P) where
       → option_map in_state previous ≡ Some path.state.discovery.mtu
   state_mtu previous path is = grind (arith, is)
 
-  uses_mtu : (history : History Q S M P) (event : Event Q S M P) (reply : Reply Q)
-      → Facts beginning history event reply
-      → Kept history
-      → Kept ((event, reply) ∷ history) → UsesMtu beginning history event reply
-  uses_mtu history event reply known kept after = (
-    after.now,
-    λ path lives. after.left path.state.discovery.mtu (state_mtu _ path lives),
-  )
-
   pub mtu_told : ForSome (discovery_settings beginning) (λ settings. settings.upper_bound < 2 ^ 16)
       → AllAlong beginning (UsesMtu beginning)
   mtu_told small events replies told =
-      throughout_by (Facts beginning) (UsesMtu beginning) Kept kept_after uses_mtu [] events replies
+      throughout_by (Facts beginning) (UsesMtu beginning) Kept kept_after
+      (λ history event reply known kept after. (
+      after.now,
+      λ path lives. after.left path.state.discovery.mtu (state_mtu _ path lives))) [] events replies
       (facts beginning events replies told) kept_first

@@ -136,10 +136,10 @@ module _ {Q P M : Type 0} (known : SpaceKnown P M) (heard : Heard) (number : ℕ
   verdict reply told = grind (arith, told, sizes, news)
 
 module _ {F K Q S M P : Type 0} (beginning : Beginning F K Q S M P) where
-  received_told : (history : History Q S M P) (space : SpaceId) (now number : ℕ) (eliciting : Bool) (reply : Reply Q)
-      → Told beginning history (Received space now number eliciting) reply
-      → CallsNew history (Received space now number eliciting) reply
-  received_told history space now number eliciting reply told =
+  -- what an event is told, it is told of new numbers
+  pub numbers_told : (history : History Q S M P) (event : Event Q S M P) (reply : Reply Q)
+      → Told beginning history event reply → CallsNew history event reply
+  numbers_told history (Received space now number eliciting) reply told =
       let logs = logs_of beginning history in
       let numbers = CameIn (logs.spaces space) in
       let came = came_in space history in
@@ -148,10 +148,4 @@ module _ {F K Q S M P : Type 0} (beginning : Beginning F K Q S M P) where
       (heard_by beginning.queue.words (logs.spaces space)) number eliciting (nat_le (2 ^ 62) number)
       (is_new came number) (le-leb (2 ^ 62) number, leb-true (2 ^ 62) number)
       (new_from numbers came same number, new_to numbers came same number) reply told)
-
-  -- what an event is told, it is told of new numbers
-  pub numbers_told : (history : History Q S M P) (event : Event Q S M P) (reply : Reply Q)
-      → Told beginning history event reply → CallsNew history event reply
-  numbers_told history (Received space now number eliciting) reply told =
-      received_told history space now number eliciting reply told
   numbers_told history event reply told = tt

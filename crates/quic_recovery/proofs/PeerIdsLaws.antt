@@ -92,8 +92,7 @@ module _ {Q S M P : Type 0} (initial : List ℕ) where
 
   least_found : (low : ℕ) (history : History Q S M P) (least : Option ℕ) → IsLeastFrom (ids_given history) low least
       → least_from low history ≡ least
-  least_found low history least is =
-      same_least (ids_given history) low (least_from low history) least (least_is low history) is
+  least_found low history least = same_least _ low _ least (least_is low history)
 
   -- ---- the ids that are held, by the history
 

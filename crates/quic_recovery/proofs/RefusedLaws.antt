@@ -176,11 +176,6 @@ module _ {F K Q S M P : Type 0} (beginning : Beginning F K Q S M P) where
         none_named _ (λ told. grind (arith, told)) (λ told. grind (arith, told)) (λ told. grind (arith, told))
         (λ told. grind (arith, told))
 
-    -- what an event is told, it is refused rightly
-    pub refused_told : (event : Event Q S M P) (reply : Reply Q) → Told beginning history event reply
-        → RefusesRightly history event reply
-    refused_told event reply told = by_name history event reply (names event reply told)
-
   -- throughout a run
   pub refuses_rightly : AllAlong beginning RefusesRightly
   refuses_rightly events replies told =
@@ -189,5 +184,6 @@ module _ {F K Q S M P : Type 0} (beginning : Beginning F K Q S M P) where
         tracked = keeps_tracked beginning before event reply here stands.tracked;
         ids = keeps_ids beginning before stands.ids event reply here;
       })
-      (λ before event reply here stands. refused_told before stands event reply here) [] events replies told
+      (λ before event reply here stands. by_name before event reply (names before stands event reply here)) [] events
+      replies told
       (record { tracked = none_tracked beginning; ids = holds_first beginning })

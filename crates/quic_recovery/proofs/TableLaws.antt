@@ -1,6 +1,6 @@
 -- The table of replies allows one reply, and what logs leave is one state: the laws `one_reply` and `one_state`.
 use Rattle.std.proofs.Common.{◌≡◌, ℕ, ◌↔◌, ◌+◌, Bool, true, false, MatchBool, Option, None, Some, Ok, Err, arith, refl, sym, ap, ◌∙◌}
-use Rattle.std.specs.Prelude.{◌==◌, ◌≢◌, IsTrue, option_map}
+use Rattle.std.specs.Prelude.{◌==◌, ◌≢◌, option_map}
 use Rattle.std.specs.Option.{ForSome}
 use Rattle.std.proofs.lemmas.Bool.Decides.{nat_tests}
 use Rattle.std.proofs.lemmas.Option.{same_Some}
@@ -41,12 +41,6 @@ use Rattle.quic_recovery.specs.Replies.{same_refusal, Refuses, Answers, AlwaysAn
 use Rattle.quic_recovery.specs.Same.{AcksAlike, LooksAlike, SameRefusal, SameAnswer, SameReply}
 use Rattle.quic_recovery.specs.State.{InFlightLeft, Left}
 use Rattle.quic_recovery.specs.Told.{EcnAnswer, InSpace, Is, IsFlag, IsNextTimeout, IsPending, IsQueueProbeAnswer, OnPath, MtuProbeReply, ReceivedAnswer, Told, ToldBy}
-
--- ---- what a test is, by what it says
-
--- two tests of one thing are equal
-same_test : (A : Type 0) (a b : Bool) → (IsTrue a ↔ A) → (IsTrue b ↔ A) → a ≡ b
-same_test A a b is_a is_b = grind (arith, is_a, is_b)
 
 -- ---- refusals, by their numbers
 
@@ -150,9 +144,8 @@ module _ {Q S M P : Type 0} (q : QueueMeaning Q S M P) where
 
   probe_agree : (here : SpaceKnown P M) (streams : S) (heard : Heard) (immediate : Bool) (found : ProbeFound)
       → Agree (IsQueueProbeAnswer q here streams heard immediate found)
-  probe_agree here streams heard immediate found (Sendable one) (Sendable other) is_one is_other =
-      grind (arith, same_test _ one.acks other.acks is_one.0 is_other.0)
-  probe_agree here streams heard immediate found one other is_one is_other = grind (arith, is_one, is_other)
+  probe_agree here streams heard immediate found (Sendable one) other is_one is_other = grind (arith, is_one, is_other)
+  probe_agree here streams heard immediate found one other is_one is_other = absurd is_one
 
   ecn_decides : (here : SpaceKnown P M) (newly : ℕ) (counts : EcnCounts) → Decides (EcnAnswer here newly counts)
   ecn_decides here newly counts (Ok one) (Ok other) m n is_one is_other =
@@ -277,9 +270,6 @@ module _ {F K Q S M P : Type 0} (beginning : Beginning F K Q S M P) (history : H
       decides beginning.queue beginning.words (λ space. heard_by beginning.queue.words (logs.spaces space))
       (known_by beginning logs) event one other here there told_one told_other
 
-  iff_both : {A B C : Type 0} → A ↔ C → B ↔ C → A ↔ B
-  iff_both a b = (λ x. b.1 (a.0 x), λ y. a.1 (b.0 y))
-
   -- an option that says each number alike is the same
   same_base : (one other : Option ℕ) → ((m : ℕ) → (one ≡ Some m) ↔ (other ≡ Some m)) → one ≡ other
   same_base None None alike = refl
@@ -287,14 +277,9 @@ module _ {F K Q S M P : Type 0} (beginning : Beginning F K Q S M P) (history : H
   same_base one (Some m) alike = (alike m).1 refl
 
   acks_alike : (said : AcksSaid) (one other : Acks) → AcksLeft said one → AcksLeft said other → AcksAlike one other
-  acks_alike said one other left too = record {
-    pending = λ n. iff_both (left.pending n) (too.pending n);
-    required = same_test said.required one.required other.required left.required too.required;
-    base = same_base one.base other.base (λ m. iff_both (left.started m) (too.started m));
-    counts = left.counts ∙ sym too.counts;
-    silent = left.silent ∙ sym too.silent;
-    largest = left.largest ∙ sym too.largest;
-  }
+  acks_alike said one other left too =
+      let base = same_base one.base other.base (λ m. grind (arith, left.started m, too.started m)) in
+      grind (arith, left.pending, too.pending, base)
 
   pub one_state_left : (one other : Parts K P M) → Left beginning history one → Left beginning history other
       → LooksAlike one other
@@ -303,15 +288,9 @@ module _ {F K Q S M P : Type 0} (beginning : Beginning F K Q S M P) (history : H
     spaces = λ space. (
         let here = left.spaces space in
         let there = too.spaces space in
-        record {
-          numbers = λ n. iff_both (here.numbers n) (there.numbers n);
-          acks = acks_alike _ _ _ here.acks there.acks;
-          greatest = here.greatest ∙ sym there.greatest;
-          sent = here.sent ∙ sym there.sent;
-          kept = here.kept ∙ sym there.kept;
-          queued = here.queued ∙ sym there.queued;
-          beside = left.beside space ∙ sym (too.beside space);
-        }
+        let acks = acks_alike _ _ _ here.acks there.acks in
+        let beside = left.beside space ∙ sym (too.beside space) in
+        grind (arith, acks, here.numbers, there.numbers, here, there, beside)
         );
     discarded = λ space. left.discarded space ∙ sym (too.discarded space);
     paths = left.paths ∙ sym too.paths;

@@ -9,7 +9,7 @@ use Rattle.std.specs.Ordering.{nat_cmp, is_eq}
 use Rattle.std.proofs.lemmas.Bool.Decides.{nat_tests}
 use Rattle.std.proofs.lemmas.List.Sums.{sum_by-cons}
 use Rattle.recovery_base.specs.declared.below.SpaceId.{SpaceId}
-use Rattle.recovery_base.specs.declared.below.SpaceId.TheVariants.{Initial, Handshake, Data}
+use Rattle.recovery_base.specs.declared.below.SpaceId.TheVariants.{Initial, Data}
 use Rattle.recovery_base.specs.Spaces.{same_space}
 use Rattle.recovery_ledger.specs.Departures.{one_if_same}
 use Rattle.recovery_ledger.specs.Packets.{Packet, Packets, packet_at, entry_at, least_number, silent_above}
@@ -163,15 +163,12 @@ is_there (Some packet) there = (packet, refl)
 
 pub one_space : (there space : SpaceId) → same_space there space ≡ true → there ≡ space
 one_space Initial Initial e = refl
-one_space Handshake Handshake e = refl
-one_space Data Data e = refl
-one_space there space e = cc
+one_space there space e = grind (arith, e)
 
 pub probe_number : {K Q S M P : Type 0} (q : QueueMeaning Q S M P) (known : Known K P M) (now : ℕ) (due : Option ℕ)
     (number size : ℕ)
     → MtuProbeReply q known now due (Ok (Probe number size)) → number ≡ known.numbers.next
-probe_number q known now None number size told = cc
-probe_number q known now (Some due) number size told = cc (told.1)
+probe_number q known now due number size told = grind (arith, told)
 
 -- how often a number of a space is gone
 abbrev departed_in : {Q S M P : Type 0} → SpaceId → ℕ → History Q S M P → ℕ
