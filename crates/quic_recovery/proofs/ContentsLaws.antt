@@ -64,12 +64,6 @@ module _ {P M S : Type 0} (words : QueueWords P S) (measure : P → ℕ) (adds :
       → measure (joined_with words pending found) ≡ measure pending + measure (contents_or words.empty found)
   joins pending found = grind (arith, adds.empty, adds.joined pending)
 
-  -- a lost packet's contents wait
-  loses_none : (pending : P) (packets : Packets P M) (n : ℕ)
-      → sum_by carries (without packets n) + measure (joined_with words pending (packet_at packets n)) ≡ sum_by carries
-      packets + measure pending
-  loses_none pending packets n = omega (arith, sum_leaves packets n, joins pending (packet_at packets n))
-
   -- what a probe finds waits
   moves_none : (pending : P) (found : ProbeFound) (sent : Sent P M)
       → sum_by carries (sent_moved words.empty found sent).tracked
@@ -168,7 +162,8 @@ module _ {F K Q S M P : Type 0} (beginning : Beginning F K Q S M P) (before : Hi
   unmoved : (entry : SpaceEntry P M) → keeps_contents (space_kind entry) ≡ true
       → outgoing_now ≡ held_by (entry ∷ log) + gone_now
   unmoved (loses number) keeps =
-      omega (arith, same, loses_none words measure adds pending sent.tracked number)
+      let waits = joins words measure adds pending (packet_at sent.tracked number) in
+      omega (arith, same, sum_leaves words measure adds sent.tracked number, waits)
   unmoved (probes immediate found) keeps =
       omega (arith, same, moves_none words measure adds pending found sent)
   unmoved entry keeps = grind (arith, keeps, same)

@@ -4,9 +4,9 @@ use Rattle.std.proofs.lemmas.Bool.{false≢true}
 use Rattle.recovery_base.specs.declared.below.SpaceId.{SpaceId}
 use Rattle.recovery_base.specs.declared.below.SpaceId.TheVariants as space
 use Rattle.recovery_ledger.specs.Packets.{Packet, packet_at}
-use Rattle.recovery_mtud.specs.Discovery.{is_data, poll_of, reports}
-use Rattle.recovery_mtud.specs.DiscoveryLog.{MtuCall, loses_probe, losses_end, discovery_by}
-use Rattle.recovery_mtud.specs.MtuEntries.{MtuEntry, acked, lost, probe_lost, poll_entry, entry_of}
+use Rattle.recovery_mtud.specs.Discovery.{is_data, poll_of}
+use Rattle.recovery_mtud.specs.DiscoveryLog.{loses_probe}
+use Rattle.recovery_mtud.specs.MtuEntries.{MtuEntry, acked, lost, probe_lost, poll_entry}
 use Rattle.recovery_paths.specs.PathMaking.{PathMaking, PathSettings}
 use Rattle.recovery_paths.specs.PathLog.{PathsEntry, on, pasts_by, searches, is_reset}
 use Rattle.recovery_paths.specs.PathStates.{is_path_probe}
@@ -14,7 +14,7 @@ use Rattle.recovery_events.specs.declared.event.Event.{Event}
 use Rattle.recovery_events.specs.declared.event.Event.TheVariants.{PollMtu, Acked, Lost, LossesDone, PeerLimit, ResetPath, NewPath}
 use Rattle.recovery_events.specs.declared.event.Answer.{Answer}
 use Rattle.recovery_paths.specs.declared.live_paths.PathName.TheVariants.{Current, Previous}
-use Rattle.quic_recovery.specs.Entries.{Entries, acked_entry, acked_search, logs_of, lost_search, searched, pasts_of}
+use Rattle.quic_recovery.specs.Entries.{Entries, acked_entry, acked_search, logs_of, lost_search}
 use Rattle.quic_recovery.specs.History.{Beginning, History, Reply, Throughout}
 use Rattle.quic_recovery.specs.Known.{Known, first_path, known_by, settings_of, tracked_known}
 use Rattle.quic_recovery.specs.Told.{Told, MtuProbeReply}
@@ -55,24 +55,10 @@ module _ {F K Q S M P : Type 0} (beginning : Beginning F K Q S M P) (past : Hist
   abbrev before : List MtuEntry
   before = entries_with []
 
-  abbrev seen : MtuCall → MtuEntry
-  seen call =
-      let here = (pasts_of beginning past).current in
-      entry_of call (discovery_by here.making.discovery here.searched)
-
-  -- what the controller is told is nothing to the search
-  searched_seen : (changes : Bool) (call : MtuCall) → entries_with (searched known changes call) ≡ seen call ∷ before
-  searched_seen changes call = grind arith
-
   acked_seen : (space : SpaceId) (now number : ℕ) (app_limited : Bool) (packet : Option (Packet P M))
       → entries_with (acked_entry known now app_limited packet ++ acked_search known space number packet)
       ≡ (if is_data space then of_packet (acked number) packet else []) ++ before
   acked_seen space now number app_limited packet = grind arith
-
-  -- outside 1-RTT keys nothing is seen
-  lost_unseen : (space : SpaceId) (number : ℕ) (packet : Option (Packet P M)) → is_data space ≡ false
-      → entries_with (lost_search known space number packet) ≡ before
-  lost_unseen space number packet other = grind (arith, other)
 
   lost_data_seen : (number : ℕ) (packet : Option (Packet P M)) →
       entries_with (lost_search known space.Data number packet)
@@ -97,10 +83,9 @@ module _ {F K Q S M P : Type 0} (beginning : Beginning F K Q S M P) (past : Hist
       acked_seen there now number app_limited (packet_at (tracked_known known there) number)
   entered_one (Lost space.Data number) (Ok given) told =
       rw told.1.1 (lost_data_seen number (data_packet beginning past number))
-  entered_one (Lost there number) (Ok given) told =
-      lost_unseen there number (packet_at (tracked_known known there) number) refl
+  entered_one (Lost there number) (Ok given) told = grind arith
   entered_one (LossesDone now) (Ok given) told =
-      rw told (searched_seen (reports known.paths.current.state.discovery) (losses_end now))
+      rw told (grind arith)
   entered_one (ResetPath now) (Ok given) told = refl
   entered_one (NewPath now remote true) (Ok given) told = refl
   entered_one (NewPath now remote false) (Ok given) told = refl

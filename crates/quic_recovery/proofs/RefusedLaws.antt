@@ -112,11 +112,6 @@ module _ {F K Q S M P : Type 0} (beginning : Beginning F K Q S M P) where
         cause_names SpaceDiscarded refl refl _ Otherwise cause _ (λ is. grind (arith, is, dropped))
         (λ live. grind (arith, live, dropped)) names
 
-    -- one that is refused for no other of these causes
-    only_in : (space : SpaceId) (Otherwise : Reply Q → Type 0) → Names None Otherwise
-        → Names (in_space history space None) (InSpace (known.spaces space) Otherwise)
-    only_in space Otherwise names = in_one space Otherwise None names
-
     -- a packet leaves
     leave_names : (space : SpaceId) (Grows : Type 0) (number : ℕ) (given : Answer Q)
         → Names (in_space history space (unless (is_tracked space number history) NotTracked))
@@ -144,9 +139,9 @@ module _ {F K Q S M P : Type 0} (beginning : Beginning F K Q S M P) where
 
     names : (event : Event Q S M P) → Names (first_cause history event) (Told beginning history event)
     names (Received space now number eliciting) =
-        only_in space _ (passes NumberTooLarge _ _ refl (answers _ _))
+        in_one space _ None (passes NumberTooLarge _ _ refl (answers _ _))
     names (Send space now size eliciting largest queue frames) =
-        only_in space _ (passes NumberTooLarge _ _ refl (passes NumbersExhausted _ _ refl
+        in_one space _ None (passes NumberTooLarge _ _ refl (passes NumbersExhausted _ _ refl
         (passes Overflow _ _ refl (answers _ _))))
     names (Acked space now number app_limited) = leave_names space ⊥ number _
     names (Lost space number) = leave_names space (Unit {0}) number _
@@ -155,22 +150,22 @@ module _ {F K Q S M P : Type 0} (beginning : Beginning F K Q S M P) where
         cause_names NotInitialId refl refl _ _ None _ (λ late. grind (arith, nat_tests, late, active))
         (λ first. grind (arith, nat_tests, first, active)) (answers _ _)
     names (AckFrequencyIn frame) =
-        only_in Data _ (passes DelayTooSmall _ _ refl (answers _ _))
-    names (AcksSent space) = only_in space _ (answers _ _)
-    names (AckDelayTimeout space) = only_in space _ (answers _ _)
-    names (DiscardSpace space) = only_in space _ (answers _ _)
+        in_one Data _ None (passes DelayTooSmall _ _ refl (answers _ _))
+    names (AcksSent space) = in_one space _ None (answers _ _)
+    names (AckDelayTimeout space) = in_one space _ None (answers _ _)
+    names (DiscardSpace space) = in_one space _ None (answers _ _)
     names (InFlight path) = on_path path _ (λ there. answers _ _)
     names (DatagramIn path bytes) =
         on_path path _ (λ there. passes Overflow _ _ refl (answers _ _))
     names (Validated path) = on_path path _ (λ there. answers _ _)
     names (PollMtu now) =
-        only_in Data _ (passes NumbersExhausted _ _ refl (probe_names now _))
-    names (Ecn space newly counts) = only_in space _ (ecn_names (known.spaces space) newly counts)
+        in_one Data _ None (passes NumbersExhausted _ _ refl (probe_names now _))
+    names (Ecn space newly counts) = in_one space _ None (ecn_names (known.spaces space) newly counts)
     names (CheckAck space low high) =
-        only_in space _ (passes NumberTooLarge _ _ refl (passes BadRange _ _ refl
+        in_one space _ None (passes NumberTooLarge _ _ refl (passes BadRange _ _ refl
         (passes SkippedAcked _ _ refl (answers _ _))))
-    names (QueueProbe space immediate streams) = only_in space _ (answers _ _)
-    names (TakePending space) = only_in space _ (answers _ _)
+    names (QueueProbe space immediate streams) = in_one space _ None (answers _ _)
+    names (TakePending space) = in_one space _ None (answers _ _)
     names DropPrevious = on_path Previous _ (λ there. answers _ _)
     names event =
         none_named _ (λ told. grind (arith, told)) (λ told. grind (arith, told)) (λ told. grind (arith, told))
