@@ -23,6 +23,7 @@ pub eliciting_receives : (Known : ℕ → Type 0) (old new : Acks) (now number :
 eliciting_receives Known old new now number true arm is received = received
 eliciting_receives Known old new now number false arm is received = absurd (false≢true is)
 
+-- the two answers that an ack-eliciting packet asks for, over plain tests
 required_by : (Out : Type 0) (threshold count : ℕ) (required out req : Bool) → Decides out Out
     → Decides req (IsTrue required ⊎ (IsTrue (nat_lt threshold count) ⊎ IsTrue out))
     → IsTrue req ↔ (IsTrue required ⊎ ((threshold < count) ⊎ Out))

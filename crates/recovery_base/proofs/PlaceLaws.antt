@@ -107,6 +107,7 @@ module _ (words : List ℕ) where
       (omega arith) ∙ four_words (λ word. bit_at (slice_index (padded words) (5 + word)) (place % 32) ≡ bit_at
       (slice_index words word) (place % 32)) refl refl refl refl (place / 32) (omega arith)
 
+-- a move, place by place: what comes in at the end, what is free below it, and what moves up
 moves_by : (New Old : Type 0) (place by : ℕ) → (New → place < 128) → (place < 128 → place + 1 ≡ by → New)
     → (place < 128 → place + 1 < by → ¬ New) → (place < 128 → by ≤ place → New ↔ Old)
     → New ↔ ((place < 128) × ((place + 1 ≡ by) ⊎ ((by ≤ place) × Old)))

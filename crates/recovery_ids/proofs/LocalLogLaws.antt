@@ -17,6 +17,7 @@ run_kept retired first zero kept = refl
 run_kept retired first (suc count) kept =
     grind (arith, kept first, run_kept retired (first + 1) count (λ n above. kept n (omega arith)))
 
+-- and those before them are left as they were
 all_kept : (retired : ℕ → Bool) (first done issued count : ℕ) → first + done ≡ issued
     → ((n : ℕ) → issued ≤ n → retired n ≡ false)
     → unretired retired (range_with_len first done) ++ range_with_len issued count
