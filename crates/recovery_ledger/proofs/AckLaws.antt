@@ -1,5 +1,4 @@
--- What is to be acknowledged in a space, one event at a time. `receive` and `HeardLaws` rest on it, and the driver's
--- `acked`.
+-- What is to be acknowledged in a space, one event at a time. `receive` rests on it, and the driver's `acked`.
 use Rattle.std.proofs.Common.{◌≡◌, ℕ, ◌<◌, ◌≤◌, ◌⊎◌, inl, inr, ◌↔◌, Bool, true, false, cond, IsTrue, IfSome, Option, None, Some, refl, sym, ◌∙◌, arith}
 use Rattle.recovery_base.specs.Numbers.{Recent, With, Exceeds}
 use Rattle.std.proofs.lemmas.Option.{none-some}
