@@ -7,12 +7,12 @@ use Rattle.std.proofs.lemmas.List.Sums.{sum_by-cons}
 use Rattle.recovery_base.specs.declared.below.SpaceId.{SpaceId}
 use Rattle.recovery_base.specs.declared.below.SpaceId.TheVariants.{Data}
 use Rattle.recovery_base.specs.Spaces.{same_space}
-use Rattle.recovery_ledger.specs.Packets.{Packet, Packets, packet_at, without, with_contents, replaced, contents_or, entry_at}
+use Rattle.recovery_ledger.specs.Packets.{Packet, Packets, packet_at, without, with_contents, replaced, contents_or}
 use Rattle.recovery_ledger.specs.Probes.{ProbeFound, moves}
 use Rattle.recovery_ledger.specs.Queued.{joined_with, joined_found, pending_by}
 use Rattle.recovery_ledger.specs.SpaceLog.{SpaceEntry, sends, acknowledged, loses, probes, takes_pending, emptied}
 use Rattle.recovery_ledger.specs.Tracked.{Sent, sent_by, sent_moved, forgotten_by}
-use Rattle.recovery_ledger.proofs.LedgerLaws.{gone as gone_by, sum-sent_onto}
+use Rattle.recovery_ledger.proofs.LedgerLaws.{sum-sent_onto}
 use Rattle.recovery_ledger.proofs.PacketLaws.{sum-without, without-absent, none_found}
 use Rattle.recovery_queue.specs.Queues.{QueueWords}
 use Rattle.recovery_events.specs.declared.event.Event.{Event}
@@ -78,10 +78,6 @@ module _ {P M S : Type 0} (words : QueueWords P S) (measure : P → ℕ) (adds :
       )
   moves_none pending found sent = refl
 
-  -- what goes with a packet that is forgotten
-  forgets : (packets : Packets P M) (n : ℕ) → gone_by carries (entry_at packets (Some n)) ≡ carried_at packets n
-  forgets packets n = grind (arith, adds.empty)
-
 -- ---- what an event does to them
 
 -- no contents come or go
@@ -144,7 +140,7 @@ module _ {F K Q S M P : Type 0} (beginning : Beginning F K Q S M P) (before : Hi
         arith,
         sum-sent_onto (carries words measure adds) sent.last k packet sent.tracked,
         is,
-        forgets words measure adds sent.tracked,
+        adds.empty,
       )
 
   -- a probe of the MTU carries nothing

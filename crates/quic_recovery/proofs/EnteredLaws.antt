@@ -1,25 +1,22 @@
 -- What each event is to the search on the path in use is read off its answer. `SearchSteps` go on from it.
-use Rattle.std.proofs.Common.{arith, ℕ, ◌≡◌, Bool, true, false, if◌then◌else◌, List, [], ◌∷◌, ◌++◌, Option, None, Some, Ok, Err, refl, ap, ◌∙◌}
+use Rattle.std.proofs.Common.{arith, ℕ, ◌≡◌, Bool, true, false, List, [], ◌∷◌, ◌++◌, Option, None, Some, Ok, Err, refl, ap, ◌∙◌}
 use Rattle.std.proofs.lemmas.Bool.{false≢true}
-use Rattle.recovery_base.specs.declared.below.SpaceId.{SpaceId}
 use Rattle.recovery_base.specs.declared.below.SpaceId.TheVariants as space
-use Rattle.recovery_ledger.specs.Packets.{Packet, packet_at}
-use Rattle.recovery_mtud.specs.Discovery.{is_data, poll_of}
+use Rattle.recovery_mtud.specs.Discovery.{poll_of}
 use Rattle.recovery_mtud.specs.DiscoveryLog.{loses_probe}
-use Rattle.recovery_mtud.specs.MtuEntries.{MtuEntry, acked, lost, probe_lost, poll_entry}
+use Rattle.recovery_mtud.specs.MtuEntries.{MtuEntry, poll_entry}
 use Rattle.recovery_paths.specs.PathMaking.{PathMaking, PathSettings}
 use Rattle.recovery_paths.specs.PathLog.{PathsEntry, on, pasts_by, searches, is_reset}
-use Rattle.recovery_paths.specs.PathStates.{is_path_probe}
 use Rattle.recovery_events.specs.declared.event.Event.{Event}
 use Rattle.recovery_events.specs.declared.event.Event.TheVariants.{PollMtu, Acked, Lost, LossesDone, PeerLimit, ResetPath, NewPath}
 use Rattle.recovery_events.specs.declared.event.Answer.{Answer}
 use Rattle.recovery_paths.specs.declared.live_paths.PathName.TheVariants.{Current, Previous}
-use Rattle.quic_recovery.specs.Entries.{Entries, acked_entry, acked_search, logs_of, lost_search}
+use Rattle.quic_recovery.specs.Entries.{Entries, logs_of}
 use Rattle.quic_recovery.specs.History.{Beginning, History, Reply, Throughout}
-use Rattle.quic_recovery.specs.Known.{Known, first_path, known_by, settings_of, tracked_known}
+use Rattle.quic_recovery.specs.Known.{Known, first_path, known_by, settings_of}
 use Rattle.quic_recovery.specs.Told.{Told, MtuProbeReply}
 use Rattle.quic_recovery.proofs.EntryKinds.{PathKind, departing, limiting, searching, resetting, moving, elsewhere, path_kind, paths_kept, refused_keeps}
-use Rattle.quic_recovery.proofs.SearchSaid.{EntersAsTold, data_packet, entries_on, of_packet}
+use Rattle.quic_recovery.proofs.SearchSaid.{EntersAsTold, entries_on}
 use Rattle.quic_recovery.proofs.Runs.{AllAlong, throughout_kept}
 
 -- the search sees nothing of it, nor does it begin anew
@@ -55,17 +52,6 @@ module _ {F K Q S M P : Type 0} (beginning : Beginning F K Q S M P) (past : Hist
   abbrev before : List MtuEntry
   before = entries_with []
 
-  acked_seen : (space : SpaceId) (now number : ℕ) (app_limited : Bool) (packet : Option (Packet P M))
-      → entries_with (acked_entry known now app_limited packet ++ acked_search known space number packet)
-      ≡ (if is_data space then of_packet (acked number) packet else []) ++ before
-  acked_seen space now number app_limited packet = grind arith
-
-  lost_data_seen : (number : ℕ) (packet : Option (Packet P M)) →
-      entries_with (lost_search known space.Data number packet)
-      ≡ of_packet (λ bytes. if is_path_probe space.Data number known.paths.current.state then probe_lost else lost
-      number bytes) packet ++ before
-  lost_data_seen number packet = grind arith
-
   polled : (now : ℕ) (given : Answer Q) (size : Option ℕ) → poll_of now known.paths.current.state.discovery ≡ size
       → MtuProbeReply beginning.queue known now size (Ok given)
       → EntersAsTold beginning past (PollMtu now) (Ok given)
@@ -77,12 +63,9 @@ module _ {F K Q S M P : Type 0} (beginning : Beginning F K Q S M P) (past : Hist
   entered_one (PollMtu now) (Ok given) told =
       polled now given (poll_of now known.paths.current.state.discovery) refl told.1.1
   entered_one (PeerLimit size) (Ok given) told = refl
-  entered_one (Acked space.Data now number app_limited) (Ok given) told =
-      acked_seen space.Data now number app_limited (data_packet beginning past number)
-  entered_one (Acked there now number app_limited) (Ok given) told =
-      acked_seen there now number app_limited (packet_at (tracked_known known there) number)
-  entered_one (Lost space.Data number) (Ok given) told =
-      rw told.1.1 (lost_data_seen number (data_packet beginning past number))
+  entered_one (Acked space.Data now number app_limited) (Ok given) told = grind arith
+  entered_one (Acked there now number app_limited) (Ok given) told = grind arith
+  entered_one (Lost space.Data number) (Ok given) told = rw told.1.1 (grind arith)
   entered_one (Lost there number) (Ok given) told = grind arith
   entered_one (LossesDone now) (Ok given) told =
       rw told (grind arith)
