@@ -1,5 +1,5 @@
 -- What it says that a number was read from a word, or not. The readers of numbers and `FieldLaws` rest on it.
-use Rattle.std.proofs.Common.{◌+◌, ◌-◌, ◌*◌, ◌%◌, ◌==◌, take, le-ltb, ne_eqb, length-take, length-take-le, zero, suc, lit≤, ◌≡◌, ℕ, ◌^◌, ◌<◌, ◌≤◌, ◌≢◌, Bool, true, false, List, length, get_or, Option, Some, None, Result, Ok, Err, decimal, bytes_eq, refl, sym, ap, subst, ◌∙◌, arith, lt-ltb}
+use Rattle.std.proofs.Common.{◌+◌, ◌-◌, ◌*◌, ◌%◌, ◌==◌, take, ne_eqb, length-take, length-take-le, zero, suc, lit≤, ◌≡◌, ℕ, ◌^◌, ◌<◌, ◌≤◌, ◌≢◌, Bool, true, false, List, length, get_or, Option, Some, None, Result, Ok, Err, decimal, bytes_eq, refl, sym, ap, subst, ◌∙◌, arith, lt-ltb}
 use Rattle.std.proofs.lemmas.Bool.{eq-eqb}
 use Rattle.std.proofs.lemmas.Bool.Decides.{nat_tests}
 use Rattle.std.proofs.lemmas.List.{get_or-take}

@@ -1,15 +1,14 @@
 -- What is put behind the events of a script: what a form says behind its name, and what a whole line spells. The pushes
 -- of `lines` rest on it.
-use Rattle.std.proofs.Common.{arith, ◌≡◌, ◌≤◌, ℕ, Bool, true, false, List, length, Option, Some, None, Result, Ok, Err, IfOk, OnErr, IsSomeAnd, bytes_eq, refl, sym, ap, subst, ◌∙◌}
+use Rattle.std.proofs.Common.{arith, ◌≡◌, ◌≤◌, ℕ, Bool, true, false, List, length, Option, Some, None, Result, Ok, Err, IfOk, OnErr, IsSomeAnd, bytes_eq, refl, sym, ap, ◌∙◌}
 use lib.Chars.{codes}
 use Rattle.std.proofs.lemmas.Slice.Eq.{bytes_eq-Decides}
 use Rattle.recovery_lines.specs.declared.lines.Line.{Line}
 use Rattle.recovery_lines.specs.Words.{words_of}
-use Rattle.recovery_lines.specs.Lines.{Form, ItemEvent, Means, HoldsList, forms_without_items, send}
+use Rattle.recovery_lines.specs.Lines.{Form, ItemEvent, HoldsList, forms_without_items, send}
 use Rattle.recovery_lines.specs.Reading.{Reads, Pushes, PushesSpelled, TookAll, all_of, first_word, form_named, line_at, line_behind, line_of, reading, whole}
 use Rattle.recovery_lines.proofs.NameLaws.{of_length, unnamed}
 use Rattle.recovery_lines.proofs.LineLaws.{items_refused, line_found, line_only, none_spelled, other_line, refused_whole, send_line, took_line}
-use Rattle.recovery_lines.proofs.FieldLaws.{some_is}
 
 -- ---- what a form says
 

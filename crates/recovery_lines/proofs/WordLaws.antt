@@ -1,17 +1,14 @@
 -- The first word of a line. The readers of words rest on it.
-use Rattle.std.proofs.Common.{Ok, Err, inl, inr, None, Option, refl, ◌⊎◌, ◌≡◌, ℕ, ◌<◌, ◌==◌, Bool, false}
-use Rattle.std.proofs.Common.{List, [], length, take, drop, take_all, ◌+◌, Some, ◌≤◌, not, sym}
-use Rattle.std.proofs.Common.{subst, ap, arith, true, Decides, is_some, Result, ◌∷◌, ◌^◌, lit≤}
-use Rattle.std.proofs.Common.{◌∙◌}
-use Rattle.std.specs.List.{position_or_len, before_first, All}
+use Rattle.std.proofs.Common.{Ok, Err, inl, inr, None, Option, refl, ◌⊎◌, ◌≡◌, ℕ, ◌<◌, ◌==◌, Bool}
+use Rattle.std.proofs.Common.{List, [], length, take, drop, take_all, ◌+◌, Some, ◌≤◌, not}
+use Rattle.std.proofs.Common.{ap, arith, Decides, is_some, Result, ◌∷◌, ◌^◌}
+use Rattle.std.specs.List.{position_or_len, before_first}
 use Rattle.std.proofs.lemmas.List.Splits.{slice_split_none, slice_split_first}
-use Rattle.std.proofs.lemmas.List.Sums.{fails_before_first, prefix_len-le-length}
+use Rattle.std.proofs.lemmas.List.Sums.{fails_before_first}
 use Rattle.std.proofs.lemmas.Bool.{cases_lt}
 use Rattle.std.proofs.lemmas.Bool.Decides.{nat_tests}
 use Rattle.recovery_lines.specs.Words.{words_of}
-use Rattle.recovery_lines.specs.Reading.{◌>>=◌, IsFirstNumber, Reads, field, first_word, left_of, number_of}
-use Rattle.recovery_lines.proofs.FieldLaws.{bind_some, some_is}
-use Rattle.recovery_lines.proofs.NumberLaws.{kept_none, narrowed}
+use Rattle.recovery_lines.specs.Reading.{IsFirstNumber, Reads, field, first_word, left_of, number_of}
 use Rattle.std.specs.Result.{OkIff, result_ok}
 
 -- bytes with no space are one word

@@ -1,5 +1,5 @@
 -- The packets of a space stay below the next number when one is sent: the helper `sent` of the tests rests on it.
-use Rattle.std.proofs.Common.{◌≡◌, ℕ, ◌+◌, ◌<◌, Bool, true, false, cond, [], Option, None, Some, ap, sym, subst, ◌∙◌, arith}
+use Rattle.std.proofs.Common.{◌≡◌, ℕ, ◌+◌, ◌<◌, Bool, true, false, cond, [], Option, Some, sym, subst, arith}
 use Rattle.std.proofs.lemmas.Option.{none-some}
 use Rattle.recovery_ledger.specs.Packets.{Packet, Tracking, no_packets, AreBelow, IsAboveLast, forgotten_number, after_sending, without_some}
 use Rattle.recovery_ledger.specs.Spaces.{Space, tracking_of, packets_of, with_tracking}
