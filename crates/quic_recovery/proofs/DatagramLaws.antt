@@ -1,22 +1,21 @@
 -- The datagrams of each path by the history itself are those that its past in the logs has. `ThreefoldLaws` and
 -- `BlockedLaws` rest on it.
-use Rattle.std.proofs.Common.{ℕ, ◌≡◌, ◌+◌, ◌&&◌, Bool, true, false, List, [], ◌∷◌, ◌++◌, Option, None, Some, option_map, Ok, Err, refl, sym, ap, subst, arith}
+use Rattle.std.proofs.Common.{ℕ, ◌≡◌, ◌+◌, ◌&&◌, Bool, true, false, List, [], ◌∷◌, ◌++◌, Option, None, Some, Ok, Err, refl, sym, ap, subst, arith}
 use Rattle.std.proofs.lemmas.Bool.{false≢true}
 use Rattle.std.specs.Prelude.{sum_by}
 use Rattle.std.specs.List.{list_all}
 use Rattle.std.proofs.lemmas.List.Sums.{sum_by-cons}
 use Rattle.recovery_paths.specs.declared.live_paths.PathName.{PathName}
 use Rattle.recovery_paths.specs.declared.live_paths.PathName.TheVariants.{Current, Previous}
-use Rattle.recovery_paths.specs.PathLog.{OfPaths, PathEntry, PathsEntry, PathPast, PathKnown, total, total_transmitted, each_path, known_of, on, receives, is_validated as validates, past_with, pasts_by}
+use Rattle.recovery_paths.specs.PathLog.{OfPaths, PathEntry, PathsEntry, PathPast, total, total_transmitted, each_path, on, receives, pasts_by}
 use Rattle.recovery_paths.specs.PathMaking.{PathMaking, PathSettings}
 use Rattle.recovery_events.specs.declared.event.Event.{Event}
 use Rattle.recovery_events.specs.declared.event.Event.TheVariants.{Transmit, DatagramIn, Validated, NewPath, DropPrevious}
-use Rattle.recovery_events.specs.declared.event.Answer.{Answer}
 use Rattle.recovery_events.specs.declared.event.Answer.TheVariants.{Transmitted}
 use Rattle.quic_recovery.specs.Entries.{Entries, logs_of, pasts_of}
 use Rattle.quic_recovery.specs.History.{Beginning, History, Reply}
 use Rattle.quic_recovery.specs.Known.{Known, known_by, first_path, settings_of}
-use Rattle.quic_recovery.specs.Told.{Told, OnPath}
+use Rattle.quic_recovery.specs.Told.{Told}
 use Rattle.quic_recovery.specs.Promises.Datagrams.{datagrams_on, bytes_in, bytes_out, is_validated}
 use Rattle.quic_recovery.specs.Promises.Threefold.{is_checked}
 use Rattle.quic_recovery.proofs.EntryKinds.{PathKind, receiving, validating, transmitting, passing, moving, dropping, elsewhere, path_kind, paths_kept, refused_keeps}
@@ -132,39 +131,18 @@ module _ {F K Q S M P : Type 0} (beginning : Beginning F K Q S M P) (earlier : H
     one_more (on Previous (receives bytes)) entries quiet flows = absurd (false≢true quiet)
     one_more entry entries quiet flows = grind (arith, quiet)
 
-    -- ---- on the previous path, where it lives
-
-    where_lives : (answer : Answer Q) (Replies : PathKnown K → Reply Q → Type 0) (past : Option (PathPast K))
-        (validated validated_then : Bool) (here after : History Q S M P) (change : PathPast K → PathPast K)
-        → OnPath (option_map (known_of (settings_of beginning)) past) Replies (Ok answer)
-        → ((past : PathPast K) → flow_by validated here ≡ flow_of past
-        → flow_by validated_then after ≡ flow_of (change past))
-        → IsFlowWhereLives validated here (option_map flow_of past)
-        → IsFlowWhereLives validated_then after (option_map flow_of (option_map change past))
-    where_lives answer Replies None validated validated_then here after change told changes is = absurd told.1
-    where_lives answer Replies (Some past) validated validated_then here after change told changes is =
-        changes past is
-
     -- one event more
     pub reply_flows : (event : Event Q S M P) (reply : Reply Q) → Told beginning earlier event reply
         → AreFlows first ((event, reply) ∷ earlier) (each_path flow_of (pasts_of beginning ((event, reply) ∷ earlier)))
     reply_flows (DatagramIn Current bytes) (Ok answer) told =
         (came_more _ (datagrams_on Current earlier) Current bytes (Ok answer) _ same.0, same.1)
     reply_flows (DatagramIn Previous bytes) (Ok answer) told =
-        (
-          same.0,
-          where_lives answer _ pasts.previous _ _ _ _ (past_with (settings_of beginning) (receives bytes)) told
-              (λ past is. came_more _ (datagrams_on Previous earlier) Previous bytes (Ok answer) (flow_of past) is)
-              same.1,
-        )
+        let more = λ (past : PathPast K). came_more (is_validated first Previous earlier)
+        (datagrams_on Previous earlier) Previous bytes (Ok answer) (flow_of past) in
+        (same.0, grind (arith, told, same.1, more))
     reply_flows (Validated Current) (Ok answer) told =
         (ap (λ (f : Flow). flow true f.checked f.came f.went) same.0, same.1)
-    reply_flows (Validated Previous) (Ok answer) told =
-        (
-          same.0,
-          where_lives answer _ pasts.previous _ _ _ _ (past_with (settings_of beginning) validates) told
-              (λ past is. ap (λ (f : Flow). flow true f.checked f.came f.went) is) same.1,
-        )
+    reply_flows (Validated Previous) (Ok answer) told = (same.0, grind (arith, told, same.1))
     reply_flows (Transmit now bytes true) (Ok Transmitted) told =
         (went_more _ (datagrams_on Current earlier) now bytes true (Ok Transmitted) _ same.0, same.1)
     reply_flows (Transmit now bytes true) (Ok answer) told = same
