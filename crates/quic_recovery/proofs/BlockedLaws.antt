@@ -49,10 +49,14 @@ module _ {F K Q S M P : Type 0} (beginning : Beginning F K Q S M P) where
   transmit_told before now bytes checked reply told agree =
       let path = state_of (settings_of beginning) (pasts_of beginning before).current in
       let large = nat_le (2 ^ 64) (path.total_sent + bytes) in
-      grind (arith, agree.0, decide checked (is_blocked path bytes)
-      (transmit_answer beginning.words now bytes checked path)
-      (fits Q beginning.words now bytes checked path) (2 ^ 64 ≤ path.total_sent + bytes) large
-      (le-leb (2 ^ 64) (path.total_sent + bytes)) (leb-true (2 ^ 64) (path.total_sent + bytes)) reply told)
+      grind (
+        arith,
+        agree.0,
+        decide checked (is_blocked path bytes)
+            (transmit_answer beginning.words now bytes checked path)
+            (fits Q beginning.words now bytes checked path) (2 ^ 64 ≤ path.total_sent + bytes) large
+            (le-leb (2 ^ 64) (path.total_sent + bytes)) (leb-true (2 ^ 64) (path.total_sent + bytes)) reply told,
+      )
 
   blocked_told : (before : History Q S M P) (event : Event Q S M P) (reply : Reply Q)
       → Told beginning before event reply

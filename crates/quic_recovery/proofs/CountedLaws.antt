@@ -311,7 +311,8 @@ module _ {F K Q S M P : Type 0} (beginning : Beginning F K Q S M P) where
   counts_in_flight events replies told =
       throughout_kept beginning Kept CountsInFlight
       (λ before event reply here kept. (
-      keeps_tracked beginning before event reply here kept.0,
-      λ weigh generation gone. reply_counts beginning before kept.0 kept.1 weigh generation gone event reply here))
+        keeps_tracked beginning before event reply here kept.0,
+        λ weigh generation gone. reply_counts beginning before kept.0 kept.1 weigh generation gone event reply here,
+      ))
       holds [] events replies told
       (none_tracked beginning, λ weigh generation gone. refl)

@@ -213,8 +213,11 @@ module _ {K Q S M P : Type 0} (q : QueueMeaning Q S M P) (known : Known K P M) (
       → IsKept (lost_search known space number packet)
   lost_kept space number None departs = none
   lost_kept space number (Some packet) departs =
-      in_data (is_data space) _ (grind (arith, one (on_current (searches loses_probe)) departs,
-      one (on_current (searches (loses_packet number packet.size))) departs))
+      in_data (is_data space) _ (grind (
+        arith,
+        one (on_current (searches loses_probe)) departs,
+        one (on_current (searches (loses_packet number packet.size))) departs,
+      ))
 
   -- what holds of none, and of one more that is of some kinds, holds of what an event of those kinds makes
   pub paths_kept : (event : Event Q S M P) (reply : Reply Q) → is_by is event ≡ true

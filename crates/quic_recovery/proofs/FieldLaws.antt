@@ -43,8 +43,14 @@ module _ {P M A : Type 0} (says : Packet P M → A) where
           → AreSaid by limit packets → AreSaid by limit (replaced number (Some packet) packets)
       said_replaced [] number packet same said = tt
       said_replaced (entry ∷ packets) number packet same said =
-          grind (arith, nat_tests, said, same, number_at number entry.0,
-          said_replaced packets number packet same said.2)
+          grind (
+            arith,
+            nat_tests,
+            said,
+            same,
+            number_at number entry.0,
+            said_replaced packets number packet same said.2,
+          )
 
       pub said_carrying : (packets : Packets P M) (number : ℕ) (contents : P) → AreSaid by limit packets
           → AreSaid by limit (carrying number contents packets)

@@ -131,8 +131,11 @@ module _ (made : Discovery) (settings : MtuDiscoveryConfig) (new : IsUntold made
       → KeptBy made settings (entry_of call old' ∷ entries) (discovery_after call old'))
   told_next call entries old None holds kept = absurd kept
   told_next call entries old (Some search) holds kept =
-      grind (arith, kept.0,
-      told made search.settings entries old.mtu search.limit old.bursts call search.phase holds kept.1)
+      grind (
+        arith,
+        kept.0,
+        told made search.settings entries old.mtu search.limit old.bursts call search.phase holds kept.1,
+      )
 
   kept_by : (calls : List MtuCall) → KeptBy made settings (entries_by made calls) (discovery_by made calls)
   kept_by [] = told_first made.search new.search is
@@ -162,5 +165,9 @@ pub flight_within : (made : Discovery) (settings : MtuDiscoveryConfig) → IsUnt
 flight_within made settings new is calls probe flies =
     let holds = holds_by made new calls in
     let entries = entries_by made calls in
-    grind (arith, holds.mtu, in_search made settings entries _ probe (discovery_by made calls).search
-    (holds.probe ∙ flies) (kept_by made settings new is calls))
+    grind (
+      arith,
+      holds.mtu,
+      in_search made settings entries _ probe (discovery_by made calls).search
+          (holds.probe ∙ flies) (kept_by made settings new is calls),
+    )

@@ -206,6 +206,7 @@ module _ {F K Q S M P : Type 0} (beginning : Beginning F K Q S M P) where
   mtu_told small events replies told =
       throughout_by (Facts beginning) (UsesMtu beginning) Kept kept_after
       (λ history event reply known kept after. (
-      after.now,
-      λ path lives. after.left path.state.discovery.mtu (state_mtu _ path lives))) [] events replies
+        after.now,
+        λ path lives. after.left path.state.discovery.mtu (state_mtu _ path lives),
+      )) [] events replies
       (facts beginning events replies told) kept_first

@@ -43,8 +43,13 @@ module _ {ids : LocalIds} (sound : AreSound ids) where
 
   pub waits_sound : AreSound timely
   waits_sound =
-      record { small = sound.small; marks = sound.marks; unretired = sound.unretired; deadlines =
-          (mark_rises _ _ ids.deadlines sound.deadlines).1 }
+      record {
+        small = sound.small;
+        marks = sound.marks;
+        unretired = sound.unretired;
+        deadlines =
+            (mark_rises _ _ ids.deadlines sound.deadlines).1;
+      }
 
   pub waits_answer : holds_unretired ids.retire_prior_to ids.retire_prior_to ids ≡ false
   waits_answer = list_any-nowhere ids.retire_prior_to ids.unretired

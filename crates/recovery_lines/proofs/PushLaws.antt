@@ -52,9 +52,11 @@ pub pushes_spelled : {E : Type 0} (line : List ℕ) (said : Option Line) (before
     → IfOk result (λ spells. PushesSpelled line before spells after)
 pushes_spelled line (Some said) before (Ok true) after is short pushes =
     (pushes.0, line_found line said pushes.0 is short pushes.1, pushes.2)
-pushes_spelled line (Some said) before (Ok false) after is short pushes =
-    (λ event spells. let says = line_only line event spells in
-    pushes.0 event (let same : said ≡ says.0 = grind (arith, says.1, is) in rw same says.2), pushes.1)
+pushes_spelled line (Some said) before (Ok false) after is short pushes = (
+  λ event spells. let says = line_only line event spells in
+      pushes.0 event (let same : said ≡ says.0 = grind (arith, says.1, is) in rw same says.2),
+  pushes.1,
+)
 pushes_spelled line None before (Ok false) after is short pushes =
     (λ event spells. none_spelled line event is spells, pushes.1)
 pushes_spelled line None before (Ok true) after is short pushes = absurd cc
