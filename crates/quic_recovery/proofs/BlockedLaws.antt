@@ -1,5 +1,5 @@
 -- A datagram is blocked exactly where the events and answers before it say so: the clause `blocked` of `run`.
-use Rattle.std.proofs.Common.{arith, ℕ, ◌≡◌, ◌≤◌, ◌+◌, ◌*◌, ◌^◌, ◌&&◌, not, nat_lt, nat_le, Bool, true, false, cond, [], None, Some, Option, Ok, Err, refl}
+use Rattle.std.proofs.Common.{arith, ℕ, ◌≡◌, ◌≤◌, ◌+◌, ◌^◌, nat_le, Bool, true, false, cond, [], None, Some, Option, Ok, Err, refl}
 use Rattle.std.proofs.lemmas.Bool.{leb-true, le-leb}
 use Rattle.recovery_congestion.specs.Controllers.{ControllerWords}
 use Rattle.recovery_paths.specs.PathLog.{state_of}
@@ -16,7 +16,7 @@ use Rattle.quic_recovery.specs.Replies.{Refuses, AlwaysAnswers}
 use Rattle.quic_recovery.specs.Told.{Told, Is, delayed_or, transmit_answer}
 use Rattle.quic_recovery.specs.Promises.Blocked.{IsPassage, BlocksExactly}
 use Rattle.quic_recovery.proofs.Runs.{AllAlong, throughout_kept}
-use Rattle.quic_recovery.proofs.DatagramLaws.{Flow, FlowsAgree, flows_at_first, flows_after}
+use Rattle.quic_recovery.proofs.DatagramLaws.{FlowsAgree, flows_at_first, flows_after}
 
 -- what the table answers is one of what the promise allows
 module _ {K : Type 0} (Q : Type 0) (words : ControllerWords K) where

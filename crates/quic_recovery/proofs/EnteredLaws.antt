@@ -12,7 +12,7 @@ use Rattle.recovery_events.specs.declared.event.Event.TheVariants.{PollMtu, Acke
 use Rattle.recovery_events.specs.declared.event.Answer.{Answer}
 use Rattle.recovery_paths.specs.declared.live_paths.PathName.TheVariants.{Current, Previous}
 use Rattle.quic_recovery.specs.Entries.{Entries, logs_of}
-use Rattle.quic_recovery.specs.History.{Beginning, History, Reply, Throughout}
+use Rattle.quic_recovery.specs.History.{Beginning, History, Reply}
 use Rattle.quic_recovery.specs.Known.{Known, first_path, known_by, settings_of}
 use Rattle.quic_recovery.specs.Told.{Told, MtuProbeReply}
 use Rattle.quic_recovery.proofs.EntryKinds.{PathKind, departing, limiting, searching, resetting, moving, elsewhere, path_kind, paths_kept, refused_keeps}

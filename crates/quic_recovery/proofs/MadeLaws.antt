@@ -2,7 +2,7 @@
 -- (`NearLaws`, `HolesLaws`, `MtuLaws`) rest on it.
 use Rattle.std.proofs.Common.{◌≡◌, true, false, ◌∷◌, Ok, Err, refl}
 use Rattle.recovery_mtud.specs.Discovery.{Discovery}
-use Rattle.recovery_paths.specs.PathLog.{OfPaths, PathPast, receives, samples, tells, searches, asks, transmits, passes, is_reset, is_validated}
+use Rattle.recovery_paths.specs.PathLog.{OfPaths, PathPast, receives}
 use Rattle.recovery_paths.specs.declared.live_paths.PathName.TheVariants.{Current, Previous}
 use Rattle.recovery_events.specs.declared.event.Event.{Event}
 use Rattle.recovery_events.specs.declared.event.Event.TheVariants.{NewPath, DropPrevious}

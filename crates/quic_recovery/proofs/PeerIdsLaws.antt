@@ -16,7 +16,7 @@ use Rattle.recovery_events.specs.declared.event.Refusal.{Refusal}
 use Rattle.recovery_events.specs.declared.event.Refusal.TheVariants.{NumberTooLarge, BadRetirePriorTo, Retired, ExceedsLimit, Conflict, NotInitialId}
 use Rattle.recovery_events.specs.Refusals.{refusal_number}
 use Rattle.quic_recovery.specs.Entries.{Entries, logs_of}
-use Rattle.quic_recovery.specs.History.{Beginning, History, Reply, Throughout}
+use Rattle.quic_recovery.specs.History.{Beginning, History, Reply}
 use Rattle.quic_recovery.specs.IdReplies.{FrameReply, IsFrameAnswer, IsNextAnswer, InitialReply}
 use Rattle.quic_recovery.specs.Known.{Known, known_by}
 use Rattle.quic_recovery.specs.Logs.{onto}

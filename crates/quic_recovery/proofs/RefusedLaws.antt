@@ -1,5 +1,5 @@
 -- Refusals that follow from the history are given exactly where it says so: the clause `refused` of `run`.
-use Rattle.std.proofs.Common.{◌≡◌, ℕ, ◌==◌, Bool, false, List, [], Option, None, Some, Ok, Err, refl, sym, ap, ◌∙◌, arith}
+use Rattle.std.proofs.Common.{◌≡◌, ℕ, ◌==◌, Bool, false, [], Option, None, Some, Ok, Err, refl, sym, ap, ◌∙◌, arith}
 use Rattle.std.specs.Prelude.{is_some, option_map}
 use Rattle.std.proofs.lemmas.Bool.Decides.{nat_tests}
 use Rattle.recovery_base.specs.declared.below.SpaceId.{SpaceId}
@@ -17,7 +17,7 @@ use Rattle.recovery_events.specs.declared.event.Refusal.TheVariants.{NumberTooLa
 use Rattle.recovery_events.specs.Refusals.{refusal_number}
 use Rattle.quic_recovery.proofs.TableLaws.{only_refusal}
 use Rattle.quic_recovery.specs.Entries.{logs_of}
-use Rattle.quic_recovery.specs.History.{Beginning, History, Reply, Throughout}
+use Rattle.quic_recovery.specs.History.{Beginning, History, Reply}
 use Rattle.quic_recovery.specs.Known.{SpaceKnown, Known, known_by}
 use Rattle.quic_recovery.specs.Replies.{Refuses, Answers}
 use Rattle.quic_recovery.specs.Told.{Told, EcnAnswer, InSpace, Is, LeaveReply, OnPath, MtuProbeReply}

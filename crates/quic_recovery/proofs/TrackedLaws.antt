@@ -25,7 +25,7 @@ use Rattle.recovery_events.specs.declared.event.Event.TheVariants.{Send, Acked, 
 use Rattle.recovery_events.specs.declared.event.Answer.TheVariants as answers
 use Rattle.recovery_events.specs.declared.event.Answer.TheVariants.{Probe}
 use Rattle.quic_recovery.specs.Entries.{Entries, logs_of}
-use Rattle.quic_recovery.specs.History.{Beginning, History, QueueMeaning, Reply, Throughout}
+use Rattle.quic_recovery.specs.History.{Beginning, History, QueueMeaning, Reply}
 use Rattle.quic_recovery.specs.Known.{Known, known_by, number_in, packet_now}
 use Rattle.quic_recovery.specs.Logs.{onto}
 use Rattle.quic_recovery.specs.Promises.Fates.{more_if, times as times_in, is_given, is_acked, is_lost, is_forgotten as is_forgotten_in, is_discarded}

@@ -1,11 +1,8 @@
-use Rattle.std.proofs.Common.{option_map, refl, sym, ap, subst, ◌∙◌}
+use Rattle.std.proofs.Common.{option_map, refl, sym, ap, ◌∙◌}
 use Rattle.recovery_ledger.specs.Packets.{packet_at, with_contents}
-use Rattle.recovery_ledger.specs.Spaces.{Space, space_of, with_space, packets_of, space_loses, IsCoherent}
+use Rattle.recovery_ledger.specs.Spaces.{Space, space_of, packets_of, space_loses}
 use Rattle.recovery_ledger.proofs.CoherentLaws.{coherent_lost}
 use Rattle.recovery_ledger.proofs.ReceivedLaws.{fails}
-use Rattle.recovery_paths.specs.Balance.{AreBalanced}
-use Rattle.recovery_paths.specs.PathLog.{OfPaths}
-use Rattle.recovery_paths.specs.PathStates.{Path}
 use Rattle.recovery_paths.proofs.BalanceLaws.{paths_balanced_lost, lost_counted_on}
 use Rattle.recovery_events.specs.declared.event.Event.TheVariants.{Lost}
 use Rattle.recovery_events.specs.declared.event.Refusal.TheVariants.{NoMemory}

@@ -1,7 +1,6 @@
-use Rattle.std.proofs.Common.{OnOk, OnErr, ◌≡◌, refl, sym, subst, ◌∙◌}
-use Rattle.recovery_ledger.specs.Probes.{Moves, probe_found}
-use Rattle.recovery_ledger.specs.SpaceLog.{probes}
-use Rattle.recovery_ledger.specs.Spaces.{Space, space_of, packets_of, SpaceStep}
+use Rattle.std.proofs.Common.{refl, sym, ◌∙◌}
+use Rattle.recovery_ledger.specs.Probes.{probe_found}
+use Rattle.recovery_ledger.specs.Spaces.{space_of, packets_of}
 use Rattle.recovery_ledger.proofs.ReceivedLaws.{fails}
 use Rattle.recovery_events.specs.declared.event.Event.TheVariants.{QueueProbe}
 use Rattle.recovery_events.specs.declared.event.Refusal.TheVariants.{NoMemory}

@@ -1,11 +1,10 @@
-use Rattle.std.proofs.Common.{◌≡◌, ℕ, Option, Ok, Err, refl, sym, ap, subst, ◌∙◌, arith}
+use Rattle.std.proofs.Common.{◌≡◌, ℕ, Option, Ok, Err, refl, sym, ap, ◌∙◌, arith}
 use Rattle.recovery_congestion.specs.Calls.{sends as sends_bytes}
 use Rattle.recovery_ledger.specs.declared.paths.LedgerError.{LedgerError}
 use Rattle.recovery_ledger.specs.Packets.{Packet, entry_number, forgotten_entry}
 use Rattle.recovery_ledger.specs.Spaces.{Space, space_of, with_space, tracking_of, next_number_of, after_number, after_eliciting, space_sends}
 use Rattle.recovery_ledger.specs.Tracked.{packet_sent}
 use Rattle.recovery_ledger.proofs.ReceivedLaws.{fails}
-use Rattle.recovery_paths.specs.Balance.{AreBalanced}
 use Rattle.recovery_paths.specs.LivePaths.{paths_after_sending}
 use Rattle.recovery_paths.specs.PathLog.{OfPaths, on_path_of}
 use Rattle.recovery_paths.specs.PathStates.{Path, on_state, after_telling}
