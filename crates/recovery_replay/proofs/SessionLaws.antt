@@ -1,5 +1,5 @@
 -- A run is a session: `answers_over` rests on it.
-use Rattle.std.proofs.Common.{◌≡◌, ℕ, List, Option, None, Some, Result, Ok, Err, IfOk, String, string_bytes, refl, subst}
+use Rattle.std.proofs.Common.{◌≡◌, ℕ, List, Option, None, Some, Result, Ok, Err, IfOk, String, string_bytes, refl}
 use Rattle.std.specs.Prelude.{unwrap_or}
 use Rattle.std.specs.declared.net.socket_addr.SocketAddr.{SocketAddr}
 use Rattle.rand_core.specs.Pcg32Seed.{pcg32_seed}
