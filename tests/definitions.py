@@ -9,6 +9,7 @@ ROOT = pathlib.Path(__file__).resolve().parent.parent
 DRIVER = ROOT / "crates" / "quic_recovery" / "src" / "driver.rt"
 PROMISES = ROOT / "crates" / "quic_recovery" / "specs" / "Promises"
 LONGEST = 50
+MOST = 2042  # lines that run rests on: they may only fall
 DEFINITION = re.compile(r" *(?:(?:unfoldable )?(?:abbrev )?pub |abbrev |pub )(?:record |data )?([^\s(:{]+)")
 RECORD = re.compile(r" *pub (?:record|data) ")
 USE = re.compile(r"\s*(?:ghost )?use ([\w.]+)\.\{(.*)\};?$")
@@ -91,8 +92,12 @@ def main():
         if lines > LONGEST:
             failed += 1
             print(f"definitions: Promises/{name}: {lines} lines, and not at most {LONGEST}", file=sys.stderr)
-    print(f"definitions: run rests on {size(set().union(*told.values()))} lines; {len(direct)} files of promises have {sum(direct.values())}")
-    print(f"definitions: {len(direct) - failed} passed, {failed} failed")
+    whole = size(set().union(*told.values()))
+    print(f"definitions: run rests on {whole} lines; {len(direct)} files of promises have {sum(direct.values())}")
+    if whole > MOST:
+        failed += 1
+        print(f"definitions: run rests on {whole} lines, and not on at most {MOST}", file=sys.stderr)
+    print(f"definitions: {len(direct) + 1 - failed} passed, {failed} failed")
     return 1 if failed else 0
 
 

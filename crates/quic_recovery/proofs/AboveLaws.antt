@@ -1,9 +1,8 @@
 -- What the layer above keeps with paths and spaces stays as events go by. `LeftLaws` and the steps of calls rest on it.
-use Rattle.std.proofs.Common.{◌≡◌, ℕ, true, false, Option, None, Some, option_map, Ok, Err, refl, ap}
+use Rattle.std.proofs.Common.{◌≡◌, ℕ, true, false, Option, None, Some, option_map, Ok, Err, refl, ap, arith}
 use Rattle.std.proofs.lemmas.Option.{none-some}
 use Rattle.recovery_base.specs.declared.below.frames.EcnCounts.{EcnCounts}
-use Rattle.recovery_ledger.specs.Probes.{pending_stands, moves, nothing_found}
-use Rattle.recovery_ledger.specs.SpaceLog.{SpaceEntry, heard, heard_again, sends, acknowledged, probes}
+use Rattle.recovery_ledger.specs.SpaceLog.{SpaceEntry}
 use Rattle.recovery_ledger.specs.Spaces.{Space, SpaceStep}
 use Rattle.recovery_ledger.specs.Queued.{no_ecn}
 use Rattle.recovery_paths.specs.PathLog.{OfPaths, paths_marks}
@@ -13,7 +12,7 @@ use Rattle.recovery_queue.specs.Queues.{QueueWords}
 use Rattle.recovery_events.specs.declared.event.Event.{Event}
 use Rattle.recovery_events.specs.declared.event.Event.TheVariants.{NewPath, DropPrevious}
 use Rattle.recovery_events.specs.declared.event.Refusal.{Refusal}
-use Rattle.quic_recovery.specs.Above.{AreFresh, Beside, beside_of, marks_after, nothing_beside}
+use Rattle.quic_recovery.specs.Above.{AreFresh, beside_of, marks_after}
 use Rattle.quic_recovery.specs.History.{Reply}
 use Rattle.quic_recovery.specs.Logs.{StepBy}
 
@@ -65,23 +64,14 @@ fresh_first path paths is fresh =
 
 -- a space as it is made
 pub beside_made : (ecn : EcnCounts) (loss_time : Option ℕ) (offset : ℕ) → ecn ≡ no_ecn → loss_time ≡ None → offset ≡ 0
-    → (let found : Beside = record { ecn = ecn; loss_time = loss_time; crypto_offset = offset } in found)
-    ≡ nothing_beside
-beside_made ecn loss_time offset no_counts no_loss none =
-    cc
+    → (let found : EcnCounts × Option ℕ × ℕ = (ecn, loss_time, offset) in found) ≡ (no_ecn, None, 0)
+beside_made ecn loss_time offset no_counts no_loss none = cc
 
 module _ {P M S : Type 0} (words : QueueWords P S) where
   -- no entry touches what is kept beside
   beside_step : (entry : SpaceEntry P M) (old new : Space P M) → SpaceStep words entry old new
       → beside_of new ≡ beside_of old
-  beside_step (heard now number eliciting) old new step = ap beside_of step.others
-  beside_step (heard_again number) old new step = ap beside_of step.1
-  beside_step (sends number packet) old new step = ap beside_of step.1
-  beside_step (acknowledged number) old new step = ap beside_of step.others
-  beside_step (probes immediate pending_stands) old new step = ap beside_of step
-  beside_step (probes immediate (moves number)) old new step = ap beside_of step
-  beside_step (probes immediate nothing_found) old new step = ap beside_of step
-  beside_step entry old new step = ap beside_of step
+  beside_step entry old new step = grind (arith, step)
 
   pub beside_stays : (entry : Option (SpaceEntry P M)) (old new : Space P M) → StepBy (SpaceStep words) entry old new
       → beside_of new ≡ beside_of old

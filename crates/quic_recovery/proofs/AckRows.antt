@@ -2,11 +2,12 @@
 -- Nothing rests on them.
 use Rattle.std.proofs.Common.{◌≡◌, ℕ, zero, suc, ◌+◌, ◌<◌, ◌≤◌, ◌⊎◌, Bool, true, false, List, [], ◌∷◌, Option, None, Some, Ok, inl, inr, refl, arith}
 use Rattle.std.proofs.lemmas.Bool.Decides.{nat_tests}
-use Rattle.recovery_acks.specs.Acks.{number_or_zero}
+use Rattle.recovery_acks.specs.Acks.{AsksAtOnce, fresh}
+use Rattle.std.specs.Option.{unwrap_or}
 use Rattle.recovery_acks.specs.Runs.{Ascend, AtMost, EndsRun}
 use Rattle.recovery_base.specs.declared.below.SpaceId.TheVariants.{Initial, Handshake, Data}
 use Rattle.recovery_base.specs.Numbers.{With}
-use Rattle.recovery_ledger.specs.Acks.{AsksAtOnce, IsRequired}
+use Rattle.recovery_ledger.specs.Acks.{IsRequired}
 use Rattle.recovery_events.specs.declared.event.Event.{Event}
 use Rattle.recovery_events.specs.declared.event.Event.TheVariants as event
 use Rattle.recovery_events.specs.declared.event.Answer.TheVariants as answer
@@ -119,15 +120,20 @@ module _ (Q S M P : Type 0) (queue : Q) (frames : M) where
 
 -- the first one since an ACK asks for none at once, where it is next behind the greatest
 asks_nothing : (Numbers : ℕ → Type 0) (greatest acknowledged : Option ℕ) (number : ℕ)
-    → number_or_zero greatest ≤ number → number ≤ number_or_zero greatest + 1
-    → ¬ AsksAtOnce Numbers
-    (record { eliciting = 0; thresholds = (1, 1); greatest = greatest; acknowledged = acknowledged }) number
-asks_nothing Numbers greatest acknowledged number from to (inl many) = let more : 1 < 1 = many in omega (arith, more)
-asks_nothing Numbers greatest acknowledged number from to (inr (inl gap)) = elim gap.1 [
+    → unwrap_or greatest 0 ≤ number → number ≤ unwrap_or greatest 0 + 1 → (silent : ℕ) (largest : Option (ℕ × ℕ))
+    → ¬ AsksAtOnce Numbers (record fresh {
+      silent = silent;
+      largest = largest;
+      greatest = greatest;
+      acknowledged = acknowledged;
+    }) number
+asks_nothing Numbers greatest acknowledged number from to silent largest (inl many) =
+    let more : 1 < 1 = many in omega (arith, more)
+asks_nothing Numbers greatest acknowledged number from to silent largest (inr (inl gap)) = elim gap.1 [
   | inl below ↦ omega (arith, from, below)
   | inr missing ↦ (let a = missing.1.0 in let b = missing.1.1 in omega (arith, to, a, b))
 ]
-asks_nothing Numbers greatest acknowledged number from to (inr (inr more)) =
+asks_nothing Numbers greatest acknowledged number from to silent largest (inr (inr more)) =
     let above : 1 < 1 = more.0 in omega (arith, above)
 
 module _ {F K Q S M P : Type 0} (beginning : Beginning F K Q S M P) where
@@ -157,7 +163,7 @@ module _ {F K Q S M P : Type 0} (beginning : Beginning F K Q S M P) where
   without_timer_is_wrong in_time = elim (in_time Data refl) [
     | inl required ↦ elim required [
       | inl none ↦ none
-      | inr asks ↦ asks_nothing _ (Some 0) (Some 0) 1 (omega arith) (omega arith) asks.1
+      | inr asks ↦ asks_nothing _ (Some 0) (Some 0) 1 (omega arith) (omega arith) 0 (Some (0, 5)) asks.1
     ]
     | inr started ↦ cc
   ]
@@ -170,7 +176,7 @@ module _ {F K Q S M P : Type 0} (beginning : Beginning F K Q S M P) where
   other_space_is_wrong in_time = elim (in_time Initial refl) [
     | inl required ↦ elim required [
       | inl none ↦ none
-      | inr asks ↦ asks_nothing _ None None 0 (omega arith) (omega arith) asks.1
+      | inr asks ↦ asks_nothing _ None None 0 (omega arith) (omega arith) 0 None asks.1
     ]
     | inr started ↦ cc
   ]

@@ -2,6 +2,8 @@
 -- it.
 use Rattle.std.proofs.Common.{◌≡◌, ℕ, Bool, true, false, cond, ◌&&◌, ◌==◌, [], ◌∷◌, ◌++◌, Option, None, Some, option_map, Ok, refl, sym, ap, subst, ◌∙◌}
 use Rattle.recovery_base.specs.declared.below.SpaceId.{SpaceId}
+use Rattle.recovery_base.specs.declared.below.SpaceId.TheVariants.{Data}
+use Rattle.recovery_base.specs.Spaces.{same_space}
 use Rattle.recovery_congestion.specs.Calls.{acks, takes_mtu}
 use Rattle.recovery_ledger.specs.Discarded.{is_discarded}
 use Rattle.recovery_ledger.specs.Ledger.{tracked_by}
@@ -10,7 +12,6 @@ use Rattle.recovery_ledger.specs.Paths.{generation_of}
 use Rattle.recovery_ledger.specs.SpaceLog.{acknowledged}
 use Rattle.recovery_ledger.specs.Spaces.{Space, space_of, with_space, SpaceAcked}
 use Rattle.recovery_ledger.proofs.ReceivedLaws.{fails}
-use Rattle.recovery_mtud.specs.Discovery.{is_data}
 use Rattle.recovery_mtud.specs.DiscoveryLog.{MtuCall, acks as acks_packet}
 use Rattle.recovery_paths.specs.LivePaths.{path_left_by, paths_acking}
 use Rattle.recovery_paths.specs.PathLog.{OfPaths, PathKnown, PathsStep, paths_after, known_with, known_following, paths_known, path_known, paths_marks, on_current, tells, searches}
@@ -41,7 +42,8 @@ module _ {K P M : Type 0} (old : Parts K P M) (space : SpaceId) (number : ℕ) (
       (paths_known (paths_acking old.settings.words space number now app_limited packet old.paths))
   acked_path now app_limited =
       ap (with_previous _) (previous_known packet old.paths.previous)
-      ∙ go (packet.path_generation == generation_of old.paths.current.ledger && packet.ack_eliciting) (is_data space)
+      ∙ go (packet.path_generation == generation_of old.paths.current.ledger && packet.ack_eliciting)
+      (same_space space Data)
       (is_path_probe space number old.paths.current.state)
     where
       call : MtuCall
@@ -73,9 +75,6 @@ module _ {K P M : Type 0} (old : Parts K P M) (space : SpaceId) (number : ℕ) (
       go false true true = refl
       go own in_data probe = refl
 
-some_is_not_none : {P M : Type 0} (packet : Packet P M) → Some packet ≡ None → ⊥
-some_is_not_none packet e = cc
-
 -- ---- what the events come to
 
 module _ {K Q S M P : Type 0} (q : QueueMeaning Q S M P) (old : Parts K P M) (space : SpaceId) (number : ℕ)
@@ -102,6 +101,7 @@ module _ {K Q S M P : Type 0} (q : QueueMeaning Q S M P) (old : Parts K P M) (sp
         );
         steps = space_changes q.words old space (acknowledged number) there old.skipping entries paths step
             (skips_nothing space (acknowledged number) _ old.skipping refl) path_step;
+        plain = refl;
         marks = ap (λ (p : OfPaths (Path K)). paths_marks p) is
             ∙ both_marks (path_left_by packet) (λ path. refl)
             (paths_acking old.settings.words space number now app_limited

@@ -4,6 +4,7 @@ use Rattle.std.proofs.lemmas.Bool.Decides.{nat_tests}
 use Rattle.std.proofs.Common.{◌≡◌, ◌≤◌, ℕ, ◌==◌, ◌&&◌, Bool, true, false, cond, List, [], ◌∷◌, length, Option, None, Some, Ok, Err, ◌⊎◌, inl, inr, ◌↔◌, IsTrue, IsSomeAnd, refl, arith}
 use Rattle.std.proofs.lemmas.Bool.{cases_lt}
 use Rattle.recovery_acks.specs.Runs.{AtMost, EndsRun, IsInHighest}
+use Rattle.recovery_base.proofs.WindowLaws.{iff_trans}
 use Rattle.recovery_acks.proofs.RunLaws.{highest_alike}
 use Rattle.recovery_base.specs.declared.below.SpaceId.{SpaceId}
 use Rattle.recovery_base.specs.Numbers.{With}
@@ -16,15 +17,15 @@ use Rattle.recovery_queue.specs.Queues.{QueueWords}
 use Rattle.recovery_events.specs.declared.event.Event.{Event}
 use Rattle.recovery_events.specs.declared.event.Event.TheVariants.{Received, Acked}
 use Rattle.recovery_events.specs.declared.event.Answer.TheVariants.{New}
-use Rattle.quic_recovery.specs.Entries.{entries_of, Entries, logs_of}
-use Rattle.quic_recovery.specs.History.{Beginning, History, Reply, Throughout, history}
-use Rattle.quic_recovery.specs.Known.{Known, known_by}
+use Rattle.quic_recovery.specs.Entries.{entries_of, logs_of, known_by}
+use Rattle.quic_recovery.specs.History.{AtEach, Beginning, History, Reply, history}
+use Rattle.quic_recovery.specs.Known.{Known}
 use Rattle.quic_recovery.specs.Logs.{onto}
 use Rattle.quic_recovery.specs.Promises.Acknowledged.{HasCome, KeepsToAcknowledge, LiesBelow, WasDropped, largest_in}
 use Rattle.quic_recovery.specs.Told.{Told}
 use Rattle.quic_recovery.proofs.CarriedLaws.{AllCarry, carries_largest, keeps_carried, none_carry}
 use Rattle.quic_recovery.proofs.Runs.{kept_after}
-use Rattle.quic_recovery.proofs.EntryKinds.{SpaceKind, hearing, acknowledging, space_kind, space_kept, refused_keeps}
+use Rattle.quic_recovery.proofs.EntryKinds.{SpaceKind, hearing, acknowledging, space_kind, space_kept}
 
 -- that there are at most so many is kept where its negation is refuted
 many_or_few : (count : ℕ) (Ends : ℕ → Type 0) → ¬ (¬ AtMost count Ends) → AtMost count Ends
@@ -72,10 +73,7 @@ module _ {P M S : Type 0} (words : QueueWords P S) (log : List (SpaceEntry P M))
 
     arrives : (b : Bool) (now : ℕ) (eliciting : Bool)
         → IsAfter (cond b (Some (heard now m eliciting)) None) n (Comes b m n) (Drops b m n)
-    arrives true now eliciting = (
-      λ high. stands.0 (highest_alike (With m Pending) (With m Stands) alike 64 n high),
-      λ both. highest_alike (With m Stands) (With m Pending) (λ k. ((alike k).1, (alike k).0)) 64 n (stands.1 both),
-    )
+    arrives true now eliciting = iff_trans (highest_alike alike 64 n) stands
     arrives false now eliciting = grind (arith, kept n)
 
   -- ---- a tracked packet is acknowledged, which carried the ACK of the numbers up to a largest one
@@ -106,7 +104,7 @@ module _ {F K Q S M P : Type 0} (beginning : Beginning F K Q S M P) (before : Hi
   log = (logs_of beginning before).spaces
 
   abbrev known : Known K P M
-  known = known_by beginning (logs_of beginning before)
+  known = known_by beginning before
 
   abbrev Came : ℕ → Type 0
   Came n = HasCome space n before
@@ -127,10 +125,7 @@ module _ {F K Q S M P : Type 0} (beginning : Beginning F K Q S M P) (before : Hi
   -- an entry that leaves it
   unmoved : (entry : SpaceEntry P M) → keeps_pending (space_kind entry) ≡ true
       → Pending_then (Some entry) ↔ (Came n × ¬ Dropped n)
-  unmoved (heard now number eliciting) keeps = absurd cc
-  unmoved (heard_again number) keeps = absurd cc
-  unmoved (acknowledged number) keeps = absurd cc
-  unmoved entry keeps = kept
+  unmoved entry keeps = grind (arith, keeps, kept)
 
   reply_keeps : (event : Event Q S M P) (reply : Reply Q) → Told beginning before event reply
       → After ((entries_of beginning.queue known event reply).spaces space) event reply
@@ -148,7 +143,7 @@ module _ {F K Q S M P : Type 0} (beginning : Beginning F K Q S M P) (before : Hi
       unmoved event (Ok answer) refl
   reply_keeps (Received there now number eliciting) (Err refusal) told = kept
   reply_keeps event (Err refusal) told =
-      refused_keeps event refusal (λ (e : Entries P M). Pending_then (e.spaces space) ↔ (Came n × ¬ Dropped n)) kept
+      kept
 
 -- ---- throughout a run
 
@@ -163,11 +158,11 @@ module _ {F K Q S M P : Type 0} (beginning : Beginning F K Q S M P) where
   keeps_after before event reply told tied =
       λ space n. reply_keeps beginning before space n tied.carried tied.keeps event reply told
 
-  pub keeps_to_acknowledge : (events : List (Event Q S M P)) (replies : List (Reply Q))
-      → Throughout (Told beginning) events replies → KeepsToAcknowledge beginning (history events replies)
-  keeps_to_acknowledge events replies told =
+  pub keeps_to_acknowledge : (history : History Q S M P) → AtEach (Told beginning) history
+      → KeepsToAcknowledge beginning history
+  keeps_to_acknowledge history told =
       (kept_after (Told beginning) Tied (λ before event reply here tied. record {
         carried = keeps_carried beginning before event reply here tied.carried;
         keeps = keeps_after before event reply here tied;
-      }) [] events replies told
-      (record { carried = none_carry beginning; keeps = λ space n. (λ set. absurd set, λ both. absurd both.0) })).keeps
+      }) (record { carried = none_carry beginning; keeps = λ space n. (λ set. absurd set, λ both. absurd both.0) })
+      history told).keeps

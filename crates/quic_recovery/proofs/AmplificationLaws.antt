@@ -1,6 +1,5 @@
--- What each event may be to the paths, and that it keeps the bound on what goes to an address that is not validated.
--- `ThreefoldLaws`, `PacingLaws` and `SearchLaws` rest on it.
-use Rattle.std.proofs.Common.{arith, ℕ, ◌≡◌, Bool, true, false, cond, ◌∷◌, Option, None, Some, Ok, Err, refl}
+-- What each event may be to the paths. `ThreefoldLaws`, `PacingLaws` and `SearchLaws` rest on it.
+use Rattle.std.proofs.Common.{arith, ℕ, ◌≡◌, Bool, true, false, cond, Option, None, Some, Ok, Err, refl}
 use Rattle.std.proofs.lemmas.Bool.{false_from_ne_true}
 use Rattle.recovery_base.specs.declared.below.SpaceId.{SpaceId}
 use Rattle.recovery_congestion.specs.Controllers.{ControllerWords}
@@ -9,24 +8,22 @@ use Rattle.recovery_mtud.specs.Discovery.{Discovery, is_searching_of}
 use Rattle.recovery_mtud.specs.DiscoveryLog.{MtuCall, is_limited}
 use Rattle.recovery_mtud.proofs.SearchRunLaws.{IsInTurn}
 use Rattle.recovery_paths.specs.declared.live_paths.PathName.TheVariants.{Current, Previous}
-use Rattle.recovery_paths.specs.PathLog.{OfPaths, OnEachPath, PathEntry, PathKnown, PathsEntry, paths_after, known_with, known_following, on, moves, drops_previous, receives, is_validated, searches, passes}
+use Rattle.recovery_paths.specs.PathLog.{OfPaths, PathEntry, PathKnown, PathsEntry, paths_after, known_with, known_following, on, moves, drops_previous, receives, is_validated, searches, passes}
 use Rattle.recovery_paths.specs.PathMaking.{PathSettings}
 use Rattle.recovery_paths.specs.PathStates.{PathState, is_blocked, path_delay}
-use Rattle.recovery_paths.specs.Threefold.{IsWithinThreefold}
 use Rattle.recovery_paths.proofs.AllowedLaws.{AreAllowed, IsAllowed, IsAllowedOn}
-use Rattle.recovery_paths.proofs.ThreefoldLaws.{threefold_after}
 use Rattle.recovery_events.specs.declared.event.Event.{Event}
 use Rattle.recovery_events.specs.declared.event.Event.TheVariants.{PeerLimit, Transmit}
 use Rattle.recovery_events.specs.declared.event.Answer.{Answer}
 use Rattle.recovery_events.specs.declared.event.Answer.TheVariants.{Transmitted, Delayed, Blocked}
-use Rattle.quic_recovery.specs.Entries.{Entries, answered, entries_of, logs_of, pasts_of}
-use Rattle.quic_recovery.specs.History.{Beginning, History, QueueMeaning, Reply}
-use Rattle.quic_recovery.specs.Known.{Known, known_by, first_path, settings_of}
-use Rattle.quic_recovery.specs.Told.{Told, ToldBy, delayed_or}
-use Rattle.quic_recovery.proofs.EntryKinds.{PathKind, passing, limiting, elsewhere, call_kind, path_kind, paths_kept, refused_keeps}
+use Rattle.quic_recovery.specs.Entries.{answered, entries_of}
+use Rattle.quic_recovery.specs.History.{QueueMeaning, Reply}
+use Rattle.quic_recovery.specs.Known.{Known}
+use Rattle.quic_recovery.specs.Told.{ToldBy, delayed_or}
+use Rattle.quic_recovery.proofs.EntryKinds.{PathKind, passing, limiting, elsewhere, call_kind, path_kind, paths_kept}
 
 -- what was transmitted was neither blocked nor delayed
-sent_freely : {K Q : Type 0} (words : ControllerWords K) (blocked : Bool) (delay : Option ℕ)
+pub sent_freely : {K Q : Type 0} (words : ControllerWords K) (blocked : Bool) (delay : Option ℕ)
     → (let t : Answer Q = Transmitted in t ≡ cond blocked Blocked (delayed_or words t delay)) → (blocked ≡ false)
     × (delay ≡ None)
 sent_freely words blocked None is = grind (arith, is)
@@ -66,7 +63,7 @@ module _ {K Q S M P : Type 0} (q : QueueMeaning Q S M P) (settings : PathSetting
       → AreAllowed settings known.paths (answered q known event answer).paths
   answer_allowed (Transmit now bytes true) Transmitted told =
       let path = known.paths.current.state in
-      (sent_freely settings.words (is_blocked path bytes) (path_delay settings.words now bytes path) told.1, tt)
+      ((sent_freely settings.words (is_blocked path bytes) (path_delay settings.words now bytes path) told.1).1, tt)
   answer_allowed (Transmit now bytes true) (Delayed until) told = (tt, tt)
   answer_allowed (Transmit now bytes true) answer told = tt
   answer_allowed (Transmit now bytes false) answer told = (tt, tt)
@@ -85,17 +82,4 @@ module _ {K Q S M P : Type 0} (q : QueueMeaning Q S M P) (settings : PathSetting
       → AreAllowed settings known.paths (entries_of q known event reply).paths
   is_allowed event (Ok answer) told = answer_allowed event answer told
   is_allowed event (Err refusal) told =
-      refused_keeps event refusal (λ (e : Entries P M). AreAllowed settings known.paths e.paths) tt
-
-module _ {F K Q S M P : Type 0} (beginning : Beginning F K Q S M P) where
-  -- an event keeps the bound
-  pub after_one : (before : History Q S M P) (event : Event Q S M P) (reply : Reply Q)
-      → Told beginning before event reply
-      → OnEachPath IsWithinThreefold (pasts_of beginning before)
-      → OnEachPath IsWithinThreefold (pasts_of beginning ((event, reply) ∷ before))
-  after_one before event reply told within =
-      let logs = logs_of beginning before in
-      let known = known_by beginning logs in
-      threefold_after (settings_of beginning) (first_path beginning)
-      (entries_of beginning.queue known event reply).paths logs.paths
-      (is_allowed beginning.queue (settings_of beginning) _ known event reply told) within
+      tt

@@ -11,7 +11,6 @@ use Rattle.recovery_events.specs.declared.event.Answer.TheVariants.{Transmitted,
 use Rattle.recovery_events.specs.declared.event.Refusal.TheVariants.{Overflow}
 use Rattle.quic_recovery.specs.Entries.{pasts_of}
 use Rattle.quic_recovery.specs.History.{Beginning, History, Reply}
-use Rattle.quic_recovery.specs.Known.{settings_of}
 use Rattle.quic_recovery.specs.Replies.{Refuses, AlwaysAnswers}
 use Rattle.quic_recovery.specs.Told.{Told, Is, delayed_or, transmit_answer}
 use Rattle.quic_recovery.specs.Promises.Blocked.{IsPassage, BlocksExactly}
@@ -47,11 +46,11 @@ module _ {F K Q S M P : Type 0} (beginning : Beginning F K Q S M P) where
       → Told beginning before (Transmit now bytes checked) reply → FlowsAgree beginning before
       → BlocksExactly beginning.config.validated before (Transmit now bytes checked) reply
   transmit_told before now bytes checked reply told agree =
-      let path = state_of (settings_of beginning) (pasts_of beginning before).current in
+      let path = state_of (pasts_of beginning before).current in
       let large = nat_le (2 ^ 64) (path.total_sent + bytes) in
       grind (
         arith,
-        agree.0,
+        agree.0.0,
         decide checked (is_blocked path bytes)
             (transmit_answer beginning.words now bytes checked path)
             (fits Q beginning.words now bytes checked path) (2 ^ 64 ≤ path.total_sent + bytes) large
@@ -67,7 +66,7 @@ module _ {F K Q S M P : Type 0} (beginning : Beginning F K Q S M P) where
 
   -- throughout a run
   pub blocks_exactly : AllAlong beginning (BlocksExactly beginning.config.validated)
-  blocks_exactly events replies told =
+  blocks_exactly =
       throughout_kept beginning (FlowsAgree beginning) (BlocksExactly beginning.config.validated)
       (flows_after beginning)
-      blocked_told [] events replies told (flows_at_first beginning)
+      blocked_told (flows_at_first beginning)

@@ -1,14 +1,11 @@
 -- A report of a black hole needs four bursts, and comes at four, throughout a run. `HolesLaws` say it of events alone.
-use Rattle.std.proofs.Common.{◌≡◌, ◌≤◌, ℕ, Bool, true, false, cond, [], Option, None, Some, Ok, Err, refl, arith}
+use Rattle.std.proofs.Common.{◌≡◌, ◌≤◌, ℕ, Bool, true, false, [], Option, None, Ok, Err, refl, arith}
 use Rattle.recovery_base.specs.declared.below.SpaceId.TheVariants.{Data}
-use Rattle.recovery_config.specs.declared.config.TransportConfig.{TransportConfig}
-use Rattle.recovery_mtud.specs.declared.config.MtuDiscoveryConfig.{MtuDiscoveryConfig}
 use Rattle.recovery_mtud.specs.Discovery.{reports}
 use Rattle.recovery_mtud.specs.DiscoveryLog.{discovery_by}
 use Rattle.recovery_mtud.specs.MtuEntries.{IsUntold}
 use Rattle.recovery_mtud.proofs.BurstRunLaws.{four_report, four_stand}
-use Rattle.recovery_mtud.proofs.EntryLaws.{discovery_made_untold, discovery_disabled_untold}
-use Rattle.recovery_paths.specs.PathMaking.{discovery_with}
+use Rattle.recovery_mtud.proofs.EntryLaws.{discovery_made_untold}
 use Rattle.recovery_paths.proofs.FateLaws.{apart_once}
 use Rattle.recovery_paths.proofs.UntoldLaws.{WasUntold, untold_by}
 use Rattle.recovery_events.specs.declared.event.Event.{Event}
@@ -28,26 +25,18 @@ use Rattle.quic_recovery.proofs.TrackedLaws.{AllTracked, keeps_tracked, none_tra
 
 -- ---- the search of the path in use was told nothing as it was made
 
--- with a search or without one
-discovery_untold : {F : Type 0} (limit : Option ℕ) (config : TransportConfig F) (settings : Option MtuDiscoveryConfig)
-    → IsUntold (discovery_with limit config settings)
-discovery_untold limit config None = discovery_disabled_untold _ _
-discovery_untold limit config (Some settings) = discovery_made_untold _ _ limit settings
-
 module _ {F K Q S M P : Type 0} (beginning : Beginning F K Q S M P) where
   -- at each moment
   untold_in : (history : History Q S M P) → WasUntold (pasts_of beginning history).current
   untold_in history =
-      let config = beginning.config in
       let made : (limit : Option ℕ) → IsUntold ((settings_of beginning).discovery limit) =
-      λ limit. discovery_untold limit config.transport
-      (cond config.allow_mtud config.transport.mtu_discovery_config None) in
+      λ limit. discovery_made_untold _ _ limit _ in
       untold_by (settings_of beginning) made (first_path beginning) (made None) (logs_of beginning history).paths
 
   -- the answer to the end of losses is what its detection reports
   abbrev reports_there : History Q S M P → Bool
   reports_there before = let past =
-      (pasts_of beginning before).current in reports (discovery_by past.making.discovery past.searched)
+      (pasts_of beginning before).current in reports (discovery_by past.kept.discovery past.searched)
 
   -- ---- a report comes at four
 
@@ -57,7 +46,7 @@ module _ {F K Q S M P : Type 0} (beginning : Beginning F K Q S M P) where
       → ComesAtFourBursts beginning before event reply
   comes_one before (LossesDone now) (Ok answer) told = λ many.
       let past = (pasts_of beginning before).current in
-      rw (told, four_report past.making.discovery (untold_in before) past.searched many) refl
+      rw (told, four_report past.kept.discovery (untold_in before) past.searched many) refl
   comes_one before (LossesDone now) (Err NoMemory) told = absurd told
   comes_one before (LossesDone now) (Err refusal) told = absurd told
   comes_one before event reply told = tt
@@ -73,9 +62,9 @@ module _ {F K Q S M P : Type 0} (beginning : Beginning F K Q S M P) where
       → NeedsFourBursts beginning before (LossesDone now) (Ok (BlackHole hole))
   needs_by before now once true is =
       let past = (pasts_of beginning before).current in
-      let apart = apart_once past.making.discovery past.searched
+      let apart = apart_once past.kept.discovery past.searched
       (λ number. omega (arith, fates_depart beginning number before, once number)) in
-      four_stand past.making.discovery (untold_in before) past.searched apart is
+      four_stand past.kept.discovery (untold_in before) past.searched apart is
   needs_by before now once false is = tt
 
   -- so where the answer says one
@@ -88,8 +77,8 @@ module _ {F K Q S M P : Type 0} (beginning : Beginning F K Q S M P) where
 
   -- throughout a run
   pub needs_four : AllAlong beginning (NeedsFourBursts beginning)
-  needs_four events replies told =
+  needs_four =
       throughout_kept beginning (AllTracked beginning) (NeedsFourBursts beginning) (keeps_tracked beginning)
       (λ before event reply here all.
       needs_one before event reply here (leave_once before (one_fate beginning before all) Data))
-      [] events replies told (none_tracked beginning)
+      (none_tracked beginning)

@@ -12,13 +12,13 @@ use Rattle.recovery_events.specs.declared.event.Event.{Event}
 use Rattle.recovery_events.specs.declared.event.Event.TheVariants.{Send, PollMtu}
 use Rattle.recovery_events.specs.declared.event.Answer.TheVariants as answers
 use Rattle.recovery_events.specs.declared.event.Answer.TheVariants.{Probe}
-use Rattle.quic_recovery.specs.Entries.{entries_of, Entries, logs_of}
+use Rattle.quic_recovery.specs.Entries.{entries_of, logs_of, known_by}
 use Rattle.quic_recovery.specs.History.{Beginning, History, Reply}
-use Rattle.quic_recovery.specs.Known.{Known, known_by, number_in, packet_now}
+use Rattle.quic_recovery.specs.Known.{Known, number_in, packet_now}
 use Rattle.quic_recovery.specs.Logs.{onto}
 use Rattle.quic_recovery.specs.Promises.Acknowledged.{largest_in}
 use Rattle.quic_recovery.specs.Told.{Told}
-use Rattle.quic_recovery.proofs.EntryKinds.{sends_none, space_kept, refused_keeps}
+use Rattle.quic_recovery.proofs.EntryKinds.{sends_none, space_kept}
 use Rattle.quic_recovery.proofs.AnswerLaws.{past_four}
 use Rattle.quic_recovery.proofs.SearchSteps.{found_packet as is_there}
 use Rattle.quic_recovery.proofs.FieldLaws.{IsSaid, said_after, said_found, said_sent}
@@ -34,7 +34,7 @@ module _ {F K Q S M P : Type 0} (beginning : Beginning F K Q S M P) (before : Hi
   log = (logs_of beginning before).spaces
 
   abbrev known : Known K P M
-  known = known_by beginning (logs_of beginning before)
+  known = known_by beginning before
 
   abbrev largest : ℕ → Option ℕ
   largest n = largest_in space n before
@@ -84,7 +84,7 @@ module _ {F K Q S M P : Type 0} (beginning : Beginning F K Q S M P) (before : Hi
       (said_after carried_by (λ contents packet. refl) beginning.queue.words largest (log space) carried) event
       (Ok answer) refl
   reply_carries event (Err refusal) told =
-      refused_keeps event refusal (λ (e : Entries P M). Carries (e.spaces space) largest) carried
+      carried
 
 module _ {F K Q S M P : Type 0} (beginning : Beginning F K Q S M P) where
   abbrev pub AllCarry : History Q S M P → Type 0

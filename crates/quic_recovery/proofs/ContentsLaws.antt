@@ -8,8 +8,8 @@ use Rattle.recovery_base.specs.declared.below.SpaceId.{SpaceId}
 use Rattle.recovery_base.specs.declared.below.SpaceId.TheVariants.{Data}
 use Rattle.recovery_base.specs.Spaces.{same_space}
 use Rattle.recovery_ledger.specs.Packets.{Packet, Packets, packet_at, without, with_contents, replaced, contents_or}
-use Rattle.recovery_ledger.specs.Probes.{ProbeFound, moves}
-use Rattle.recovery_ledger.specs.Queued.{joined_with, joined_found, pending_by}
+use Rattle.std.specs.Option.{option_and_then}
+use Rattle.recovery_ledger.specs.Queued.{joined_with, queued_by}
 use Rattle.recovery_ledger.specs.SpaceLog.{SpaceEntry, sends, acknowledged, loses, probes, takes_pending, emptied}
 use Rattle.recovery_ledger.specs.Tracked.{Sent, sent_by, sent_moved, forgotten_by}
 use Rattle.recovery_ledger.proofs.LedgerLaws.{sum-sent_onto}
@@ -19,14 +19,14 @@ use Rattle.recovery_events.specs.declared.event.Event.{Event}
 use Rattle.recovery_events.specs.declared.event.Event.TheVariants.{Send, PollMtu, Acked, DiscardSpace, TakePending}
 use Rattle.recovery_events.specs.declared.event.Answer.TheVariants as answers
 use Rattle.recovery_events.specs.declared.event.Answer.TheVariants.{Probe}
-use Rattle.quic_recovery.specs.Entries.{Entries, logs_of}
-use Rattle.quic_recovery.specs.History.{Beginning, History, Reply, Throughout, history}
-use Rattle.quic_recovery.specs.Known.{Known, known_by, number_in, packet_now}
+use Rattle.quic_recovery.specs.Entries.{logs_of, known_by}
+use Rattle.quic_recovery.specs.History.{AtEach, Beginning, History, Reply, history}
+use Rattle.quic_recovery.specs.Known.{Known, number_in, packet_now}
 use Rattle.quic_recovery.specs.Logs.{onto}
 use Rattle.quic_recovery.specs.Promises.Contents.{LosesNothing, outgoing, held, gone, carried}
 use Rattle.quic_recovery.specs.Promises.Measures.{AddsUp}
 use Rattle.quic_recovery.specs.Told.{Told}
-use Rattle.quic_recovery.proofs.EntryKinds.{SpaceKind, sending, acknowledging, taking, emptying, space_kind, space_kept, refused_keeps}
+use Rattle.quic_recovery.proofs.EntryKinds.{SpaceKind, sending, acknowledging, taking, emptying, space_kind, space_kept}
 use Rattle.quic_recovery.proofs.AnswerLaws.{past_four}
 use Rattle.quic_recovery.proofs.Runs.{kept_after}
 use Rattle.quic_recovery.proofs.TrackedLaws.{one_space, sent_in}
@@ -65,18 +65,18 @@ module _ {P M S : Type 0} (words : QueueWords P S) (measure : P → ℕ) (adds :
   joins pending found = grind (arith, adds.empty, adds.joined pending)
 
   -- what a probe finds waits
-  moves_none : (pending : P) (found : ProbeFound) (sent : Sent P M)
-      → sum_by carries (sent_moved words.empty found sent).tracked
-      + measure (joined_found words pending found sent.tracked)
+  moves_none : (pending : P) (moved : Option ℕ) (sent : Sent P M)
+      → sum_by carries (sent_moved words.empty moved sent).tracked
+      + measure (joined_with words pending (option_and_then (packet_at sent.tracked) moved))
       ≡ sum_by carries sent.tracked + measure pending
-  moves_none pending (moves n) sent =
+  moves_none pending (Some n) sent =
       grind (
         arith,
         λ (packet : Packet P M). sum_replaced sent.tracked n packet (with_contents words.empty packet),
         joins pending (packet_at sent.tracked n),
         adds.empty,
       )
-  moves_none pending found sent = refl
+  moves_none pending None sent = refl
 
 -- ---- what an event does to them
 
@@ -96,7 +96,7 @@ module _ {F K Q S M P : Type 0} (beginning : Beginning F K Q S M P) (before : Hi
   log = (logs_of beginning before).spaces space
 
   abbrev known : Known K P M
-  known = known_by beginning (logs_of beginning before)
+  known = known_by beginning before
 
   abbrev outgoing_now : ℕ
   outgoing_now = outgoing beginning measure space before
@@ -107,7 +107,7 @@ module _ {F K Q S M P : Type 0} (beginning : Beginning F K Q S M P) (before : Hi
   abbrev held_by : List (SpaceEntry P M) → ℕ
   held_by entries =
       sum_by (λ (entry : ℕ × Packet P M). measure entry.1.retransmits) (sent_by beginning.queue.words entries).tracked
-      + measure (pending_by beginning.queue.words entries)
+      + measure (queued_by beginning.queue.words entries).pending
 
   -- after an entry in this space, or none
   abbrev held_after : Bool → SpaceEntry P M → ℕ
@@ -129,7 +129,7 @@ module _ {F K Q S M P : Type 0} (beginning : Beginning F K Q S M P) (before : Hi
   sent = sent_in beginning before space
 
   abbrev pending : P
-  pending = pending_by words log
+  pending = (queued_by words log).pending
 
   -- a packet goes out, and another one is perhaps forgotten
   sends_more : (k : ℕ) (packet : Packet P M) (forgotten : Option ℕ) → forgotten ≡ forgotten_by sent packet
@@ -161,7 +161,7 @@ module _ {F K Q S M P : Type 0} (beginning : Beginning F K Q S M P) (before : Hi
       let waits = joins words measure adds pending (packet_at sent.tracked number) in
       omega (arith, same, sum_leaves words measure adds sent.tracked number, waits)
   unmoved (probes immediate found) keeps =
-      omega (arith, same, moves_none words measure adds pending found sent)
+      omega (arith, same, moves_none words measure adds pending found.moved sent)
   unmoved entry keeps = grind (arith, keeps, same)
 
   abbrev Balanced : History Q S M P → Type 0
@@ -194,17 +194,14 @@ module _ {F K Q S M P : Type 0} (beginning : Beginning F K Q S M P) (before : Hi
       keeps_contents same unmoved event (Ok answer) refl
   reply_keeps (PollMtu now) (Err refusal) told = same
   reply_keeps event (Err refusal) told =
-      refused_keeps event refusal
-      (λ (entries : Entries P M). outgoing_now ≡ held_by (onto (entries.spaces space) log) + gone_now) same
+      same
 
 -- ---- throughout a run
 
 module _ {F K Q S M P : Type 0} (beginning : Beginning F K Q S M P) where
-  pub loses_nothing : (events : List (Event Q S M P)) (replies : List (Reply Q))
-      → Throughout (Told beginning) events replies
-      → LosesNothing beginning (history events replies)
-  loses_nothing events replies told =
+  pub loses_nothing : (history : History Q S M P) → AtEach (Told beginning) history → LosesNothing beginning history
+  loses_nothing =
       kept_after (Told beginning) (LosesNothing beginning)
       (λ before event reply here kept measure adds space.
-      reply_keeps beginning before measure adds space (kept measure adds space) event reply here) [] events replies
-      told (λ measure adds space. omega (arith, adds.empty))
+      reply_keeps beginning before measure adds space (kept measure adds space) event reply here)
+      (λ measure adds space. omega (arith, adds.empty))

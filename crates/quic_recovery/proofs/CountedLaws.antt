@@ -1,5 +1,5 @@
 -- Bytes in flight by events and answers are the sums over what the spaces track: the clause `counted` of `run`.
-use Rattle.std.proofs.Common.{◌≡◌, ◌≤◌, ◌+◌, ℕ, ◌==◌, ◌&&◌, ◌||◌, Bool, true, false, cond, if◌then◌else◌, List, [], ◌∷◌, Option, None, Some, Ok, Err, refl, sym, ◌∙◌, arith}
+use Rattle.std.proofs.Common.{◌≡◌, ◌≤◌, ◌+◌, ℕ, ◌==◌, ◌&&◌, ◌||◌, Bool, true, false, cond, if◌then◌else◌, List, [], ◌∷◌, Option, None, Some, Ok, Err, refl, ◌∙◌, arith}
 use Rattle.std.specs.Prelude.{sum_by, option_map}
 use Rattle.std.proofs.lemmas.Bool.Decides.{nat_tests}
 use Rattle.std.proofs.lemmas.List.Sums.{sum_by-cons, sum_by_push}
@@ -9,7 +9,6 @@ use Rattle.recovery_base.specs.Spaces.{same_space}
 use Rattle.recovery_ledger.specs.Departures.{one_if_same}
 use Rattle.recovery_ledger.specs.InFlight.{over_spaces, size_in, eliciting_in}
 use Rattle.recovery_ledger.specs.Packets.{Packet, Packets, without, without_some}
-use Rattle.recovery_ledger.specs.Probes.{ProbeFound, moves}
 use Rattle.recovery_ledger.specs.SpaceLog.{SpaceEntry, sends, acknowledged, loses, probes, emptied}
 use Rattle.recovery_ledger.specs.Tracked.{Sent, sent_by, sent_less, sent_more, sent_moved, forgotten_by}
 use Rattle.recovery_ledger.proofs.CarryLaws.{sum-carrying}
@@ -21,17 +20,17 @@ use Rattle.recovery_events.specs.declared.event.Event.TheVariants.{Send, Acked, 
 use Rattle.recovery_events.specs.declared.event.Answer.TheVariants as answers
 use Rattle.recovery_events.specs.declared.event.Answer.TheVariants.{Probe}
 use Rattle.recovery_events.specs.declared.event.Refusal.TheVariants.{NoMemory, NoSuchPath}
-use Rattle.quic_recovery.specs.Entries.{Entries, here, answered, entries_of, logs_of}
+use Rattle.quic_recovery.specs.Entries.{here, answered, entries_of, logs_of, known_by}
 use Rattle.quic_recovery.specs.History.{Beginning, History, Reply}
-use Rattle.quic_recovery.specs.Known.{Known, known_by, number_in, packet_now}
+use Rattle.quic_recovery.specs.Known.{Known, number_in, packet_now, in_flight_on}
 use Rattle.quic_recovery.specs.Logs.{onto}
 use Rattle.quic_recovery.specs.Replies.{AlwaysAnswers}
-use Rattle.quic_recovery.specs.Told.{Told, Is, OnPath, counters_answer}
-use Rattle.quic_recovery.specs.Promises.Counted.{sum_on, total, IsTally, CountsInFlight}
+use Rattle.quic_recovery.specs.Told.{Told, Is, OnPath}
+use Rattle.quic_recovery.specs.Promises.Counted.{sum_on, IsTally, CountsInFlight}
 use Rattle.quic_recovery.specs.Promises.Paths.{paths_made}
 use Rattle.quic_recovery.proofs.AnswerLaws.{past_four}
 use Rattle.quic_recovery.proofs.Runs.{AllAlong, throughout_kept}
-use Rattle.quic_recovery.proofs.EntryKinds.{keeps_packets, space_kind, space_kept, refused_keeps}
+use Rattle.quic_recovery.proofs.EntryKinds.{keeps_packets, space_kind, space_kept}
 use Rattle.quic_recovery.proofs.PathLaws.{generation_told}
 use Rattle.quic_recovery.proofs.TrackedLaws.{at_itself, AllTracked, keeps_tracked, none_tracked, probe_number, one_space, sent_in, times}
 
@@ -109,11 +108,10 @@ module _ {P M : Type 0} (weigh : ℕ → Bool → ℕ) (generation : ℕ) where
       let push = sum_by_push (weigh_in gone) (without_some sent.tracked (Some m)) (number, packet) in
       rw (← is) (omega (arith, push, sum_without gone m sent.tracked (once m)))
 
-  sum_moved : (sent : Sent P M) (gone : ℕ → Bool) (empty : P) (found : ProbeFound)
-      → sum_in gone sent.tracked ≡ sum_in gone (sent_moved empty found sent).tracked
-  sum_moved sent gone empty (moves number) =
-      sym (sum-carrying sent.tracked number (weigh_in gone) empty (λ m packet. refl))
-  sum_moved sent gone empty found = refl
+  sum_moved : (sent : Sent P M) (gone : ℕ → Bool) (empty : P) (moved : Option ℕ)
+      → sum_in gone sent.tracked ≡ sum_in gone (sent_moved empty moved sent).tracked
+  sum_moved sent gone empty moved =
+      grind (arith, λ (number : ℕ). sum-carrying sent.tracked number (weigh_in gone) empty (λ m packet. refl))
 
 -- ---- over all spaces
 
@@ -135,7 +133,7 @@ module _ {F K Q S M P : Type 0} (beginning : Beginning F K Q S M P) (before : Hi
   log = (logs_of beginning before).spaces
 
   abbrev known : Known K P M
-  known = known_by beginning (logs_of beginning before)
+  known = known_by beginning before
 
   abbrev sent : SpaceId → Sent P M
   sent = sent_in beginning before
@@ -163,7 +161,7 @@ module _ {F K Q S M P : Type 0} (beginning : Beginning F K Q S M P) (before : Hi
   unmoved : (space : SpaceId) (entry : SpaceEntry P M) → keeps_packets (space_kind entry) ≡ true
       → sum_of space (sent space) ≡ sum_of space (sent_by beginning.queue.words (entry ∷ log space))
   unmoved space (probes immediate found) keeps =
-      sum_moved weigh generation (sent space) (gone space) beginning.queue.words.empty found
+      sum_moved weigh generation (sent space) (gone space) beginning.queue.words.empty found.moved
   unmoved space entry keeps = grind (arith, keeps)
 
   -- an entry of one space, by which numbers there are gone and a packet may go out
@@ -251,8 +249,6 @@ module _ {F K Q S M P : Type 0} (beginning : Beginning F K Q S M P) (before : Hi
       keeps_packets refl (unmoved space) event (Ok answer) refl)
   reply_counts (PollMtu now) (Err refusal) told = nothing
   reply_counts event (Err refusal) told =
-      refused_keeps event refusal
-      (λ (e : Entries P M). cond is_path 0 0 + sum_on weigh generation gone before ≡ over_spaces (sum_after e.spaces))
       nothing
 
 -- ---- what is told of it
@@ -263,7 +259,7 @@ module _ {F K Q S M P : Type 0} (beginning : Beginning F K Q S M P) where
 
   module _ (before : History Q S M P) (counts : Counts beginning before) where
     abbrev known_then : Known K P M
-    known_then = known_by beginning (logs_of beginning before)
+    known_then = known_by beginning before
 
     eliciting_same : (generation : ℕ) (packets : Packets P M)
         → sum_in (λ size eliciting. if eliciting then 1 else 0) generation (λ n. false) packets
@@ -280,17 +276,19 @@ module _ {F K Q S M P : Type 0} (beginning : Beginning F K Q S M P) where
           eliciting_same generation packets,
         )
 
-    bytes_same : (generation : ℕ) → total (λ size eliciting. size) generation before
+    bytes_same : (generation : ℕ) → sum_on (λ size eliciting. size) generation (λ space n. false) before
         ≡ over_spaces (λ space. sum_by (size_in generation) (sent_in beginning before space).tracked)
     bytes_same generation = counts (λ size eliciting. size) generation (λ space n. false)
 
-    count_same : (generation : ℕ) → total (λ size eliciting. if eliciting then 1 else 0) generation before
+    count_same : (generation : ℕ)
+        → sum_on (λ size eliciting. if eliciting then 1 else 0) generation (λ space n. false) before
         ≡ over_spaces (λ space. sum_by (eliciting_in generation) (sent_in beginning before space).tracked)
     count_same generation = counts (λ size eliciting. if eliciting then 1 else 0) generation (λ space n. false)
         ∙ spaces_same _ _ (λ space. eliciting_same generation (sent_in beginning before space).tracked)
 
     tally : (path : Option (PathKnown K)) (reply : Reply Q)
-        → OnPath path (λ there. AlwaysAnswers (Is (counters_answer known_then there))) reply
+        → OnPath path (λ there. AlwaysAnswers (Is (answers.InFlight (in_flight_on known_then there).bytes
+        (in_flight_on known_then there).ack_eliciting))) reply
         → IsTally before (option_map (λ p. p.generation) path) reply
     tally None (Err NoSuchPath) told = refl
     tally None reply told = absurd told.1
@@ -303,16 +301,16 @@ module _ {F K Q S M P : Type 0} (beginning : Beginning F K Q S M P) where
       → Kept before → CountsInFlight before event reply
   holds before (InFlight name) reply told kept =
       rw (← generation_told beginning before name)
-      (tally before kept.1 (path_of name (known_by beginning (logs_of beginning before)).paths) reply told)
+      (tally before kept.1 (path_of name (known_by beginning before).paths) reply told)
   holds before event reply told kept = tt
 
   -- throughout a run
   pub counts_in_flight : AllAlong beginning CountsInFlight
-  counts_in_flight events replies told =
+  counts_in_flight =
       throughout_kept beginning Kept CountsInFlight
       (λ before event reply here kept. (
         keeps_tracked beginning before event reply here kept.0,
         λ weigh generation gone. reply_counts beginning before kept.0 kept.1 weigh generation gone event reply here,
       ))
-      holds [] events replies told
+      holds
       (none_tracked beginning, λ weigh generation gone. refl)

@@ -1,56 +1,58 @@
--- The datagrams of each path by the history itself are those that its past in the logs has. `ThreefoldLaws` and
--- `BlockedLaws` rest on it.
-use Rattle.std.proofs.Common.{ℕ, ◌≡◌, ◌+◌, ◌&&◌, Bool, true, false, List, [], ◌∷◌, ◌++◌, Option, None, Some, Ok, Err, refl, sym, ap, subst, arith}
+-- The datagrams of each path by the history itself are those that its past in the logs has, and keep the bound on what
+-- goes to an address that is not validated. `ThreefoldLaws` and `BlockedLaws` rest on it.
+use Rattle.std.proofs.Common.{ℕ, ◌≡◌, ◌≤◌, ◌*◌, ◌+◌, Bool, true, false, List, [], ◌∷◌, ◌++◌, Option, None, Some, Ok, Err, refl, sym, ap, subst, arith}
 use Rattle.std.proofs.lemmas.Bool.{false≢true}
-use Rattle.std.specs.Prelude.{sum_by}
+use Rattle.std.specs.Prelude.{sum_by, option_map}
 use Rattle.std.specs.List.{list_all}
+use Rattle.std.proofs.lemmas.Bool.Decides.{nat_tests}
 use Rattle.std.proofs.lemmas.List.Sums.{sum_by-cons}
 use Rattle.recovery_paths.specs.declared.live_paths.PathName.{PathName}
 use Rattle.recovery_paths.specs.declared.live_paths.PathName.TheVariants.{Current, Previous}
-use Rattle.recovery_paths.specs.PathLog.{OfPaths, PathEntry, PathsEntry, PathPast, total, total_transmitted, each_path, on, receives, pasts_by}
-use Rattle.recovery_paths.specs.PathMaking.{PathMaking, PathSettings}
+use Rattle.recovery_paths.specs.PathLog.{OfPaths, PathEntry, PathsEntry, PathKnown, PathPast, each_path, known_of, on, receives, past_with, pasts_by, state_of}
+use Rattle.recovery_paths.specs.PathMaking.{PathSettings}
+use Rattle.recovery_paths.specs.PathStates.{PathState, is_blocked, path_delay}
 use Rattle.recovery_events.specs.declared.event.Event.{Event}
 use Rattle.recovery_events.specs.declared.event.Event.TheVariants.{Transmit, DatagramIn, Validated, NewPath, DropPrevious}
 use Rattle.recovery_events.specs.declared.event.Answer.TheVariants.{Transmitted}
-use Rattle.quic_recovery.specs.Entries.{Entries, logs_of, pasts_of}
+use Rattle.quic_recovery.specs.Entries.{logs_of, pasts_of, known_by}
 use Rattle.quic_recovery.specs.History.{Beginning, History, Reply}
-use Rattle.quic_recovery.specs.Known.{Known, known_by, first_path, settings_of}
-use Rattle.quic_recovery.specs.Told.{Told}
+use Rattle.quic_recovery.specs.Known.{Known, first_path, settings_of}
+use Rattle.quic_recovery.specs.Told.{Told, OnPath}
 use Rattle.quic_recovery.specs.Promises.Datagrams.{datagrams_on, bytes_in, bytes_out, is_validated}
 use Rattle.quic_recovery.specs.Promises.Threefold.{is_checked}
-use Rattle.quic_recovery.proofs.EntryKinds.{PathKind, receiving, validating, transmitting, passing, moving, dropping, elsewhere, path_kind, paths_kept, refused_keeps}
+use Rattle.quic_recovery.proofs.AmplificationLaws.{sent_freely}
+use Rattle.quic_recovery.proofs.EntryKinds.{PathKind, receiving, validating, transmitting, passing, moving, dropping, elsewhere, path_kind, paths_kept}
 
 -- ---- what the bound reads of a path
 
 pub record Flow : Type 0 where
   pub validated : Bool
-  -- all that went out was checked
-  pub checked : Bool
   pub came : ℕ
   pub went : ℕ
 
-abbrev flow : Bool → Bool → ℕ → ℕ → Flow
-flow validated checked came went = record { validated = validated; checked = checked; came = came; went = went }
+abbrev flow : Bool → ℕ → ℕ → Flow
+flow validated came went = record { validated = validated; came = came; went = went }
 
 -- by its past in the logs
 abbrev pub flow_of : {K : Type 0} → PathPast K → Flow
-flow_of past = flow past.validated (list_all (λ transmission. transmission.checked) past.transmissions)
-    (total past.datagrams)
-    (total_transmitted past.transmissions)
+flow_of past = flow past.kept.validated past.kept.total_recvd past.kept.total_sent
 
 module _ {Q S M P : Type 0} where
   abbrev pub flow_by : Bool → History Q S M P → Flow
-  flow_by validated here = flow validated (list_all is_checked here) (sum_by bytes_in here) (sum_by bytes_out here)
+  flow_by validated here = flow validated (sum_by bytes_in here) (sum_by bytes_out here)
 
-  -- by the history itself
-  abbrev pub flow_on : Bool → PathName → History Q S M P → Flow
-  flow_on first name history = flow_by (is_validated first name history) (datagrams_on name history)
+  -- both are the same, and the bound on what goes to an address that is not validated holds
+  abbrev pub IsBounded : Bool → History Q S M P → Type 0
+  IsBounded validated here =
+      validated ≡ false → list_all is_checked here ≡ true → sum_by bytes_out here ≤ 3 * sum_by bytes_in here
+
+  abbrev IsFlow : Bool → History Q S M P → Flow → Type 0
+  IsFlow validated here found = (flow_by validated here ≡ found) × IsBounded validated here
 
   -- a datagram came in
   came_more : (validated : Bool) (here : History Q S M P) (name : PathName) (bytes : ℕ) (reply : Reply Q) (old : Flow)
-      → flow_by validated here ≡ old
-      → flow_by validated ((DatagramIn name bytes, reply) ∷ here) ≡ flow old.validated old.checked (old.came + bytes)
-      old.went
+      → IsFlow validated here old
+      → IsFlow validated ((DatagramIn name bytes, reply) ∷ here) (flow old.validated (old.came + bytes) old.went)
   came_more validated here name bytes reply old same =
       grind (
         arith,
@@ -59,27 +61,27 @@ module _ {Q S M P : Type 0} where
         sum_by-cons bytes_out (DatagramIn name bytes, reply) here,
       )
 
-  -- one went out
+  -- one went out, within the bound where it was checked
   went_more : (validated : Bool) (here : History Q S M P) (now bytes : ℕ) (checked : Bool) (reply : Reply Q)
-      (old : Flow) → flow_by validated here ≡ old
-      → flow_by validated ((Transmit now bytes checked, reply) ∷ here) ≡ flow old.validated (checked && old.checked)
-      old.came (old.went + bytes)
-  went_more validated here now bytes checked reply old same =
+      (old : Flow) → (validated ≡ false → checked ≡ true → old.went + bytes ≤ 3 * old.came) → IsFlow validated here old
+      → IsFlow validated ((Transmit now bytes checked, reply) ∷ here) (flow old.validated old.came (old.went + bytes))
+  went_more validated here now bytes checked reply old within same =
       grind (
         arith,
         same,
+        within,
         sum_by-cons bytes_in (Transmit now bytes checked, reply) here,
         sum_by-cons bytes_out (Transmit now bytes checked, reply) here,
       )
 
-  -- both are the same of each path, and no datagrams are those of a path that does not live
+  -- so it is of each path, and no datagrams are those of a path that does not live
   abbrev pub IsFlowWhereLives : Bool → History Q S M P → Option Flow → Type 0
   IsFlowWhereLives validated here None = here ≡ []
-  IsFlowWhereLives validated here (Some flow) = flow_by validated here ≡ flow
+  IsFlowWhereLives validated here (Some found) = IsFlow validated here found
 
   abbrev pub AreFlows : Bool → History Q S M P → OfPaths Flow → Type 0
   AreFlows first history flows =
-      (flow_on first Current history ≡ flows.current)
+      IsFlow (is_validated first Current history) (datagrams_on Current history) flows.current
       × IsFlowWhereLives (is_validated first Previous history) (datagrams_on Previous history) flows.previous
 
 -- ---- entries that are no datagrams
@@ -94,7 +96,7 @@ is_quiet dropping = false
 is_quiet elsewhere = false
 is_quiet kind = true
 
-module _ {K : Type 0} (settings : PathSettings K) (first : PathMaking K) where
+module _ {K : Type 0} (settings : PathSettings K) (first : PathState K) where
   abbrev flows_in : List PathsEntry → OfPaths Flow
   flows_in log = each_path flow_of (pasts_by settings first log)
 
@@ -110,7 +112,7 @@ module _ {F K Q S M P : Type 0} (beginning : Beginning F K Q S M P) (earlier : H
   log = (logs_of beginning earlier).paths
 
   abbrev known : Known K P M
-  known = known_by beginning (logs_of beginning earlier)
+  known = known_by beginning earlier
 
   abbrev first : Bool
   first = beginning.config.validated
@@ -131,25 +133,48 @@ module _ {F K Q S M P : Type 0} (beginning : Beginning F K Q S M P) (earlier : H
     one_more (on Previous (receives bytes)) entries quiet flows = absurd (false≢true quiet)
     one_more entry entries quiet flows = grind (arith, quiet)
 
+    -- nothing came or went
+    at_first : (validated : Bool) → IsFlow {Q = Q} {S = S} {M = M} {P = P} validated [] (flow validated 0 0)
+    at_first validated = (refl, λ unproved checked. omega arith)
+
     -- one event more
     pub reply_flows : (event : Event Q S M P) (reply : Reply Q) → Told beginning earlier event reply
         → AreFlows first ((event, reply) ∷ earlier) (each_path flow_of (pasts_of beginning ((event, reply) ∷ earlier)))
     reply_flows (DatagramIn Current bytes) (Ok answer) told =
         (came_more _ (datagrams_on Current earlier) Current bytes (Ok answer) _ same.0, same.1)
-    reply_flows (DatagramIn Previous bytes) (Ok answer) told =
-        let more = λ (past : PathPast K). came_more (is_validated first Previous earlier)
-        (datagrams_on Previous earlier) Previous bytes (Ok answer) (flow_of past) in
-        (same.0, grind (arith, told, same.1, more))
+    reply_flows (DatagramIn Previous bytes) (Ok answer) told = (same.0, go pasts.previous _ told same.1)
+      where
+        validated : Bool
+        validated = is_validated first Previous earlier
+
+        go : (previous : Option (PathPast K)) (Replies : PathKnown K → Reply Q → Type 0)
+            → OnPath (option_map known_of previous) Replies (Ok answer)
+            → IsFlowWhereLives validated (datagrams_on Previous earlier) (option_map flow_of previous)
+            → IsFlowWhereLives validated ((DatagramIn Previous bytes, Ok answer) ∷ datagrams_on Previous earlier)
+            (option_map flow_of (option_map (past_with (settings_of beginning) (receives bytes)) previous))
+        go None Replies nowhere none = absurd (nowhere.0 tt)
+        go (Some past) Replies lives same =
+            came_more validated (datagrams_on Previous earlier) Previous bytes (Ok answer) (flow_of past) same
     reply_flows (Validated Current) (Ok answer) told =
-        (ap (λ (f : Flow). flow true f.checked f.came f.went) same.0, same.1)
+        ((ap (λ (f : Flow). flow true f.came f.went) same.0.0, λ unproved. absurd (cc (unproved))), same.1)
     reply_flows (Validated Previous) (Ok answer) told = (same.0, grind (arith, told, same.1))
     reply_flows (Transmit now bytes true) (Ok Transmitted) told =
-        (went_more _ (datagrams_on Current earlier) now bytes true (Ok Transmitted) _ same.0, same.1)
+        let path = state_of pasts.current in
+        let free = (sent_freely beginning.words (is_blocked path bytes) (path_delay beginning.words now bytes path)
+        told.1).0 in
+        let validated = is_validated first Current earlier in
+        let fits : validated ≡ false → true ≡ true → path.total_sent + bytes ≤ 3 * path.total_recvd =
+        grind (arith, nat_tests, free, same.0.0) in
+        (went_more validated (datagrams_on Current earlier) now bytes true (Ok Transmitted) _ fits same.0, same.1)
     reply_flows (Transmit now bytes true) (Ok answer) told = same
     reply_flows (Transmit now bytes false) (Ok answer) told =
-        rw told.1 (went_more _ (datagrams_on Current earlier) now bytes false (Ok Transmitted) _ same.0, same.1)
-    reply_flows (NewPath now remote true) (Ok answer) told = (refl, same.0)
-    reply_flows (NewPath now remote false) (Ok answer) told = (refl, same.0)
+        rw told.1 (
+          went_more _ (datagrams_on Current earlier) now bytes false (Ok Transmitted) _
+              (λ unproved checked. absurd (cc (checked))) same.0,
+          same.1,
+        )
+    reply_flows (NewPath now remote true) (Ok answer) told = (at_first false, same.0)
+    reply_flows (NewPath now remote false) (Ok answer) told = (at_first false, same.0)
     reply_flows DropPrevious (Ok answer) told = (same.0, refl)
     reply_flows event (Ok answer) told =
         paths_kept beginning.queue known (λ entries. AreFlows first earlier (flows (entries ++ log))) is_quiet same
@@ -157,7 +182,7 @@ module _ {F K Q S M P : Type 0} (beginning : Beginning F K Q S M P) (earlier : H
     reply_flows (DatagramIn Current bytes) (Err refusal) told = same
     reply_flows (Validated Current) (Err refusal) told = same
     reply_flows event (Err refusal) told =
-        refused_keeps event refusal (λ (e : Entries P M). AreFlows first earlier (flows (e.paths ++ log))) same
+        same
 
 module _ {F K Q S M P : Type 0} (beginning : Beginning F K Q S M P) where
   -- in a history that was told so, the flows by events and answers are those of the pasts
@@ -165,7 +190,7 @@ module _ {F K Q S M P : Type 0} (beginning : Beginning F K Q S M P) where
   FlowsAgree history = AreFlows beginning.config.validated history (each_path flow_of (pasts_of beginning history))
 
   pub flows_at_first : FlowsAgree []
-  flows_at_first = (refl, refl)
+  flows_at_first = ((refl, λ unproved checked. omega arith), refl)
 
   pub flows_after : (before : History Q S M P) (event : Event Q S M P) (reply : Reply Q)
       → Told beginning before event reply

@@ -15,7 +15,7 @@ use Rattle.recovery_ledger.specs.Packets.{Packet, forgotten_number, IsTooLarge}
 use Rattle.recovery_ledger.specs.Paths.{generation_of}
 use Rattle.recovery_ledger.specs.Tracked.{packet_sent}
 use Rattle.recovery_ledger.specs.SpaceLog.{SpaceEntry, heard, heard_again, sends}
-use Rattle.recovery_ledger.specs.Spaces.{Space, Spaces, space_of, with_space, tracking_of, acks_of, counts_of, next_number_of, HasGreatestCome, ReceiveReply, heard_of, SpaceStep, came}
+use Rattle.recovery_ledger.specs.Spaces.{Space, Spaces, space_of, with_space, tracking_of, acks_of, next_number_of, HasGreatestCome, ReceiveReply, heard_of, SpaceStep, arrives}
 use Rattle.recovery_ledger.proofs.AckLaws.{heard_greatest}
 use Rattle.recovery_paths.specs.PathLog.{PathsEntry, OfPaths, PathsStep, paths_known, paths_marks, on_current, tells}
 use Rattle.recovery_paths.specs.PathStates.{Path}
@@ -82,9 +82,9 @@ module _ {K Q S M P : Type 0} (q : QueueMeaning Q S M P) (old : Parts K P M) (sp
       ap (λ (spaces : Spaces P M). record old { spaces = spaces }) (with_same_space old.spaces space there kept)
 
   pub received_changes : (receipt : Result Receipt ReceiveError)
-      → ReceiveReply (heard_of (space_of space old.spaces)) (counts_of (acks_of (space_of space old.spaces))) number
+      → ReceiveReply (heard_of (space_of space old.spaces)) (acks_of (space_of space old.spaces)).counts number
       ack_eliciting receipt
-      → IfOk receipt (λ r. SpaceStep q.words (came now number ack_eliciting r) (space_of space old.spaces) there)
+      → IfOk receipt (λ r. SpaceStep q.words (arrives now number ack_eliciting r) (space_of space old.spaces) there)
       → OnErr receipt (there ≡ space_of space old.spaces)
       → Changes {M = M} q old (Received space now number ack_eliciting) (reply_to receipt)
       (record old { spaces = with_space old.spaces space there })
@@ -92,24 +92,28 @@ module _ {K Q S M P : Type 0} (q : QueueMeaning Q S M P) (old : Parts K P M) (sp
     told = grind (arith, live, is);
     steps = space_changes q.words old space (heard now number ack_eliciting) there _ _ _ step
         (skips_nothing space _ _ _ refl) refl;
+    plain = refl;
     marks = refl;
     refused = tt;
   }
   received_changes (Ok Duplicate) is step kept = record {
     told = grind (arith, live, is);
     steps = space_changes q.words old space (heard_again number) there _ _ _ step (skips_nothing space _ _ _ refl) refl;
+    plain = refl;
     marks = refl;
     refused = tt;
   }
   received_changes (Err NumberTooLarge) is step kept = record {
     told = grind (arith, live, is);
     steps = nothing_changes q.words old _ (same_parts kept);
+    plain = refl;
     marks = refl;
     refused = same_parts kept;
   }
   received_changes (Err NoMemory) is step kept = record {
     told = grind (arith, live, is);
     steps = nothing_changes q.words old _ (same_parts kept);
+    plain = refl;
     marks = refl;
     refused = same_parts kept;
   }
@@ -117,7 +121,7 @@ module _ {K Q S M P : Type 0} (q : QueueMeaning Q S M P) (old : Parts K P M) (sp
 -- what a received packet changes leaves the tracked packets, and the greatest ack-eliciting number was received
 pub received_keeps : {P M S : Type 0} (words : QueueWords P S) (now number : ℕ) (ack_eliciting : Bool)
     (receipt : Result Receipt ReceiveError) (old new : Space P M) → HasGreatestCome old
-    → IfOk receipt (λ r. SpaceStep words (came now number ack_eliciting r) old new) → OnErr receipt (new ≡ old)
+    → IfOk receipt (λ r. SpaceStep words (arrives now number ack_eliciting r) old new) → OnErr receipt (new ≡ old)
     → (tracking_of new ≡ tracking_of old) × (next_number_of new ≡ next_number_of old) × HasGreatestCome new
 received_keeps words now number ack_eliciting (Ok (New arm)) old new come step kept = (
   ap tracking_of step.others,
@@ -154,6 +158,7 @@ module _ {K Q S M P : Type 0} (q : QueueMeaning Q S M P) (old : Parts K P M) (sp
         told = grind (arith, live, small, left, fits, is_next, is_forgotten);
         steps = space_changes q.words old space (sends (number_in (known_to old) space) packet_then) there skipping
             (on_current (tells (sends_bytes now size (number_in (known_to old) space))) ∷ []) paths step skips told;
+        plain = refl;
         marks = marked;
         refused = tt;
       }

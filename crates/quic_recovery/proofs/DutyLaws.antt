@@ -4,20 +4,21 @@ use Rattle.std.proofs.lemmas.Bool.Decides.{nat_tests}
 use Rattle.std.proofs.Common.{◌≡◌, ◌<◌, ℕ, Bool, true, false, not, ◌&&◌, ◌||◌, cond, List, [], ◌∷◌, Option, None, Some, Ok, Err, ◌⊎◌, refl, arith}
 use Rattle.recovery_base.specs.declared.below.SpaceId.{SpaceId}
 use Rattle.recovery_base.specs.Spaces.{same_space}
-use Rattle.recovery_ledger.specs.Acks.{Arms, IsRequired, StartedAt, counts_by, heard_by}
+use Rattle.recovery_ledger.specs.Acks.{IsRequired, StartedAt, counts_by, heard_by}
+use Rattle.recovery_ledger.specs.Spaces.{ArmsBy}
 use Rattle.recovery_ledger.specs.SpaceLog.{SpaceEntry, heard, heard_again, ack_goes, ack_is_late}
 use Rattle.recovery_queue.specs.Queues.{QueueWords}
 use Rattle.recovery_events.specs.declared.event.Event.{Event}
 use Rattle.recovery_events.specs.declared.event.Event.TheVariants.{Received, AcksSent, AckDelayTimeout}
 use Rattle.recovery_events.specs.declared.event.Answer.TheVariants.{New}
-use Rattle.quic_recovery.specs.Entries.{Entries, entries_of, logs_of}
+use Rattle.quic_recovery.specs.Entries.{entries_of, logs_of, known_by}
 use Rattle.quic_recovery.specs.History.{Beginning, History, Reply}
-use Rattle.quic_recovery.specs.Known.{Known, known_by}
+use Rattle.quic_recovery.specs.Known.{Known}
 use Rattle.quic_recovery.specs.Logs.{onto}
 use Rattle.quic_recovery.specs.Promises.Duty.{KeepsDuty, timer_runs, waits}
 use Rattle.quic_recovery.specs.Told.{Told}
 use Rattle.quic_recovery.proofs.Runs.{AllAlong, throughout_kept}
-use Rattle.quic_recovery.proofs.EntryKinds.{SpaceKind, hearing, answering, delaying, space_kind, space_kept, refused_keeps}
+use Rattle.quic_recovery.proofs.EntryKinds.{SpaceKind, hearing, answering, delaying, space_kind, space_kept}
 use Rattle.quic_recovery.proofs.RequiredLaws.{either, asks, is_required}
 use Rattle.quic_recovery.proofs.TrackedLaws.{one_space}
 
@@ -33,12 +34,12 @@ pub record Attends (waiting running : Bool) (eliciting : ℕ) (Required Started 
 
 abbrev pub AttendsTo : {P M S : Type 0} → QueueWords P S → Bool → Bool → List (SpaceEntry P M) → Type 0
 AttendsTo words waiting running log =
-    Attends waiting running (counts_by log).eliciting (IsRequired log) ((m : ℕ) × StartedAt words log m)
+    Attends waiting running (counts_by log).eliciting (IsRequired log) ((m : ℕ) × StartedAt log m)
 
 module _ {P M S : Type 0} (words : QueueWords P S) (waiting running : Bool) (log : List (SpaceEntry P M))
     (attends : AttendsTo words waiting running log) where
   -- a new ack-eliciting packet with which the timer does not start: it was started, or an ACK is required
-  not_now : (now number : ℕ) → ¬ Arms (heard_by words log) (counts_by log) number true
+  not_now : (now number : ℕ) → ¬ ArmsBy (heard_by words log) (counts_by log) number true
       → AttendsTo words true running (heard now number true ∷ log)
   not_now now number other =
       let why = either (is_required log) (asks log (counts_by log) number) in
@@ -60,7 +61,7 @@ module _ {F K Q S M P : Type 0} (beginning : Beginning F K Q S M P) (before : Hi
   log = (logs_of beginning before).spaces
 
   abbrev known : Known K P M
-  known = known_by beginning (logs_of beginning before)
+  known = known_by beginning before
 
   abbrev waiting : Bool
   waiting = waits space before
@@ -72,21 +73,18 @@ module _ {F K Q S M P : Type 0} (beginning : Beginning F K Q S M P) (before : Hi
   After entry waiting running = AttendsTo beginning.queue.words waiting running (onto entry (log space))
 
   abbrev ArmsIn : SpaceId → ℕ → Type 0
-  ArmsIn there number = Arms (heard_by beginning.queue.words (log there)) (counts_by (log there)) number true
+  ArmsIn there number = ArmsBy (heard_by beginning.queue.words (log there)) (counts_by (log there)) number true
 
   -- an entry that leaves what waits, in this space or in another one
   stays : (b : Bool) (entry : SpaceEntry P M) → After (Some entry) waiting running
       → After (cond b (Some entry) None) waiting running
-  stays true entry first = first
-  stays false entry first = here
+  stays b entry first = grind (arith, first, here)
 
   sends_ack : (b : Bool) → After (cond b (Some ack_goes) None) (not b && waiting) (not b && running)
-  sends_ack true = grind (arith, nat_tests)
-  sends_ack false = here
+  sends_ack b = grind (arith, nat_tests, here)
 
   expires : (b : Bool) → After (cond b (Some ack_is_late) None) waiting (not b && running)
-  expires true = grind (arith, nat_tests, here)
-  expires false = here
+  expires b = grind (arith, nat_tests, here)
 
   -- a new ack-eliciting packet with which the timer starts, or does not
   module _ (there : SpaceId) (now number : ℕ) where
@@ -94,8 +92,7 @@ module _ {F K Q S M P : Type 0} (beginning : Beginning F K Q S M P) (before : Hi
     Comes b running = After (cond b (Some (heard now number true)) None) (b || waiting) running
 
     arms_told : (b : Bool) → Comes b (b || running)
-    arms_told true = grind (arith, nat_tests)
-    arms_told false = here
+    arms_told b = grind (arith, nat_tests, here)
 
     other_told : ¬ ArmsIn there number → Comes (same_space there space) running
     other_told other = go (same_space there space) refl
@@ -107,11 +104,7 @@ module _ {F K Q S M P : Type 0} (beginning : Beginning F K Q S M P) (before : Hi
 
   -- all other entries
   unmoved : (entry : SpaceEntry P M) → is_silent (space_kind entry) ≡ true → After (Some entry) waiting running
-  unmoved (heard now number eliciting) is = absurd cc
-  unmoved (heard_again number) is = absurd cc
-  unmoved ack_goes is = absurd cc
-  unmoved ack_is_late is = absurd cc
-  unmoved entry is = here
+  unmoved entry is = grind (arith, is, here)
 
   reply_attends : (event : Event Q S M P) (reply : Reply Q) → Told beginning before event reply
       → After ((entries_of beginning.queue known event reply).spaces space)
@@ -134,7 +127,7 @@ module _ {F K Q S M P : Type 0} (beginning : Beginning F K Q S M P) (before : Hi
   reply_attends (Received there now number true) (Err refusal) told = here
   reply_attends (Received there now number false) (Err refusal) told = here
   reply_attends event (Err refusal) told =
-      refused_keeps event refusal (λ (e : Entries P M). After (e.spaces space) waiting running) here
+      here
 
 -- ---- throughout a run
 
@@ -149,9 +142,9 @@ module _ {F K Q S M P : Type 0} (beginning : Beginning F K Q S M P) where
   after_one before event reply told all = λ space. reply_attends beginning before space (all space) event reply told
 
   pub keeps_duty : AllAlong beginning (KeepsDuty beginning)
-  keeps_duty events replies told =
+  keeps_duty =
       throughout_kept beginning AllAttended (KeepsDuty beginning) after_one
-      (λ before event reply here all space. (after_one before event reply here all space).duty) [] events replies told
+      (λ before event reply here all space. (after_one before event reply here all space).duty)
       (λ space. record {
         counts = λ is. cc;
         armed = λ started. absurd started.1;

@@ -5,17 +5,18 @@ use Rattle.recovery_base.specs.declared.below.SpaceId.TheVariants as space
 use Rattle.recovery_mtud.specs.Discovery.{poll_of}
 use Rattle.recovery_mtud.specs.DiscoveryLog.{loses_probe}
 use Rattle.recovery_mtud.specs.MtuEntries.{MtuEntry, poll_entry}
-use Rattle.recovery_paths.specs.PathMaking.{PathMaking, PathSettings}
+use Rattle.recovery_paths.specs.PathMaking.{PathSettings}
 use Rattle.recovery_paths.specs.PathLog.{PathsEntry, on, pasts_by, searches, is_reset}
 use Rattle.recovery_events.specs.declared.event.Event.{Event}
 use Rattle.recovery_events.specs.declared.event.Event.TheVariants.{PollMtu, Acked, Lost, LossesDone, PeerLimit, ResetPath, NewPath}
 use Rattle.recovery_events.specs.declared.event.Answer.{Answer}
 use Rattle.recovery_paths.specs.declared.live_paths.PathName.TheVariants.{Current, Previous}
-use Rattle.quic_recovery.specs.Entries.{Entries, logs_of}
+use Rattle.recovery_paths.specs.PathStates.{PathState}
+use Rattle.quic_recovery.specs.Entries.{logs_of, known_by}
 use Rattle.quic_recovery.specs.History.{Beginning, History, Reply}
-use Rattle.quic_recovery.specs.Known.{Known, first_path, known_by, settings_of}
+use Rattle.quic_recovery.specs.Known.{Known, first_path, settings_of}
 use Rattle.quic_recovery.specs.Told.{Told, MtuProbeReply}
-use Rattle.quic_recovery.proofs.EntryKinds.{PathKind, departing, limiting, searching, resetting, moving, elsewhere, path_kind, paths_kept, refused_keeps}
+use Rattle.quic_recovery.proofs.EntryKinds.{PathKind, departing, limiting, searching, resetting, moving, elsewhere, path_kind, paths_kept}
 use Rattle.quic_recovery.proofs.SearchSaid.{EntersAsTold, entries_on}
 use Rattle.quic_recovery.proofs.Runs.{AllAlong, throughout_kept}
 
@@ -29,7 +30,7 @@ is_unseen moving = false
 is_unseen elsewhere = false
 is_unseen kind = true
 
-module _ {K : Type 0} (settings : PathSettings K) (first : PathMaking K) where
+module _ {K : Type 0} (settings : PathSettings K) (first : PathState K) where
   unseen_one : (entry : PathsEntry) (log : List PathsEntry) → is_unseen (path_kind entry) ≡ true
       → entries_on (pasts_by settings first (entry ∷ log)).current ≡ entries_on (pasts_by settings first log).current
   unseen_one (on Current (searches loses_probe)) log is = absurd (false≢true is)
@@ -39,7 +40,7 @@ module _ {K : Type 0} (settings : PathSettings K) (first : PathMaking K) where
 
 module _ {F K Q S M P : Type 0} (beginning : Beginning F K Q S M P) (past : History Q S M P) where
   abbrev known : Known K P M
-  known = known_by beginning (logs_of beginning past)
+  known = known_by beginning past
 
   -- what happened on the paths up to here
   abbrev log : List PathsEntry
@@ -55,8 +56,8 @@ module _ {F K Q S M P : Type 0} (beginning : Beginning F K Q S M P) (past : Hist
   polled : (now : ℕ) (given : Answer Q) (size : Option ℕ) → poll_of now known.paths.current.state.discovery ≡ size
       → MtuProbeReply beginning.queue known now size (Ok given)
       → EntersAsTold beginning past (PollMtu now) (Ok given)
-  polled now given None is told = rw told (ap (λ p. poll_entry now known.numbers.next p ∷ before) is)
-  polled now given (Some size) is told = rw told.1 (ap (λ p. poll_entry now known.numbers.next p ∷ before) is)
+  polled now given None is told = rw told (ap (λ p. poll_entry now known.next_number p ∷ before) is)
+  polled now given (Some size) is told = rw told.1 (ap (λ p. poll_entry now known.next_number p ∷ before) is)
 
   entered_one : (event : Event Q S M P) (reply : Reply Q) → Told beginning past event reply
       → EntersAsTold beginning past event reply
@@ -78,11 +79,11 @@ module _ {F K Q S M P : Type 0} (beginning : Beginning F K Q S M P) (past : Hist
       ∙ kept) event (Ok given) refl
   entered_one (NewPath now remote true) (Err refusal) told = refl
   entered_one event (Err refusal) told =
-      refused_keeps event refusal (λ (e : Entries P M). entries_with e.paths ≡ before) refl
+      refl
 
 -- throughout a run
 pub entries_told : {F K Q S M P : Type 0} (beginning : Beginning F K Q S M P)
     → AllAlong beginning (EntersAsTold beginning)
-entries_told {F} {K} {Q} {S} {M} {P} beginning events replies told =
+entries_told beginning =
     throughout_kept beginning (λ past. Unit {0}) (EntersAsTold beginning) (λ past event reply told kept. tt)
-    (λ past event reply told kept. entered_one beginning past event reply told) [] events replies told tt
+    (λ past event reply told kept. entered_one beginning past event reply told) tt

@@ -1,6 +1,6 @@
 -- Of what kinds the entries are that an event may make in the log of a space and in that of the paths. A law over such
 -- a log names the events of the kinds that it reads; what other events make keeps it (`space_kept`, `paths_kept`).
-use Rattle.std.proofs.Common.{arith, ◌≡◌, ℕ, ◌&&◌, Bool, true, false, cond, List, [], ◌∷◌, ◌++◌, Option, None, Some, Ok, Err, refl}
+use Rattle.std.proofs.Common.{arith, ◌≡◌, ◌==◌, ℕ, ◌&&◌, Bool, true, false, cond, List, [], ◌∷◌, ◌++◌, Option, None, Some, Ok, Err}
 use Rattle.std.proofs.lemmas.Bool.{and_parts}
 use Rattle.recovery_base.specs.declared.below.SpaceId.{SpaceId}
 use Rattle.recovery_base.specs.declared.below.SpaceId.TheVariants.{Data}
@@ -8,18 +8,15 @@ use Rattle.recovery_base.specs.Spaces.{same_space}
 use Rattle.recovery_ledger.specs.Packets.{Packet, packet_at}
 use Rattle.recovery_ledger.specs.SpaceLog.{SpaceEntry, heard, heard_again, sends, acknowledged, loses, probes, takes_pending, feeds_back, emptied, ack_goes, ack_is_late, asked}
 use Rattle.recovery_congestion.specs.Calls.{ControllerCall}
-use Rattle.recovery_mtud.specs.Discovery.{is_data, reports}
+use Rattle.recovery_mtud.specs.Discovery.{reports}
 use Rattle.recovery_mtud.specs.DiscoveryLog.{MtuCall, is_limited, losses_end, acks as acks_packet, loses as loses_packet, loses_probe}
 use Rattle.recovery_paths.specs.declared.live_paths.PathName.TheVariants.{Current, Previous}
 use Rattle.recovery_paths.specs.PathLog.{PathsEntry, on, moves, drops_previous, on_current, receives, is_validated, samples, tells, searches, asks, transmits, passes, is_reset}
 use Rattle.recovery_paths.specs.PathStates.{is_path_probe}
 use Rattle.recovery_events.specs.declared.event.Event.{Event}
-use Rattle.recovery_events.specs.declared.event.Event.TheVariants.{Received, Send, Acked, Lost, AckFrequencyIn, AcksSent, AckDelayTimeout, NextTimeout, DiscardSpace, DatagramIn, Validated, Sample, Transmit, PacerCheck, Congestion, EndAcks, PollMtu, PeerLimit, LossesDone, Ecn, QueueProbe, TakePending, NewPath, ResetPath, DropPrevious}
-use Rattle.recovery_events.specs.declared.event.Answer.{Answer}
-use Rattle.recovery_events.specs.declared.event.Answer.TheVariants.{New, Flag, Done, Transmitted, Delayed, Probe}
-use Rattle.recovery_events.specs.declared.event.Refusal.{Refusal}
-use Rattle.recovery_events.specs.declared.event.Refusal.TheVariants.{DelayTooSmall}
-use Rattle.quic_recovery.specs.Entries.{Entries, nothing, answered, refused, entries_of, acked_entry, acked_search, lost_search, searched, is_own}
+use Rattle.recovery_events.specs.declared.event.Event.TheVariants.{Received, Send, Acked, Lost, AckFrequencyIn, AcksSent, AckDelayTimeout, DiscardSpace, DatagramIn, Validated, Sample, Transmit, PacerCheck, Congestion, EndAcks, PollMtu, PeerLimit, LossesDone, Ecn, QueueProbe, TakePending, NewPath, ResetPath, DropPrevious}
+use Rattle.recovery_events.specs.declared.event.Answer.TheVariants.{New, Flag, Transmitted, Delayed, Probe}
+use Rattle.quic_recovery.specs.Entries.{entries_of, acked_entry, acked_search, lost_search, searched}
 use Rattle.quic_recovery.specs.History.{QueueMeaning, Reply}
 use Rattle.quic_recovery.specs.Known.{Known, tracked_known}
 
@@ -121,28 +118,6 @@ module _ {Q S M P : Type 0} where
   is_by is DropPrevious = is dropping
   is_by is event = true
 
-  -- events that are read off their answers are nothing to any part but spaces, requests and paths
-  abbrev pub plain : Event Q S M P → Event Q S M P
-  plain (Received space now number eliciting) = NextTimeout
-  plain (AckFrequencyIn frame) = NextTimeout
-  plain (PollMtu now) = NextTimeout
-  plain (Transmit now bytes checked) = NextTimeout
-  plain event = event
-
--- a refused event is nothing, but to the requests
-abbrev pub but_requests : {P M : Type 0} → Entries P M → Entries P M
-but_requests entries = record entries { requests = None }
-
-pub refused_nothing : {Q S M P : Type 0} (event : Event Q S M P) (refusal : Refusal)
-    → but_requests (refused event refusal) ≡ nothing
-refused_nothing (AckFrequencyIn frame) DelayTooSmall = refl
-refused_nothing event refusal = refl
-
--- what holds of nothing holds of what a refused event is
-pub refused_keeps : {Q S M P : Type 0} (event : Event Q S M P) (refusal : Refusal) (IsKept : Entries P M → Type 0)
-    → IsKept nothing → IsKept (but_requests (refused event refusal))
-refused_keeps event refusal IsKept kept = rw (refused_nothing event refusal) kept
-
 -- ---- in one space
 
 module _ {K Q S M P : Type 0} (q : QueueMeaning Q S M P) (known : Known K P M) (space : SpaceId)
@@ -171,8 +146,7 @@ module _ {K Q S M P : Type 0} (q : QueueMeaning Q S M P) (known : Known K P M) (
   space_kept (TakePending there) (Ok answer) idle = pick there _ idle
   space_kept (Transmit now bytes true) (Ok Transmitted) idle = none
   space_kept event (Ok answer) idle = none
-  space_kept event (Err refusal) idle =
-      refused_keeps event refusal (λ (e : Entries P M). IsKept (e.spaces space)) none
+  space_kept event (Err refusal) idle = none
 
 -- ---- on the paths
 
@@ -205,15 +179,16 @@ module _ {K Q S M P : Type 0} (q : QueueMeaning Q S M P) (known : Known K P M) (
       → IsKept (acked_entry known now app_limited packet ++ acked_search known space number packet)
   acked_kept space now number app_limited None quiet departs = none
   acked_kept space now number app_limited (Some packet) quiet departs =
-      told_if (is_own known packet && packet.ack_eliciting) _ (acked_search known space number (Some packet)) quiet
-      (in_data (is_data space) _ (changed (is_path_probe space number known.paths.current.state)
+      told_if (packet.path_generation == known.paths.current.generation && packet.ack_eliciting) _
+      (acked_search known space number (Some packet)) quiet
+      (in_data (same_space space Data) _ (changed (is_path_probe space number known.paths.current.state)
       (acks_packet number packet.size) quiet departs))
 
   lost_kept : (space : SpaceId) (number : ℕ) (packet : Option (Packet P M)) → is departing ≡ true
       → IsKept (lost_search known space number packet)
   lost_kept space number None departs = none
   lost_kept space number (Some packet) departs =
-      in_data (is_data space) _ (grind (
+      in_data (same_space space Data) _ (grind (
         arith,
         one (on_current (searches loses_probe)) departs,
         one (on_current (searches (loses_packet number packet.size))) departs,
@@ -252,24 +227,4 @@ module _ {K Q S M P : Type 0} (q : QueueMeaning Q S M P) (known : Known K P M) (
   paths_kept (Received space now number eliciting) (Ok (New arm)) quiet = none
   paths_kept (AckFrequencyIn frame) (Ok (Flag true)) quiet = none
   paths_kept event (Ok answer) quiet = none
-  paths_kept event (Err refusal) quiet = refused_keeps event refusal (λ (e : Entries P M). IsKept e.paths) none
-
--- ---- to the other parts
-
-module _ {K Q S M P : Type 0} (q : QueueMeaning Q S M P) (known : Known K P M) where
-  -- what is read off the answer leaves the other parts alone
-  abbrev pub but_logs : Entries P M → Entries P M
-  but_logs entries = record entries { spaces = λ space. None; paths = []; requests = None }
-
-  pub plainly : (event : Event Q S M P) (answer : Answer Q)
-      → but_logs (answered q known event answer) ≡ but_logs (answered q known (plain event) Done)
-  plainly (Received there now number eliciting) (New arm) = refl
-  plainly (AckFrequencyIn frame) (Flag true) = refl
-  plainly (PollMtu now) (Probe number size) = refl
-  plainly (Transmit now bytes true) Transmitted = refl
-  plainly event answer = refl
-
-  -- what holds of the entries that an event makes whatever its answer holds of those that it makes
-  pub plainly_keeps : (event : Event Q S M P) (answer : Answer Q) (IsKept : Entries P M → Type 0)
-      → IsKept (but_logs (answered q known (plain event) Done)) → IsKept (but_logs (answered q known event answer))
-  plainly_keeps event answer IsKept kept = rw (plainly event answer) kept
+  paths_kept event (Err refusal) quiet = none

@@ -13,11 +13,11 @@ use Rattle.recovery_paths.specs.PathStates.{is_path_probe, loss_call}
 use Rattle.recovery_paths.proofs.FateLaws.{fate, fates, told_in, told-append, fates_by}
 use Rattle.recovery_events.specs.declared.event.Event.{Event}
 use Rattle.recovery_events.specs.declared.event.Event.TheVariants.{Acked, Lost}
-use Rattle.quic_recovery.specs.Entries.{Entries, entries_of, acked_entry, acked_search, lost_search, searched, logs_of, pasts_of}
+use Rattle.quic_recovery.specs.Entries.{Entries, entries_of, acked_entry, acked_search, lost_search, searched, logs_of, pasts_of, known_by}
 use Rattle.quic_recovery.specs.History.{Beginning, History, QueueMeaning, Reply}
-use Rattle.quic_recovery.specs.Known.{Known, known_by, first_path, settings_of, tracked_known}
+use Rattle.quic_recovery.specs.Known.{Known, first_path, settings_of, tracked_known}
 use Rattle.quic_recovery.specs.Promises.Once.{departures_of}
-use Rattle.quic_recovery.proofs.EntryKinds.{PathKind, departing, elsewhere, call_kind, path_kind, paths_kept, refused_keeps}
+use Rattle.quic_recovery.proofs.EntryKinds.{PathKind, departing, elsewhere, call_kind, path_kind, paths_kept}
 
 -- how often a number leaves the space of 1-RTT packets, where it is this one
 abbrev leaves_data : SpaceId → ℕ → ℕ → ℕ
@@ -100,12 +100,13 @@ module _ {K Q S M P : Type 0} (q : QueueMeaning Q S M P) (known : Known K P M) (
 
     -- by each event
     event_departs : (event : Event Q S M P) (reply : Reply Q) → Departs (entries_of q known event reply) (event, reply)
-    event_departs (Acked space now other app_limited) (Ok answer) = omega (
+    event_departs (Acked space now other app_limited) (Ok answer) = grind (
       arith,
+      nat_tests,
       acked_departs known number space now other app_limited (packet_at (tracked_known known space) other),
     )
     event_departs (Lost space other) (Ok answer) =
-        omega (arith, lost_departs known number space other (packet_at (tracked_known known space) other))
+        grind (arith, nat_tests, lost_departs known number space other (packet_at (tracked_known known space) other))
     event_departs event (Ok answer) =
         omega (
           arith,
@@ -114,8 +115,7 @@ module _ {K Q S M P : Type 0} (q : QueueMeaning Q S M P) (known : Known K P M) (
         )
     event_departs (Acked space now other app_limited) (Err refusal) = omega arith
     event_departs event (Err refusal) =
-        refused_keeps event refusal (λ (e : Entries P M). told_in number e.paths + departures_of Data number earlier
-        ≤ departures_of Data number earlier) (omega arith)
+        omega arith
 
 module _ {F K Q S M P : Type 0} (beginning : Beginning F K Q S M P) (number : ℕ) where
   -- so by a whole history
@@ -124,7 +124,7 @@ module _ {F K Q S M P : Type 0} (beginning : Beginning F K Q S M P) (number : �
   told_departs [] = omega arith
   told_departs (happened ∷ earlier) =
       let logs = logs_of beginning earlier in
-      let known = known_by beginning logs in
+      let known = known_by beginning earlier in
       omega (
         arith,
         told_departs earlier,

@@ -1,6 +1,6 @@
 -- Worked rows of the promises that each number has one fate and that numbers rise, computed: of a right history each
 -- number has one, and of a wrong one some has not. Nothing rests on them.
-use Rattle.std.proofs.Common.{◌≡◌, ◌^◌, true, false, [], ◌∷◌, None, Some, Ok, Err, refl, arith}
+use Rattle.std.proofs.Common.{◌≡◌, ◌^◌, ◌≤◌, ℕ, true, false, [], ◌∷◌, None, Some, Ok, Err, refl, arith}
 use Rattle.std.proofs.lemmas.Bool.Decides.{nat_tests}
 use Rattle.recovery_base.specs.declared.below.SpaceId.TheVariants.{Initial, Data}
 use Rattle.recovery_events.specs.declared.event.Event.TheVariants as event
@@ -8,7 +8,7 @@ use Rattle.recovery_events.specs.declared.event.Answer.TheVariants as answer
 use Rattle.recovery_events.specs.declared.event.Refusal.TheVariants as refusal
 use Rattle.quic_recovery.specs.History.{History}
 use Rattle.quic_recovery.specs.Promises.Fates.{times, fates, is_given, HaveOneFate}
-use Rattle.quic_recovery.specs.Promises.Rising.{GivesRising, IsAbove}
+use Rattle.quic_recovery.specs.Promises.Rising.{GivesRising}
 
 module _ (Q S M P : Type 0) (queue : Q) (frames : M) where
   -- of 1-RTT packets 0 was forgotten, 1 lost, 2 is a probe of the MTU; 0 of Initial ones was discarded with its space
@@ -66,10 +66,10 @@ module _ (Q S M P : Type 0) (queue : Q) (frames : M) where
 
   -- ---- numbers rise: 0 to 3 were given out, of Initial ones 0 alone
 
-  behind_its_own : IsAbove Initial 1 past
+  behind_its_own : (n : ℕ) → 1 ≤ n → times (is_given Initial n) past ≡ 0
   behind_its_own = λ n above. grind (arith, nat_tests, above)
 
-  behind_the_last : IsAbove Data 4 past
+  behind_the_last : (n : ℕ) → 4 ≤ n → times (is_given Data n) past ≡ 0
   behind_the_last = λ n above. grind (arith, nat_tests, above)
 
   the_last_again : ¬ GivesRising past (event.PollMtu 10) (Ok (answer.Probe 3 1400))

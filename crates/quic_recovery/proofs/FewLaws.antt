@@ -1,9 +1,10 @@
 -- By the history alone a search takes few probes, as its entries say: the clause `few` of `run`.
-use Rattle.std.proofs.Common.{ℕ, ◌≡◌, ◌<◌, ◌^◌, true, false, if◌then◌else◌, List, [], ◌∷◌, Ok, Err, refl, ap, is_some, arith}
-use Rattle.std.specs.Option.{ForSome}
+use Rattle.std.proofs.Common.{ℕ, ◌≡◌, ◌<◌, ◌^◌, true, List, [], ◌∷◌, Option, Ok, Err, refl, ap, is_some, arith}
+use Rattle.std.specs.Option.{IfSome, ForSome}
 use Rattle.recovery_base.specs.declared.below.SpaceId.TheVariants as space
-use Rattle.recovery_mtud.specs.MtuEntries.{MtuEntry, probe_in_flight}
-use Rattle.recovery_mtud.specs.SearchRuns.{probed_sizes, search_of, search_runs}
+use Rattle.recovery_mtud.specs.MtuEntries.{MtuEntry, MtuProbe, probe_in_flight}
+use Rattle.recovery_mtud.specs.SearchRuns.{probed_sizes, search_of}
+use Rattle.recovery_mtud.proofs.SearchRunLaws.{idle_search}
 use Rattle.recovery_events.specs.declared.event.Event.{Event}
 use Rattle.recovery_events.specs.declared.event.Event.TheVariants.{PollMtu, Acked, Lost, LossesDone, PeerLimit, ResetPath, NewPath}
 use Rattle.recovery_events.specs.declared.event.Answer.TheVariants as answer
@@ -11,6 +12,7 @@ use Rattle.quic_recovery.specs.Known.{settings_of}
 use Rattle.quic_recovery.specs.History.{Beginning, History, Reply}
 use Rattle.quic_recovery.specs.Search.{discovery_settings}
 use Rattle.quic_recovery.specs.Promises.Few.{ProbesFew, is_in_flight, probed}
+use Rattle.quic_recovery.specs.Promises.Probes.{last_probe}
 use Rattle.quic_recovery.proofs.SearchSaid.{entered_so_far}
 use Rattle.quic_recovery.proofs.SearchLaws.{few_one}
 use Rattle.quic_recovery.proofs.SearchSteps.{Facts, Step, facts, stepped}
@@ -19,16 +21,15 @@ use Rattle.quic_recovery.proofs.Runs.{AllAlong}
 
 -- ---- the sizes probed by the search that runs
 
--- where none runs, there are none
-idle_sizes : (entries : List MtuEntry) → search_runs entries ≡ false → probed_sizes (search_of entries) ≡ []
-idle_sizes [] idle = refl
-idle_sizes (entry ∷ earlier) idle = ap (λ b. probed_sizes (if b then entry ∷ search_of earlier else [])) idle
+-- the probe in flight is the last one
+abbrev IsLast : ℕ × ℕ → Option MtuProbe → Type 0
+IsLast last flight = IfSome flight (λ probe. (last.0 ≡ probe.number) × (last.1 ≡ probe.size))
 
 module _ {Q S M P : Type 0} where
-  -- the history tells whether a probe is in flight, and the sizes probed
+  -- the history tells whether a probe is in flight, and which, and the sizes probed
   abbrev pub TiedTo : History Q S M P → List MtuEntry → Type 0
   TiedTo history entries = (is_in_flight history ≡ is_some (probe_in_flight entries))
-      × (probed history ≡ probed_sizes (search_of entries))
+      × (probed history ≡ probed_sizes (search_of entries)) × IsLast (last_probe history) (probe_in_flight entries)
 
   module _ (first least : ℕ) (history : History Q S M P) (entries : List MtuEntry) (tied : TiedTo history entries)
     where
@@ -36,15 +37,15 @@ module _ {Q S M P : Type 0} where
           → Step first least entries (λ number bytes. Unit {0}) (λ r after. TiedTo ((event, r) ∷ history) after) event
           reply
       step_tied (PollMtu now) (Ok (answer.Probe number size)) =
-          (refl, ap (λ sizes. size ∷ sizes) tied.1)
-      step_tied (PollMtu now) (Ok answer.NoProbe) = grind (arith, idle_sizes entries)
-      step_tied (PeerLimit size) (Ok given) = grind (arith, idle_sizes entries)
+          (refl, ap (λ sizes. size ∷ sizes) tied.1, (refl, refl))
+      step_tied (PollMtu now) (Ok answer.NoProbe) = grind (arith, idle_search entries)
+      step_tied (PeerLimit size) (Ok given) = grind (arith, idle_search entries)
       step_tied (Acked space.Data now number app_limited) (Ok given) =
-          grind (arith, idle_sizes entries)
-      step_tied (Lost space.Data number) (Ok given) = grind (arith, idle_sizes entries)
-      step_tied (LossesDone now) (Ok given) = grind (arith, idle_sizes entries)
-      step_tied (ResetPath now) (Ok given) = (refl, refl)
-      step_tied (NewPath now remote true) (Ok given) = (refl, refl)
+          grind (arith, idle_search entries)
+      step_tied (Lost space.Data number) (Ok given) = grind (arith, idle_search entries)
+      step_tied (LossesDone now) (Ok given) = grind (arith, idle_search entries)
+      step_tied (ResetPath now) (Ok given) = (refl, refl, tt)
+      step_tied (NewPath now remote true) (Ok given) = (refl, refl, tt)
       step_tied (NewPath now remote true) (Err refusal) = tied
       step_tied event (Ok given) = tied
       step_tied event (Err refusal) = tied
@@ -66,9 +67,9 @@ module _ {F K Q S M P : Type 0} (beginning : Beginning F K Q S M P) where
   -- throughout a run, where the upper bound of a search is a `u16`
   pub few_told : ForSome (discovery_settings beginning) (λ settings. settings.upper_bound < 2 ^ 16)
       → AllAlong beginning (ProbesFew beginning)
-  few_told small events replies told =
-      throughout_by (Facts beginning) (ProbesFew beginning) Tied tied_after few [] events replies
-      (facts beginning events replies told) (refl, refl)
+  few_told small history told =
+      throughout_by (Facts beginning) (ProbesFew beginning) Tied tied_after few (refl, refl, tt) history
+      (facts beginning history told)
     where
       few : (history : History Q S M P) (event : Event Q S M P) (reply : Reply Q)
           → Facts beginning history event reply → Tied history → Tied ((event, reply) ∷ history)

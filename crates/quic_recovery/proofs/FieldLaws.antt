@@ -4,9 +4,8 @@ use Rattle.std.proofs.lemmas.Bool.Decides.{nat_tests}
 use Rattle.std.proofs.Common.{ℕ, ◌≡◌, ◌+◌, ◌<◌, ◌≤◌, true, List, [], ◌∷◌, ◌++◌, Option, None, Some, refl, ◌∙◌, arith}
 use Rattle.std.specs.Prelude.{option_map}
 use Rattle.recovery_ledger.specs.Packets.{Packet, Packets, packet_at, without, without_some, replaced, carrying, with_contents, forgotten_number, sent_onto}
-use Rattle.recovery_ledger.specs.Probes.{ProbeFound, pending_stands, moves, nothing_found}
-use Rattle.recovery_ledger.specs.SpaceLog.{SpaceEntry, sends, acknowledged, loses, probes, emptied}
-use Rattle.recovery_ledger.specs.Tracked.{Sent, sent_by, sent_moved}
+use Rattle.recovery_ledger.specs.SpaceLog.{SpaceEntry, acknowledged, loses, probes}
+use Rattle.recovery_ledger.specs.Tracked.{Sent, sent_by}
 use Rattle.recovery_ledger.proofs.PacketLaws.{number_at, none_found}
 use Rattle.recovery_queue.specs.Queues.{QueueWords}
 use Rattle.quic_recovery.proofs.EntryKinds.{space_kind, sends_none}
@@ -81,24 +80,20 @@ module _ {P M A : Type 0} (says : Packet P M → A) where
   abbrev pub IsSaid : (ℕ → A) → Sent P M → Type 0
   IsSaid by sent = AreSaid by sent.next sent.tracked
 
-  -- contents that a probe finds are moved out
-  pub said_moved : ((contents : P) (packet : Packet P M) → says (with_contents contents packet) ≡ says packet)
-      → (by : ℕ → A) (sent : Sent P M) (empty : P) (found : ProbeFound) → IsSaid by sent
-      → IsSaid by (sent_moved empty found sent)
-  said_moved kept by sent empty pending_stands said = said
-  said_moved kept by sent empty nothing_found said = said
-  said_moved kept by sent empty (moves number) said = said_carrying by sent.next kept sent.tracked number empty said
-
   -- an entry by which no packet goes out
   module _ {S : Type 0}
       (kept : (contents : P) (packet : Packet P M) → says (with_contents contents packet) ≡ says packet)
       (words : QueueWords P S) (by : ℕ → A) (log : List (SpaceEntry P M)) (said : IsSaid by (sent_by words log)) where
     pub said_after : (entry : SpaceEntry P M) → sends_none (space_kind entry) ≡ true
         → IsSaid by (sent_by words (entry ∷ log))
-    said_after (sends number packet) none = absurd cc
     said_after (acknowledged number) none =
         said_without by (sent_by words log).next (sent_by words log).tracked number said
     said_after (loses number) none = said_without by (sent_by words log).next (sent_by words log).tracked number said
-    said_after (probes immediate found) none = said_moved kept by (sent_by words log) words.empty found said
-    said_after emptied none = tt
-    said_after entry none = said
+    said_after (probes immediate found) none =
+        grind (
+          arith,
+          said,
+          λ (number : ℕ). said_carrying by (sent_by words log).next kept (sent_by words log).tracked number
+              words.empty said,
+        )
+    said_after entry none = grind (arith, none, said)

@@ -1,16 +1,12 @@
 -- By the history alone reports of black holes need four bursts and come at four, as the entries of the search say: the
 -- clause `holes` of `run`.
-use Rattle.std.proofs.Common.{ℕ, ◌≡◌, true, false, if◌then◌else◌, List, [], ◌∷◌, Option, None, Some, Ok, Err, refl, ap, subst, ◌∙◌, arith}
+use Rattle.std.proofs.Common.{ℕ, ◌≡◌, true, List, [], ◌∷◌, Some, Ok, Err, refl, ap, subst, ◌∙◌, arith}
 use Rattle.recovery_base.specs.declared.below.SpaceId.TheVariants as space
-use Rattle.recovery_config.specs.declared.config.TransportConfig.{TransportConfig}
 use Rattle.recovery_ledger.specs.Packets.{Packet}
 use Rattle.recovery_ledger.specs.Tracked.{sent_by}
-use Rattle.recovery_mtud.specs.declared.config.MtuDiscoveryConfig.{MtuDiscoveryConfig}
-use Rattle.recovery_mtud.specs.BurstRuns.{Loss, follows, from_first, if_any, is_above, is_past}
 use Rattle.recovery_mtud.specs.BurstRuns as entries_
 use Rattle.recovery_mtud.specs.Discovery.{Discovery}
 use Rattle.recovery_mtud.specs.MtuEntries.{MtuEntry, reset, min_mtu_in_use}
-use Rattle.recovery_paths.specs.PathMaking.{discovery_with}
 use Rattle.recovery_events.specs.declared.event.Event.{Event}
 use Rattle.recovery_events.specs.declared.event.Event.TheVariants.{PollMtu, Acked, Lost, LossesDone, PeerLimit, ResetPath, NewPath}
 use Rattle.recovery_events.specs.declared.event.Answer.TheVariants as answer
@@ -29,11 +25,6 @@ use Rattle.quic_recovery.proofs.SizeLaws.{Sized, sized_after, size_in}
 use Rattle.quic_recovery.proofs.Runs.{AllAlong}
 
 -- ---- the least MTU is that of the settings
-
-least_with : {F : Type 0} (limit : Option ℕ) (config : TransportConfig F) (settings : Option MtuDiscoveryConfig)
-    → (discovery_with limit config settings).bursts.min_mtu ≡ config.min_mtu
-least_with limit config None = refl
-least_with limit config (Some settings) = refl
 
 -- each reset is to this least MTU
 abbrev ResetsTo : ℕ → List MtuEntry → Type 0
@@ -100,11 +91,7 @@ module _ {F K Q S M P : Type 0} (beginning : Beginning F K Q S M P) where
 
   made_least : (history : History Q S M P) (event : Event Q S M P) (reply : Reply Q) → IsMadeLeast history
       → (made_after beginning history event reply).bursts.min_mtu ≡ least
-  made_least history (NewPath now remote true) (Ok given) is =
-      let config = beginning.config in
-      least_with _ config.transport (if config.allow_mtud then config.transport.mtu_discovery_config else None)
-  made_least history (NewPath now remote true) (Err refusal) is = is
-  made_least history (NewPath now remote false) reply is = is
+  made_least history (NewPath now remote true) (Ok given) is = refl
   made_least history event reply is = is
 
   pub record Kept (history : History Q S M P) : Type 0 where
@@ -125,14 +112,7 @@ module _ {F K Q S M P : Type 0} (beginning : Beginning F K Q S M P) where
   }
 
   pub kept_first : Kept []
-  kept_first =
-      let config = beginning.config in
-      record {
-        tied = (refl, refl, refl, refl, tt);
-        sized = tt;
-        made = least_with None config.transport (if config.allow_mtud then config.transport.mtu_discovery_config
-            else None);
-      }
+  kept_first = record { tied = (refl, refl, refl, refl, tt); sized = tt; made = refl }
 
   pub least_known : (history : History Q S M P) → Kept history
       → min_mtu_in_use (made_in beginning history) (entered_so_far beginning history) ≡ least
@@ -155,8 +135,8 @@ module _ {F K Q S M P : Type 0} (beginning : Beginning F K Q S M P) where
 
   -- throughout a run
   pub holes_told : AllAlong beginning (ReportsAtFour least)
-  holes_told events replies told =
+  holes_told history told =
       throughout_by _ (ReportsAtFour least) Kept (λ history event reply known. kept_after history event reply known.0)
-      holes_one [] events replies
-      (throughout_both (Facts beginning) (NeedsFourBursts beginning) [] events replies
-      (facts beginning events replies told) (needs_four beginning events replies told)) kept_first
+      holes_one kept_first history
+      (throughout_both (Facts beginning) (NeedsFourBursts beginning) history (facts beginning history told)
+      (needs_four beginning history told))

@@ -2,13 +2,12 @@
 use Rattle.std.proofs.Common.{◌≡◌, ◌^◌, true, [], ◌∷◌, None, Some, Ok, Err, refl}
 use Rattle.recovery_base.specs.declared.below.SpaceId.TheVariants.{Initial, Handshake, Data}
 use Rattle.recovery_base.specs.declared.timer.Timer.TheVariants.{Idle, Pacing}
-use Rattle.recovery_base.specs.TimerLog.{last_set}
-use Rattle.recovery_ledger.specs.Received.{greatest_new}
+use Rattle.recovery_ledger.specs.Acks.{counts_by}
 use Rattle.recovery_ledger.specs.Tracked.{packet_sent, sent_by}
 use Rattle.recovery_events.specs.declared.event.Event.TheVariants.{Received, Send, SetTimer, StopTimer}
 use Rattle.recovery_events.specs.declared.event.Answer.TheVariants as answer
 use Rattle.recovery_events.specs.declared.event.Refusal.TheVariants.{NumberTooLarge}
-use Rattle.quic_recovery.specs.Entries.{logs_of}
+use Rattle.quic_recovery.specs.Entries.{known_by, logs_of}
 use Rattle.quic_recovery.specs.History.{Beginning, History}
 
 module _ {F K Q S M P : Type 0} (beginning : Beginning F K Q S M P) (queue : Q) (frames : M) where
@@ -23,10 +22,10 @@ module _ {F K Q S M P : Type 0} (beginning : Beginning F K Q S M P) (queue : Q) 
       ∷ (Received Data 5 0 true, Ok (answer.New true))
       ∷ []
 
-  idle_is_set : last_set Idle (logs_of beginning row).timers ≡ Some 50
+  idle_is_set : (known_by beginning row).moment_of Idle ≡ Some 50
   idle_is_set = refl
 
-  pacing_is_stopped : last_set Pacing (logs_of beginning row).timers ≡ None
+  pacing_is_stopped : (known_by beginning row).moment_of Pacing ≡ None
   pacing_is_stopped = refl
 
   one_is_tracked : (sent_by beginning.queue.words ((logs_of beginning row).spaces Initial)).tracked
@@ -36,5 +35,5 @@ module _ {F K Q S M P : Type 0} (beginning : Beginning F K Q S M P) (queue : Q) 
   nothing_in_handshake : (logs_of beginning row).spaces Handshake ≡ []
   nothing_in_handshake = refl
 
-  refused_is_nothing : greatest_new ((logs_of beginning row).spaces Data) ≡ 0
+  refused_is_nothing : (counts_by ((logs_of beginning row).spaces Data)).largest ≡ Some (0, 5)
   refused_is_nothing = refl

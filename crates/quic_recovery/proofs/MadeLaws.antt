@@ -6,14 +6,15 @@ use Rattle.recovery_paths.specs.PathLog.{OfPaths, PathPast, receives}
 use Rattle.recovery_paths.specs.declared.live_paths.PathName.TheVariants.{Current, Previous}
 use Rattle.recovery_events.specs.declared.event.Event.{Event}
 use Rattle.recovery_events.specs.declared.event.Event.TheVariants.{NewPath, DropPrevious}
-use Rattle.quic_recovery.specs.Entries.{logs_of, pasts_of}
+use Rattle.quic_recovery.specs.Entries.{pasts_of}
+use Rattle.quic_recovery.specs.Plain.{limit}
 use Rattle.quic_recovery.specs.History.{Beginning, History, Reply}
-use Rattle.quic_recovery.specs.Known.{last_limit, settings_of}
+use Rattle.quic_recovery.specs.Known.{settings_of}
 use Rattle.quic_recovery.proofs.SeenLaws.{IsStill, IsStillOn, stays_seen}
 
 module _ {F K Q S M P : Type 0} (beginning : Beginning F K Q S M P) where
   abbrev made_of : OfPaths (PathPast K) → Discovery
-  made_of paths = paths.current.making.discovery
+  made_of paths = paths.current.kept.discovery
 
   still : IsStill (settings_of beginning) made_of
   still (receives bytes) paths = refl
@@ -29,7 +30,7 @@ module _ {F K Q S M P : Type 0} (beginning : Beginning F K Q S M P) where
   -- a fresh path has one of its own, by the limit that the peer told last
   abbrev pub made_after : History Q S M P → Event Q S M P → Reply Q → Discovery
   made_after history (NewPath now remote true) (Ok given) = (settings_of beginning).discovery
-      (last_limit (logs_of beginning history).limits)
+      (limit history)
   made_after history event reply = made_in history
 
   pub is_made : (past : History Q S M P) (event : Event Q S M P) (reply : Reply Q)

@@ -6,18 +6,18 @@ use Rattle.recovery_base.specs.declared.below.SpaceId.TheVariants as space
 use Rattle.recovery_config.specs.declared.config.TransportConfig.{TransportConfig}
 use Rattle.recovery_config.specs.Settings.{initial_mtu_of}
 use Rattle.recovery_mtud.specs.declared.config.MtuDiscoveryConfig.{MtuDiscoveryConfig}
-use Rattle.recovery_mtud.specs.Discovery.{Discovery}
+use Rattle.recovery_mtud.specs.Discovery.{Discovery, discovery_made}
 use Rattle.recovery_mtud.specs.DiscoveryLog.{kept_limit}
 use Rattle.recovery_mtud.specs.MtuEntries.{MtuEntry, probe_in_flight, limit_in_use, min_mtu_in_use, mtu_in_use as by_entries}
 use Rattle.recovery_paths.specs.declared.live_paths.PathName.TheVariants.{Current, Previous}
 use Rattle.recovery_paths.specs.PathLog.{OfPaths, PathKnown, PathPast, is_validated, known_of, past_with, receives, state_of}
-use Rattle.recovery_paths.specs.PathMaking.{discovery_with}
 use Rattle.recovery_events.specs.declared.event.Event.{Event}
 use Rattle.recovery_events.specs.declared.event.Event.TheVariants.{PollMtu, Acked, Lost, LossesDone, PeerLimit, ResetPath, NewPath, DropPrevious}
 use Rattle.recovery_events.specs.declared.event.Answer.TheVariants as answer
-use Rattle.quic_recovery.specs.Entries.{logs_of, pasts_of}
+use Rattle.quic_recovery.specs.Entries.{pasts_of}
+use Rattle.quic_recovery.specs.Plain.{limit}
 use Rattle.quic_recovery.specs.History.{Beginning, History, Reply}
-use Rattle.quic_recovery.specs.Known.{last_limit, settings_of}
+use Rattle.quic_recovery.specs.Known.{settings_of}
 use Rattle.quic_recovery.specs.Promises.Mtu.{UsesMtu, before_move, mtu, mtu_in_use}
 use Rattle.quic_recovery.specs.Search.{discovery_settings}
 use Rattle.quic_recovery.proofs.HolesLaws as holes
@@ -64,8 +64,8 @@ module _ {Q S M P : Type 0} (first least : ℕ) where
 
 fresh_unsearched : {F : Type 0} (limit : Option ℕ) (config : TransportConfig F) (by : Option MtuDiscoveryConfig)
     → by ≡ None
-    → (kept_limit (discovery_with limit config by) ≡ None)
-    × (initial_mtu_of config ≡ (discovery_with limit config by).mtu)
+    → (kept_limit (discovery_made (initial_mtu_of config) config.min_mtu limit by) ≡ None)
+    × (initial_mtu_of config ≡ (discovery_made (initial_mtu_of config) config.min_mtu limit by).mtu)
 fresh_unsearched limit config by is = grind (arith, is)
 
 module _ {F K Q S M P : Type 0} (beginning : Beginning F K Q S M P) (is : discovery_settings beginning ≡ None) where
@@ -88,8 +88,7 @@ module _ {F K Q S M P : Type 0} (beginning : Beginning F K Q S M P) (is : discov
       → (event : Event Q S M P) (reply : Reply Q) → Facts beginning history event reply
       → Unsearched ((event, reply) ∷ history)
   unsearched_after history tied least_is event reply known =
-      let limit = last_limit (logs_of beginning history).limits in
-      let fresh = (settings_of beginning).discovery limit in
+      let fresh = (settings_of beginning).discovery (limit history) in
       let made = made_in beginning history in
       let Now : Discovery → Type 0 =
       λ d. TiedTo first least d ((event, reply) ∷ history) (entered_so_far beginning ((event, reply) ∷ history)) in
@@ -97,7 +96,7 @@ module _ {F K Q S M P : Type 0} (beginning : Beginning F K Q S M P) (is : discov
       (stepped beginning history (λ number bytes. Unit {0}) (λ number packet found. tt {0})
       (After first least fresh made history event) event reply known
       (step_tied first least fresh made history (entered_so_far beginning history) tied least_is
-      (fresh_unsearched limit beginning.config.transport (discovery_settings beginning) is) event reply)
+      (fresh_unsearched (limit history) beginning.config.transport (discovery_settings beginning) is) event reply)
       (probes_none history event reply (probes_one beginning history event reply known.told known.searched)))
 
   pub unsearched_first : Unsearched []
@@ -116,7 +115,7 @@ some_same e = cc
 
 module _ {F K Q S M P : Type 0} (beginning : Beginning F K Q S M P) where
   abbrev in_state : PathPast K → ℕ
-  in_state past = (state_of (settings_of beginning) past).discovery.mtu
+  in_state past = (state_of past).discovery.mtu
 
   -- that of the path before the one in use, where it lives
   abbrev mtu_before : OfPaths (PathPast K) → Option ℕ
@@ -168,7 +167,7 @@ module _ {F K Q S M P : Type 0} (beginning : Beginning F K Q S M P) where
       go : (by : Option MtuDiscoveryConfig) → discovery_settings beginning ≡ by
           → mtu_in_use beginning history ≡ by_entries (made_in beginning history) (entered_so_far beginning history)
       go None is = ap of is ∙ (unsearched is).2
-      go (Some settings) is = ap of is ∙ (near.searched settings is).tied.2
+      go (Some settings) is = ap of is ∙ (near.searched settings is).tied.1
 
   kept_after : (history : History Q S M P) (event : Event Q S M P) (reply : Reply Q)
       → Facts beginning history event reply
@@ -196,16 +195,15 @@ module _ {F K Q S M P : Type 0} (beginning : Beginning F K Q S M P) where
   }
 
   state_mtu : (previous : Option (PathPast K)) (path : PathKnown K)
-      → option_map (known_of (settings_of beginning)) previous ≡ Some path
+      → option_map known_of previous ≡ Some path
       → option_map in_state previous ≡ Some path.state.discovery.mtu
   state_mtu previous path is = grind (arith, is)
 
   pub mtu_told : ForSome (discovery_settings beginning) (λ settings. settings.upper_bound < 2 ^ 16)
       → AllAlong beginning (UsesMtu beginning)
-  mtu_told small events replies told =
+  mtu_told small history told =
       throughout_by (Facts beginning) (UsesMtu beginning) Kept kept_after
       (λ history event reply known kept after. (
         after.now,
         λ path lives. after.left path.state.discovery.mtu (state_mtu _ path lives),
-      )) [] events replies
-      (facts beginning events replies told) kept_first
+      )) kept_first history (facts beginning history told)

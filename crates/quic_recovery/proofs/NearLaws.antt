@@ -2,31 +2,30 @@
 -- `run`.
 use Rattle.std.proofs.Common.{ℕ, ◌≡◌, ◌<◌, ◌^◌, ◌||◌, min, max, Bool, true, false, if◌then◌else◌, List, [], ◌∷◌, Option, None, Some, Ok, Err, refl, sym, ap, ap₂, subst, ◌∙◌, is_some, arith}
 use Rattle.std.specs.Option.{ForSome}
+use Rattle.std.specs.Prelude.{nat_le, nat_lt, length}
+use Rattle.std.proofs.lemmas.Bool.Decides.{nat_tests}
 use Rattle.recovery_base.specs.declared.below.SpaceId.TheVariants as space
 use Rattle.recovery_config.specs.declared.config.TransportConfig.{TransportConfig}
 use Rattle.recovery_config.specs.Settings.{initial_mtu_of}
 use Rattle.recovery_mtud.specs.declared.config.MtuDiscoveryConfig.{MtuDiscoveryConfig}
-use Rattle.recovery_mtud.specs.Discovery.{Discovery, limit_or_greatest, within}
+use Rattle.recovery_mtud.specs.Discovery.{Discovery, discovery_made, limit_or_greatest, within}
 use Rattle.recovery_mtud.specs.DiscoveryLog.{kept_limit}
-use Rattle.recovery_mtud.specs.MtuEntries.{MtuEntry, MtuProbe, unprobed, probe_in_flight, limit_in_use, min_mtu_in_use, mtu_in_use}
-use Rattle.recovery_mtud.specs.SearchRuns.{AreLimitsOutside, EndsNearBest, start_upper, acked_sizes, before_search, is_due, lost_sizes, next_activation, probed_sizes, search_of, search_runs}
-use Rattle.recovery_paths.specs.PathMaking.{discovery_with}
+use Rattle.recovery_mtud.specs.MtuEntries.{MtuEntry, unprobed, probe_in_flight, limit_in_use, min_mtu_in_use, mtu_in_use}
+use Rattle.recovery_mtud.specs.SearchRuns.{AreLimitsOutside, EndsNearBest, start_upper, acked_sizes, before_search, lost_sizes, next_activation, probed_sizes, search_of, search_runs}
 use Rattle.recovery_events.specs.declared.event.Event.{Event}
 use Rattle.recovery_events.specs.declared.event.Event.TheVariants.{PollMtu, Acked, Lost, LossesDone, PeerLimit, ResetPath, NewPath}
 use Rattle.recovery_events.specs.declared.event.Answer.TheVariants as answer
-use Rattle.quic_recovery.specs.Entries.{Entries, logs_of}
+use Rattle.quic_recovery.specs.Plain.{limit}
 use Rattle.quic_recovery.specs.History.{Beginning, History, Reply}
-use Rattle.quic_recovery.specs.Known.{known_by, last_limit, settings_of}
-use Rattle.quic_recovery.specs.Logs.{onto}
+use Rattle.quic_recovery.specs.Known.{settings_of}
 use Rattle.quic_recovery.specs.Search.{discovery_settings}
 use Rattle.quic_recovery.specs.Promises.Few.{is_in_flight}
-use Rattle.quic_recovery.specs.Promises.Mtu.{limit, mtu}
+use Rattle.quic_recovery.specs.Promises.Mtu.{mtu}
 use Rattle.quic_recovery.specs.Promises.Near.{EndsNearBy, IsNear, next, start}
-use Rattle.quic_recovery.specs.Promises.Probes.{acked_probes, are_some, last_probe, lost_probes, runs}
-use Rattle.quic_recovery.proofs.EntryKinds.{plainly_keeps, refused_keeps}
+use Rattle.quic_recovery.specs.Promises.Probes.{acked_probes, lost_probes, runs}
 use Rattle.quic_recovery.proofs.SearchSaid.{entered_so_far}
 use Rattle.quic_recovery.proofs.FewLaws as few
-use Rattle.quic_recovery.proofs.FlightLaws.{before_idle}
+use Rattle.recovery_mtud.proofs.SearchRunLaws.{idle_before}
 use Rattle.quic_recovery.proofs.HolesLaws as holes
 use Rattle.quic_recovery.proofs.MadeLaws.{is_made, made_in}
 use Rattle.quic_recovery.proofs.SearchLaws.{ends_one}
@@ -35,20 +34,6 @@ use Rattle.quic_recovery.proofs.Runs.{AllAlong, throughout_by}
 
 -- ---- the limit that the peer told last
 
-limit_known : {F K Q S M P : Type 0} (beginning : Beginning F K Q S M P) (history : History Q S M P)
-    → limit history ≡ last_limit (logs_of beginning history).limits
-limit_known beginning [] = refl
-limit_known beginning ((PeerLimit size, Ok given) ∷ earlier) = refl
-limit_known {F} {K} {Q} {S} {M} {P} beginning ((event, Ok given) ∷ earlier) =
-    let logs = logs_of beginning earlier in
-    plainly_keeps beginning.queue (known_by beginning logs) event given
-    (λ (e : Entries P M). limit earlier ≡ last_limit (onto e.limits logs.limits)) (limit_known beginning earlier)
-limit_known beginning ((PeerLimit size, Err refusal) ∷ earlier) = limit_known beginning earlier
-limit_known {F} {K} {Q} {S} {M} {P} beginning ((event, Err refusal) ∷ earlier) =
-    let limits = (logs_of beginning earlier).limits in
-    refused_keeps event refusal (λ (e : Entries P M). limit earlier ≡ last_limit (onto e.limits limits))
-    (limit_known beginning earlier)
-
 -- ---- the entries of the search that runs
 
 -- where none runs there are none; one runs exactly where it probed some, and while a probe is in flight; its entries
@@ -56,24 +41,19 @@ limit_known {F} {K} {Q} {S} {M} {P} beginning ((event, Err refusal) ∷ earlier)
 abbrev Seen : List MtuEntry → Type 0
 Seen entries =
     (search_runs entries ≡ false → search_of entries ≡ [])
-    × (are_some (probed_sizes (search_of entries)) ≡ search_runs entries)
+    × (nat_lt 0 (length (probed_sizes (search_of entries))) ≡ search_runs entries)
     × (is_some (probe_in_flight entries) ≡ true → search_runs entries ≡ true)
     × (search_runs entries ≡ true → probe_in_flight (search_of entries) ≡ probe_in_flight entries)
 
 seen : (entries : List MtuEntry) → Seen entries
 seen [] = grind arith
-seen (entry ∷ earlier) = grind (arith, seen earlier)
+seen (entry ∷ earlier) = grind (arith, nat_tests, seen earlier)
 
 -- the limit was the same as it began
 limit_before : (made : Discovery) (entries : List MtuEntry) → AreLimitsOutside entries
     → limit_in_use made (before_search entries) ≡ limit_in_use made entries
 limit_before made [] outside = refl
 limit_before made (entry ∷ earlier) outside = grind (arith, limit_before made earlier)
-
--- the size of the probe in flight is that of the last one
-abbrev LastOf : ℕ → Option MtuProbe → Type 0
-LastOf size None = Unit {0}
-LastOf size (Some probe) = size ≡ probe.size
 
 -- ---- what is read off the history is what the entries say
 
@@ -84,7 +64,7 @@ Carries made old after entries = search_runs after ≡ true → (before_search a
 -- a search runs by the history where one does by its entries
 pub runs_same : {Q S M P : Type 0} (history : History Q S M P) (entries : List MtuEntry) → few.TiedTo history entries
     → runs history ≡ search_runs entries
-runs_same history entries tied = ap are_some tied.1 ∙ (seen entries).1
+runs_same history entries tied = ap (λ sizes. nat_lt 0 (length sizes)) tied.1 ∙ (seen entries).1
 
 -- the discovery of the path in use, by the one that a fresh path has
 abbrev pub made_then : {Q S M P : Type 0} → Discovery → Discovery → Event Q S M P → Reply Q → Discovery
@@ -94,8 +74,7 @@ made_then fresh made event reply = made
 module _ {Q S M P : Type 0} (first least : ℕ) (settings : MtuDiscoveryConfig) where
   abbrev pub TiedTo : Discovery → History Q S M P → List MtuEntry → Type 0
   TiedTo made history entries =
-      LastOf (last_probe history) (probe_in_flight entries)
-      × (limit_in_use made entries ≡ Some (limit_or_greatest (limit history)))
+      (limit_in_use made entries ≡ Some (limit_or_greatest (limit history)))
       × (mtu true first least history ≡ mtu_in_use made entries)
       × (next settings history ≡ next_activation settings entries)
       × (acked_probes history ≡ acked_sizes (search_of entries))
@@ -128,19 +107,19 @@ module _ {Q S M P : Type 0} (first least : ℕ) (settings : MtuDiscoveryConfig) 
     step_tied (LossesDone now) (Ok given) = grind (arith, seen entries)
     step_tied (ResetPath now) (Ok given) = grind arith
     step_tied (NewPath now remote true) (Ok given) =
-        ((tt, fresh_is.0, fresh_is.1, refl, refl, refl, tt), λ runs. absurd (cc))
+        ((fresh_is.0, fresh_is.1, refl, refl, refl, tt), λ runs. absurd (cc))
     step_tied (NewPath now remote true) (Err refusal) = grind (arith, seen entries)
     step_tied event (Ok given) =
-        ((tied.0, tied.1, tied.2, tied.3, stays.0, stays.1, tied.6), λ runs. (refl, refl))
+        ((tied.0, tied.1, tied.2, stays.0, stays.1, tied.5), λ runs. (refl, refl))
     step_tied event (Err refusal) =
-        ((tied.0, tied.1, tied.2, tied.3, stays.0, stays.1, tied.6), λ runs. (refl, refl))
+        ((tied.0, tied.1, tied.2, stays.0, stays.1, tied.5), λ runs. (refl, refl))
 
 -- ---- a path that is fresh
 
 fresh_searched : {F : Type 0} (limit : Option ℕ) (config : TransportConfig F) (settings : MtuDiscoveryConfig)
     (by : Option MtuDiscoveryConfig) → by ≡ Some settings
-    → (kept_limit (discovery_with limit config by) ≡ Some (limit_or_greatest limit))
-    × (within (initial_mtu_of config) limit ≡ (discovery_with limit config by).mtu)
+    → (kept_limit (discovery_made (initial_mtu_of config) config.min_mtu limit by) ≡ Some (limit_or_greatest limit))
+    × (within (initial_mtu_of config) limit ≡ (discovery_made (initial_mtu_of config) config.min_mtu limit by).mtu)
 fresh_searched limit config settings by is = grind (arith, is)
 
 module _ {F K Q S M P : Type 0} (beginning : Beginning F K Q S M P) (settings : MtuDiscoveryConfig)
@@ -165,7 +144,7 @@ module _ {F K Q S M P : Type 0} (beginning : Beginning F K Q S M P) (settings : 
       → start first least history ≡ mtu_in_use before (before_search entries)
       → start first least (happened ∷ history) ≡ mtu_in_use now (before_search after)
   start_after now before history happened after entries tied same carries started =
-      grind (arith, runs_same (happened ∷ history) after tied, before_idle after)
+      grind (arith, runs_same (happened ∷ history) after tied, idle_before after)
 
   module _ (history : History Q S M P) (before : few.Tied beginning history) (searched : Searched history)
       (least_is : least ≡ min_mtu_in_use (made_in beginning history) (entered_so_far beginning history)) where
@@ -175,26 +154,25 @@ module _ {F K Q S M P : Type 0} (beginning : Beginning F K Q S M P) (settings : 
         let entries = entered_so_far beginning ((event, reply) ∷ history) in
         let made = made_in beginning history in
         let so_far = entered_so_far beginning history in
-        let limit = last_limit (logs_of beginning history).limits in
-        let fresh = (settings_of beginning).discovery limit in
+        let fresh = (settings_of beginning).discovery (limit history) in
         let Now : Discovery → Type 0 =
         λ d. TiedTo first least settings d ((event, reply) ∷ history) entries × Carries d made entries so_far in
         let both = subst Now (sym (is_made beginning history event reply))
         (stepped beginning history (λ number bytes. Unit {0}) (λ number packet found. tt {0})
         (After first least settings fresh made history so_far event) event reply known
         (step_tied first least settings fresh made history so_far before searched.tied least_is
-        (rw (limit_known beginning history)
-        (fresh_searched limit beginning.config.transport settings (discovery_settings beginning) is)) event reply))
+        (fresh_searched (limit history) beginning.config.transport settings (discovery_settings beginning) is) event
+        reply))
         in
         record {
           tied = both.0;
-          start = start_after _ made history (event, reply) entries so_far after both.0.2 both.1 searched.start;
+          start = start_after _ made history (event, reply) entries so_far after both.0.1 both.1 searched.start;
         }
 
   searched_first : Searched []
   searched_first =
       let fresh = fresh_searched None beginning.config.transport settings (discovery_settings beginning) is in
-      record { tied = (tt, fresh.0, fresh.1, refl, refl, refl, tt); start = fresh.1 }
+      record { tied = (fresh.0, fresh.1, refl, refl, refl, tt); start = fresh.1 }
 
   -- ---- a search that ends
 
@@ -203,24 +181,24 @@ module _ {F K Q S M P : Type 0} (beginning : Beginning F K Q S M P) (settings : 
       → start_upper (made_in beginning history) settings (entered_so_far beginning history)
       ≡ min (max settings.upper_bound (start first least history)) (limit_or_greatest (limit history))
   upper_is history searched =
-      let limited = limit_before (made_in beginning history) (entered_so_far beginning history) searched.tied.6 in
-      grind (arith, searched.start, limited, searched.tied.1)
+      let limited = limit_before (made_in beginning history) (entered_so_far beginning history) searched.tied.5 in
+      grind (arith, searched.start, limited, searched.tied.0)
 
   near_after : (history : History Q S M P) (now : ℕ) → few.Tied beginning history → Searched history
       → EndsNearBest (made_in beginning history) settings (unprobed now ∷ entered_so_far beginning history)
-      → is_in_flight history ≡ false → (runs history || is_due (next settings history) now) ≡ true
+      → is_in_flight history ≡ false → (runs history || nat_le (next settings history) now) ≡ true
       → (link : ℕ) → IsNear first least settings link history
   near_after history now before searched near quiet due link starts acks losses =
       let tied = searched.tied in
       let entries = entered_so_far beginning history in
       let found = near (grind (arith, quiet, before.0))
-      (ap₂ (λ (r : Bool) (n : Option ℕ). r || is_due n now) (sym (runs_same history entries before)) (sym tied.3)
+      (ap₂ (λ (r : Bool) (n : ℕ). r || nat_le n now) (sym (runs_same history entries before)) (sym tied.2)
       ∙ due) link (record {
         start = grind (arith, searched.start, starts);
-        acked = rw (← tied.4) acks;
-        lost = rw (← tied.5) losses;
+        acked = rw (← tied.3) acks;
+        lost = rw (← tied.4) losses;
       }) in
-      (omega (arith, found.carried, tied.2), omega (arith, found.near, upper_is history searched, tied.2))
+      (omega (arith, found.carried, tied.1), omega (arith, found.near, upper_is history searched, tied.1))
 
 -- ---- throughout a run
 
@@ -245,15 +223,15 @@ module _ {F K Q S M P : Type 0} (beginning : Beginning F K Q S M P) where
   pub kept_first : Kept []
   kept_first = record {
     holes = holes.kept_first beginning;
-    few = (refl, refl);
+    few = (refl, refl, tt);
     searched = λ settings is. searched_first beginning settings is;
   }
 
   pub near_told : ForSome (discovery_settings beginning) (λ settings. settings.upper_bound < 2 ^ 16)
       → AllAlong beginning (EndsNearBy beginning)
-  near_told small events replies told =
-      throughout_by (Facts beginning) (EndsNearBy beginning) Kept kept_by near [] events replies
-      (facts beginning events replies told) kept_first
+  near_told small history told =
+      throughout_by (Facts beginning) (EndsNearBy beginning) Kept kept_by near kept_first history
+      (facts beginning history told)
     where
       near : (history : History Q S M P) (event : Event Q S M P) (reply : Reply Q)
           → Facts beginning history event reply → Kept history → Kept ((event, reply) ∷ history)

@@ -1,27 +1,25 @@
 -- A number is called new exactly where the history itself says so: the clause `new` of `run`, and `RefusedLaws` rest on
 -- it.
 use Rattle.std.proofs.lemmas.Bool.Decides.{nat_tests}
-use Rattle.std.proofs.Common.{arith, ◌≡◌, ◌≤◌, ◌+◌, ◌^◌, ℕ, Bool, true, false, ◌||◌, cond, nat_eq, nat_lt, nat_le, List, [], ◌∷◌, None, Some, Ok, Err, ◌⊎◌, inl, inr, ◌↔◌, refl, ap}
+use Rattle.std.proofs.Common.{arith, ◌≡◌, ◌≤◌, ◌+◌, ◌^◌, ℕ, Bool, true, false, cond, nat_eq, nat_lt, nat_le, List, [], ◌∷◌, None, Some, Ok, Err, ◌⊎◌, inl, inr, ◌↔◌, refl}
 use Rattle.std.specs.List.{list_all, list_any}
 use Rattle.std.proofs.lemmas.Bool.{leb-true, le-leb, false≢true}
 use Rattle.recovery_base.specs.declared.below.SpaceId.{SpaceId}
 use Rattle.recovery_base.specs.Numbers.{IsNew}
-use Rattle.recovery_base.specs.Spaces.{same_space}
-use Rattle.recovery_ledger.specs.Discarded.{was_discarded}
 use Rattle.recovery_ledger.specs.Received.{CameIn}
 use Rattle.recovery_ledger.specs.SpaceLog.{SpaceEntry, heard, heard_again}
 use Rattle.recovery_events.specs.declared.event.Event.{Event}
-use Rattle.recovery_events.specs.declared.event.Event.TheVariants.{Received, DiscardSpace}
+use Rattle.recovery_events.specs.declared.event.Event.TheVariants.{Received}
 use Rattle.recovery_events.specs.declared.event.Answer.TheVariants.{New}
 use Rattle.recovery_events.specs.declared.event.Refusal.TheVariants.{SpaceDiscarded}
-use Rattle.quic_recovery.specs.Entries.{Entries, logs_of}
+use Rattle.quic_recovery.specs.Entries.{logs_of, known_by}
 use Rattle.quic_recovery.specs.History.{Beginning, History, Reply}
-use Rattle.quic_recovery.specs.Known.{SpaceKnown, known_by}
+use Rattle.quic_recovery.specs.Known.{SpaceKnown}
 use Rattle.quic_recovery.specs.Logs.{onto}
 use Rattle.quic_recovery.specs.Told.{Told, ReceivedReply}
 use Rattle.recovery_ledger.specs.Acks.{Heard, heard_by}
-use Rattle.quic_recovery.specs.Promises.NewNumbers.{is_new, came_in, is_discarded, IsVerdict, CallsNew}
-use Rattle.quic_recovery.proofs.EntryKinds.{SpaceKind, hearing, space_kind, space_kept, plainly_keeps, refused_keeps}
+use Rattle.quic_recovery.specs.Promises.NewNumbers.{is_new, came_in, IsVerdict, CallsNew}
+use Rattle.quic_recovery.proofs.EntryKinds.{SpaceKind, hearing, space_kind, space_kept}
 
 -- ---- lists of numbers and sets of numbers
 
@@ -102,28 +100,10 @@ module _ {F K Q S M P : Type 0} (beginning : Beginning F K Q S M P) where
       arrive _ log alike _ number (heard_again number) (one_more _ log alike number)
   all_came ((Received there now number eliciting, Err refusal) ∷ earlier) space = all_came earlier space
   all_came ((event, reply) ∷ earlier) space =
-      let logs = logs_of beginning earlier in
+      let log = (logs_of beginning earlier).spaces space in
       let alike = all_came earlier space in
-      space_kept beginning.queue (known_by beginning logs) space
-      (λ made. Alike (came_in space earlier) (onto made (logs.spaces space))) not_heard alike
-      (unheard _ (logs.spaces space) alike) event reply refl
-
-  pub all_dropped : (history : History Q S M P) (space : SpaceId)
-      → is_discarded space history ≡ was_discarded space (logs_of beginning history).discarded
-  all_dropped [] space = refl
-  all_dropped ((DiscardSpace there, Ok answer) ∷ earlier) space =
-      ap (λ b. same_space there space || b) (all_dropped earlier space)
-  all_dropped ((event, Ok answer) ∷ earlier) space =
-      let logs = logs_of beginning earlier in
-      plainly_keeps beginning.queue (known_by beginning logs) event answer
-      (λ (e : Entries P M). is_discarded space earlier ≡ was_discarded space (onto e.discarded logs.discarded))
-      (all_dropped earlier space)
-  all_dropped ((DiscardSpace there, Err refusal) ∷ earlier) space = all_dropped earlier space
-  all_dropped ((event, Err refusal) ∷ earlier) space =
-      let discarded = (logs_of beginning earlier).discarded in
-      refused_keeps event refusal
-      (λ (e : Entries P M). is_discarded space earlier ≡ was_discarded space (onto e.discarded discarded))
-      (all_dropped earlier space)
+      space_kept beginning.queue (known_by beginning earlier) space
+      (λ made. Alike (came_in space earlier) (onto made log)) not_heard alike (unheard _ log alike) event reply refl
 
 -- ---- the verdict
 
@@ -144,8 +124,8 @@ module _ {F K Q S M P : Type 0} (beginning : Beginning F K Q S M P) where
       let numbers = CameIn (logs.spaces space) in
       let came = came_in space history in
       let same = all_came beginning history space in
-      rw (all_dropped beginning history space) (verdict ((known_by beginning logs).spaces space)
+      verdict ((known_by beginning history).spaces space)
       (heard_by beginning.queue.words (logs.spaces space)) number eliciting (nat_le (2 ^ 62) number)
       (is_new came number) (le-leb (2 ^ 62) number, leb-true (2 ^ 62) number)
-      (new_from numbers came same number, new_to numbers came same number) reply told)
+      (new_from numbers came same number, new_to numbers came same number) reply told
   numbers_told history event reply told = tt

@@ -9,14 +9,13 @@ use Rattle.recovery_pacing.proofs.PacerLogLaws.{delays_by, keeps_rate}
 use Rattle.recovery_pacing.proofs.NamedMomentLaws.{passes_at_moment}
 use Rattle.recovery_pacing.proofs.ProgressLaws.{passes_behind}
 use Rattle.recovery_paths.specs.PathLog.{OnEachPath, PathPast, state_of}
-use Rattle.recovery_paths.specs.PathMaking.{bucket_of}
 use Rattle.recovery_paths.specs.PathStates.{pacer_call, path_delay}
 use Rattle.recovery_paths.proofs.PassedLaws.{HavePassedOn, passed_after, passed_at_first}
 use Rattle.recovery_events.specs.declared.event.Event.{Event}
 use Rattle.recovery_events.specs.declared.event.Event.TheVariants.{Transmit, PacerCheck}
-use Rattle.quic_recovery.specs.Entries.{entries_of, logs_of, pasts_of}
+use Rattle.quic_recovery.specs.Entries.{entries_of, logs_of, pasts_of, known_by}
 use Rattle.quic_recovery.specs.History.{Beginning, History, Reply}
-use Rattle.quic_recovery.specs.Known.{known_by, first_path, settings_of}
+use Rattle.quic_recovery.specs.Known.{first_path, settings_of}
 use Rattle.quic_recovery.specs.Pacing.{IsByBalance, OnCall, AtCalls, DelaysByBalance, PassesSoon, PassesWhenNamed, KeepsPace}
 use Rattle.quic_recovery.specs.Told.{Told}
 use Rattle.quic_recovery.proofs.Runs.{AllAlong, throughout_kept}
@@ -24,8 +23,8 @@ use Rattle.quic_recovery.proofs.AmplificationLaws.{is_allowed}
 
 -- a pacer whose checked transmissions had passed keeps its rate
 keeps_pace : {K : Type 0} (past : PathPast K) → HavePassedOn past → AreChecked past.pacing
-    → KeepsRate (bucket_of past.making.pacer) past.pacing
-keeps_pace past passed checked = keeps_rate (bucket_of past.making.pacer) past.pacing refl checked passed
+    → KeepsRate past.kept.pacer past.pacing
+keeps_pace past passed checked = keeps_rate past.kept.pacer past.pacing passed.0 checked passed.1
 
 module _ {F K Q S M P : Type 0} (beginning : Beginning F K Q S M P) where
   -- on each path that lives, what was transmitted checked had passed the pacer
@@ -37,14 +36,14 @@ module _ {F K Q S M P : Type 0} (beginning : Beginning F K Q S M P) where
       → HavePassedThere before → HavePassedThere ((event, reply) ∷ before)
   passed_one before event reply told passed =
       let logs = logs_of beginning before in
-      let known = known_by beginning logs in
+      let known = known_by beginning before in
       passed_after (settings_of beginning) (first_path beginning) (entries_of beginning.queue known event reply).paths
       logs.paths (is_allowed beginning.queue (settings_of beginning) _ known event reply told) passed
 
   -- what the pacer of the path in use answers to a call
   abbrev delay_there : History Q S M P → ℕ → ℕ → Option ℕ
   delay_there before now bytes =
-      path_delay beginning.words now bytes (state_of (settings_of beginning) (pasts_of beginning before).current)
+      path_delay beginning.words now bytes (state_of (pasts_of beginning before).current)
 
   -- what holds of each call and its answer holds at each event
   module _ (Holds : PathPast K → PacerCall → Option ℕ → Type 0) where
@@ -65,23 +64,23 @@ module _ {F K Q S M P : Type 0} (beginning : Beginning F K Q S M P) where
       → ((before : History Q S M P) (event : Event Q S M P) (reply : Reply Q) → Told beginning before event reply
       → HavePassedThere before → Holds before event reply)
       → AllAlong beginning Holds
-  paced Holds each events replies told =
-      throughout_kept beginning HavePassedThere Holds passed_one each [] events replies told
-      (passed_at_first (settings_of beginning) (first_path beginning))
+  paced Holds each =
+      throughout_kept beginning HavePassedThere Holds passed_one each
+      (passed_at_first (settings_of beginning) (first_path beginning) refl)
 
   -- the pacer of the path in use, and its call
   abbrev pacing : History Q S M P → PathPast K
   pacing before = (pasts_of beginning before).current
 
   abbrev call : History Q S M P → ℕ → ℕ → PacerCall
-  call before = pacer_call beginning.words (state_of (settings_of beginning) (pacing before))
+  call before = pacer_call beginning.words (state_of (pacing before))
 
   -- each call is answered by the balance
   pub delayed : AllAlong beginning (DelaysByBalance beginning)
   delayed = paced (DelaysByBalance beginning) (λ before event reply told passed.
       at_calls IsByBalance before event reply told (λ now bytes checked.
-      delays_by (bucket_of (pacing before).making.pacer) (pacing before).pacing (call before now bytes) refl checked
-      passed.0))
+      delays_by (pacing before).kept.pacer (pacing before).pacing (call before now bytes) passed.0.0 checked
+      passed.0.1))
 
   -- after an event each pacer keeps its rate
   pub rate : AllAlong beginning (KeepsPace beginning)
@@ -92,11 +91,11 @@ module _ {F K Q S M P : Type 0} (beginning : Beginning F K Q S M P) where
   -- what was delayed passes soon
   pub soon : AllAlong beginning (PassesSoon beginning)
   soon = paced (PassesSoon beginning) (λ before event reply told passed.
-      at_calls (λ past. PassesBehind (bucket_of past.making.pacer) past.pacing) before event reply told (λ now bytes.
-      passes_behind (bucket_of (pacing before).making.pacer) (pacing before).pacing (call before now bytes)))
+      at_calls (λ past. PassesBehind past.kept.pacer past.pacing) before event reply told (λ now bytes.
+      passes_behind (pacing before).kept.pacer (pacing before).pacing (call before now bytes)))
 
   -- and when it was named, where there is room
   pub named : AllAlong beginning (PassesWhenNamed beginning)
   named = paced (PassesWhenNamed beginning) (λ before event reply told passed.
-      at_calls (λ past. PassesAtMoment (bucket_of past.making.pacer) past.pacing) before event reply told (λ now bytes.
-      passes_at_moment (bucket_of (pacing before).making.pacer) (pacing before).pacing (call before now bytes)))
+      at_calls (λ past. PassesAtMoment past.kept.pacer past.pacing) before event reply told (λ now bytes.
+      passes_at_moment (pacing before).kept.pacer (pacing before).pacing (call before now bytes)))

@@ -5,14 +5,15 @@ use Rattle.std.specs.Prelude.{option_map}
 use Rattle.recovery_paths.specs.declared.live_paths.PathName.{PathName}
 use Rattle.recovery_paths.specs.declared.live_paths.PathName.TheVariants.{Current, Previous}
 use Rattle.recovery_paths.specs.PathLog.{OfPaths, PathEntry, PathsEntry, PathPast, each_path, path_of, pasts_by, past_with, on, receives, moves, drops_previous, known_of}
-use Rattle.recovery_paths.specs.PathMaking.{PathMaking, PathSettings}
+use Rattle.recovery_paths.specs.PathMaking.{PathSettings}
+use Rattle.recovery_paths.specs.PathStates.{PathState}
 use Rattle.recovery_events.specs.declared.event.Event.{Event}
 use Rattle.recovery_events.specs.declared.event.Event.TheVariants.{NewPath, DropPrevious}
-use Rattle.quic_recovery.specs.Entries.{Entries, entries_of, following, logs_of, pasts_of}
+use Rattle.quic_recovery.specs.Entries.{entries_of, following, logs_of, pasts_of, known_by}
 use Rattle.quic_recovery.specs.History.{Beginning, History, QueueMeaning, Reply}
-use Rattle.quic_recovery.specs.Known.{Known, known_by, first_path, settings_of}
+use Rattle.quic_recovery.specs.Known.{Known, first_path, settings_of}
 use Rattle.quic_recovery.specs.Promises.Paths.{paths_made, generation_of}
-use Rattle.quic_recovery.proofs.EntryKinds.{PathKind, moving, dropping, path_kind, paths_kept, refused_keeps}
+use Rattle.quic_recovery.proofs.EntryKinds.{PathKind, moving, dropping, path_kind, paths_kept}
 
 abbrev both : ℕ → Option ℕ → OfPaths ℕ
 both current previous = record { current = current; previous = previous }
@@ -25,7 +26,7 @@ stays_there moving = false
 stays_there dropping = false
 stays_there kind = true
 
-module _ {K : Type 0} (settings : PathSettings K) (first : PathMaking K) where
+module _ {K : Type 0} (settings : PathSettings K) (first : PathState K) where
   -- the generations of the paths
   abbrev generations : List PathsEntry → OfPaths ℕ
   generations log = each_path (λ past. past.generation) (pasts_by settings first log)
@@ -58,7 +59,7 @@ module _ {K : Type 0} (settings : PathSettings K) (first : PathMaking K) where
 abbrev made_by : {Q S M P : Type 0} → History Q S M P → OfPaths ℕ
 made_by history = both (paths_made history) (generation_of Previous history)
 
-module _ {K Q S M P : Type 0} (q : QueueMeaning Q S M P) (settings : PathSettings K) (first : PathMaking K)
+module _ {K Q S M P : Type 0} (q : QueueMeaning Q S M P) (settings : PathSettings K) (first : PathState K)
     (known : Known K P M)
     (earlier : History Q S M P) (log : List PathsEntry) (same : generations settings first log ≡ made_by earlier) where
   reply_makes : (event : Event Q S M P) (reply : Reply Q)
@@ -73,8 +74,7 @@ module _ {K Q S M P : Type 0} (q : QueueMeaning Q S M P) (settings : PathSetting
       (λ entry entries stays made. one_stays settings first entry stays (entries ++ log) ∙ made) event (Ok answer) refl
   reply_makes (NewPath now remote is_fresh) (Err refusal) = same
   reply_makes event (Err refusal) =
-      refused_keeps event refusal
-      (λ (e : Entries P M). generations settings first (e.paths ++ log) ≡ made_by earlier) same
+      same
 
 module _ {F K Q S M P : Type 0} (beginning : Beginning F K Q S M P) where
   all_made : (history : History Q S M P) → generations (settings_of beginning) (first_path beginning)
@@ -82,20 +82,20 @@ module _ {F K Q S M P : Type 0} (beginning : Beginning F K Q S M P) where
   all_made [] = refl
   all_made (happened ∷ earlier) =
       let logs = logs_of beginning earlier in
-      reply_makes beginning.queue (settings_of beginning) (first_path beginning) (known_by beginning logs) earlier
+      reply_makes beginning.queue (settings_of beginning) (first_path beginning) (known_by beginning earlier) earlier
       logs.paths
       (all_made earlier) happened.0 happened.1
 
   -- a path that lives has the generation that the history says, and one that does not has none
   pub generation_told : (history : History Q S M P) (name : PathName)
-      → option_map (λ path. path.generation) (path_of name (known_by beginning (logs_of beginning history)).paths)
+      → option_map (λ path. path.generation) (path_of name (known_by beginning history).paths)
       ≡ generation_of name history
   generation_told history Current = ap (λ (g : OfPaths ℕ). Some g.current) (all_made history)
   generation_told history Previous =
       twice (pasts_of beginning history).previous ∙ ap (λ (g : OfPaths ℕ). g.previous) (all_made history)
     where
       twice : (previous : Option (PathPast K))
-          → option_map (λ path. path.generation) (option_map (known_of (settings_of beginning)) previous)
+          → option_map (λ path. path.generation) (option_map known_of previous)
           ≡ option_map (λ past. past.generation) previous
       twice None = refl
       twice (Some past) = refl

@@ -72,16 +72,11 @@ module _ {K Q S M P : Type 0} (q : QueueMeaning Q S M P) (old : Parts K P M) (sp
     steps = record {
       settings = refl;
       spaces = spaces_step q.words emptied old.spaces space there empty;
-      discarded = noted;
       skipping = skips_nothing space emptied _ old.skipping refl;
-      frequency = refl;
-      timers = refl;
-      remote_ids = refl;
-      local_ids = refl;
       paths = ap (λ (p : OfPaths (Path K)). paths_known p) left
           ∙ paths_known_without (tracked_by old.spaces space) old.paths;
-      limits = refl;
     };
+    plain = (noted, refl);
     marks = ap (λ (p : OfPaths (Path K)). paths_marks p) left
         ∙ both_marks (on_ledger (ledger_without (tracked_by old.spaces space))) (λ path. refl)
         (paths_without (tracked_by old.spaces space) old.paths).current old.paths refl;
@@ -131,17 +126,18 @@ module _ {K Q S M P : Type 0} (q : QueueMeaning Q S M P) (old then : Parts K P M
       let Told : P × M → Type 0 = λ carried. SendReply {Q = Q} (known.spaces Data) (current_in_flight known)
       (number_in known Data) (probe_of carried) (Err refusal) in
       let Out : Option ℕ → Type 0 = λ due. InSpace (known.spaces Data)
-      (Refuses NumbersExhausted (2 ^ 62 ≤ known.numbers.next) (MtuProbeReply q known now due)) (Err refusal) in
+      (Refuses NumbersExhausted (2 ^ 62 ≤ known.next_number) (MtuProbeReply q known now due)) (Err refusal) in
       let sent_as : Answer Q =
       Sent (number_in known Data) (forgotten_by (known.spaces Data).sent (probe_of nothing_carried)) in
       record {
         told = subst Out (sym due) (but_second _ _ _ (Over nothing_carried) _ _ (λ large. large)
-            (refused_alike (Unit {0}) (λ answer. answer ≡ sent_as) (λ answer. answer ≡ Probe known.numbers.next size)
+            (refused_alike (Unit {0}) (λ answer. answer ≡ sent_as) (λ answer. answer ≡ Probe known.next_number size)
             refusal)
             (same_refusal refusal SpaceDiscarded) (same_refusal refusal NumberTooLarge)
             (same_refusal refusal NumbersExhausted) (same_refusal refusal Overflow)
             (subst Told carries_nothing sent.told));
         steps = sent.steps;
+        plain = sent.plain;
         marks = sent.marks;
         refused = sent.refused;
       }
@@ -178,16 +174,11 @@ module _ {K Q S M P : Type 0} (q : QueueMeaning Q S M P) (old then : Parts K P M
         steps = record {
           settings = steps.settings;
           spaces = steps.spaces;
-          discarded = steps.discarded;
           skipping = steps.skipping;
-          frequency = steps.frequency;
-          timers = steps.timers;
-          remote_ids = steps.remote_ids;
-          local_ids = steps.local_ids;
           paths = ap (λ (p : Path K). let all : OfPaths (Path K) = record then.paths { current = p } in paths_known all)
               goes_on ∙ ap (seen discovery) steps.paths ∙ ap (λ found. seen found told) polled;
-          limits = steps.limits;
         };
+        plain = sent.plain;
         marks = ap (λ (p : Path K). let all : OfPaths (Path K) = record then.paths { current = p } in paths_marks all)
             goes_on ∙ sent.marks;
         refused = tt;

@@ -1,12 +1,13 @@
 -- Ids of the peer are taken, refused and moved to as the history itself says: the clause `peer_ids` of `run`.
-use Rattle.std.proofs.Common.{◌≡◌, ◌≤◌, ◌<◌, ◌+◌, ◌^◌, ℕ, ◌==◌, max, min, nat_lt, nat_le, not, Bool, false, List, [], ◌∷◌, Option, None, Some, IsSome, Ok, Err, refl, ap, arith, leb-true, le-leb}
-use Rattle.std.specs.Prelude.{IfSome, option_map, unwrap_or, if◌then◌else◌}
+use Rattle.std.proofs.Common.{◌≡◌, ◌≤◌, ◌<◌, ◌+◌, ◌^◌, ℕ, ◌==◌, max, min, nat_lt, nat_le, not, Bool, false, List, [], ◌∷◌, Option, None, Some, IsSome, Ok, Err, refl, ap, subst, arith, leb-true, le-leb}
+use Rattle.std.specs.Prelude.{◌≢◌, IfSome, option_map, unwrap_or, if◌then◌else◌}
 use Rattle.std.specs.Bool.{Decides}
+use Rattle.std.proofs.Math.Path.{fun_ext}
 use Rattle.std.proofs.lemmas.Bool.Decides.{nat_tests, Decides-ltb}
 use Rattle.std.proofs.lemmas.Slice.Eq.{bytes_eq-Decides}
 use Rattle.recovery_base.specs.declared.below.ids.NewConnectionId.{NewConnectionId}
-use Rattle.recovery_ids.specs.RemoteIds.{HeldId, Table, RemoteIds, IsLeastHeld, AreInWindow, Repeats, active_connection_id_limit, with_id, with_frame, without_id}
-use Rattle.recovery_ids.specs.RemoteLog.{given, used, replaced, remote_ids_with, remote_ids_by}
+use Rattle.recovery_ids.specs.RemoteIds.{HeldId, Table, RemoteIds, IsLeastHeld, Repeats, active_connection_id_limit, with_id, with_frame, without_id}
+use Rattle.recovery_ids.specs.RemoteLog.{given, used, replaced, remote_ids_with}
 use Rattle.recovery_ids.proofs.RemoteLogLaws.{gives, uses, uses_none, replaces}
 use Rattle.recovery_events.specs.declared.event.Event.{Event}
 use Rattle.recovery_events.specs.declared.event.Event.TheVariants.{NewId, NextId, InitialId}
@@ -15,19 +16,14 @@ use Rattle.recovery_events.specs.declared.event.Answer.TheVariants.{Retire, Done
 use Rattle.recovery_events.specs.declared.event.Refusal.{Refusal}
 use Rattle.recovery_events.specs.declared.event.Refusal.TheVariants.{NumberTooLarge, BadRetirePriorTo, Retired, ExceedsLimit, Conflict, NotInitialId}
 use Rattle.recovery_events.specs.Refusals.{refusal_number}
-use Rattle.quic_recovery.specs.Entries.{Entries, logs_of}
 use Rattle.quic_recovery.specs.History.{Beginning, History, Reply}
-use Rattle.quic_recovery.specs.IdReplies.{FrameReply, IsFrameAnswer, IsNextAnswer, InitialReply}
-use Rattle.quic_recovery.specs.Known.{Known, known_by}
-use Rattle.quic_recovery.specs.Logs.{onto}
+use Rattle.quic_recovery.specs.IdReplies.{FrameReply, IsFrameAnswer, IsNextAnswer}
 use Rattle.quic_recovery.specs.Replies.{AlwaysAnswers, Refuses}
 use Rattle.quic_recovery.specs.Told.{Told}
-use Rattle.quic_recovery.specs.Promises.GivenIds.{id_under, retired_below, least_from, active_id}
+use Rattle.quic_recovery.specs.Promises.GivenIds.{AreHeld, ids_held, id_under, retired_below, least_from, active_id}
 use Rattle.quic_recovery.specs.Promises.PeerIds.{AcceptsIds, frame_reply, moved, repeats}
 use Rattle.quic_recovery.proofs.Runs.{AllAlong, throughout_kept}
-use Rattle.quic_recovery.proofs.EntryKinds.{plainly_keeps, refused_keeps}
-use Rattle.quic_recovery.proofs.ReplyLaws.{refused_by}
-use Rattle.quic_recovery.proofs.TableLaws.{only_refusal}
+use Rattle.quic_recovery.proofs.ReplyLaws.{only_refusal, refused_by}
 
 -- ---- a frame repeats what is held
 
@@ -41,6 +37,10 @@ repeats_decides frame None = grind arith
 repeats_decides frame (Some (id, None)) = grind (arith, bytes_eq-Decides frame.id id)
 repeats_decides frame (Some (id, Some token)) =
     grind (arith, bytes_eq-Decides frame.id id, bytes_eq-Decides frame.reset_token token)
+
+-- what a replaced id is told
+abbrev InitialReply : {Q : Type 0} → RemoteIds → Reply Q → Type 0
+InitialReply ids = Refuses NotInitialId (ids.active ≢ 0) (AlwaysAnswers (λ answer. answer ≡ Done))
 
 -- ---- the least number under which an id is held
 
@@ -96,12 +96,7 @@ module _ {Q S M P : Type 0} (initial : List ℕ) where
 
   -- ---- the ids that are held, by the history
 
-  pub record SameIds (history : History Q S M P) (ids : RemoteIds) : Type 0 where
-    pub held : (n : ℕ) → retired_below history ≤ n → ids.held n ≡ id_under initial n history
-    pub retired : retired_below history ≤ ids.active
-    pub window : AreInWindow ids
-
-  module _ (history : History Q S M P) (ids : RemoteIds) (same : SameIds history ids) where
+  module _ (history : History Q S M P) (ids : RemoteIds) (same : AreHeld initial history ids) where
     -- the least number held from one on that is not retired is the least one given from there on
     least_held_found : (low next : ℕ) → retired_below history ≤ low → IsLeastHeld ids.held low next
         → least_from low history ≡ Some next
@@ -113,10 +108,17 @@ module _ {Q S M P : Type 0} (initial : List ℕ) where
         ap (λ (least : Option ℕ). unwrap_or least 0) (least_held_found (retired_below history) ids.active (omega arith)
         (grind (arith, same.retired, same.window.active_held, same.window.within)))
 
+    -- so the history says which are held
+    pub held_same : ids ≡ ids_held initial history
+    held_same = grind (arith, active_same, fun_ext below)
+      where
+        below : (n : ℕ) → ids.held n ≡ (if nat_lt n (active_id history) then None else id_under initial n history)
+        below n = grind (arith, nat_tests, active_same, same.held n, same.retired, same.window.within n)
+
 -- ---- what an event makes of them
 
 module _ {Q S M P : Type 0} (initial : List ℕ) (history : History Q S M P) (ids : RemoteIds)
-    (same : SameIds initial history ids) where
+    (same : AreHeld initial history ids) where
   -- a frame that may be accepted
   record IsFine (frame : NewConnectionId) : Type 0 where
     ordered : ¬ (frame.sequence < frame.retire_prior_to)
@@ -129,7 +131,7 @@ module _ {Q S M P : Type 0} (initial : List ℕ) (history : History Q S M P) (id
     made next = record { active = next; held = with_frame frame ids.held }
 
     made_same : (next : ℕ) (answer : Answer Q) → IsLeastHeld (with_frame frame ids.held) 0 next
-        → SameIds initial ((NewId frame, Ok answer) ∷ history) (made next)
+        → AreHeld initial ((NewId frame, Ok answer) ∷ history) (made next)
     made_same next answer is =
         grind (
           arith,
@@ -148,8 +150,8 @@ module _ {Q S M P : Type 0} (initial : List ℕ) (history : History Q S M P) (id
     stays_least : frame.retire_prior_to ≤ ids.active → IsLeastHeld (with_frame frame ids.held) 0 ids.active
     stays_least kept = grind (arith, nat_tests, same.window.active_held, same.window.within, kept, fine.ahead)
 
-  frame_step : (frame : NewConnectionId) (answer : Answer Q) → FrameReply ids frame (Ok answer)
-      → SameIds initial ((NewId frame, Ok answer) ∷ history) (remote_ids_with (given frame) ids)
+  pub frame_step : (frame : NewConnectionId) (answer : Answer Q) → FrameReply ids frame (Ok answer)
+      → AreHeld initial ((NewId frame, Ok answer) ∷ history) (remote_ids_with (given frame) ids)
   frame_step frame answer (small, (ordered, (ahead, (near, (unlike, told))))) = go answer told
     where
       fine : IsFine frame
@@ -159,7 +161,7 @@ module _ {Q S M P : Type 0} (initial : List ℕ) (history : History Q S M P) (id
       again = grind (arith, unlike, repeats_decides frame (ids.held frame.sequence))
 
       go : (answer : Answer Q) → IsFrameAnswer ids frame answer
-          → SameIds initial ((NewId frame, Ok answer) ∷ history) (remote_ids_with (given frame) ids)
+          → AreHeld initial ((NewId frame, Ok answer) ∷ history) (remote_ids_with (given frame) ids)
       go (Retire None) kept =
           let least = stays_least frame fine kept in
           rw (← gives ids (made frame fine ids.active) frame None (omega (arith, ordered))
@@ -172,8 +174,8 @@ module _ {Q S M P : Type 0} (initial : List ℕ) (history : History Q S M P) (id
           (made_same frame fine next (Retire (Some told)) least)
       go other is = absurd is
 
-  next_step : (answer : Answer Q) → IsNextAnswer ids answer
-      → SameIds initial ((NextId, Ok answer) ∷ history) (remote_ids_with used ids)
+  pub next_step : (answer : Answer Q) → IsNextAnswer ids answer
+      → AreHeld initial ((NextId, Ok answer) ∷ history) (remote_ids_with used ids)
   next_step (Retire None) none =
       rw (← uses_none ids ids none refl) record { held = same.held; retired = same.retired; window = same.window }
   next_step (Retire (Some told)) (starts, least, (id, token)) =
@@ -201,8 +203,8 @@ module _ {Q S M P : Type 0} (initial : List ℕ) (history : History Q S M P) (id
       ))
   next_step other is = absurd is
 
-  initial_step : (id : List ℕ) (answer : Answer Q) → InitialReply ids (Ok answer)
-      → SameIds initial ((InitialId id, Ok answer) ∷ history) (remote_ids_with (replaced id) ids)
+  pub initial_step : (id : List ℕ) (answer : Answer Q) → InitialReply ids (Ok answer)
+      → AreHeld initial ((InitialId id, Ok answer) ∷ history) (remote_ids_with (replaced id) ids)
   initial_step id answer told =
       let new : RemoteIds = record { active = ids.active; held = with_id 0 (id, None) ids.held } in
       let first : ids.active ≡ 0 = grind (arith, nat_tests, told.0) in
@@ -283,56 +285,44 @@ module _ {F K Q S M P : Type 0} (beginning : Beginning F K Q S M P) where
   abbrev initial_id : List ℕ
   initial_id = beginning.config.initial_cid
 
-  abbrev ids_by : History Q S M P → RemoteIds
-  ids_by history = remote_ids_by initial_id (logs_of beginning history).remote_ids
-
   -- the ids are held as the history says
   abbrev pub HoldsIds : History Q S M P → Type 0
-  HoldsIds history = SameIds initial_id history (ids_by history)
+  HoldsIds history = AreHeld initial_id history (ids_held initial_id history)
 
   pub holds_first : HoldsIds []
   holds_first = grind (arith, nat_tests)
 
   module _ (before : History Q S M P) (same : HoldsIds before) where
-    abbrev After : Event Q S M P → Reply Q → Entries P M → Type 0
-    After event reply entries =
-        SameIds initial_id ((event, reply) ∷ before)
-        (remote_ids_by initial_id (onto entries.remote_ids (logs_of beginning before).remote_ids))
+    abbrev ids : RemoteIds
+    ids = ids_held initial_id before
 
-    abbrev known : Known K P M
-    known = known_by beginning (logs_of beginning before)
+    follows : (event : Event Q S M P) (reply : Reply Q) (new : RemoteIds)
+        → AreHeld initial_id ((event, reply) ∷ before) new
+        → HoldsIds ((event, reply) ∷ before)
+    follows event reply new held =
+        subst (AreHeld initial_id ((event, reply) ∷ before)) (held_same initial_id _ new held) held
 
     -- an event that was told keeps that
     pub keeps_ids : (event : Event Q S M P) (reply : Reply Q) → Told beginning before event reply
         → HoldsIds ((event, reply) ∷ before)
-    keeps_ids (NewId frame) (Ok answer) told = frame_step initial_id before (ids_by before) same frame answer told
-    keeps_ids NextId (Ok answer) told = next_step initial_id before (ids_by before) same answer told
-    keeps_ids (InitialId id) (Ok answer) told = initial_step initial_id before (ids_by before) same id answer told
-    keeps_ids event (Ok answer) told =
-        plainly_keeps beginning.queue known event answer (After event (Ok answer))
-        record { held = same.held; retired = same.retired; window = same.window }
-    keeps_ids NextId (Err refusal) told = record { held = same.held; retired = same.retired; window = same.window }
-    keeps_ids event (Err refusal) told =
-        refused_keeps event refusal (After event (Err refusal))
-        record { held = same.held; retired = same.retired; window = same.window }
-
-    -- the active id by the history
-    pub active_told : active_id before ≡ (known_by beginning (logs_of beginning before)).remote_ids.active
-    active_told = active_same initial_id before (ids_by before) same
+    keeps_ids (NewId frame) (Ok answer) told = follows _ _ _ (frame_step initial_id before ids same frame answer told)
+    keeps_ids NextId (Ok answer) told = follows _ _ _ (next_step initial_id before ids same answer told)
+    keeps_ids (InitialId id) (Ok answer) told = follows _ _ _ (initial_step initial_id before ids same id answer told)
+    keeps_ids event reply told = record { held = same.held; retired = same.retired; window = same.window }
 
     -- what an event is told, it is told of the ids of the peer
     pub accepts_told : (event : Event Q S M P) (reply : Reply Q) → Told beginning before event reply
         → AcceptsIds initial_id before event reply
     accepts_told (NewId frame) reply told =
-        rw active_told (frame_told initial_id before (ids_by before) same frame reply told)
-    accepts_told NextId reply told = rw active_told (next_told initial_id before (ids_by before) same reply told)
+        frame_told initial_id before ids same frame reply told
+    accepts_told NextId reply told = next_told initial_id before ids same reply told
     accepts_told (InitialId id) reply told =
-        rw active_told (initial_told initial_id before (ids_by before) same reply told)
+        initial_told initial_id before ids same reply told
     accepts_told event reply told = tt
 
   -- throughout a run
   pub accepts_ids : AllAlong beginning (AcceptsIds initial_id)
-  accepts_ids events replies told =
+  accepts_ids =
       throughout_kept beginning HoldsIds (AcceptsIds initial_id)
       (λ before event reply here same. keeps_ids before same event reply here)
-      (λ before event reply here same. accepts_told before same event reply here) [] events replies told holds_first
+      (λ before event reply here same. accepts_told before same event reply here) holds_first

@@ -20,10 +20,10 @@ use Rattle.recovery_queue.specs.Queues.{QueueWords}
 use Rattle.recovery_skips.specs.Filters.{AcksSkip, range_holds}
 use Rattle.recovery_events.specs.declared.event.Event.{Event}
 use Rattle.recovery_events.specs.declared.event.Refusal.{Refusal}
-use Rattle.quic_recovery.specs.Entries.{nothing, refused}
 use Rattle.quic_recovery.specs.History.{QueueMeaning}
 use Rattle.quic_recovery.specs.Known.{Known}
 use Rattle.quic_recovery.specs.Parts.{Parts}
+use Rattle.quic_recovery.specs.Plain.{PlainStep, plain_of}
 use Rattle.quic_recovery.specs.State.{Changes, heard_to, known_to}
 use Rattle.quic_recovery.specs.Told.{ToldBy, skipped_in}
 use Rattle.quic_recovery.proofs.AboveLaws.{marks_refused}
@@ -62,24 +62,22 @@ module _ {K P M : Type 0} (spaces : Spaces P M) (paths : OfPaths (Path K)) (bala
 pub fed_back_stays : {P M S A B : Type 0} (words : QueueWords P S) (counts : EcnCounts) (result : Result A B)
     (old new : Space P M) → OnOk result (SpaceStep words (feeds_back counts) old new) → OnErr result (new ≡ old)
     → Stays old new
-fed_back_stays words counts (Ok answer) old new step same =
-    rw step (record { tracking = refl; next = refl; acks = refl; dedup = refl })
-fed_back_stays words counts (Err error) old new step same =
-    rw same (record { tracking = refl; next = refl; acks = refl; dedup = refl })
+fed_back_stays words counts result old new step same = grind (arith, step, same)
 
 -- a refusal for which a space is put back as it was
 pub put_back : {K Q S M P : Type 0} (q : QueueMeaning Q S M P) (old : Parts K P M) (event : Event Q S M P)
     (refusal : Refusal) (space : SpaceId) (there : Space P M) → there ≡ space_of space old.spaces
-    → refused event refusal ≡ nothing
+    → PlainStep event (Err refusal) (plain_of old) (plain_of old)
     → ToldBy q old.settings.words (heard_to old) (known_to old) event (Err refusal)
     → Changes q old event (Err refusal) (record old { spaces = with_space old.spaces space there })
-put_back {K} {Q} {S} {M} {P} q old event refusal space there same is_nothing told =
+put_back {K} {Q} {S} {M} {P} q old event refusal space there same plain told =
     let new : Parts K P M = record old { spaces = with_space old.spaces space there } in
     let kept : new ≡ old =
     ap (λ (spaces : Spaces P M). record old { spaces = spaces }) (with_same_space old.spaces space there same) in
     record {
       told = told;
-      steps = rw is_nothing (nothing_changes q.words old new kept);
+      steps = nothing_changes q.words old new kept;
+      plain = plain;
       marks = sym (marks_refused event refusal (paths_marks old.paths));
       refused = kept;
     }
@@ -93,9 +91,9 @@ module _ {K P M : Type 0} (known : Known K P M) (range : RangeInclusive ℕ) (lo
   holds_between : (n : ℕ) → range_holds range n ≡ (nat_le low n && nat_le n high)
   holds_between n = grind (arith, start, end, whole)
 
-  pub skip_acked : (space : SpaceId) → AcksSkip space range known.numbers.skipped
+  pub skip_acked : (space : SpaceId) → AcksSkip space range known.skipped
       → IsSomeAnd (skipped_in known space) (λ s. (low ≤ s) × (s ≤ high))
-  skip_acked Data acks = go known.numbers.skipped acks.holds
+  skip_acked Data acks = go known.skipped acks.holds
     where
       go : (last : Option ℕ) → IsSomeAnd last (λ s. IsTrue (range_holds range s))
           → IsSomeAnd last (λ s. (low ≤ s) × (s ≤ high))
@@ -105,8 +103,8 @@ module _ {K P M : Type 0} (known : Known K P M) (range : RangeInclusive ℕ) (lo
   skip_acked Handshake acks = let elsewhere = acks.in_data in absurd (cc)
 
   pub acks_skip : (space : SpaceId) → IsSomeAnd (skipped_in known space) (λ s. (low ≤ s) × (s ≤ high))
-      → AcksSkip space range known.numbers.skipped
-  acks_skip Data is = record { in_data = refl; holds = go known.numbers.skipped is }
+      → AcksSkip space range known.skipped
+  acks_skip Data is = record { in_data = refl; holds = go known.skipped is }
     where
       go : (last : Option ℕ) → IsSomeAnd last (λ s. (low ≤ s) × (s ≤ high))
           → IsSomeAnd last (λ s. IsTrue (range_holds range s))

@@ -1,6 +1,6 @@
 -- Refusals that follow from the history are given exactly where it says so: the clause `refused` of `run`.
-use Rattle.std.proofs.Common.{◌≡◌, ℕ, ◌==◌, Bool, false, [], Option, None, Some, Ok, Err, refl, sym, ap, ◌∙◌, arith}
-use Rattle.std.specs.Prelude.{is_some, option_map}
+use Rattle.std.proofs.Common.{◌≡◌, ℕ, ◌==◌, Bool, true, false, [], Option, None, Some, Ok, Err, refl, sym, ap, ◌∙◌, arith}
+use Rattle.std.specs.Prelude.{is_some, option_map, MatchBool}
 use Rattle.std.proofs.lemmas.Bool.Decides.{nat_tests}
 use Rattle.recovery_base.specs.declared.below.SpaceId.{SpaceId}
 use Rattle.recovery_base.specs.declared.below.SpaceId.TheVariants.{Data}
@@ -15,19 +15,17 @@ use Rattle.recovery_events.specs.declared.event.Refusal.{Refusal}
 use Rattle.recovery_events.specs.declared.event.Refusal.TheVariants as refusal
 use Rattle.recovery_events.specs.declared.event.Refusal.TheVariants.{NumberTooLarge, NumbersExhausted, Overflow, DelayTooSmall, BadRange, SkippedAcked, SpaceDiscarded, NotTracked, NoSuchPath, NotInitialId, NoMemory}
 use Rattle.recovery_events.specs.Refusals.{refusal_number}
-use Rattle.quic_recovery.proofs.TableLaws.{only_refusal}
-use Rattle.quic_recovery.specs.Entries.{logs_of}
+use Rattle.quic_recovery.specs.Entries.{known_by}
 use Rattle.quic_recovery.specs.History.{Beginning, History, Reply}
-use Rattle.quic_recovery.specs.Known.{SpaceKnown, Known, known_by}
-use Rattle.quic_recovery.specs.Replies.{Refuses, Answers}
+use Rattle.quic_recovery.specs.Known.{SpaceKnown, Known}
+use Rattle.quic_recovery.specs.Replies.{same_refusal, Refuses, Answers}
 use Rattle.quic_recovery.specs.Told.{Told, EcnAnswer, InSpace, Is, LeaveReply, OnPath, MtuProbeReply}
 use Rattle.quic_recovery.specs.Promises.Paths.{generation_of}
 use Rattle.quic_recovery.specs.Promises.Refused.{unless, in_space, RefusesRightly, first_cause}
 use Rattle.quic_recovery.specs.Promises.Tracked.{is_tracked}
+use Rattle.quic_recovery.proofs.ReplyLaws.{only_refusal}
 use Rattle.quic_recovery.proofs.Runs.{AllAlong, throughout_kept}
-use Rattle.quic_recovery.proofs.NewNumbersLaws.{all_dropped}
 use Rattle.quic_recovery.proofs.PathLaws.{generation_told}
-use Rattle.quic_recovery.proofs.PeerIdsLaws.{HoldsIds, active_told, holds_first, keeps_ids}
 use Rattle.quic_recovery.proofs.TrackedLaws.{AllTracked, keeps_tracked, none_tracked, tracked_found}
 
 -- ---- which of these causes a reply names
@@ -71,7 +69,11 @@ module _ {Q : Type 0} where
   cause_names cause no_text is Cause Otherwise rest expected named_so else_so names (Ok answer) told =
       names (Ok answer) told.1 ∙ sym (else_so told.0)
   cause_names cause no_text is Cause Otherwise rest expected named_so else_so names (Err given) told =
-      grind (arith, only_refusal given cause no_text, is, named_so, else_so, names (Err given))
+      by_cause (same_refusal given cause) (only_refusal given cause no_text) told
+    where
+      by_cause : (b : Bool) → (b ≡ true → given ≡ cause) → MatchBool b Cause ((¬ Cause) × Otherwise (Err given))
+          → (let reply : Reply Q = Err given in named reply ≡ expected)
+      by_cause b same told = grind (arith, same, is, named_so, else_so, names (Err given))
 
   path_names : {K : Type 0} (found : Option (PathKnown K)) (Replies : PathKnown K → Reply Q → Type 0)
       → ((path : PathKnown K) → Names None (Replies path))
@@ -95,29 +97,23 @@ module _ {Q S M P : Type 0} (history : History Q S M P) (event : Event Q S M P) 
 -- ---- the table
 
 module _ {F K Q S M P : Type 0} (beginning : Beginning F K Q S M P) where
-  -- what the history says of what is tracked and of ids
-  pub record Stands (history : History Q S M P) : Type 0 where
-    pub tracked : AllTracked beginning history
-    pub ids : HoldsIds beginning history
-
-  module _ (history : History Q S M P) (stands : Stands history) where
+  module _ (history : History Q S M P) (tracked : AllTracked beginning history) where
     abbrev known : Known K P M
-    known = known_by beginning (logs_of beginning history)
+    known = known_by beginning history
 
     -- an event in a space
     in_one : (space : SpaceId) (Otherwise : Reply Q → Type 0) (cause : Option Refusal) → Names cause Otherwise
         → Names (in_space history space cause) (InSpace (known.spaces space) Otherwise)
     in_one space Otherwise cause names =
-        let dropped = all_dropped beginning history space in
-        cause_names SpaceDiscarded refl refl _ Otherwise cause _ (λ is. grind (arith, is, dropped))
-        (λ live. grind (arith, live, dropped)) names
+        cause_names SpaceDiscarded refl refl _ Otherwise cause _ (λ is. grind (arith, is)) (λ live. grind (arith, live))
+        names
 
     -- a packet leaves
     leave_names : (space : SpaceId) (Grows : Type 0) (number : ℕ) (given : Answer Q)
         → Names (in_space history space (unless (is_tracked space number history) NotTracked))
         (LeaveReply (known.spaces space) Grows number given)
     leave_names space Grows number given =
-        let found = tracked_found beginning history stands.tracked space number in
+        let found = tracked_found beginning history tracked space number in
         in_one space _ _ (cause_names NotTracked refl refl _ _ None _ (λ none. grind (arith, none, found))
         (λ some. grind (arith, some, found)) (answers Grows (Is given)))
 
@@ -146,9 +142,8 @@ module _ {F K Q S M P : Type 0} (beginning : Beginning F K Q S M P) where
     names (Acked space now number app_limited) = leave_names space ⊥ number _
     names (Lost space number) = leave_names space (Unit {0}) number _
     names (InitialId id) =
-        let active = active_told beginning history stands.ids in
-        cause_names NotInitialId refl refl _ _ None _ (λ late. grind (arith, nat_tests, late, active))
-        (λ first. grind (arith, nat_tests, first, active)) (answers _ _)
+        cause_names NotInitialId refl refl _ _ None _ (λ late. grind (arith, nat_tests, late))
+        (λ first. grind (arith, nat_tests, first)) (answers _ _)
     names (AckFrequencyIn frame) =
         in_one Data _ None (passes DelayTooSmall _ _ refl (answers _ _))
     names (AcksSent space) = in_one space _ None (answers _ _)
@@ -173,12 +168,7 @@ module _ {F K Q S M P : Type 0} (beginning : Beginning F K Q S M P) where
 
   -- throughout a run
   pub refuses_rightly : AllAlong beginning RefusesRightly
-  refuses_rightly events replies told =
-      throughout_kept beginning Stands RefusesRightly
-      (λ before event reply here stands. record {
-        tracked = keeps_tracked beginning before event reply here stands.tracked;
-        ids = keeps_ids beginning before stands.ids event reply here;
-      })
-      (λ before event reply here stands. by_name before event reply (names before stands event reply here)) [] events
-      replies told
-      (record { tracked = none_tracked beginning; ids = holds_first beginning })
+  refuses_rightly =
+      throughout_kept beginning (AllTracked beginning) RefusesRightly (keeps_tracked beginning)
+      (λ before event reply here tracked. by_name before event reply (names before tracked event reply here))
+      (none_tracked beginning)

@@ -1,11 +1,18 @@
 -- One reply, by two tellings of the same causes and answers. `PeerIdsLaws`, `OwnIdsLaws` and `ToldLaws` rest on it.
-use Rattle.std.proofs.Common.{◌≡◌, ◌↔◌, Bool, true, false, MatchBool, Ok, Err, refl, ap, if◌then◌else◌}
+use Rattle.std.proofs.Common.{◌≡◌, ◌==◌, ◌↔◌, Bool, true, false, MatchBool, Ok, Err, refl, ap, arith, if◌then◌else◌}
+use Rattle.std.proofs.lemmas.Bool.Decides.{nat_tests}
 use Rattle.std.specs.Bool.{Decides}
 use Rattle.recovery_events.specs.declared.event.Answer.{Answer}
 use Rattle.recovery_events.specs.declared.event.Refusal.{Refusal}
 use Rattle.recovery_events.specs.declared.event.Refusal.TheVariants.{NoMemory}
+use Rattle.recovery_events.specs.Refusals.{refusal_number}
 use Rattle.quic_recovery.specs.History.{Reply}
 use Rattle.quic_recovery.specs.Replies.{same_refusal, Refuses, Answers}
+
+-- of a refusal that holds no text there is one alone with its number
+pub only_refusal : (given of : Refusal) → (refusal_number of == 17) ≡ false → same_refusal given of ≡ true → given ≡ of
+only_refusal NoMemory of no_text same = grind (arith, nat_tests)
+only_refusal given of no_text same = grind (arith, nat_tests)
 
 pub refuses_alike : {Q : Type 0} (refusal : Refusal) (Cause Reason : Type 0) (Otherwise Else : Reply Q → Type 0)
     → Cause ↔ Reason → ((reply : Reply Q) → Otherwise reply → Else reply)

@@ -1,11 +1,12 @@
 -- Whether an ACK is required at once can be decided from the log of its space: a gap is sought between two numbers.
 -- `DutyLaws` rest on it.
-use Rattle.std.proofs.Common.{◌≡◌, ◌≤◌, ◌<◌, ◌+◌, ◌-◌, ℕ, zero, suc, Bool, List, [], ◌∷◌, Option, None, Some, ◌⊎◌, inl, inr, IsTrue, subst, arith}
+use Rattle.std.proofs.Common.{◌≡◌, ◌≤◌, ◌<◌, ◌+◌, ◌-◌, ℕ, zero, suc, Bool, List, [], ◌∷◌, Option, None, Some, ◌⊎◌, inl, inr, IsTrue, max, subst, arith}
 use Rattle.std.proofs.lemmas.Bool.{cases_eq, cases_lt}
-use Rattle.recovery_acks.specs.Acks.{counted, number_or_zero, IsOutOfOrder, IsReported}
-use Rattle.recovery_base.specs.Numbers.{IsInWindow, IsLeastMissing, IsMissing}
+use Rattle.recovery_acks.specs.Acks.{AckCounts, AsksAtOnce, counted, IsOutOfOrder, IsReported}
+use Rattle.std.specs.Option.{unwrap_or}
+use Rattle.recovery_base.specs.Numbers.{With, IsInWindow, IsLeastMissing, IsMissing}
 use Rattle.recovery_base.proofs.WindowLaws.{HasGreatest}
-use Rattle.recovery_ledger.specs.Acks.{AckCounts, AsksAtOnce, IsRequired, counts_by, greatest_with}
+use Rattle.recovery_ledger.specs.Acks.{IsRequired, counts_by}
 use Rattle.recovery_ledger.specs.Received.{CameIn}
 use Rattle.recovery_ledger.specs.SpaceLog.{SpaceEntry, heard, heard_again, ack_goes, ack_is_late}
 use Rattle.recovery_ledger.proofs.ReceivedLaws.{came_greatest}
@@ -124,12 +125,12 @@ module _ {P M : Type 0} where
   has_come (entry ∷ earlier) n = has_come earlier n
 
   pub asks : (log : List (SpaceEntry P M)) (counts : AckCounts) (number : ℕ)
-      → Decided (AsksAtOnce (CameIn log) counts number)
+      → Decided (AsksAtOnce (With number (CameIn log)) counts number)
   asks log counts number =
       let longer : List (SpaceEntry P M) = heard_again number ∷ log in
       either (less counts.thresholds.0 (counted counts.eliciting))
       (is_out_of_order (CameIn longer) (came_greatest longer) (has_come longer) counts.thresholds.1 counts.acknowledged
-      (number_or_zero counts.greatest) (greatest_with counts.greatest number) number)
+      (unwrap_or counts.greatest 0) (max (unwrap_or counts.greatest 0) number) number)
 
   -- an ACK is required at once, or not
   pub is_required : (log : List (SpaceEntry P M)) → Decided (IsRequired log)

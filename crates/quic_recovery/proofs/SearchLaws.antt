@@ -9,8 +9,10 @@ use denote.Enum.Declared.{row}
 use denote.Laws.{Is}
 use mir.Val.{Val}
 use Rattle.recovery_base.specs.declared.below.SpaceId.{SpaceId}
+use Rattle.recovery_base.specs.declared.below.SpaceId.TheVariants.{Data}
+use Rattle.recovery_base.specs.Spaces.{same_space}
 use Rattle.recovery_mtud.specs.declared.config.MtuDiscoveryConfig.{MtuDiscoveryConfig}
-use Rattle.recovery_mtud.specs.Discovery.{is_data, poll_of}
+use Rattle.recovery_mtud.specs.Discovery.{poll_of}
 use Rattle.recovery_mtud.specs.DiscoveryLog.{polls}
 use Rattle.recovery_mtud.specs.MtuEntries.{MtuEntry, poll_entry, probed, unprobed, mtu_in_use}
 use Rattle.recovery_mtud.specs.SearchRuns.{EndsNearBest, ProbesInSearch, TakesFew}
@@ -25,9 +27,9 @@ use Rattle.recovery_events.specs.declared.event.Event.TheVariants.{Acked, Lost, 
 use Rattle.recovery_events.specs.declared.event.Answer.TheVariants.{Probe, NoProbe}
 use Rattle.recovery_events.specs.declared.event.Answer.TheVariants as answer
 use Rattle.recovery_events.specs.declared.event.Refusal.TheVariants.{Searching}
-use Rattle.quic_recovery.specs.Entries.{entries_of, logs_of, pasts_of}
+use Rattle.quic_recovery.specs.Entries.{entries_of, logs_of, pasts_of, known_by}
 use Rattle.quic_recovery.specs.History.{Beginning, History, QueueMeaning, Reply}
-use Rattle.quic_recovery.specs.Known.{Known, known_by, first_path, settings_of}
+use Rattle.quic_recovery.specs.Known.{Known, first_path, settings_of}
 use Rattle.quic_recovery.specs.Search.{WhereSearched, discovery_settings}
 use Rattle.quic_recovery.specs.Told.{Told, MtuProbeReply}
 use Rattle.quic_recovery.proofs.SearchSaid.{EndsNear, LimitsOutside, ProbesInTurn, TellsProbes, entered_so_far, entries_on, is_in_flight}
@@ -93,7 +95,7 @@ module _ {F K Q S M P : Type 0} (beginning : Beginning F K Q S M P) where
       → Told beginning before event reply → AreSearched before → AreSearched ((event, reply) ∷ before)
   searched_one before event reply told searched =
       let logs = logs_of beginning before in
-      let known = known_by beginning logs in
+      let known = known_by beginning before in
       searched_over (settings_of beginning) (discovery_settings beginning) (fresh_is beginning) (first_path beginning)
       (entries_of beginning.queue known event reply).paths logs.paths
       (is_allowed beginning.queue (settings_of beginning) _ known event reply told) searched
@@ -106,21 +108,21 @@ module _ {F K Q S M P : Type 0} (beginning : Beginning F K Q S M P) where
     few_one before event reply told searched = λ settings is change.
         let past = (pasts_of beginning ((event, reply) ∷ before)).current in
         let by = (searched_one before event reply told searched).0 in
-        search_takes_few past.making.discovery settings by.untold (by.settings_are ∙ is) change (small settings is)
+        search_takes_few past.kept.discovery settings by.untold (by.settings_are ∙ is) change (small settings is)
         past.searched
 
     pub ends_one : (before : History Q S M P) (event : Event Q S M P) (reply : Reply Q)
         → Told beginning before event reply
         → AreSearched before → EndsNear beginning before event reply
     ends_one before (PollMtu now) (Ok NoProbe) told searched = λ settings is change. (
-        let known = known_by beginning (logs_of beginning before) in
+        let known = known_by beginning before in
         let past = (pasts_of beginning before).current in
-        let made = past.making.discovery in
+        let made = past.kept.discovery in
         let by = searched.0 in
-        let next = known.numbers.next in
+        let next = known.next_number in
         let outside = limits_outside_after made by.untold (polls now next) past.searched tt by.outside in
         none_out beginning.queue known settings now next (entries_on past) made
-        (poll_of now (state_of (settings_of beginning) past).discovery) told.1.1
+        (poll_of now (state_of past).discovery) told.1.1
         (search_ends_near made settings by.untold (by.settings_are ∙ is) change (small settings is)
         (polls now next ∷ past.searched) outside)
         )
@@ -132,22 +134,22 @@ module _ {F K Q S M P : Type 0} (beginning : Beginning F K Q S M P) where
   probes_one before (PollMtu now) (Ok (Probe number size)) told searched = go (discovery_settings beginning) refl
     where
       known : Known K P M
-      known = known_by beginning (logs_of beginning before)
+      known = known_by beginning before
 
       past : PathPast K
       past = (pasts_of beginning before).current
 
       answer : Option ℕ
-      answer = poll_of now (state_of (settings_of beginning) past).discovery
+      answer = poll_of now (state_of past).discovery
 
       go : (by : Option MtuDiscoveryConfig) → discovery_settings beginning ≡ by
           → IsSomeAnd by (λ settings. ProbesInSearch settings (probed now number size ∷ entries_on past))
       go None is = unanswered beginning.queue known now answer number size
-          (unsearched past.making.discovery (searched.0.settings_are ∙ is) now past.searched) told.1.1
+          (unsearched past.kept.discovery (searched.0.settings_are ∙ is) now past.searched) told.1.1
       go (Some settings) is =
-          let next = known.numbers.next in
+          let next = known.next_number in
           probe_out beginning.queue known settings now next (entries_on past) answer number size told.1.1
-          (probes_in_search past.making.discovery settings searched.0.untold (searched.0.settings_are
+          (probes_in_search past.kept.discovery settings searched.0.untold (searched.0.settings_are
           ∙ is) (polls now next ∷ past.searched))
   probes_one before event reply told searched = tt
 
@@ -157,19 +159,20 @@ module _ {F K Q S M P : Type 0} (beginning : Beginning F K Q S M P) where
       → AreSearched before → LimitsOutside beginning before event reply
   limits_one before (PeerLimit size) (Err Searching) told searched =
       let past = (pasts_of beginning before).current in
-      sym (search_runs_by past.making.discovery searched.0.untold past.searched) ∙ told.1
+      sym (search_runs_by past.kept.discovery searched.0.untold past.searched) ∙ told.1
   limits_one before (PeerLimit size) (Ok given) told searched =
       let past = (pasts_of beginning before).current in
-      grind (arith, told.1.0, search_runs_by past.making.discovery searched.0.untold past.searched)
+      grind (arith, told.1.0, search_runs_by past.kept.discovery searched.0.untold past.searched)
   limits_one before event reply told searched = tt
 
   -- the packet that is a probe by the state is the one in flight by the entries
   probe_same : (before : History Q S M P) → AreSearched before → (space : SpaceId) (number : ℕ)
-      → is_path_probe space number (state_of (settings_of beginning) (pasts_of beginning before).current) ≡ is_in_flight
+      → is_path_probe space number (state_of (pasts_of beginning before).current) ≡ is_in_flight
       beginning before space number
   probe_same before searched space number =
       let past = (pasts_of beginning before).current in
-      ap (λ probe. is_data space && probe) (is_probe_by past.making.discovery searched.0.untold past.searched number)
+      ap (λ probe. same_space space Data && probe)
+      (is_probe_by past.kept.discovery searched.0.untold past.searched number)
 
   pub tells_one : (before : History Q S M P) (event : Event Q S M P) (reply : Reply Q)
       → Told beginning before event reply
@@ -183,7 +186,7 @@ module _ {F K Q S M P : Type 0} (beginning : Beginning F K Q S M P) where
   -- after an event, the MTU in use is the one that the entries say
   pub mtu_one : (before : History Q S M P) (event : Event Q S M P) (reply : Reply Q) → Told beginning before event reply
       → AreSearched before → (let past = (pasts_of beginning ((event, reply) ∷ before)).current in
-      (state_of (settings_of beginning) past).discovery.mtu ≡ mtu_in_use past.making.discovery (entries_on past))
+      (state_of past).discovery.mtu ≡ mtu_in_use past.kept.discovery (entries_on past))
   mtu_one before event reply told searched =
       let past = (pasts_of beginning ((event, reply) ∷ before)).current in
-      mtu_by past.making.discovery (searched_one before event reply told searched).0.untold past.searched
+      mtu_by past.kept.discovery (searched_one before event reply told searched).0.untold past.searched

@@ -99,7 +99,7 @@ module _ (Q S M P : Type 0) where
   lowered : mtu true 1300 1200 ((event.LossesDone 7, Ok (answer.BlackHole true)) ∷ ended) ≡ 1200
   lowered = refl
 
-  cooled : next by ((event.LossesDone 7, Ok (answer.BlackHole true)) ∷ ended) ≡ Some 67
+  cooled : next by ((event.LossesDone 7, Ok (answer.BlackHole true)) ∷ ended) ≡ 67
   cooled = refl
 
 -- ---- the size of a probe: from 1200, by steps of 20 up to 1452
@@ -229,10 +229,10 @@ module _ (Q S M P : Type 0) (queue : Q) (frames : M) where
   reported = (λ is. omega arith, λ four. refl)
 
   never_is_wrong : ¬ ReportsAtFour 1200 four_lost (event.LossesDone 9) (Ok (answer.BlackHole false))
-  never_is_wrong = λ e. let is = e.1 (omega arith) in cc
+  never_is_wrong = λ e. let is = e.1 refl in cc
 
   three_are_none : ReportsAtFour 1200 three_lost (event.LossesDone 9) (Ok (answer.BlackHole false))
-  three_are_none = (λ is. cc, λ four. absurd (omega (arith, four)))
+  three_are_none = (λ is. cc, λ four. absurd (cc))
 
   three_is_wrong : ¬ ReportsAtFour 1200 three_lost (event.LossesDone 9) (Ok (answer.BlackHole true))
   three_is_wrong = λ e. let four = e.0 refl in omega (arith, four)
@@ -249,7 +249,7 @@ module _ (Q S M P : Type 0) (queue : Q) (frames : M) where
   -- a refused acknowledgement refutes none
   refused_is_none : ¬ ReportsAtFour 1200 (lost 6 ∷ (event.Acked Data 8 9 false, Err refusal.NotTracked) ∷ three_lost)
       (event.LossesDone 9) (Ok (answer.BlackHole false))
-  refused_is_none = λ e. let is = e.1 (omega arith) in cc
+  refused_is_none = λ e. let is = e.1 refl in cc
 
   -- ---- small packets may be acknowledged in between
 
@@ -263,8 +263,8 @@ module _ (Q S M P : Type 0) (queue : Q) (frames : M) where
   small_between = lost 6 ∷ acked 3 ∷ lost 4 ∷ acked 1 ∷ lost 2 ∷ lost 0 ∷ small 3 ∷ small 1 ∷ all_sent
 
   found_is_told : ¬ ReportsAtFour 1200 small_between (event.LossesDone 9) (Ok (answer.BlackHole false))
-  found_is_told = λ e. let is = e.1 (omega arith) in cc
+  found_is_told = λ e. let is = e.1 refl in cc
 
   -- a large one in between leaves nothing to report
   large_between : ReportsAtFour 1200 (lost 6 ∷ acked 5 ∷ three_lost) (event.LossesDone 9) (Ok (answer.BlackHole false))
-  large_between = (λ is. cc, λ four. absurd (omega (arith, four)))
+  large_between = (λ is. cc, λ four. absurd (cc))

@@ -2,10 +2,10 @@
 -- searches and black holes are proved.
 use Rattle.std.specs.Prelude.{◌≡◌, ℕ, ◌&&◌, Bool, true, false, List, [], ◌∷◌, ◌++◌, Option, Ok, Err, if◌then◌else◌, is_some, IsSomeAnd, option_to_list, option_map}
 use Rattle.recovery_base.specs.declared.below.SpaceId.{SpaceId}
+use Rattle.recovery_base.specs.Spaces.{same_space}
 use Rattle.recovery_base.specs.declared.below.SpaceId.TheVariants.{Data}
 use Rattle.recovery_ledger.specs.Packets.{Packet, packet_at}
 use Rattle.recovery_mtud.specs.BurstRuns.{AreFourStanding, AreFourUnanswered}
-use Rattle.recovery_mtud.specs.Discovery.{is_data}
 use Rattle.recovery_mtud.specs.MtuEntries.{MtuEntry, probed, unprobed, limited, acked, probe_lost, lost, losses_over, reported, reset, entries_by, probe_in_flight, size_at}
 use Rattle.recovery_mtud.specs.SearchRuns.{EndsNearBest, ProbesInSearch, search_runs}
 use Rattle.recovery_paths.specs.PathLog.{PathPast}
@@ -15,14 +15,14 @@ use Rattle.recovery_events.specs.declared.event.Answer.{Answer}
 use Rattle.recovery_events.specs.declared.event.Answer.TheVariants as answer
 use Rattle.recovery_events.specs.declared.event.Answer.TheVariants.{Probe, NoProbe, BlackHole}
 use Rattle.recovery_events.specs.declared.event.Refusal.TheVariants.{Searching}
-use Rattle.quic_recovery.specs.Entries.{logs_of, pasts_of}
+use Rattle.quic_recovery.specs.Entries.{pasts_of, known_by}
 use Rattle.quic_recovery.specs.History.{Beginning, History, Reply}
-use Rattle.quic_recovery.specs.Known.{known_by, settings_of, tracked_known}
+use Rattle.quic_recovery.specs.Known.{settings_of, tracked_known}
 use Rattle.quic_recovery.specs.Search.{WhereSearched, discovery_settings}
 
 -- what the discovery of a path was told and answered since it was made
 abbrev pub entries_on : {K : Type 0} → PathPast K → List MtuEntry
-entries_on past = entries_by past.making.discovery past.searched
+entries_on past = entries_by past.kept.discovery past.searched
 
 -- what the size of a packet gives, where there is one
 abbrev pub of_packet : {P M : Type 0} → (ℕ → MtuEntry) → Option (Packet P M) → List MtuEntry
@@ -31,7 +31,7 @@ of_packet entry packet = option_to_list (option_map (λ packet. entry packet.siz
 module _ {F K Q S M P : Type 0} (beginning : Beginning F K Q S M P) where
   -- the packet of 1-RTT keys that is tracked under a number
   abbrev pub data_packet : History Q S M P → ℕ → Option (Packet P M)
-  data_packet history = packet_at (tracked_known (known_by beginning (logs_of beginning history)) Data)
+  data_packet history = packet_at (tracked_known (known_by beginning history) Data)
 
   -- what an event is to the search on the path in use, read off its answer
   abbrev pub entered : History Q S M P → Event Q S M P → Answer Q → List MtuEntry
@@ -73,7 +73,7 @@ module _ {F K Q S M P : Type 0} (beginning : Beginning F K Q S M P) where
   -- acknowledged or lost, or until a report or a reset
   abbrev pub is_in_flight : History Q S M P → SpaceId → ℕ → Bool
   is_in_flight history space number =
-      is_data space && is_some (size_at number (probe_in_flight (entered_so_far history)))
+      same_space space Data && is_some (size_at number (probe_in_flight (entered_so_far history)))
 
   -- a packet that is acknowledged or lost is answered to be a probe exactly where it is the one in flight
   abbrev pub TellsProbes : History Q S M P → Event Q S M P → Reply Q → Type 0
@@ -94,14 +94,14 @@ module _ {F K Q S M P : Type 0} (beginning : Beginning F K Q S M P) where
   abbrev pub EndsNear : History Q S M P → Event Q S M P → Reply Q → Type 0
   EndsNear history (PollMtu now) (Ok NoProbe) =
       let past = (pasts_of beginning history).current in
-      WhereSearched beginning (λ settings. EndsNearBest past.making.discovery settings (unprobed now ∷ entries_on past))
+      WhereSearched beginning (λ settings. EndsNearBest past.kept.discovery settings (unprobed now ∷ entries_on past))
   EndsNear history event reply = Unit {0}
 
   -- where the end of losses reports a black hole, four bursts of packets above the least MTU stand: closed since the
   -- last report, reset or fresh path, and not refuted
   abbrev pub NeedsFourBursts : History Q S M P → Event Q S M P → Reply Q → Type 0
   NeedsFourBursts history (LossesDone now) (Ok (BlackHole true)) =
-      let past = (pasts_of beginning history).current in AreFourStanding past.making.discovery (entries_on past)
+      let past = (pasts_of beginning history).current in AreFourStanding past.kept.discovery (entries_on past)
   NeedsFourBursts history event reply = Unit {0}
 
   -- where four such bursts have closed since then, the first of them past every acknowledged packet that is larger than
@@ -110,5 +110,5 @@ module _ {F K Q S M P : Type 0} (beginning : Beginning F K Q S M P) where
   abbrev pub ComesAtFourBursts : History Q S M P → Event Q S M P → Reply Q → Type 0
   ComesAtFourBursts history (LossesDone now) reply =
       let past = (pasts_of beginning history).current in
-      AreFourUnanswered past.making.discovery (entries_on past) → reply ≡ Ok (BlackHole true)
+      AreFourUnanswered past.kept.discovery (entries_on past) → reply ≡ Ok (BlackHole true)
   ComesAtFourBursts history event reply = Unit {0}

@@ -9,9 +9,9 @@ use Rattle.recovery_mtud.specs.SearchRuns.{search_runs}
 use Rattle.recovery_events.specs.declared.event.Event.{Event}
 use Rattle.recovery_events.specs.declared.event.Event.TheVariants.{PollMtu, Acked, Lost, LossesDone, PeerLimit, ResetPath, NewPath}
 use Rattle.recovery_events.specs.declared.event.Answer.TheVariants as answer
-use Rattle.quic_recovery.specs.Entries.{logs_of}
-use Rattle.quic_recovery.specs.History.{Beginning, History, Reply, ThroughoutFrom}
-use Rattle.quic_recovery.specs.Known.{known_by, settings_of}
+use Rattle.quic_recovery.specs.Entries.{known_by}
+use Rattle.quic_recovery.specs.History.{AtEach, Beginning, History, Reply}
+use Rattle.quic_recovery.specs.Known.{settings_of}
 use Rattle.quic_recovery.specs.Told.{Told}
 use Rattle.quic_recovery.proofs.Runs.{AllAlong, throughout_by}
 use Rattle.quic_recovery.proofs.SearchSaid.{EntersAsTold, LimitsOutside, TellsProbes, data_packet, entered_so_far}
@@ -22,13 +22,10 @@ use Rattle.quic_recovery.proofs.SearchLaws.{AreSearched, first_is, limits_one, s
 
 module _ {Q S M P : Type 0} (A B : History Q S M P → Event Q S M P → Reply Q → Type 0) where
   -- two things that hold throughout hold both
-  pub throughout_both : (before : History Q S M P) (events : List (Event Q S M P)) (replies : List (Reply Q))
-      → ThroughoutFrom A before events replies → ThroughoutFrom B before events replies
-      → ThroughoutFrom (λ history event reply. A history event reply × B history event reply) before events replies
-  throughout_both before [] [] all others = tt
-  throughout_both before (event ∷ events) (reply ∷ replies) all others =
-      ((all.0, others.0), throughout_both ((event, reply) ∷ before) events replies all.1 others.1)
-  throughout_both before events replies all others = absurd all
+  pub throughout_both : (history : History Q S M P) → AtEach A history → AtEach B history
+      → AtEach (λ history event reply. A history event reply × B history event reply) history
+  throughout_both [] all others = tt
+  throughout_both (happened ∷ before) all others = ((all.0, others.0), throughout_both before all.1 others.1)
 
 -- ---- what is known of an event and its reply
 
@@ -43,7 +40,7 @@ pub record Facts {F K Q S M P : Type 0} (beginning : Beginning F K Q S M P) (his
 
 module _ {F K Q S M P : Type 0} (beginning : Beginning F K Q S M P) where
   pub facts : AllAlong beginning (Facts beginning)
-  facts events replies told =
+  facts history told =
       throughout_by _ (Facts beginning) (AreSearched beginning)
       (λ before event reply here searched. searched_one beginning before event reply here.0 searched)
       (λ before event reply here searched after. record {
@@ -52,9 +49,8 @@ module _ {F K Q S M P : Type 0} (beginning : Beginning F K Q S M P) where
         searched = searched;
         tells = tells_one beginning before event reply here.0 searched;
         outside = limits_one beginning before event reply here.0 searched;
-      }) [] events replies
-      (throughout_both (Told beginning) (EntersAsTold beginning) [] events replies told
-      (entries_told beginning events replies told)) (first_is beginning)
+      }) (first_is beginning) history
+      (throughout_both (Told beginning) (EntersAsTold beginning) history told (entries_told beginning history told))
 
 -- ---- events whose answer says what they are
 
@@ -124,7 +120,7 @@ module _ {F K Q S M P : Type 0} (beginning : Beginning F K Q S M P) (history : H
         arith,
         known.told,
         known.entered,
-        step (reports (known_by beginning (logs_of beginning history)).paths.current.state.discovery),
+        step (reports (known_by beginning history).paths.current.state.discovery),
       )
   stepped (Acked there now number app_limited) (Ok given) known step = grind (arith, known.tells, known.entered, step)
   stepped (Lost there number) (Ok given) known step = grind (arith, known.tells, known.entered, step)

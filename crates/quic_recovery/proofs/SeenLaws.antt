@@ -1,16 +1,17 @@
 -- What is seen of the paths and is not changed by what happens on one of them stays through every event but those that
 -- make a path or drop one. `MadeLaws` and `MtuLaws` rest on it.
 use Rattle.std.proofs.Common.{ℕ, ◌≡◌, Bool, true, false, List, ◌∷◌, ◌++◌, Ok, Err, refl, ◌∙◌}
-use Rattle.recovery_paths.specs.PathMaking.{PathMaking, PathSettings}
+use Rattle.recovery_paths.specs.PathMaking.{PathSettings}
 use Rattle.recovery_paths.specs.PathLog.{OfPaths, PathEntry, PathPast, PathsEntry, on, moves, drops_previous, is_validated, on_path_of, past_with, pasts_by, receives}
 use Rattle.recovery_paths.specs.declared.live_paths.PathName.{PathName}
 use Rattle.recovery_paths.specs.declared.live_paths.PathName.TheVariants.{Current, Previous}
+use Rattle.recovery_paths.specs.PathStates.{PathState}
 use Rattle.recovery_events.specs.declared.event.Event.{Event}
 use Rattle.recovery_events.specs.declared.event.Event.TheVariants.{NewPath, DropPrevious}
-use Rattle.quic_recovery.specs.Entries.{Entries, logs_of, pasts_of}
+use Rattle.quic_recovery.specs.Entries.{logs_of, pasts_of, known_by}
 use Rattle.quic_recovery.specs.History.{Beginning, History, Reply}
-use Rattle.quic_recovery.specs.Known.{Known, first_path, known_by, settings_of}
-use Rattle.quic_recovery.proofs.EntryKinds.{PathKind, moving, dropping, elsewhere, path_kind, paths_kept, refused_keeps}
+use Rattle.quic_recovery.specs.Known.{Known, first_path, settings_of}
+use Rattle.quic_recovery.proofs.EntryKinds.{PathKind, moving, dropping, elsewhere, path_kind, paths_kept}
 
 -- what happens on the path in use is not seen
 abbrev pub IsStill : {K A : Type 0} → PathSettings K → (OfPaths (PathPast K) → A) → Type 0
@@ -30,7 +31,7 @@ stays_there dropping = false
 stays_there elsewhere = false
 stays_there kind = true
 
-module _ {K A : Type 0} (settings : PathSettings K) (first : PathMaking K) (see : OfPaths (PathPast K) → A)
+module _ {K A : Type 0} (settings : PathSettings K) (first : PathState K) (see : OfPaths (PathPast K) → A)
     (still : IsStill settings see) (still_on : IsStillOn settings see) where
   one_seen : (entry : PathsEntry) (log : List PathsEntry) → stays_there (path_kind entry) ≡ true
       → see (pasts_by settings first (entry ∷ log)) ≡ see (pasts_by settings first log)
@@ -45,7 +46,7 @@ module _ {F K Q S M P A : Type 0} (beginning : Beginning F K Q S M P) (see : OfP
     (still : IsStill (settings_of beginning) see) (still_on : IsStillOn (settings_of beginning) see)
     (past : History Q S M P) where
   abbrev known : Known K P M
-  known = known_by beginning (logs_of beginning past)
+  known = known_by beginning past
 
   abbrev log : List PathsEntry
   log = (logs_of beginning past).paths
@@ -68,5 +69,4 @@ module _ {F K Q S M P A : Type 0} (beginning : Beginning F K Q S M P) (see : OfP
       (Ok given) refl
   stays_seen (NewPath now remote is_fresh) (Err refusal) = refl
   stays_seen event (Err refusal) =
-      refused_keeps event refusal (λ (e : Entries P M). see (pasts_by (settings_of beginning) (first_path beginning)
-      (e.paths ++ log)) ≡ see (pasts_of beginning past)) refl
+      refl

@@ -10,7 +10,6 @@ use Rattle.recovery_ledger.specs.Paths.{generation_of, counters_of, after_forget
 use Rattle.recovery_ledger.specs.Spaces.{Space, Spaces, space_of, with_space, tracking_of, packets_of, next_number_of, space_sends}
 use Rattle.recovery_ledger.specs.Tracked.{packet_sent}
 use Rattle.recovery_ledger.specs.declared.paths.InFlight.{InFlight}
-use Rattle.recovery_ledger.proofs.LedgerLaws.{generation_after_forgetting, generation_after_sending}
 use Rattle.recovery_ledger.proofs.PacketLaws.{entry_number_of}
 use Rattle.recovery_paths.specs.Balance.{AreBalanced}
 use Rattle.recovery_paths.specs.LivePaths.{on_ledger, CanTrackOn, paths_after_sending}
@@ -64,16 +63,11 @@ module _ {K P M : Type 0} (packet : Packet P M) (there : Space P M) (change : Pa
       → option_map path_known (option_map (on_ledger (λ ledger. after_forgetting ledger forgotten)) previous)
       ≡ option_map path_known previous
   previous_known None = refl
-  previous_known (Some path) = ap (λ (g : ℕ). let known : PathKnown K =
-      record { generation = g; state = path.state } in Some known) (generation_after_forgetting path.ledger forgotten)
+  previous_known (Some path) = refl
 
   pub telling_known : paths_known (paths_telling packet there change paths)
       ≡ known_as (generation_of paths.current.ledger) (option_map path_known paths.previous)
-  telling_known =
-      ap (λ (g : ℕ). known_as g (option_map path_known (option_map
-      (on_ledger (λ ledger. after_forgetting ledger forgotten)) paths.previous)))
-      (generation_after_sending paths.current.ledger packet forgotten)
-      ∙ ap (known_as (generation_of paths.current.ledger)) (previous_known paths.previous)
+  telling_known = ap (known_as (generation_of paths.current.ledger)) (previous_known paths.previous)
 
   -- what the layer above keeps with the paths stays
   pub telling_marks : paths_marks (paths_telling packet there change paths) ≡ paths_marks paths

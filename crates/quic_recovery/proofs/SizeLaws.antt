@@ -12,13 +12,13 @@ use Rattle.recovery_events.specs.declared.event.Event.{Event}
 use Rattle.recovery_events.specs.declared.event.Event.TheVariants.{Send, PollMtu}
 use Rattle.recovery_events.specs.declared.event.Answer.TheVariants.{Probe}
 use Rattle.recovery_mtud.specs.Discovery.{poll_of}
-use Rattle.quic_recovery.specs.Entries.{entries_of, Entries, logs_of}
+use Rattle.quic_recovery.specs.Entries.{entries_of, logs_of, known_by}
 use Rattle.quic_recovery.specs.History.{Beginning, History, Reply}
-use Rattle.quic_recovery.specs.Known.{Known, known_by, packet_now}
+use Rattle.quic_recovery.specs.Known.{Known, packet_now}
 use Rattle.quic_recovery.specs.Logs.{onto}
 use Rattle.quic_recovery.specs.Promises.Bursts.{size_of}
 use Rattle.quic_recovery.specs.Told.{Told, MtuProbeReply}
-use Rattle.quic_recovery.proofs.EntryKinds.{sends_none, space_kept, refused_keeps}
+use Rattle.quic_recovery.proofs.EntryKinds.{sends_none, space_kept}
 use Rattle.quic_recovery.proofs.FieldLaws.{AreSaid, IsSaid, said_after, said_sent}
 use Rattle.quic_recovery.proofs.AnswerLaws.{past_four}
 
@@ -51,18 +51,18 @@ module _ {F K Q S M P : Type 0} (beginning : Beginning F K Q S M P) where
 
   module _ (history : History Q S M P) (sized : Sized history) where
     abbrev known : Known K P M
-    known = known_by beginning (logs_of beginning history)
+    known = known_by beginning history
 
     abbrev log : List (SpaceEntry P M)
     log = (logs_of beginning history).spaces Data
 
     -- the number that is given out was not given out before
-    new_number : (sent_by beginning.queue.words log).next ≤ known.numbers.next
+    new_number : (sent_by beginning.queue.words log).next ≤ known.next_number
     new_number = number_from_above beginning.config.skips beginning.random (sent_by beginning.queue.words log).next
 
     -- the number of a probe that goes out
     probe_number : (now number size : ℕ) (due : Option ℕ)
-        → MtuProbeReply beginning.queue known now due (Ok (Probe number size)) → known.numbers.next ≡ number
+        → MtuProbeReply beginning.queue known now due (Ok (Probe number size)) → known.next_number ≡ number
     probe_number now number size None told = absurd (cc)
     probe_number now number size (Some own) told = let same = told.1 in cc
 
@@ -71,14 +71,14 @@ module _ {F K Q S M P : Type 0} (beginning : Beginning F K Q S M P) where
         (onto ((entries_of beginning.queue known event reply).spaces Data) log)
     reply_sized (Send Data now size eliciting largest queue frames) (Ok answer) told =
         let sent = sent_by beginning.queue.words log in
-        rw (past_four told) (sized_sent (size_of history) sent.next known.numbers.next size new_number sent.last
+        rw (past_four told) (sized_sent (size_of history) sent.next known.next_number size new_number sent.last
         sent.tracked (packet_now known now size eliciting largest (beginning.queue.contents queue) frames) refl sized)
     reply_sized (Send there now size eliciting largest queue frames) (Ok answer) told = sized
     reply_sized (PollMtu now) (Ok (Probe number size)) told =
         let sent = sent_by beginning.queue.words log in
         let packet = packet_now known now size true None beginning.queue.words.empty beginning.queue.blank in
         let is = probe_number now number size (poll_of now known.paths.current.state.discovery) told.1.1 in
-        simp (← is) (sized_sent (size_of history) sent.next known.numbers.next size new_number sent.last sent.tracked
+        simp (← is) (sized_sent (size_of history) sent.next known.next_number size new_number sent.last sent.tracked
         packet refl sized)
     reply_sized (PollMtu now) reply told = sized
     reply_sized event (Ok answer) told =
@@ -87,8 +87,7 @@ module _ {F K Q S M P : Type 0} (beginning : Beginning F K Q S M P) where
         sized (said_after size_in (λ contents packet. refl) words (size_of history) log sized) event (Ok answer) refl
     reply_sized (Send Data now size eliciting largest queue frames) (Err refusal) told = sized
     reply_sized event (Err refusal) told =
-        refused_keeps event refusal (λ (e : Entries P M). IsSizedLog beginning.queue.words (size_of history)
-        (onto (e.spaces Data) log)) sized
+        sized
 
   -- an event keeps that
   pub sized_after : (history : History Q S M P) (event : Event Q S M P) (reply : Reply Q)

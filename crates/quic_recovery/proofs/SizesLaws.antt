@@ -13,11 +13,12 @@ use Rattle.recovery_events.specs.declared.event.Event.TheVariants.{PollMtu}
 use Rattle.recovery_events.specs.declared.event.Answer.TheVariants as answer
 use Rattle.quic_recovery.specs.Entries.{pasts_of}
 use Rattle.quic_recovery.specs.History.{Beginning, History, Reply}
-use Rattle.quic_recovery.specs.Promises.Mtu.{limit, mtu_in_use}
+use Rattle.quic_recovery.specs.Plain.{limit}
+use Rattle.quic_recovery.specs.Promises.Mtu.{mtu_in_use}
 use Rattle.quic_recovery.specs.Promises.Near.{start}
 use Rattle.quic_recovery.specs.Promises.Sizes.{ProbesWithin}
 use Rattle.quic_recovery.specs.Search.{discovery_settings}
-use Rattle.quic_recovery.proofs.FlightLaws.{flight_within}
+use Rattle.recovery_mtud.proofs.SearchRunLaws.{flight_within}
 use Rattle.quic_recovery.proofs.MadeLaws.{is_made, made_in}
 use Rattle.quic_recovery.proofs.NearLaws.{Kept, kept_by, kept_first, upper_is}
 use Rattle.quic_recovery.proofs.SearchLaws.{probes_one, searched_one}
@@ -49,7 +50,7 @@ module _ {F K Q S M P : Type 0} (beginning : Beginning F K Q S M P) where
         let after = searched_one beginning history (PollMtu now) (Ok (answer.Probe number size)) known.told
         known.searched in
         (rw (known.entered, is_made beginning history (PollMtu now) (Ok (answer.Probe number size))) at
-        (flight_within past.making.discovery settings after.0.untold (after.0.settings_are ∙ is) past.searched))
+        (flight_within past.kept.discovery settings after.0.untold (after.0.settings_are ∙ is) past.searched))
         (record { number = number; size = size }) refl
 
     upper_within : (by : Option MtuDiscoveryConfig) → discovery_settings beginning ≡ by
@@ -66,7 +67,7 @@ module _ {F K Q S M P : Type 0} (beginning : Beginning F K Q S M P) where
         → 3 ≤ settings.minimum_change → (mtu_in_use beginning history < size) × (size ≤ settings.upper_bound)
     above_in_use settings is wide =
         let both = (between settings is).1 wide in
-        (rw (is, (kept.searched settings is).tied.2) both.0, both.1)
+        (rw (is, (kept.searched settings is).tied.1) both.0, both.1)
 
   sizes_one : (history : History Q S M P) (event : Event Q S M P) (reply : Reply Q)
       → Facts beginning history event reply → Kept beginning history → Kept beginning ((event, reply) ∷ history)
@@ -80,6 +81,6 @@ module _ {F K Q S M P : Type 0} (beginning : Beginning F K Q S M P) where
   -- throughout a run
   pub sizes_told : ForSome (discovery_settings beginning) (λ settings. settings.upper_bound < 2 ^ 16)
       → AllAlong beginning (ProbesWithin beginning)
-  sizes_told small events replies told =
-      throughout_by (Facts beginning) (ProbesWithin beginning) (Kept beginning) (kept_by beginning) sizes_one [] events
-      replies (facts beginning events replies told) (kept_first beginning)
+  sizes_told small history told =
+      throughout_by (Facts beginning) (ProbesWithin beginning) (Kept beginning) (kept_by beginning) sizes_one
+      (kept_first beginning) history (facts beginning history told)

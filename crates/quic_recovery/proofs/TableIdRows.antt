@@ -4,7 +4,6 @@ use Rattle.std.proofs.lemmas.Bool.Decides.{nat_tests}
 use Rattle.std.specs.declared.net.socket_addr.SocketAddr.{SocketAddr}
 use Rattle.rand_core.specs.Stream.{Stream}
 use Rattle.recovery_base.specs.declared.below.ids.NewConnectionId.{NewConnectionId}
-use Rattle.recovery_ids.specs.RemoteLog.{first_held, remote_ids_with}
 use Rattle.recovery_skips.specs.declared.filter.Skips.TheVariants.{Disabled}
 use Rattle.recovery_events.specs.declared.event.Event.TheVariants as event
 use Rattle.recovery_events.specs.declared.event.Answer.{Answer}
@@ -47,7 +46,6 @@ module _ (remote : SocketAddr) (random : Stream) where
       ∷ []
 
   peers_told : TellsAll peers
-  unfolding remote_ids_with first_held
   peers_told =
       tt
       ⊳ taken refl refl refl refl (λ not. not tt, omega arith)
@@ -69,32 +67,25 @@ module _ (remote : SocketAddr) (random : Stream) where
       ⊳ (small refl, omega arith)
 
   ends_late_is_wrong : ¬ RowTold (drop 6 peers) (event.NewId (frame 3 1 8)) (Ok (retires 0 3 8))
-  unfolding remote_ids_with first_held
   ends_late_is_wrong = λ told. let given =
       told.1.1.1.1.1 in some_is_none (given.3.least 2 (omega arith) (omega (arith, given.4)))
 
   retired_stays_is_wrong : ¬ RowTold (drop 6 peers) (event.NewId (frame 3 1 8)) (Ok (answer.Retire None))
-  unfolding remote_ids_with first_held
   retired_stays_is_wrong = λ told. omega (arith, told.1.1.1.1.1)
 
   uncut_is_wrong : ¬ RowTold (drop 3 peers) (event.NewId (frame 1000000 1000000 9)) (Ok (retires 3 1000000 9))
-  unfolding remote_ids_with first_held
   uncut_is_wrong = λ told. omega (arith, told.1.1.1.1.1.4)
 
   last_is_left_is_wrong : ¬ RowTold (drop 4 peers) (event.NextId) (Ok (retires 3 4 8))
-  unfolding remote_ids_with first_held
   last_is_left_is_wrong = λ told. unrefused told.1.is_held
 
   next_is_held_is_wrong : ¬ RowTold (drop 5 peers) (event.NextId) (Ok (answer.Retire None))
-  unfolding remote_ids_with first_held
   next_is_held_is_wrong = λ told. some_is_none (told 3 (omega arith))
 
   initial_is_gone_is_wrong : ¬ RowTold (drop 2 peers) (event.InitialId (replicate 8 1)) (Ok answer.Done)
-  unfolding remote_ids_with first_held
   initial_is_gone_is_wrong = λ told. told.0 (λ e. omega (arith, e))
 
   bad_frame_is_taken_is_wrong : ¬ RowTold (drop 1 peers) (event.NewId (frame 3 4 1)) (Ok (answer.Retire None))
-  unfolding remote_ids_with first_held
   bad_frame_is_taken_is_wrong = λ told. told.1.0 (omega arith)
 
   -- ---- a frame for a number that is held repeats it, and eight numbers are held at most
@@ -111,7 +102,6 @@ module _ (remote : SocketAddr) (random : Stream) where
       ∷ []
 
   conflicts_told : TellsAll conflicts
-  unfolding remote_ids_with first_held
   conflicts_told =
       tt
       ⊳ taken refl refl refl refl ((λ not. not (refl, tt)), omega arith)
@@ -129,15 +119,12 @@ module _ (remote : SocketAddr) (random : Stream) where
       )
 
   other_id_is_taken_is_wrong : ¬ RowTold (drop 6 conflicts) (event.NewId (frame 0 0 7)) (Ok (answer.Retire None))
-  unfolding remote_ids_with first_held
   other_id_is_taken_is_wrong = λ told. told.1.1.1.1.0 (λ same. differ refl same.0)
 
   ninth_is_taken_is_wrong : ¬ RowTold (drop 4 conflicts) (event.NewId (frame 8 0 1)) (Ok (answer.Retire None))
-  unfolding remote_ids_with first_held
   ninth_is_taken_is_wrong = λ told. told.1.1.1.0 (omega arith)
 
   eighth_is_past_is_wrong : ¬ RowTold (drop 5 conflicts) (event.NewId (frame 7 0 1)) (Err refusal.ExceedsLimit)
-  unfolding remote_ids_with first_held
   eighth_is_past_is_wrong = λ told. omega (arith, told.1.1.1)
 
   -- ---- a peer that leaps ahead
@@ -152,7 +139,6 @@ module _ (remote : SocketAddr) (random : Stream) where
       ∷ []
 
   far_told : TellsAll far
-  unfolding remote_ids_with first_held
   far_told =
       tt
       ⊳ taken refl refl refl refl (
@@ -169,7 +155,6 @@ module _ (remote : SocketAddr) (random : Stream) where
       ⊳ (λ n above. grind (arith, nat_tests, above))
 
   retired_is_taken_is_wrong : ¬ RowTold (drop 2 far) (event.NewId (frame 5 0 1)) (Ok (answer.Retire None))
-  unfolding remote_ids_with first_held
   retired_is_taken_is_wrong = λ told. told.1.1.0 (omega arith)
 
   -- ---- the initial id is replaced, and a frame that repeats the new one brings its token
@@ -182,7 +167,6 @@ module _ (remote : SocketAddr) (random : Stream) where
       ∷ []
 
   initial_told : TellsAll initial
-  unfolding remote_ids_with first_held
   initial_told =
       tt
       ⊳ (λ not. not refl, refl)

@@ -2,19 +2,15 @@
 use Rattle.std.proofs.Common.{◌≡◌, ℕ, ◌↔◌, ◌+◌, Bool, true, false, MatchBool, Option, None, Some, Ok, Err, arith, refl, sym, ap, ◌∙◌}
 use Rattle.std.specs.Prelude.{◌==◌, ◌≢◌, option_map}
 use Rattle.std.specs.Option.{ForSome}
-use Rattle.std.proofs.lemmas.Bool.Decides.{nat_tests}
 use Rattle.std.proofs.lemmas.Option.{same_Some}
 use Rattle.recovery_base.specs.declared.below.SpaceId.{SpaceId}
 use Rattle.recovery_base.specs.declared.below.SpaceId.TheVariants.{Data}
 use Rattle.recovery_base.specs.declared.below.frames.EcnCounts.{EcnCounts}
 use Rattle.recovery_base.specs.declared.below.ids.NewConnectionId.{NewConnectionId}
-use Rattle.recovery_base.specs.declared.timer.Timer.{Timer}
-use Rattle.recovery_base.specs.Timers.{IsLeastMoment}
-use Rattle.recovery_acks.specs.Acks.{Acks}
+use Rattle.recovery_acks.specs.Acks.{AckCounts, Acks}
 use Rattle.recovery_congestion.specs.Controllers.{ControllerWords}
 use Rattle.recovery_ids.specs.RemoteIds.{Table, RemoteIds, IsLeastHeld, with_frame}
-use Rattle.recovery_ids.specs.LocalIds.{LocalIds, without_number}
-use Rattle.recovery_ledger.specs.Acks.{AckCounts, AcksSaid, Heard, heard_by}
+use Rattle.recovery_ledger.specs.Acks.{Heard, heard_by}
 use Rattle.recovery_ledger.specs.Probes.{ProbeFound}
 use Rattle.recovery_mtud.specs.Discovery.{poll_of}
 use Rattle.recovery_ledger.specs.Paths.{counters_of}
@@ -23,31 +19,28 @@ use Rattle.recovery_ledger.specs.declared.paths.InFlight.{InFlight as Counters}
 use Rattle.recovery_paths.specs.PathLog.{OfPaths, PathKnown, each_path, path_known, path_of, paths_known}
 use Rattle.recovery_paths.specs.PathStates.{Path}
 use Rattle.recovery_events.specs.declared.event.Answer.{Answer}
-use Rattle.recovery_events.specs.declared.event.Answer.TheVariants.{Queue, Flag, New, Timeout, Sendable, Retire}
+use Rattle.recovery_events.specs.declared.event.Answer.TheVariants.{Queue, Flag, New, Sendable, Retire}
 use Rattle.recovery_events.specs.declared.event.Refusal.{Refusal}
 use Rattle.recovery_events.specs.declared.event.Refusal.TheVariants as refusal
 use Rattle.recovery_events.specs.declared.event.Refusal.TheVariants.{NoMemory, SpaceDiscarded, NoSuchPath, Overflow, NumberTooLarge, NumbersExhausted, NotTracked, BadRetirePriorTo, Retired, ExceedsLimit, Conflict, NotInitialId, BadRange, CidsNotInUse, UnissuedCid, DelayTooSmall, ZeroMtu, Searching, SkippedAcked}
 use Rattle.recovery_paths.specs.declared.live_paths.PathName.{PathName}
 use Rattle.recovery_paths.specs.declared.live_paths.PathName.TheVariants.{Previous}
 use Rattle.recovery_events.specs.declared.event.Event.{Event}
-use Rattle.recovery_events.specs.declared.event.Event.TheVariants.{Received, Send, Acked, Lost, NewId, NextId, InitialId, IssueIds, PeerRetired, AckFrequencyIn, AcksSent, AckDelayTimeout, NextTimeout, DiscardSpace, InFlight, DatagramIn, Validated, Transmit, PollMtu, PeerLimit, Ecn, CheckAck, QueueProbe, TakePending, NewPath, DropPrevious}
-use Rattle.quic_recovery.specs.Entries.{found_in, logs_of}
+use Rattle.recovery_events.specs.declared.event.Event.TheVariants.{Received, Send, Acked, Lost, NewId, NextId, InitialId, IssueIds, PeerRetired, AckFrequencyIn, AcksSent, AckDelayTimeout, DiscardSpace, InFlight, DatagramIn, Validated, Transmit, PollMtu, PeerLimit, Ecn, CheckAck, QueueProbe, TakePending, NewPath, DropPrevious}
+use Rattle.quic_recovery.specs.Entries.{found_in, logs_of, known_by}
 use Rattle.quic_recovery.specs.History.{Beginning, History, QueueMeaning, Reply}
-use Rattle.quic_recovery.specs.IdReplies.{IsFrameAnswer, IsNextAnswer, IsRoom}
+use Rattle.quic_recovery.specs.IdReplies.{IsFrameAnswer, IsNextAnswer}
 use Rattle.quic_recovery.specs.Parts.{Parts}
-use Rattle.quic_recovery.specs.Known.{Known, SpaceKnown, in_flight_on, known_by}
+use Rattle.quic_recovery.specs.Known.{Known, SpaceKnown, in_flight_on}
 use Rattle.recovery_events.specs.Refusals.{refusal_number}
-use Rattle.quic_recovery.specs.Replies.{same_refusal, Refuses, Answers, AlwaysAnswers}
+use Rattle.quic_recovery.specs.Replies.{same_refusal, IsFlag, Refuses, Answers, AlwaysAnswers}
 use Rattle.quic_recovery.specs.Same.{AcksAlike, LooksAlike, SameRefusal, SameAnswer, SameReply}
 use Rattle.quic_recovery.specs.State.{InFlightLeft, Left}
-use Rattle.quic_recovery.specs.Told.{EcnAnswer, InSpace, Is, IsFlag, IsNextTimeout, IsPending, IsQueueProbeAnswer, OnPath, MtuProbeReply, ReceivedAnswer, Told, ToldBy}
+use Rattle.quic_recovery.proofs.PeerIdsLaws.{held_same}
+use Rattle.quic_recovery.proofs.ReplyLaws.{only_refusal}
+use Rattle.quic_recovery.specs.Told.{EcnAnswer, InSpace, Is, IsPending, IsQueueProbeAnswer, OnPath, MtuProbeReply, ReceivedAnswer, Told, ToldBy}
 
 -- ---- refusals, by their numbers
-
--- of a refusal that holds no text there is one alone with its number
-pub only_refusal : (given of : Refusal) → (refusal_number of == 17) ≡ false → same_refusal given of ≡ true → given ≡ of
-only_refusal NoMemory of no_text same = grind (arith, nat_tests)
-only_refusal given of no_text same = grind (arith, nat_tests)
 
 same_as_itself : (e : Refusal) → SameRefusal e e
 same_as_itself (refusal.Ecn text) = refl
@@ -125,19 +118,6 @@ module _ {Q S M P : Type 0} (q : QueueMeaning Q S M P) where
   received_agree heard counts number eliciting (New one) other is_one is_other = grind (arith, is_one, is_other)
   received_agree heard counts number eliciting one other is_one is_other = grind (arith, is_one, is_other)
 
-  least_same : (moment_of : Timer → Option ℕ) (one other : Option ℕ) → IsLeastMoment moment_of one
-      → IsLeastMoment moment_of other → one ≡ other
-  least_same moment_of None None is_one is_other = refl
-  least_same moment_of None (Some other) is_one is_other = grind (arith, is_one is_other.0.0, is_other.0.1)
-  least_same moment_of (Some one) None is_one is_other = grind (arith, is_other is_one.0.0, is_one.0.1)
-  least_same moment_of (Some one) (Some other) is_one is_other =
-      grind (arith, is_one.1 is_other.0.0 other is_other.0.1, is_other.1 is_one.0.0 one is_one.0.1)
-
-  timeout_agree : (moment_of : Timer → Option ℕ) → Agree (IsNextTimeout moment_of)
-  timeout_agree moment_of (Timeout one) (Timeout other) is_one is_other =
-      ap (λ least. Timeout least) (least_same moment_of one other is_one is_other)
-  timeout_agree moment_of one other is_one is_other = grind (arith, is_one, is_other)
-
   pending_agree : (here : SpaceKnown P M) → Agree (IsPending q here)
   pending_agree here (Queue one) other is_one is_other = grind (arith, is_one, is_other)
   pending_agree here one other is_one is_other = absurd is_one
@@ -171,10 +151,6 @@ module _ {Q S M P : Type 0} (q : QueueMeaning Q S M P) where
       let same = least_held ids.held (ids.active + 1) one.0.end other.0.end is_one.1 is_other.1 in
       grind (arith, same, is_one.2.1, is_other.2.1)
   next_agree ids one other is_one is_other = grind (arith, is_one, is_other)
-
-  room_agree : (ids : LocalIds) (limit : ℕ) → Agree (IsRoom ids limit)
-  room_agree ids limit (Flag one) other is_one is_other = grind (arith, is_one, is_other)
-  room_agree ids limit one other is_one is_other = absurd is_one
 
   -- ---- the table
 
@@ -214,11 +190,10 @@ module _ {Q S M P : Type 0} (q : QueueMeaning Q S M P) where
         refuses NumberTooLarge _ _ refl (refuses BadRange _ _ refl (answers _ _ (is_agree _)))
     decides (PeerRetired sequence limit) =
         refuses CidsNotInUse _ _ refl (refuses UnissuedCid _ _ refl
-        (answers ⊥ _ (room_agree (without_number sequence known.local_ids) limit)))
+        (answers ⊥ _ (flag_agree _)))
     decides (AckFrequencyIn frame) = in_space Data _ (refuses DelayTooSmall _ _ refl (answers ⊥ _ (flag_agree _)))
     decides (AcksSent space) = in_space space _ (is_decided _)
     decides (AckDelayTimeout space) = in_space space _ (is_decided _)
-    decides NextTimeout = answers ⊥ _ (timeout_agree known.moment_of)
     decides (DiscardSpace space) = in_space space _ (is_decided _)
     decides (InFlight path) = on_path path _ (λ there. is_decided _)
     decides (DatagramIn path bytes) = on_path path _ (λ there. refuses Overflow _ _ refl (is_decided _))
@@ -266,9 +241,9 @@ module _ {F K Q S M P : Type 0} (beginning : Beginning F K Q S M P) (history : H
       → Told beginning history event other
       → one ≢ Err NoMemory → other ≢ Err NoMemory → SameReply beginning.queue.contents one other
   one_reply_to event one other told_one told_other here there =
-      let logs = logs_of beginning history in
-      decides beginning.queue beginning.words (λ space. heard_by beginning.queue.words (logs.spaces space))
-      (known_by beginning logs) event one other here there told_one told_other
+      decides beginning.queue beginning.words
+      (λ space. heard_by beginning.queue.words ((logs_of beginning history).spaces space))
+      (known_by beginning history) event one other here there told_one told_other
 
   -- an option that says each number alike is the same
   same_base : (one other : Option ℕ) → ((m : ℕ) → (one ≡ Some m) ↔ (other ≡ Some m)) → one ≡ other
@@ -276,8 +251,9 @@ module _ {F K Q S M P : Type 0} (beginning : Beginning F K Q S M P) (history : H
   same_base (Some m) other alike = sym ((alike m).0 refl)
   same_base one (Some m) alike = (alike m).1 refl
 
-  acks_alike : (said : AcksSaid) (one other : Acks) → AcksLeft said one → AcksLeft said other → AcksAlike one other
-  acks_alike said one other left too =
+  acks_alike : (said : Heard) (counts : AckCounts) (one other : Acks) → AcksLeft said counts one
+      → AcksLeft said counts other → AcksAlike one other
+  acks_alike said counts one other left too =
       let base = same_base one.base other.base (λ m. grind (arith, left.started m, too.started m)) in
       grind (arith, left.pending, too.pending, base)
 
@@ -288,20 +264,20 @@ module _ {F K Q S M P : Type 0} (beginning : Beginning F K Q S M P) (history : H
     spaces = λ space. (
         let here = left.spaces space in
         let there = too.spaces space in
-        let acks = acks_alike _ _ _ here.acks there.acks in
+        let acks = acks_alike _ _ _ _ here.acks there.acks in
         let beside = left.beside space ∙ sym (too.beside space) in
         grind (arith, acks, here.numbers, there.numbers, here, there, beside)
         );
     discarded = λ space. left.discarded space ∙ sym (too.discarded space);
     paths = left.paths ∙ sym too.paths;
     in_flight = in_flight_alike known one.paths other.paths left.in_flight too.in_flight (left.paths ∙ sym too.paths);
-    peer_limit = left.limits ∙ sym too.limits;
+    peer_limit = left.peer_limit ∙ sym too.peer_limit;
     skipping = left.skipping ∙ sym too.skipping;
     frequency = left.frequency ∙ sym too.frequency;
     timers = λ kind. left.timers kind ∙ sym (too.timers kind);
-    remote_ids = left.remote_ids.same ∙ sym too.remote_ids.same;
-    local_ids = left.local_ids.same ∙ sym too.local_ids.same;
+    remote_ids = held_same _ history _ left.remote_ids ∙ sym (held_same _ history _ too.remote_ids);
+    local_ids = left.local_ids ∙ sym too.local_ids;
   }
     where
       known : Known K P M
-      known = known_by beginning (logs_of beginning history)
+      known = known_by beginning history

@@ -95,10 +95,10 @@ module _ (remote : SocketAddr) (random : Stream) where
   moved_is_lost_is_wrong = λ told. differ refl told.1
 
   moved_takes_memory : RowTold (drop 4 queues) (event.QueueProbe Data false tt) (Err refusal.NoMemory)
-  moved_takes_memory = (unrefused, tt)
+  moved_takes_memory = (unrefused, refl)
 
   standing_takes_none : ¬ RowTold (drop 3 queues) (event.QueueProbe Data false tt) (Err refusal.NoMemory)
-  standing_takes_none = λ told. told.1
+  standing_takes_none = λ told. unrefused told.1
 
   ping_is_other : ¬ RowTold [] (event.QueueProbe Data false tt)
       (Ok (answer.Sendable (record { acks = false; other = false })))

@@ -9,11 +9,11 @@ use Rattle.std.specs.declared.net.socket_addr.SocketAddr.{SocketAddr}
 use Rattle.rand_core.specs.Stream.{Stream}
 use Rattle.recovery_base.specs.declared.below.SpaceId.TheVariants.{Initial, Handshake, Data}
 use Rattle.recovery_congestion.specs.declared.congestion.new_reno.NewReno.{NewReno}
-use Rattle.recovery_ledger.specs.Discarded.{was_discarded}
+use Rattle.quic_recovery.specs.Promises.NewNumbers.{is_discarded}
 use Rattle.recovery_ledger.specs.InFlight.{size_in, eliciting_in}
 use Rattle.recovery_ledger.specs.declared.paths.InFlight.{InFlight}
 use Rattle.recovery_ledger.specs.SpaceLog.{SpaceEntry}
-use Rattle.recovery_ledger.specs.Packets.{Packet, Packets, is_silent_above, silent_above, least_number, forgotten_silent, without_some}
+use Rattle.recovery_ledger.specs.Packets.{Packet, Packets, is_silent_above, silent_above, least_number, forgotten_number, without_some}
 use Rattle.recovery_ledger.specs.Tracked.{Sent, packet_sent, sent_by, sent_more}
 use Rattle.recovery_paths.specs.declared.live_paths.PathName.TheVariants.{Current}
 use Rattle.recovery_skips.specs.Skips.{is_at, next_skip, skip_at, skips_below, number_from}
@@ -21,8 +21,8 @@ use Rattle.recovery_skips.specs.declared.filter.Skips.TheVariants.{Disabled}
 use Rattle.recovery_events.specs.declared.event.Event.TheVariants as event
 use Rattle.recovery_events.specs.declared.event.Answer.{Answer}
 use Rattle.recovery_events.specs.declared.event.Answer.TheVariants as answer
-use Rattle.quic_recovery.specs.Entries.{logs_of}
-use Rattle.quic_recovery.specs.Known.{Known, Logs, known_by, current_in_flight}
+use Rattle.quic_recovery.specs.Entries.{logs_of, known_by}
+use Rattle.quic_recovery.specs.Known.{Known, Logs, current_in_flight}
 use Rattle.quic_recovery.specs.Told.{Told}
 use Rattle.quic_recovery.proofs.RowStart.{RowEvent, RowReply, RowHistory, item_words, row_start}
 use Rattle.quic_recovery.proofs.RowLaws.{unrefused, some_is_none, said}
@@ -59,13 +59,13 @@ unfolding tracked behind
 zero_in_front zero = refl
 zero_in_front (suc n) = ap (λ ps. ps ++ (suc n, silent) ∷ []) (zero_in_front n)
 
-none_forgotten : (n : ℕ) → n ≤ 1000 → forgotten_silent None (tracked n) ≡ None
+none_forgotten : (n : ℕ) → n ≤ 1000 → forgotten_number None silent (tracked n) ≡ None
 none_forgotten n few =
     ap (λ ps. if nat_lt 1000 (length ps) then least_number ps else None) (all_silent n)
     ∙ ap (λ b. if b then least_number (tracked n) else None)
     (le-ltb 1000 (length (tracked n)) (subst (λ k. k ≤ 1000) (sym (as_many n)) few))
 
-zero_forgotten : forgotten_silent None (tracked 1001) ≡ Some 0
+zero_forgotten : forgotten_number None silent (tracked 1001) ≡ Some 0
 zero_forgotten =
     ap (λ ps. if nat_lt 1000 (length ps) then least_number ps else None) (all_silent 1001)
     ∙ (ap (λ b. if b then least_number (tracked 1001) else None)
@@ -114,11 +114,11 @@ module _ (remote : SocketAddr) (random : Stream) where
   logs n = logs_of (row_start remote random 8 Disabled) (silents n)
 
   abbrev generation : ℕ → ℕ
-  generation n = (known_by (row_start remote random 8 Disabled) (logs n)).paths.current.generation
+  generation n = (known_by (row_start remote random 8 Disabled) (silents n)).paths.current.generation
 
-  none_skipped : (k : ℕ) → (skip_at Disabled random k).number ≡ None
+  none_skipped : (k : ℕ) → (skip_at Disabled random k).0 ≡ None
   none_skipped zero = refl
-  none_skipped (suc k) = ap (λ s. (next_skip (6 + k) s (skip_at Disabled random k).words).number) (none_skipped k)
+  none_skipped (suc k) = ap (λ s. (next_skip (6 + k) (s, (skip_at Disabled random k).1)).0) (none_skipped k)
 
   next_number : (n : ℕ) → number_from Disabled random n ≡ n
   next_number n = ap (λ s. if is_at n s then n + 1 else n) (none_skipped (skips_below Disabled random n))
@@ -126,7 +126,7 @@ module _ (remote : SocketAddr) (random : Stream) where
   record After (n : ℕ) : Type 0 where
     initial : (logs n).spaces Initial ≡ []
     handshake : (logs n).spaces Handshake ≡ []
-    discarded : (logs n).discarded ≡ []
+    discarded : is_discarded Data (silents n) ≡ false
     first : generation n ≡ 0
     sent : sent_by item_words ((logs n).spaces Data) ≡ record { next = n; last = None; tracked = tracked n }
 
@@ -164,7 +164,7 @@ module _ (remote : SocketAddr) (random : Stream) where
   Entry = SpaceEntry (List ℕ) (Unit {0})
 
   abbrev known : ℕ → Known NewReno (List ℕ) (Unit {0})
-  known n = known_by (row_start remote random 8 Disabled) (logs n)
+  known n = known_by (row_start remote random 8 Disabled) (silents n)
 
   -- the counters, with these packets in the space of 1-RTT packets and none in the others
   abbrev counters : ℕ → List Entry → List Entry → Packets (List ℕ) (Unit {0}) → InFlight
@@ -194,12 +194,12 @@ module _ (remote : SocketAddr) (random : Stream) where
   room n few (inr often) = let none = none_elicit n in omega (arith, often, none)
 
   -- what a silent packet more is told, where so many were sent and this one is forgotten
-  told_one : (n : ℕ) (forgotten : Option ℕ) → n ≤ 1001 → forgotten_silent None (tracked n) ≡ forgotten
+  told_one : (n : ℕ) (forgotten : Option ℕ) → n ≤ 1001 → forgotten_number None silent (tracked n) ≡ forgotten
       → RowTold (silents n) send (Ok (answer.Sent n forgotten))
   told_one n forgotten few is =
       let now = after n few in
       let number = number_now n now in (
-        λ gone. unrefused (subst (λ log. IsTrue (was_discarded Data log)) now.discarded gone),
+        λ gone. unrefused (subst (λ b. IsTrue b) now.discarded gone),
         (
           λ h. h,
           (
@@ -207,7 +207,7 @@ module _ (remote : SocketAddr) (random : Stream) where
             (
               λ over. room n few (subst (λ c. (2 ^ 64 ≤ c.bytes + 40) ⊎ (2 ^ 64 ≤ c.ack_eliciting + 0))
                   (in_flight_now n now) over),
-              sym (ap₂ answer.Sent number (ap (λ s. forgotten_silent s.last s.tracked) now.sent ∙ is)),
+              sym (ap₂ answer.Sent number (ap (λ s. forgotten_number s.last silent s.tracked) now.sent ∙ is)),
             ),
           ),
         ),

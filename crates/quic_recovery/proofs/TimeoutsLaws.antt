@@ -1,44 +1,11 @@
--- The next timeout is the least moment that the history itself says is set: the clause `timers` of `run`.
-use Rattle.std.proofs.Common.{◌≡◌, ◌≤◌, ℕ, map, List, [], ◌∷◌, Option, None, Some, Ok, Err, ◌⊎◌, inl, inr, refl, sym, ◌∙◌, ap, arith}
-use Rattle.std.specs.Prelude.{if◌then◌else◌}
+-- The least moment that a timer is set to is the least in the list of all timers. The answer of `next_timeout` rests on
+-- it.
+use Rattle.std.proofs.Common.{◌≡◌, ◌≤◌, ℕ, min, map, option_map, unwrap_or, List, [], ◌∷◌, Option, None, Some, ◌⊎◌, inl, inr, refl, sym, ◌∙◌, ap, arith}
 use Rattle.std.proofs.lemmas.Option.{none-some}
 use Rattle.recovery_base.specs.declared.timer.Timer.{Timer}
 use Rattle.recovery_base.specs.declared.timer.Timer.TheVariants.{LossDetection}
-use Rattle.recovery_base.specs.TimerLog.{last_set}
-use Rattle.recovery_base.specs.Timers.{same_timer, IsLeastMoment}
-use Rattle.recovery_events.specs.declared.event.Event.{Event}
-use Rattle.recovery_events.specs.declared.event.Event.TheVariants.{SetTimer, StopTimer, NextTimeout}
-use Rattle.recovery_events.specs.declared.event.Answer.TheVariants.{Done, Timeout}
-use Rattle.recovery_events.specs.declared.event.Refusal.TheVariants.{NoMemory}
-use Rattle.quic_recovery.specs.Entries.{Entries, logs_of}
-use Rattle.quic_recovery.specs.History.{Beginning, History, Reply}
-use Rattle.quic_recovery.specs.Known.{known_by}
-use Rattle.quic_recovery.specs.Logs.{onto}
-use Rattle.quic_recovery.specs.Replies.{AlwaysAnswers}
-use Rattle.quic_recovery.specs.Told.{Told}
-use Rattle.quic_recovery.specs.Promises.Timeouts.{earlier_of, every_timer, least, moment_of, TellsTimers}
-use Rattle.quic_recovery.proofs.EntryKinds.{plainly_keeps, refused_keeps}
-
--- ---- the moments are those of the log
-
-module _ {F K Q S M P : Type 0} (beginning : Beginning F K Q S M P) where
-  all_same : (history : History Q S M P) (timer : Timer)
-      → moment_of history timer ≡ last_set timer (logs_of beginning history).timers
-  all_same [] timer = refl
-  all_same ((SetTimer other time, Ok answer) ∷ earlier) timer =
-      ap (λ o. if same_timer timer other then Some time else o) (all_same earlier timer)
-  all_same ((StopTimer other, Ok answer) ∷ earlier) timer =
-      ap (λ o. if same_timer timer other then None else o) (all_same earlier timer)
-  all_same ((event, Ok answer) ∷ earlier) timer =
-      let logs = logs_of beginning earlier in
-      plainly_keeps beginning.queue (known_by beginning logs) event answer
-      (λ (e : Entries P M). moment_of earlier timer ≡ last_set timer (onto e.timers logs.timers))
-      (all_same earlier timer)
-  all_same ((SetTimer other time, Err refusal) ∷ earlier) timer = all_same earlier timer
-  all_same ((event, Err refusal) ∷ earlier) timer =
-      let timers = (logs_of beginning earlier).timers in
-      refused_keeps event refusal
-      (λ (e : Entries P M). moment_of earlier timer ≡ last_set timer (onto e.timers timers)) (all_same earlier timer)
+use Rattle.recovery_base.specs.Timers.{IsLeastMoment}
+use Rattle.quic_recovery.specs.Promises.Timeouts.{every_timer, least}
 
 -- ---- the least of them
 
@@ -54,7 +21,8 @@ skips : (ms : List (Option ℕ)) (m : Option ℕ) → IsLeast ms m → IsLeast (
 skips ms None none = λ y there. grind (arith, none y, there)
 skips ms (Some x) is = (inr is.0, λ y there. grind (arith, is.1 y, there))
 
-takes : (ms : List (Option ℕ)) (n : ℕ) (m : Option ℕ) → IsLeast ms m → IsLeast (Some n ∷ ms) (Some (earlier_of n m))
+takes : (ms : List (Option ℕ)) (n : ℕ) (m : Option ℕ) → IsLeast ms m
+    → IsLeast (Some n ∷ ms) (Some (unwrap_or (option_map (min n) m) n))
 takes ms n None none = (inl refl, λ y there. grind (arith, none y, there))
 takes ms n (Some x) is = let in_it = is.0 in (grind (arith, in_it), λ y there. grind (arith, is.1 y, there))
 
@@ -87,33 +55,6 @@ module _ (f : Timer → Option ℕ) where
       let below = is.1 y (set_in told.0.0 y told.0.1) in
       ap Some (omega (arith, above, below))
 
--- ---- throughout a run
-
-module _ {F K Q S M P : Type 0} (beginning : Beginning F K Q S M P) where
-  same_least : (history : History Q S M P) (timers : List Timer)
-      → map (moment_of history) timers ≡ map (known_by beginning (logs_of beginning history)).moment_of timers
-  same_least history [] = refl
-  same_least history (timer ∷ timers) = cc (all_same beginning history timer, same_least history timers)
-
-  timeout_told : (history : History Q S M P) (reply : Reply Q) → Told beginning history NextTimeout reply
-      → TellsTimers history NextTimeout reply
-  timeout_told history (Ok (Timeout told)) is =
-      let f = (known_by beginning (logs_of beginning history)).moment_of in
-      let found = one_least f told (least (map f every_timer)) is (least_is (map f every_timer)) in
-      ap (λ (m : Option ℕ). Ok (Timeout m)) (found ∙ ap least (sym (same_least history every_timer)))
-  timeout_told history (Ok answer) is = absurd is
-  timeout_told history (Err NoMemory) is = absurd is
-  timeout_told history (Err refusal) is = absurd is
-
-  done : (reply : Reply Q) → AlwaysAnswers (λ answer. answer ≡ Done) reply → reply ≡ Ok Done
-  done (Ok answer) told = ap Ok told
-  done (Err NoMemory) told = absurd told
-  done (Err refusal) told = absurd told
-
-  -- what an event is told, it is told of timers
-  pub timers_told : (history : History Q S M P) (event : Event Q S M P) (reply : Reply Q)
-      → Told beginning history event reply → TellsTimers history event reply
-  timers_told history NextTimeout reply told = timeout_told history reply told
-  timers_told history (SetTimer timer time) reply told = done reply told
-  timers_told history (StopTimer timer) reply told = done reply told
-  timers_told history event reply told = tt
+  -- the least moment that a timer is set to is the least of all timers
+  pub least_moment : (told : Option ℕ) → IsLeastMoment f told → told ≡ least (map f every_timer)
+  least_moment told is = one_least told (least (map f every_timer)) is (least_is (map f every_timer))

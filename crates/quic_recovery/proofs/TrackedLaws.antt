@@ -13,7 +13,6 @@ use Rattle.recovery_base.specs.declared.below.SpaceId.TheVariants.{Initial, Data
 use Rattle.recovery_base.specs.Spaces.{same_space}
 use Rattle.recovery_ledger.specs.Departures.{one_if_same}
 use Rattle.recovery_ledger.specs.Packets.{Packet, Packets, packet_at, entry_at, least_number, silent_above}
-use Rattle.recovery_ledger.specs.Probes.{ProbeFound, moves}
 use Rattle.recovery_ledger.specs.SpaceLog.{SpaceEntry, sends, acknowledged, loses, probes, emptied}
 use Rattle.recovery_ledger.specs.Tracked.{Sent, sent_by, sent_less, sent_more, sent_moved, forgotten_by}
 use Rattle.recovery_ledger.proofs.CarryLaws.{sum-carrying}
@@ -24,15 +23,15 @@ use Rattle.recovery_events.specs.declared.event.Event.{Event}
 use Rattle.recovery_events.specs.declared.event.Event.TheVariants.{Send, Acked, Lost, DiscardSpace, PollMtu}
 use Rattle.recovery_events.specs.declared.event.Answer.TheVariants as answers
 use Rattle.recovery_events.specs.declared.event.Answer.TheVariants.{Probe}
-use Rattle.quic_recovery.specs.Entries.{Entries, logs_of}
+use Rattle.quic_recovery.specs.Entries.{logs_of, known_by}
 use Rattle.quic_recovery.specs.History.{Beginning, History, QueueMeaning, Reply}
-use Rattle.quic_recovery.specs.Known.{Known, known_by, number_in, packet_now}
+use Rattle.quic_recovery.specs.Known.{Known, number_in, packet_now}
 use Rattle.quic_recovery.specs.Logs.{onto}
 use Rattle.quic_recovery.specs.Promises.Fates.{more_if, times as times_in, is_given, is_acked, is_lost, is_forgotten as is_forgotten_in, is_discarded}
-use Rattle.quic_recovery.specs.Promises.Rising.{GivesRising, IsAbove}
+use Rattle.quic_recovery.specs.Promises.Rising.{GivesRising}
 use Rattle.quic_recovery.specs.Promises.Tracked.{is_tracked}
 use Rattle.quic_recovery.specs.Told.{Told, MtuProbeReply}
-use Rattle.quic_recovery.proofs.EntryKinds.{keeps_packets, space_kind, space_kept, refused_keeps}
+use Rattle.quic_recovery.proofs.EntryKinds.{keeps_packets, space_kind, space_kept}
 use Rattle.quic_recovery.proofs.AnswerLaws.{past_four}
 use Rattle.quic_recovery.proofs.Runs.{AllAlong, throughout_kept}
 
@@ -132,11 +131,9 @@ module _ {P M : Type 0} (n : ℕ) where
         grind (arith, nat_tests, sum, here.same, here.adds, here.once, here.late)
 
     -- contents are moved out of a packet
-    moved_tracks : (empty : P) (found : ProbeFound) → Tracks (sent_moved empty found sent) tracked given departed
-    moved_tracks empty (moves number) =
-        let sum = sum-carrying sent.tracked number counts empty (λ m packet. refl) in
-        record { same = omega (arith, here.same, sum); adds = here.adds; once = here.once; late = here.late }
-    moved_tracks empty found = here
+    moved_tracks : (empty : P) (moved : Option ℕ) → Tracks (sent_moved empty moved sent) tracked given departed
+    moved_tracks empty moved =
+        grind (arith, here, λ (number : ℕ). sum-carrying sent.tracked number counts empty (λ m packet. refl))
 
     -- a look-up says the same
     looked_up : is_some (packet_at sent.tracked n) ≡ tracked
@@ -150,7 +147,7 @@ sent_in beginning history space = sent_by beginning.queue.words ((logs_of beginn
 
 -- the number that is given out was not given out before
 pub is_new : {F K Q S M P : Type 0} (beginning : Beginning F K Q S M P) (before : History Q S M P) (space : SpaceId)
-    → (sent_in beginning before space).next ≤ number_in (known_by beginning (logs_of beginning before)) space
+    → (sent_in beginning before space).next ≤ number_in (known_by beginning before) space
 is_new beginning before Data =
     number_from_above beginning.config.skips beginning.random (sent_in beginning before Data).next
 is_new beginning before space = omega arith
@@ -167,7 +164,7 @@ one_space there space e = grind (arith, e)
 
 pub probe_number : {K Q S M P : Type 0} (q : QueueMeaning Q S M P) (known : Known K P M) (now : ℕ) (due : Option ℕ)
     (number size : ℕ)
-    → MtuProbeReply q known now due (Ok (Probe number size)) → number ≡ known.numbers.next
+    → MtuProbeReply q known now due (Ok (Probe number size)) → number ≡ known.next_number
 probe_number q known now due number size told = grind (arith, told)
 
 -- how often a number of a space is gone
@@ -189,7 +186,7 @@ module _ {F K Q S M P : Type 0} (beginning : Beginning F K Q S M P) (before : Hi
   log = (logs_of beginning before).spaces space
 
   abbrev known : Known K P M
-  known = known_by beginning (logs_of beginning before)
+  known = known_by beginning before
 
   abbrev tracked_now : Bool
   tracked_now = is_tracked space n before
@@ -207,7 +204,7 @@ module _ {F K Q S M P : Type 0} (beginning : Beginning F K Q S M P) (before : Hi
   unmoved : (entry : SpaceEntry P M) → keeps_packets (space_kind entry) ≡ true
       → After (Some entry) tracked_now given_now departed_now
   unmoved (probes immediate found) keeps =
-      moved_tracks n _ _ _ _ here beginning.queue.words.empty found
+      moved_tracks n _ _ _ _ here beginning.queue.words.empty found.moved
   unmoved entry keeps = grind (arith, keeps, here)
 
   -- an entry in one space, by which a number may go out or leave
@@ -270,8 +267,7 @@ module _ {F K Q S M P : Type 0} (beginning : Beginning F K Q S M P) (before : Hi
       here unmoved event (Ok answer) refl
   reply_tracks (PollMtu now) (Err refusal) told = here
   reply_tracks event (Err refusal) told =
-      refused_keeps event refusal
-      (λ (entries : Entries P M). After (entries.spaces space) tracked_now given_now departed_now) here
+      here
 
 -- ---- throughout a run
 
@@ -301,12 +297,13 @@ module _ {F K Q S M P : Type 0} (beginning : Beginning F K Q S M P) where
 module _ {F K Q S M P : Type 0} (beginning : Beginning F K Q S M P) where
   module _ (before : History Q S M P) (all : AllTracked beginning before) where
     abbrev known_before : Known K P M
-    known_before = known_by beginning (logs_of beginning before)
+    known_before = known_by beginning before
 
     -- the next number of a space is above all that were given out there
     next_rises : (there : SpaceId) (given : ℕ) → given ≡ number_in known_before there
         → ¬ (2 ^ 62 ≤ number_in known_before there) → (space : SpaceId) (number : ℕ)
-        → (same_space there space && given == number) ≡ true → (number < 2 ^ 62) × IsAbove space number before
+        → (same_space there space && given == number) ≡ true
+        → (number < 2 ^ 62) × ((n : ℕ) → number ≤ n → times_in (is_given space n) before ≡ 0)
     next_rises there given is few space number goes =
         let same : number ≡ given = grind (arith, nat_tests, goes) in
         let at = one_space there space (grind (arith, nat_tests, goes)) in
@@ -324,6 +321,6 @@ module _ {F K Q S M P : Type 0} (beginning : Beginning F K Q S M P) where
     rises event reply told = λ space number goes. absurd (false≢true goes)
 
   pub keeps_rising : AllAlong beginning GivesRising
-  keeps_rising events replies told =
+  keeps_rising =
       throughout_kept beginning (AllTracked beginning) GivesRising (keeps_tracked beginning)
-      (λ before event reply here all. rises before all event reply here) [] events replies told (none_tracked beginning)
+      (λ before event reply here all. rises before all event reply here) (none_tracked beginning)

@@ -1,7 +1,6 @@
 -- What the layer above keeps with each path and each space (RFC 9000, 8.2, 13.4 and 19.6; RFC 9002, 6.1.2 and 7.6).
 use Rattle.std.specs.Prelude.{◌≡◌, ℕ, true, false, Option, option_map, None, Ok}
 use Rattle.recovery_base.specs.declared.below.frames.EcnCounts.{EcnCounts}
-use Rattle.recovery_ledger.specs.Queued.{no_ecn}
 use Rattle.recovery_ledger.specs.Spaces.{Space}
 use Rattle.recovery_paths.specs.declared.live_paths.PathName.{PathName}
 use Rattle.recovery_paths.specs.PathLog.{OfPaths, OnEachPath, moved_to, on_path_of, path_of}
@@ -38,14 +37,5 @@ with_marks_at name marks recovery = record recovery { paths = on_path_of name (w
 
 -- counts of the packets that came with each ECN codepoint, when a packet is to be called lost, and the bytes of CRYPTO
 -- frames sent
-pub record Beside : Type 0 where
-  pub ecn : EcnCounts
-  pub loss_time : Option ℕ
-  pub crypto_offset : ℕ
-
-abbrev pub beside_of : {P M : Type 0} → Space P M → Beside
-beside_of space = record { ecn = space.ecn_counters; loss_time = space.loss_time; crypto_offset = space.crypto_offset }
-
--- as a space is made
-abbrev pub nothing_beside : Beside
-nothing_beside = record { ecn = no_ecn; loss_time = None; crypto_offset = 0 }
+abbrev pub beside_of : {P M : Type 0} → Space P M → EcnCounts × Option ℕ × ℕ
+beside_of space = (space.ecn_counters, space.loss_time, space.crypto_offset)

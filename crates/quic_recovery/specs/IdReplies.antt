@@ -1,15 +1,15 @@
 -- What the events of connection ids are told (RFC 9000, 5.1, 19.15 and 19.16).
-use Rattle.std.specs.Prelude.{◌≡◌, ◌≢◌, ℕ, ◌+◌, ◌<◌, ◌≤◌, ◌^◌, max, min, IsTrue, ◌↔◌, List, [], length, map, None, Some}
+use Rattle.std.specs.Prelude.{◌≡◌, ◌≢◌, ℕ, ◌+◌, ◌<◌, ◌≤◌, ◌^◌, max, min, List, [], length, map, None, Some}
 use Rattle.std.specs.List.{range_with_len}
 use Rattle.recovery_base.specs.declared.below.ids.IssuedCid.{IssuedCid}
 use Rattle.recovery_base.specs.declared.below.ids.NewConnectionId.{NewConnectionId}
-use Rattle.recovery_ids.specs.LocalIds.{LocalIds, holds_unretired, timed_out, without_number}
+use Rattle.recovery_ids.specs.LocalIds.{LocalIds, without_number}
 use Rattle.recovery_ids.specs.RemoteIds.{Table, RemoteIds, IsLeastHeld, Repeats, active_connection_id_limit, with_frame}
 use Rattle.recovery_events.specs.declared.event.Answer.{Answer}
-use Rattle.recovery_events.specs.declared.event.Answer.TheVariants.{Retire, Flag, Done}
-use Rattle.recovery_events.specs.declared.event.Refusal.TheVariants.{NumberTooLarge, BadRetirePriorTo, Retired, ExceedsLimit, Conflict, NotInitialId, CidsNotInUse, UnissuedCid, BadRange}
+use Rattle.recovery_events.specs.declared.event.Answer.TheVariants.{Retire, Done}
+use Rattle.recovery_events.specs.declared.event.Refusal.TheVariants.{NumberTooLarge, BadRetirePriorTo, Retired, ExceedsLimit, Conflict, CidsNotInUse, UnissuedCid, BadRange}
 use Rattle.quic_recovery.specs.History.{Reply}
-use Rattle.quic_recovery.specs.Replies.{Refuses, Answers, AlwaysAnswers}
+use Rattle.quic_recovery.specs.Replies.{IsFlag, Refuses, Answers, AlwaysAnswers}
 
 -- ---- ids of the peer
 
@@ -22,8 +22,7 @@ HasToken held n token = (id : List ℕ) × (held n ≡ Some (id, Some token))
 abbrev pub IsFrameAnswer : {Q : Type 0} → RemoteIds → NewConnectionId → Answer Q → Type 0
 IsFrameAnswer ids frame (Retire None) = frame.retire_prior_to ≤ ids.active
 IsFrameAnswer ids frame (Retire (Some told)) =
-    let held = with_frame frame ids.held in
-    (ids.active < frame.retire_prior_to) × (told.0.start ≡ ids.active)
+    let held = with_frame frame ids.held in (ids.active < frame.retire_prior_to) × (told.0.start ≡ ids.active)
     × (next : ℕ) × IsLeastHeld held 0 next
     × (told.0.end ≡ min next (ids.active + active_connection_id_limit)) × HasToken held next told.1
 IsFrameAnswer ids frame answer = ⊥
@@ -34,23 +33,16 @@ FrameReply ids frame =
     Refuses NumberTooLarge (2 ^ 62 ≤ frame.sequence)
     (Refuses BadRetirePriorTo (frame.sequence < frame.retire_prior_to)
     (Refuses Retired (frame.sequence < ids.active)
-    (Refuses ExceedsLimit
-    (max ids.active frame.retire_prior_to + active_connection_id_limit ≤ frame.sequence)
-    (Refuses Conflict (¬ Repeats frame ids.held)
-    (AlwaysAnswers (IsFrameAnswer ids frame))))))
+    (Refuses ExceedsLimit (max ids.active frame.retire_prior_to + active_connection_id_limit ≤ frame.sequence)
+    (Refuses Conflict (¬ Repeats frame ids.held) (AlwaysAnswers (IsFrameAnswer ids frame))))))
 
 -- the next id is the least one held above the active one: the numbers from the active one up to it are retired, and its
 -- token is told; where none is held the active one stays
 abbrev pub IsNextAnswer : {Q : Type 0} → RemoteIds → Answer Q → Type 0
 IsNextAnswer ids (Retire None) = (n : ℕ) → ids.active < n → ids.held n ≡ None
 IsNextAnswer ids (Retire (Some told)) =
-    (told.0.start ≡ ids.active) × IsLeastHeld ids.held (ids.active + 1) told.0.end
-    × HasToken ids.held told.0.end told.1
+    (told.0.start ≡ ids.active) × IsLeastHeld ids.held (ids.active + 1) told.0.end × HasToken ids.held told.0.end told.1
 IsNextAnswer ids answer = ⊥
-
--- the initial id is replaced while it is the active one
-abbrev pub InitialReply : {Q : Type 0} → RemoteIds → Reply Q → Type 0
-InitialReply ids = Refuses NotInitialId (ids.active ≢ 0) (AlwaysAnswers (λ answer. answer ≡ Done))
 
 -- ---- ids of this end
 
@@ -62,20 +54,9 @@ IssueReply ids more =
     (Refuses BadRange (map (λ id. id.sequence) more ≢ range_with_len ids.issued (length more))
     (Answers (more ≢ []) (λ answer. answer ≡ Done)))
 
--- a timeout is told whether it asks for the retirement of a number that is not retired yet
-abbrev pub timeout_answer : {Q : Type 0} → LocalIds → Answer Q
-timeout_answer ids =
-    let later = timed_out ids in
-    Flag (holds_unretired ids.retire_prior_to later.retire_prior_to later)
-
--- a retirement is told whether the limit leaves room for one more id
-abbrev pub IsRoom : {Q : Type 0} → LocalIds → ℕ → Answer Q → Type 0
-IsRoom ids limit (Flag more) = IsTrue more ↔ (length ids.unretired < limit)
-IsRoom ids limit answer = ⊥
-
--- why a retirement is refused, and what it is answered (19.16)
+-- why a retirement is refused; it is told whether the limit leaves room for one more id (19.16)
 abbrev pub RetirementReply : {Q : Type 0} → LocalIds → ℕ → ℕ → Reply Q → Type 0
 RetirementReply ids sequence limit =
     Refuses CidsNotInUse (ids.cid_len ≡ 0)
     (Refuses UnissuedCid (ids.issued ≤ sequence)
-    (AlwaysAnswers (IsRoom (without_number sequence ids) limit)))
+    (AlwaysAnswers (IsFlag (length (without_number sequence ids).unretired < limit))))

@@ -1,29 +1,30 @@
--- What is known of the past: values, which the state and the logs fill alike.
-use Rattle.std.specs.Prelude.{ℕ, Bool, List, [], ◌∷◌, Option, None, Some}
+-- What is known of the past: values, which the state and the history fill alike.
+use Rattle.std.specs.Prelude.{ℕ, Bool, List, [], Option, None}
 use Rattle.recovery_base.specs.declared.below.SpaceId.{SpaceId}
 use Rattle.recovery_base.specs.declared.below.SpaceId.TheVariants.{Initial, Handshake, Data}
 use Rattle.recovery_base.specs.declared.timer.Timer.{Timer}
-use Rattle.recovery_ids.specs.LocalIds.{LocalIds}
+use Rattle.recovery_ids.specs.LocalIds.{LocalIds, no_ids, with_issued}
 use Rattle.recovery_ids.specs.RemoteIds.{RemoteIds}
-use Rattle.recovery_ledger.specs.Acks.{AckCounts, counts_by}
-use Rattle.recovery_ledger.specs.Discarded.{was_discarded}
-use Rattle.quic_recovery.specs.History.{Beginning}
-use Rattle.recovery_ids.specs.LocalLog.{LocalEntry, FirstIds, local_ids_by}
+use Rattle.recovery_acks.specs.Acks.{AckCounts}
+use Rattle.recovery_ledger.specs.Acks.{counts_by}
+use Rattle.quic_recovery.specs.History.{Beginning, History}
 use Rattle.recovery_ledger.specs.declared.paths.InFlight.{InFlight}
 use Rattle.recovery_ledger.specs.InFlight.{in_flight}
 use Rattle.recovery_ledger.specs.Packets.{Packet, Packets}
 use Rattle.recovery_ledger.specs.Queued.{Queued, queued_by}
 use Rattle.recovery_skips.specs.Skips.{number_from, skip_before}
 use Rattle.recovery_paths.specs.PathLog.{PathsEntry, PathKnown, OfPaths, paths_known_by}
-use Rattle.recovery_paths.specs.PathMaking.{PathMaking, PathSettings, path_settings, making_fresh}
-use Rattle.recovery_ids.specs.RemoteLog.{RemoteEntry, remote_ids_by}
-use Rattle.recovery_acks.specs.RequestLog.{RequestEntry, last_asked}
+use Rattle.recovery_paths.specs.PathMaking.{PathSettings, path_settings, state_fresh}
+use Rattle.recovery_paths.specs.PathStates.{PathState}
 use Rattle.recovery_ledger.specs.SpaceLog.{SpaceEntry}
-use Rattle.recovery_base.specs.TimerLog.{TimerEntry, last_set}
 use Rattle.recovery_ledger.specs.Tracked.{Sent, sent_by, packet_sent}
+use Rattle.quic_recovery.specs.Plain.{last_asked, limit, own_ids}
+use Rattle.quic_recovery.specs.Promises.GivenIds.{ids_held}
+use Rattle.quic_recovery.specs.Promises.NewNumbers.{is_discarded}
+use Rattle.quic_recovery.specs.Promises.Timeouts.{moment_of}
 
 -- what replies and entries depend on, but for the sets of numbers: values, which are the same by the state and by
--- the logs
+-- the history
 pub record SpaceKnown (P M : Type 0) : Type 0 where
   -- the space was discarded
   pub discarded : Bool
@@ -34,17 +35,13 @@ pub record SpaceKnown (P M : Type 0) : Type 0 where
   -- what is to be sent again, what probes ask for, and the counts of ECN
   pub queued : Queued P
 
--- numbers of 1-RTT packets, some of which are skipped
-pub record Numbering : Type 0 where
-  -- the next one that is given out
-  pub next : ℕ
-  -- the greatest skip below the last one
-  pub skipped : Option ℕ
-
 pub record Known (K P M : Type 0) : Type 0 where
   pub spaces : SpaceId → SpaceKnown P M
-  pub numbers : Numbering
-  -- the number of the last ACK_FREQUENCY frame that was taken
+  -- of 1-RTT packets, some of which are skipped: the next number that is given out, and the greatest skip below the
+  -- last one
+  pub next_number : ℕ
+  pub skipped : Option ℕ
+  -- the number of the last ACK_FREQUENCY frame that was newer than those before it
   pub last_asked : Option ℕ
   -- the ids of the peer
   pub remote_ids : RemoteIds
@@ -69,7 +66,7 @@ packet_now known = packet_sent known.paths.current.generation
 abbrev pub number_in : {K P M : Type 0} → Known K P M → SpaceId → ℕ
 number_in known Initial = (known.spaces Initial).sent.next
 number_in known Handshake = (known.spaces Handshake).sent.next
-number_in known Data = known.numbers.next
+number_in known Data = known.next_number
 
 -- what is in flight on a path
 abbrev pub in_flight_on : {K P M : Type 0} → Known K P M → PathKnown K → InFlight
@@ -83,34 +80,16 @@ current_in_flight known = in_flight_on known known.paths.current
 
 pub record Logs (P M : Type 0) : Type 0 where
   pub spaces : SpaceId → List (SpaceEntry P M)
-  pub discarded : List SpaceId
-  pub requests : List RequestEntry
-  pub timers : List TimerEntry
-  pub remote_ids : List RemoteEntry
-  pub local_ids : List LocalEntry
   pub paths : List PathsEntry
-  pub limits : List ℕ
 
 abbrev pub no_logs : {P M : Type 0} → Logs P M
-no_logs = record {
-  spaces = λ space. [];
-  discarded = [];
-  requests = [];
-  timers = [];
-  remote_ids = [];
-  local_ids = [];
-  paths = [];
-  limits = [];
-}
+no_logs = record { spaces = λ space. []; paths = [] }
 
--- what the logs know, in a run that begins so
-abbrev pub first_ids : {F K Q S M P : Type 0} → Beginning F K Q S M P → FirstIds
-first_ids beginning = record {
-  cid_len = beginning.config.cid_len;
-  cid_lifetime = beginning.config.cid_lifetime;
-  start = beginning.start;
-  issued = beginning.config.issued;
-}
+-- the ids of this end at first, in a run that begins so
+abbrev pub first_ids : {F K Q S M P : Type 0} → Beginning F K Q S M P → LocalIds
+first_ids beginning =
+    let config = beginning.config in
+    with_issued config.issued beginning.start (no_ids config.cid_len config.cid_lifetime)
 
 -- how all paths are made
 abbrev pub settings_of : {F K Q S M P : Type 0} → Beginning F K Q S M P → PathSettings K
@@ -118,38 +97,29 @@ settings_of beginning =
     path_settings beginning.built beginning.words beginning.config.allow_mtud beginning.config.transport
 
 -- the first path
-abbrev pub first_path : {F K Q S M P : Type 0} → Beginning F K Q S M P → PathMaking K
+abbrev pub first_path : {F K Q S M P : Type 0} → Beginning F K Q S M P → PathState K
 first_path beginning =
     let config = beginning.config in
-    making_fresh (settings_of beginning) config.remote config.validated None beginning.start
+    state_fresh (settings_of beginning) config.remote config.validated None beginning.start
 
--- the last one
-abbrev pub last_limit : List ℕ → Option ℕ
-last_limit [] = None
-last_limit (size ∷ earlier) = Some size
-
--- where the next number of 1-RTT packets is n, or one more where that is skipped
-abbrev pub numbering_by : {F K Q S M P : Type 0} → Beginning F K Q S M P → ℕ → Numbering
-numbering_by beginning n = record {
-  next = number_from beginning.config.skips beginning.random n;
-  skipped = skip_before beginning.config.skips beginning.random n;
-}
-
-abbrev pub known_by : {F K Q S M P : Type 0} → Beginning F K Q S M P → Logs P M → Known K P M
-known_by beginning logs =
+-- what is known after a history, whose logs are these
+abbrev pub known_with : {F K Q S M P : Type 0} → Beginning F K Q S M P → History Q S M P → Logs P M → Known K P M
+known_with beginning history logs =
     let words = beginning.queue.words in
+    let next = (sent_by words (logs.spaces Data)).next in
     record {
       spaces = λ space. record {
-        discarded = was_discarded space logs.discarded;
+        discarded = is_discarded space history;
         counts = counts_by (logs.spaces space);
         sent = sent_by words (logs.spaces space);
         queued = queued_by words (logs.spaces space);
       };
-      numbers = numbering_by beginning (sent_by words (logs.spaces Data)).next;
-      last_asked = last_asked logs.requests;
-      remote_ids = remote_ids_by beginning.config.initial_cid logs.remote_ids;
-      local_ids = local_ids_by (first_ids beginning) logs.local_ids;
-      moment_of = λ kind. last_set kind logs.timers;
+      next_number = number_from beginning.config.skips beginning.random next;
+      skipped = skip_before beginning.config.skips beginning.random next;
+      last_asked = last_asked history;
+      remote_ids = ids_held beginning.config.initial_cid history;
+      local_ids = own_ids (first_ids beginning) history;
+      moment_of = moment_of history;
       paths = paths_known_by (settings_of beginning) (first_path beginning) logs.paths;
-      peer_limit = last_limit logs.limits;
+      peer_limit = limit history;
     }

@@ -8,6 +8,7 @@ pub mod Numbers
 pub mod Pacing
 pub mod Parts
 pub mod Past
+pub mod Plain
 pub mod Promises
 pub mod Replies
 pub mod Same

@@ -7,7 +7,6 @@ use Rattle.recovery_pacing.specs.Pacing.{PacerCall}
 use Rattle.recovery_pacing.specs.NamedMoment.{PassesAtMoment}
 use Rattle.recovery_pacing.specs.Progress.{PassesBehind}
 use Rattle.recovery_paths.specs.PathLog.{OnEachPath, PathPast, state_of}
-use Rattle.recovery_paths.specs.PathMaking.{bucket_of}
 use Rattle.recovery_paths.specs.PathStates.{pacer_call}
 use Rattle.recovery_events.specs.declared.event.Event.{Event}
 use Rattle.recovery_events.specs.declared.event.Event.TheVariants.{Transmit, PacerCheck}
@@ -15,12 +14,10 @@ use Rattle.recovery_events.specs.declared.event.Answer.{Answer}
 use Rattle.recovery_events.specs.declared.event.Answer.TheVariants.{Delayed, Blocked}
 use Rattle.quic_recovery.specs.Entries.{pasts_of}
 use Rattle.quic_recovery.specs.History.{Beginning, History, Reply}
-use Rattle.quic_recovery.specs.Known.{settings_of}
 
 -- a call of a path's pacer is answered by the balance: it is delayed until this moment, or it is not
 abbrev pub IsByBalance : {K : Type 0} → PathPast K → PacerCall → Option ℕ → Type 0
-IsByBalance past call given = AreChecked (asked call ∷ past.pacing)
-    → DelaysBy (bucket_of past.making.pacer) past.pacing call given
+IsByBalance past call given = AreChecked (asked call ∷ past.pacing) → DelaysBy past.kept.pacer past.pacing call given
 
 -- until when, where the answer is that it is delayed
 abbrev pub delay_in : {Q : Type 0} → Answer Q → Option ℕ
@@ -32,7 +29,7 @@ module _ {F K Q S M P : Type 0} (beginning : Beginning F K Q S M P) where
   abbrev pub OnCall : (PathPast K → PacerCall → Option ℕ → Type 0) → History Q S M P → ℕ → ℕ → Option ℕ → Type 0
   OnCall Holds history now bytes given =
       let past = (pasts_of beginning history).current in
-      Holds past (pacer_call beginning.words (state_of (settings_of beginning) past) now bytes) given
+      Holds past (pacer_call beginning.words (state_of past) now bytes) given
 
   -- the pacer of the path in use is called where an event asks it, and for a checked transmission that is not blocked
   abbrev pub AtCalls : (PathPast K → PacerCall → Option ℕ → Type 0) → History Q S M P → Event Q S M P → Reply Q → Type 0
@@ -46,15 +43,14 @@ module _ {F K Q S M P : Type 0} (beginning : Beginning F K Q S M P) where
 
   -- what was delayed as the pacer was asked last passes soon behind the moment that was named
   abbrev pub PassesSoon : History Q S M P → Event Q S M P → Reply Q → Type 0
-  PassesSoon = AtCalls (λ past. PassesBehind (bucket_of past.making.pacer) past.pacing)
+  PassesSoon = AtCalls (λ past. PassesBehind past.kept.pacer past.pacing)
 
   -- what was delayed passes at the moment that was named, where the bucket has room for what rounding and questions in
   -- between cost
   abbrev pub PassesWhenNamed : History Q S M P → Event Q S M P → Reply Q → Type 0
-  PassesWhenNamed = AtCalls (λ past. PassesAtMoment (bucket_of past.making.pacer) past.pacing)
+  PassesWhenNamed = AtCalls (λ past. PassesAtMoment past.kept.pacer past.pacing)
 
   -- after an event, the pacer of each path that lives keeps the rate
   abbrev pub KeepsPace : History Q S M P → Event Q S M P → Reply Q → Type 0
-  KeepsPace history event reply =
-      OnEachPath (λ past. AreChecked past.pacing → KeepsRate (bucket_of past.making.pacer) past.pacing)
+  KeepsPace history event reply = OnEachPath (λ past. AreChecked past.pacing → KeepsRate past.kept.pacer past.pacing)
       (pasts_of beginning ((event, reply) ∷ history))

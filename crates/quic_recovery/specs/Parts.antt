@@ -1,7 +1,7 @@
 -- What a recovery is to those who call it: its parts.
 use Rattle.std.specs.Prelude.{ℕ, Option}
 use Rattle.recovery_base.specs.declared.timer.TimerTable.{TimerTable}
-use Rattle.recovery_acks.specs.AckFrequencies.{Frequency}
+use Rattle.recovery_acks.specs.declared.frequency.AckFrequencyState.{AckFrequencyState}
 use Rattle.recovery_ids.specs.declared.queue.CidQueue.{CidQueue}
 use Rattle.recovery_ids.specs.LocalIds.{LocalIds}
 use Rattle.recovery_ledger.specs.declared.discarded.DiscardedSpaces.{DiscardedSpaces}
@@ -21,7 +21,7 @@ pub record Parts (K P M : Type 0) : Type 0 where
   pub peer_limit : Option ℕ
   -- which numbers are skipped, and the words of the generator from now on
   pub skipping : Skipping
-  pub frequency : Frequency
+  pub frequency : AckFrequencyState
   pub timers : TimerTable
   pub remote_cids : CidQueue
   pub local_ids : LocalIds

@@ -1,12 +1,12 @@
 -- The past of a live recovery: the events by which it came to be what it is, and what one event more keeps.
-use Rattle.std.specs.Prelude.{◌≡◌, ℕ, List, [], ◌∷◌, ◌++◌, ◌<◌, ◌^◌, None, if◌then◌else◌}
+use Rattle.std.specs.Prelude.{ℕ, ◌∷◌, ◌<◌, ◌^◌, None, if◌then◌else◌}
 use Rattle.std.specs.Option.{ForSome}
 use Rattle.rand_core.specs.Stream.{Stream}
 use Rattle.recovery_congestion.specs.Controllers.{ControllerWords}
 use Rattle.quic_recovery.specs.declared.driver.Recovery.{Recovery}
 use Rattle.quic_recovery.specs.declared.driver.RecoveryConfig.{RecoveryConfig}
 use Rattle.recovery_events.specs.declared.event.Event.{Event}
-use Rattle.quic_recovery.specs.History.{Beginning, History, Reply, QueueMeaning, Throughout, begins, history, queue_meaning}
+use Rattle.quic_recovery.specs.History.{Beginning, History, Reply, QueueMeaning, AtEach, begins, queue_meaning}
 use Rattle.quic_recovery.specs.Pacing.{DelaysByBalance, KeepsPace, PassesSoon, PassesWhenNamed}
 use Rattle.quic_recovery.specs.Parts.{Parts}
 use Rattle.quic_recovery.specs.Promises.Acknowledged.{KeepsToAcknowledge}
@@ -32,28 +32,12 @@ use Rattle.quic_recovery.specs.Promises.Turns.{SearchesInTurn}
 use Rattle.quic_recovery.specs.State.{Left, parts_of}
 use Rattle.quic_recovery.specs.Told.{Told}
 
--- the events so far with their replies, the oldest first
-pub record Past (Q S M P : Type 0) : Type 0 where
-  pub events : List (Event Q S M P)
-  pub replies : List (Reply Q)
-
-module _ {Q S M P : Type 0} where
-  abbrev pub no_past : Past Q S M P
-  no_past = record { events = []; replies = [] }
-
-  abbrev pub more : Past Q S M P → Event Q S M P → Reply Q → Past Q S M P
-  more past event reply = record { events = past.events ++ event ∷ []; replies = past.replies ++ reply ∷ [] }
-
-  -- the newest first
-  abbrev pub history_of : Past Q S M P → History Q S M P
-  history_of past = history past.events past.replies
-
 module _ {F K Q S M P : Type 0} (beginning : Beginning F K Q S M P) where
   -- by these events a recovery came here, from that beginning: each was told what the history before it says, and the
   -- recovery is what the whole history leaves
-  pub record Came (past : Past Q S M P) (recovery : Parts K P M) : Type 0 where
-    pub told : Throughout (Told beginning) past.events past.replies
-    pub left : Left beginning (history_of past) recovery
+  pub record Came (past : History Q S M P) (recovery : Parts K P M) : Type 0 where
+    pub told : AtEach (Told beginning) past
+    pub left : Left beginning past recovery
     -- the bound of a search is a `u16`
     pub small : ForSome (if beginning.config.allow_mtud then beginning.config.transport.mtu_discovery_config else None)
         (λ settings. settings.upper_bound < 2 ^ 16)
@@ -87,16 +71,15 @@ module _ {F K Q S M P : Type 0} (beginning : Beginning F K Q S M P) where
     pub to_acknowledge : KeepsToAcknowledge beginning ((event, reply) ∷ before)
 
   -- from a past to that past with one event more
-  pub record GoesOnFrom (past : Past Q S M P) (event : Event Q S M P) (reply : Reply Q) (new : Parts K P M) : Type 0
+  pub record GoesOnFrom (past : History Q S M P) (event : Event Q S M P) (reply : Reply Q) (new : Parts K P M) : Type 0
     where
-      pub history : history_of (more past event reply) ≡ (event, reply) ∷ history_of past
-      pub keeps : Keeps (history_of past) event reply
-      pub came : Came (more past event reply) new
+      pub keeps : Keeps past event reply
+      pub came : Came ((event, reply) ∷ past) new
 
 -- whatever the beginning and the past by which the recovery came here
 module _ {F K Q S M P : Type 0} (built : F → ℕ → ℕ → K) (words : ControllerWords K) (queue : QueueMeaning Q S M P) where
   abbrev pub GoesOn : Parts K P M → Event Q S M P → Reply Q → Parts K P M → Type 0
-  GoesOn old event reply new = (config : RecoveryConfig F) (start : ℕ) (random : Stream) (past : Past Q S M P) →
+  GoesOn old event reply new = (config : RecoveryConfig F) (start : ℕ) (random : Stream) (past : History Q S M P) →
       let beginning = begins built words queue config start random in
       Came beginning past old → GoesOnFrom beginning past event reply new
 
@@ -105,7 +88,7 @@ module _ {F K Q S M P : Type 0} (built : F → ℕ → ℕ → K) (words : Contr
     pub config : RecoveryConfig F
     pub start : ℕ
     pub random : Stream
-    pub past : Past Q S M P
+    pub past : History Q S M P
     pub came : Came (begins built words queue config start random) past recovery
 
   -- from there it went on
@@ -116,7 +99,7 @@ module _ {F K Q S M P : Type 0} (built : F → ℕ → ℕ → K) (words : Contr
 
   -- it is all the same for its past
   abbrev pub StaysOn : Parts K P M → Parts K P M → Type 0
-  StaysOn old new = (config : RecoveryConfig F) (start : ℕ) (random : Stream) (past : Past Q S M P) →
+  StaysOn old new = (config : RecoveryConfig F) (start : ℕ) (random : Stream) (past : History Q S M P) →
       let beginning = begins built words queue config start random in
       Came beginning past old → Came beginning past new
 

@@ -1,5 +1,7 @@
 -- What an event may be replied: the causes of refusal in their order, each exactly, and else the answer.
-use Rattle.std.specs.Prelude.{◌==◌, Bool, MatchBool, Result, Ok, Err}
+use denote.Enum.Bare.{sameb}
+use Rattle.recovery_events.specs.contracts.event.Refusal.{the_type}
+use Rattle.std.specs.Prelude.{Bool, MatchBool, IsTrue, ◌↔◌, Result, Ok, Err}
 use Rattle.recovery_events.specs.declared.event.Answer.{Answer}
 use Rattle.recovery_events.specs.declared.event.Refusal.{Refusal}
 use Rattle.recovery_events.specs.declared.event.Answer.TheVariants as answers
@@ -11,10 +13,10 @@ use Rattle.recovery_ledger.specs.declared.spaces.ReceiveError.TheVariants as err
 use Rattle.recovery_ledger.specs.declared.spaces.Receipt.{Receipt}
 use Rattle.recovery_ledger.specs.declared.spaces.Receipt.TheVariants.{New, Duplicate}
 use Rattle.quic_recovery.specs.History.{Reply}
-use Rattle.recovery_events.specs.Refusals.{refusal_number}
 
+-- the same refusal, but for its text
 abbrev pub same_refusal : Refusal → Refusal → Bool
-same_refusal refusal other = refusal_number refusal == refusal_number other
+same_refusal = sameb the_type
 
 -- where the cause holds the event is refused so, and else its reply is one of the others
 abbrev pub Refuses : {Q : Type 0} → Refusal → Type 0 → (Reply Q → Type 0) → Reply Q → Type 0
@@ -31,6 +33,11 @@ Answers Grows IsAnswer (Err refusal) = ⊥
 -- the answer is one of these, and no memory is taken
 abbrev pub AlwaysAnswers : {Q : Type 0} → (Answer Q → Type 0) → Reply Q → Type 0
 AlwaysAnswers = Answers ⊥
+
+-- the answer says whether it holds
+abbrev pub IsFlag : {Q : Type 0} → Type 0 → Answer Q → Type 0
+IsFlag Holds (answers.Flag flag) = IsTrue flag ↔ Holds
+IsFlag Holds answer = ⊥
 
 -- ---- what a packet that came in is answered
 

@@ -10,7 +10,7 @@ use Rattle.recovery_congestion.specs.Controllers.{ControllerWords}
 use Rattle.recovery_ids.specs.CidQueue.{remote_ids}
 use Rattle.recovery_ledger.specs.Discarded.{is_discarded}
 use Rattle.recovery_ledger.specs.Paths.{counters_of}
-use Rattle.recovery_ledger.specs.Spaces.{Space, space_of, sent_of, acks_of, counts_of, queued_of, kept_of}
+use Rattle.recovery_ledger.specs.Spaces.{Space, space_of, sent_of, acks_of, queued_of}
 use Rattle.recovery_paths.specs.PathLog.{each_path, paths_known}
 use Rattle.quic_recovery.specs.declared.driver.RecoveryConfig.{RecoveryConfig}
 use Rattle.recovery_events.specs.declared.event.Answer.{Answer}
@@ -49,16 +49,18 @@ pub record AcksAlike (one other : Acks) : Type 0 where
   pub pending : (n : ℕ) → IsPending one n ↔ IsPending other n
   pub required : one.required ≡ other.required
   pub base : one.base ≡ other.base
-  pub counts : counts_of one ≡ counts_of other
-  pub silent : one.silent ≡ other.silent
-  pub largest : one.largest ≡ other.largest
+  pub counts : one.counts ≡ other.counts
 
 pub record SpacesAlike {P M : Type 0} (one other : Space P M) : Type 0 where
   pub numbers : (n : ℕ) → Has one.dedup n ↔ Has other.dedup n
   pub acks : AcksAlike (acks_of one) (acks_of other)
   pub greatest : one.rx_packet ≡ other.rx_packet
   pub sent : sent_of one ≡ sent_of other
-  pub kept : kept_of one ≡ kept_of other
+  pub acknowledged : one.largest_acked_packet ≡ other.largest_acked_packet
+  pub acknowledged_sent : one.largest_acked_packet_sent ≡ other.largest_acked_packet_sent
+  pub last_sent : one.time_of_last_ack_eliciting_packet ≡ other.time_of_last_ack_eliciting_packet
+  pub probes : one.loss_probes ≡ other.loss_probes
+  pub given_out : one.sent_with_keys ≡ other.sent_with_keys
   pub queued : queued_of one ≡ queued_of other
   pub beside : beside_of one ≡ beside_of other
 

@@ -1,9 +1,9 @@
 //! The recovery of a connection that lives: its events come one at a time, and each finds the past behind it.
-ghost use Rattle.std.specs.Prelude.{◌≡◌, ◌<◌, ◌≤◌, ◌^◌, IfOk, OnErr};
+ghost use Rattle.std.specs.Prelude.{◌≡◌, ◌<◌, ◌≤◌, ◌^◌, IfOk, OnErr, []};
 ghost use Rattle.recovery_skips.specs.Skips.{IsSkips};
 ghost use Rattle.recovery_paths.specs.PathLog.{paths_marks};
 ghost use Rattle.quic_recovery.specs.Above.{AreFresh, marks_at, with_marks_at};
-ghost use Rattle.quic_recovery.specs.Past.{Came, Goes, HasPast, Stays, Went, no_past};
+ghost use Rattle.quic_recovery.specs.Past.{Came, Goes, HasPast, Stays, Went};
 ghost use Rattle.quic_recovery.specs.State.{parts_of, begun, known_to, Does, InFlightLeft};
 
 use crate::driver::{Recovery, RecoveryConfig};
@@ -47,7 +47,7 @@ where
         requires issued { config.issued ≤ 2 ^ 62 }
         requires skips { IsSkips config.skips }
         ensures came { IfOk result (λ live. Came (begun live.recovery config now rng)
-            no_past (parts_of live.recovery)) }
+            [] (parts_of live.recovery)) }
         ensures marks { IfOk result (λ live.
             AreFresh (paths_marks (parts_of live.recovery).paths)) }
         ensures memory { OnErr result (0 < config.issued) }

@@ -4,9 +4,10 @@ use Rattle.std.specs.Prelude.{◌≢◌, IsTrue, IfSome, Decides, MatchBool}
 use Rattle.std.specs.Option.{unwrap_or}
 use Rattle.std.proofs.lemmas.Bool.{false≢true, cases_lt}
 use Rattle.std.proofs.lemmas.Bool.Decides.{nat_tests}
-use Rattle.recovery_base.specs.Numbers.{IsLeastMissing}
+use Rattle.recovery_base.specs.Numbers.{IsMissing}
+use Rattle.recovery_base.proofs.MissingLaws.{least_missing_by}
 use Rattle.recovery_base.specs.Ranges.{InRanges}
-use Rattle.recovery_acks.specs.Acks.{Acks, HasReached, IsOutOfOrder, Receives, ReceivesEliciting, counted, number_or_zero}
+use Rattle.recovery_acks.specs.Acks.{Acks, HasReached, IsOutOfOrder, Receives, ReceivesEliciting, counted}
 
 -- the greatest number has been reached where both have
 pub reaches : (Known : ℕ → Type 0) (before : Option ℕ) (number : ℕ) → HasReached Known number
@@ -35,41 +36,70 @@ armed_by Free Sends can true arm can_is is told = grind (arith, can_is, is, told
 armed_by Free Sends can false arm can_is is told = grind (arith, can_is, is, told)
 
 module _ {Known : ℕ → Type 0} {old : Acks} {now number greatest count : ℕ} {out req can : Bool} (noticed : Bool)
-    (greatest_is : greatest ≡ max (number_or_zero old.greatest) number)
-    (count_is : count ≡ counted old.eliciting)
-    (out_is : Decides out (IsOutOfOrder Known old.reordering old.acknowledged (number_or_zero old.greatest) greatest
-    number))
-    (req_is : Decides req (IsTrue old.required ⊎ (IsTrue (nat_lt old.threshold count) ⊎ IsTrue out)))
+    (greatest_is : greatest ≡ max (unwrap_or old.counts.greatest 0) number)
+    (count_is : count ≡ counted old.counts.eliciting)
+    (out_is : Decides out (IsOutOfOrder Known old.counts.thresholds.1 old.counts.acknowledged
+    (unwrap_or old.counts.greatest 0) greatest number))
+    (req_is : Decides req (IsTrue old.required ⊎ (IsTrue (nat_lt old.counts.thresholds.0 count) ⊎ IsTrue out)))
     (can_is : Decides can (IsTrue req × ((n : ℕ) × InRanges old.ranges n)))
     (noticed_is : MatchBool noticed ((old.base ≢ None) ⊎ IsTrue can) ((old.base ≡ None) × ¬ IsTrue can)) where
   -- whether the base moves is what was noticed
   received : (arm : Bool) → arm ≡ not noticed → ReceivesEliciting Known old now number arm
-      (record old { required = req; eliciting = count; base = cond arm (Some now) old.base; greatest = Some greatest })
+      (record old {
+        required = req;
+        base = cond arm (Some now) old.base;
+        counts = record old.counts { eliciting = count; greatest = Some greatest };
+      })
   received arm is = record {
-    greatest = ap Some greatest_is;
-    eliciting = count_is;
-    required = required_by _ old.threshold count old.required out req out_is req_is;
+    counts = rw (greatest_is, count_is) refl;
+    required = rw (← greatest_is, ← count_is) (required_by _ _ _ _ _ _ out_is req_is);
     armed = armed_by (old.base ≡ None) _ can noticed arm can_is is noticed_is;
     base = refl;
-    others = (refl, refl, refl, refl, refl, refl);
+    ranges = refl;
   }
 
   pub unarmed : noticed ≡ true → ReceivesEliciting Known old now number false
-      (record old { required = req; eliciting = count; greatest = Some greatest })
+      (record old { required = req; counts = record old.counts { eliciting = count; greatest = Some greatest } })
   unarmed is = received false (ap not (sym is))
 
   pub armed_now : noticed ≡ false → ReceivesEliciting Known old now number true
-      (record old { required = req; eliciting = count; base = Some now; greatest = Some greatest })
+      (record old {
+        required = req;
+        base = Some now;
+        counts = record old.counts { eliciting = count; greatest = Some greatest };
+      })
   armed_now is = received true (ap not (sym is))
 
 -- what is out of order by one set is so by another, from which the same numbers are missing
-pub out_of_order_by : (A B : ℕ → Type 0)
-    → ((low high : ℕ) (found : Option ℕ) → IsLeastMissing A low high found → IsLeastMissing B low high found)
-    → (threshold : ℕ) (acknowledged : Option ℕ) (before greatest number : ℕ)
+out_of_order_by : {A B : ℕ → Type 0} → ((m : ℕ) → IsMissing A m ↔ IsMissing B m) → (threshold : ℕ)
+    (acknowledged : Option ℕ) (before greatest number : ℕ)
     → IsOutOfOrder A threshold acknowledged before greatest number
     → IsOutOfOrder B threshold acknowledged before greatest number
-out_of_order_by A B missing threshold acknowledged before greatest number (inl one) = inl
-    (one.0, elim one.1 [ inl below ↦ inl below | inr gap ↦ inr (gap.0, missing before number (Some gap.0) gap.1) ])
-out_of_order_by A B missing threshold (Some k) before greatest number (inr more) = inr
-    (more.0, (more.1.0, (more.1.1.0, missing (k - threshold + 1) greatest (Some more.1.1.0) more.1.1.1, more.1.1.2)))
-out_of_order_by A B missing threshold None before greatest number (inr more) = absurd more.1
+out_of_order_by same threshold acknowledged before greatest number (inl one) = inl (
+  one.0,
+  elim one.1 [
+    | inl below ↦ inl below
+    | inr gap ↦ inr (gap.0, least_missing_by _ _ same before number (Some gap.0) gap.1)
+  ],
+)
+out_of_order_by same threshold (Some k) before greatest number (inr more) = inr (
+  more.0,
+  (
+    more.1.0,
+    (
+      more.1.1.0,
+      least_missing_by _ _ same (k - threshold + 1) greatest (Some more.1.1.0) more.1.1.1,
+      more.1.1.2,
+    ),
+  ),
+)
+out_of_order_by same threshold None before greatest number (inr more) = absurd more.1
+
+pub out_of_order_alike : {A B : ℕ → Type 0} → ((m : ℕ) → IsMissing A m ↔ IsMissing B m) → (threshold : ℕ)
+    (acknowledged : Option ℕ) (before greatest number : ℕ)
+    → IsOutOfOrder A threshold acknowledged before greatest number
+    ↔ IsOutOfOrder B threshold acknowledged before greatest number
+out_of_order_alike same threshold acknowledged before greatest number = (
+  out_of_order_by same threshold acknowledged before greatest number,
+  out_of_order_by (λ m. ((same m).1, (same m).0)) threshold acknowledged before greatest number,
+)

@@ -25,5 +25,5 @@ delay_taken = refl
 delay_at_first : own_delay 25_000_000 [] ≡ 25_000_000
 delay_at_first = refl
 
-peer_stays : (frequency_by 25_000_000 log).peer ≡ 25_000_000
+peer_stays : (frequency_by 25_000_000 log).peer_max_ack_delay ≡ 25_000_000
 peer_stays = refl

@@ -6,6 +6,7 @@ use Rattle.std.specs.Prelude.{Bool, IfNone}
 use Rattle.std.specs.Option.{option_to_list}
 use Rattle.recovery_base.specs.Numbers.{With}
 use Rattle.recovery_base.specs.Ranges.{InRanges, AreApart, InsertsOne}
+use Rattle.recovery_base.proofs.WindowLaws.{iff_trans}
 use Rattle.recovery_base.proofs.RangeLaws.{Ranges, in_above, apart_rest}
 use Rattle.recovery_acks.specs.Runs.{EndsRun, Ascend, AtMost, IsInHighest}
 
@@ -111,23 +112,23 @@ highest_rest range others apart size n = (to, λ both. from both.0 both.1)
         ))
 
 -- the highest runs of sets with the same numbers
-pub highest_alike : (A B : ℕ → Type 0) → ((n : ℕ) → A n ↔ B n) → (count n : ℕ) → IsInHighest count A n
-    → IsInHighest count B n
-highest_alike A B alike count n high = (
+highest_to : {A B : ℕ → Type 0} → ((n : ℕ) → A n ↔ B n) → (count n : ℕ) → IsInHighest count A n → IsInHighest count B n
+highest_to alike count n high = (
   (alike n).0 high.0,
   λ numbers up. high.1 numbers (ascend_as 0 0 numbers (omega arith)
       (λ m above both. (both.0, ((alike m).1 both.1.0, λ next. both.1.1 ((alike (m + 1)).0 next)))) up),
 )
 
+pub highest_alike : {A B : ℕ → Type 0} → ((n : ℕ) → A n ↔ B n) → (count n : ℕ)
+    → IsInHighest count A n ↔ IsInHighest count B n
+highest_alike alike count n =
+    (highest_to alike count n, highest_to (λ m. ((alike m).1, (alike m).0)) count n)
+
 -- ---- a number more
 
 module _ {old mid : Ranges} {number : ℕ} {is_new : Bool} (inserted : InsertsOne old number is_new mid) where
   pub inserted_kept : length mid ≤ 64 → (n : ℕ) → InRanges mid n ↔ IsInHighest 64 (With number (InRanges old)) n
-  inserted_kept few n = (
-    λ here. highest_alike (InRanges mid) (With number (InRanges old)) inserted.numbers 64 n
-        ((highest_all mid inserted.apart few n).0 here),
-    λ high. (inserted.numbers n).1 high.0,
-  )
+  inserted_kept few n = iff_trans (highest_all mid inserted.apart few n) (highest_alike inserted.numbers 64 n)
 
   pub inserted_cut : length old ≤ 64 → 64 < length mid → (popped : Option (Range ℕ)) (new : Ranges)
       → mid ≡ option_to_list popped ++ new → IfNone popped (mid ≡ [])
@@ -138,12 +139,7 @@ module _ {old mid : Ranges} {number : ℕ} {is_new : Bool} (inserted : InsertsOn
       let size : length mid ≡ suc (length new) = ap length is in
       let sixty_four : length new ≡ 64 = omega (arith, inserted.count) in
       let numbers : (n : ℕ) → InRanges (range ∷ new) n ↔ With number (InRanges old) n = rw is at inserted.numbers in (
-        λ n. (
-          λ here. highest_alike (InRanges (range ∷ new)) (With number (InRanges old)) numbers 64 n
-              ((highest_rest range new apart sixty_four n).0 here),
-          λ high. (highest_rest range new apart sixty_four n).1 (highest_alike (With number (InRanges old))
-              (InRanges (range ∷ new)) (λ m. ((numbers m).1, (numbers m).0)) 64 n high),
-        ),
+        λ n. iff_trans (highest_rest range new apart sixty_four n) (highest_alike numbers 64 n),
         omega arith,
         apart_rest 0 range new apart,
       )

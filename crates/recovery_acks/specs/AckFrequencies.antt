@@ -1,23 +1,12 @@
 -- How often the peer is asked to acknowledge, and how often it asks (draft-ietf-quic-ack-frequency-04, sections 4 and
 -- 7).
-use Rattle.std.specs.Prelude.{ℕ, ◌≡◌, ◌≢◌, ◌+◌, ◌-◌, ◌*◌, ◌<◌, ◌≤◌, ◌^◌, ◌⊎◌, min, max, Bool, true, false, Option, None, Some, Result, Ok, Err}
+use Rattle.std.specs.Prelude.{ℕ, ◌≡◌, ◌≢◌, ◌+◌, ◌-◌, ◌*◌, ◌<◌, ◌≤◌, ◌^◌, ◌⊎◌, min, max, IsSomeAnd, Bool, true, false, Option, None, Some, Result, Ok, Err}
 use Rattle.std.specs.Int.{abs_diff}
 use lib.Chars.{codes}
 use Rattle.recovery_base.specs.declared.below.frames.AckFrequency.{AckFrequency}
 use Rattle.recovery_base.specs.declared.below.frames.TransportError.{TransportError}
 use Rattle.recovery_acks.specs.declared.frequency.AckFrequencyState.{AckFrequencyState}
 use Rattle.recovery_acks.specs.Acks.{Acks, with_thresholds}
-
-pub record Frequency : Type 0 where
-  -- the ACK_FREQUENCY frame on its way: the number of its packet, and the max_ack_delay that it asks for
-  pub pending : Option (ℕ × ℕ)
-  -- the number of the next frame
-  pub next : ℕ
-  -- the peer's max_ack_delay
-  pub peer : ℕ
-  -- the number of the last frame that came, and the max_ack_delay of this end
-  pub last : Option ℕ
-  pub own : ℕ
 
 abbrev pub delay_or : Option ℕ → ℕ → ℕ
 delay_or None other = other
@@ -33,6 +22,20 @@ least_rtt = 25 * 10 ^ 6
 abbrev pub candidate_delay : Option ℕ → ℕ → ℕ → Option ℕ → ℕ
 candidate_delay configured peer rtt least =
     max (min (delay_or configured peer) (max rtt least_rtt)) (delay_or least 0 * 10 ^ 3)
+
+-- the ACK_FREQUENCY frame on its way: the number of its packet, and the max_ack_delay that it asks for
+abbrev pub pending_of : AckFrequencyState → Option (ℕ × ℕ)
+pending_of state = state.in_flight_ack_frequency_frame
+
+-- the number of the next frame
+abbrev pub next_of : AckFrequencyState → ℕ
+next_of state = state.next_outgoing_sequence_number
+
+abbrev pub with_next : ℕ → AckFrequencyState → AckFrequencyState
+with_next number old = record old { next_outgoing_sequence_number = number }
+
+abbrev pub with_pending : ℕ × ℕ → AckFrequencyState → AckFrequencyState
+with_pending request old = record old { in_flight_ack_frequency_frame = Some request }
 
 -- the delay asked for last
 abbrev pub current_delay : Option (ℕ × ℕ) → ℕ → ℕ
@@ -51,8 +54,7 @@ IsWorthSending next desired current = (next ≡ 0) ⊎ (current < 5 * abs_diff d
 
 -- the frame is no newer than the last (section 4)
 abbrev pub IsStale : Option ℕ → ℕ → Type 0
-IsStale None sequence = ⊥
-IsStale (Some last) sequence = sequence ≤ last
+IsStale last sequence = IsSomeAnd last (λ newest. sequence ≤ newest)
 
 -- the delay that a frame asks for in microseconds
 abbrev pub delay_of : AckFrequency → ℕ
@@ -68,51 +70,34 @@ TellsTooSmall error =
     (error.code ≡ 10)
     × (error.reason.now ≡ codes "Requested Max Ack Delay in ACK_FREQUENCY frame is less than min_ack_delay")
 
-abbrev pub with_last : ℕ → Frequency → Frequency
-with_last sequence old = record old { last = Some sequence }
+abbrev pub with_last : ℕ → AckFrequencyState → AckFrequencyState
+with_last sequence old = record old { last_ack_frequency_frame = Some sequence }
 
 -- a frame is taken: its number and its delay
-abbrev pub with_request : AckFrequency → Frequency → Frequency
-with_request frame old = record old { last = Some frame.sequence; own = delay_of frame }
+abbrev pub with_request : AckFrequency → AckFrequencyState → AckFrequencyState
+with_request frame old =
+    record old { last_ack_frequency_frame = Some frame.sequence; max_ack_delay = delay_of frame }
 
 -- a frame came: a stale one changes nothing, one that asks for too small a delay keeps its number alone
 abbrev pub FrequencyReceived :
-    Frequency → Acks → AckFrequency → Result Bool TransportError → Frequency → Acks → Type 0
+    AckFrequencyState → Acks → AckFrequency → Result Bool TransportError → AckFrequencyState → Acks → Type 0
 FrequencyReceived old acks frame (Ok false) new after =
-    IsStale old.last frame.sequence × (new ≡ old) × (after ≡ acks)
+    IsStale old.last_ack_frequency_frame frame.sequence × (new ≡ old) × (after ≡ acks)
 FrequencyReceived old acks frame (Ok true) new after =
-    (¬ IsStale old.last frame.sequence) × (timer_granularity ≤ delay_of frame) × (new ≡ with_request frame old)
+    (¬ IsStale old.last_ack_frequency_frame frame.sequence) × (timer_granularity ≤ delay_of frame)
+    × (new ≡ with_request frame old)
     × (after ≡ with_thresholds frame.ack_eliciting_threshold frame.reordering_threshold acks)
 FrequencyReceived old acks frame (Err error) new after =
-    (¬ IsStale old.last frame.sequence) × (delay_of frame < timer_granularity) × TellsTooSmall error
+    (¬ IsStale old.last_ack_frequency_frame frame.sequence) × (delay_of frame < timer_granularity) × TellsTooSmall error
     × (new ≡ with_last frame.sequence old) × (after ≡ acks)
 
 -- where a packet held the frame on its way, the peer uses that delay from its acknowledgement on
-abbrev pub AcksPending : ℕ → Option (ℕ × ℕ) → Frequency → Frequency → Type 0
+abbrev pub AcksPending : ℕ → Option (ℕ × ℕ) → AckFrequencyState → AckFrequencyState → Type 0
 AcksPending number None old new = new ≡ old
 AcksPending number (Some request) old new =
-    ((request.0 ≡ number) × (new ≡ record old { pending = None; peer = request.1 }))
+    ((request.0 ≡ number) × (new ≡ record old { in_flight_ack_frequency_frame = None; peer_max_ack_delay = request.1 }))
     ⊎ ((request.0 ≢ number) × (new ≡ old))
 
 -- the packet of a number was acknowledged
-abbrev pub AcksRequest : ℕ → Frequency → Frequency → Type 0
-AcksRequest number old new = AcksPending number old.pending old new
-
--- the parts of a state
-abbrev pub pending_of : AckFrequencyState → Option (ℕ × ℕ)
-pending_of state = state.in_flight_ack_frequency_frame
-
-abbrev pub next_of : AckFrequencyState → ℕ
-next_of state = state.next_outgoing_sequence_number
-
-abbrev pub last_of : AckFrequencyState → Option ℕ
-last_of state = state.last_ack_frequency_frame
-
-abbrev pub view_of : AckFrequencyState → Frequency
-view_of state = record {
-  pending = pending_of state;
-  next = next_of state;
-  peer = state.peer_max_ack_delay;
-  last = last_of state;
-  own = state.max_ack_delay;
-}
+abbrev pub AcksRequest : ℕ → AckFrequencyState → AckFrequencyState → Type 0
+AcksRequest number old new = AcksPending number (pending_of old) old new

@@ -6,23 +6,26 @@ use Rattle.recovery_base.specs.Numbers.{IsLeastMissing, With}
 use Rattle.recovery_base.specs.Ranges.{InRanges, AreApart}
 use Rattle.recovery_acks.specs.Runs.{IsInHighest}
 
-pub record Acks : Type 0 where
-  -- an ACK is required at once
-  pub required : Bool
+-- what decides of the next ACK, besides the numbers that came
+pub record AckCounts : Type 0 where
   -- the ack-eliciting packets, and the others, since the last ACK
   pub eliciting : ℕ
   pub silent : ℕ
   -- the most ack-eliciting packets without an ACK at once, and the reordering threshold
-  pub threshold : ℕ
-  pub reordering : ℕ
-  -- the delay base: when the first ack-eliciting packet since the last ACK came while no ACK could be sent at once
-  pub base : Option ℕ
-  pub ranges : List (Range ℕ)
-  -- the largest packet inserted, with its moment
+  pub thresholds : ℕ × ℕ
+  -- the largest packet that came, with its moment
   pub largest : Option (ℕ × ℕ)
   -- the greatest ack-eliciting number, and that at the last ACK
   pub greatest : Option ℕ
   pub acknowledged : Option ℕ
+
+pub record Acks : Type 0 where
+  -- an ACK is required at once
+  pub required : Bool
+  -- the delay base: when the first ack-eliciting packet since the last ACK came while no ACK could be sent at once
+  pub base : Option ℕ
+  pub ranges : List (Range ℕ)
+  pub counts : AckCounts
 
 -- n is to be acknowledged
 abbrev pub IsPending : Acks → ℕ → Type 0
@@ -30,9 +33,6 @@ IsPending acks n = InRanges acks.ranges n
 
 abbrev pub CanSend : Acks → Type 0
 CanSend acks = IsTrue acks.required × ((n : ℕ) × IsPending acks n)
-
-abbrev pub number_or_zero : Option ℕ → ℕ
-number_or_zero number = unwrap_or number 0
 
 -- one is at most another, where there is one
 abbrev pub IsUpTo : Option ℕ → Option ℕ → Type 0
@@ -49,41 +49,58 @@ most_ranges = 64
 pub record AreAcksSound (acks : Acks) : Type 0 where
   pub ranges : length acks.ranges ≤ most_ranges
   pub apart : AreApart 0 acks.ranges
-  pub noticed : 0 < acks.eliciting → IsSome acks.base ⊎ IsTrue acks.required
-  pub order : IsUpTo acks.acknowledged acks.greatest
+  pub noticed : 0 < acks.counts.eliciting → IsSome acks.base ⊎ IsTrue acks.required
+  pub order : IsUpTo acks.counts.acknowledged acks.counts.greatest
 
-abbrev pub new_acks : List (Range ℕ) → Acks
-new_acks ranges = record {
-  required = false;
-  eliciting = 0;
-  silent = 0;
-  threshold = 1;
-  reordering = 1;
-  base = None;
-  ranges = ranges;
-  largest = None;
-  greatest = None;
-  acknowledged = None;
-}
+-- ---- the counts
 
-abbrev pub with_thresholds : ℕ → ℕ → Acks → Acks
-with_thresholds threshold reordering old = record old { threshold = threshold; reordering = reordering }
-
-abbrev pub with_required : Bool → Acks → Acks
-with_required required old = record old { required = required }
-
--- an ACK was sent
-abbrev pub acks_sent : Acks → Acks
-acks_sent old =
-    record old { required = false; eliciting = 0; silent = 0; base = None; acknowledged = old.greatest }
+-- before anything came
+abbrev pub fresh : AckCounts
+fresh = record { eliciting = 0; silent = 0; thresholds = (1, 1); largest = None; greatest = None; acknowledged = None }
 
 -- counters stop at their greatest value
 abbrev pub counted : ℕ → ℕ
 counted n = min (n + 1) (2 ^ 64 - 1)
 
+-- the largest packet, with its moment, once another came
+abbrev pub largest_with : Option (ℕ × ℕ) → ℕ → ℕ → Option (ℕ × ℕ)
+largest_with None number now = Some (number, now)
+largest_with (Some largest) number now = cond (nat_lt largest.0 number) (Some (number, now)) (Some largest)
+
+-- a number was inserted
+abbrev pub counts_inserted : ℕ → ℕ → AckCounts → AckCounts
+counts_inserted now number counts = record counts { largest = largest_with counts.largest number now }
+
+-- a packet of this number came: one that asks for no ACK is only counted
+abbrev pub counts_received : Bool → ℕ → AckCounts → AckCounts
+counts_received false number counts = record counts { silent = counted counts.silent }
+counts_received true number counts =
+    record counts { eliciting = counted counts.eliciting; greatest = Some (max (unwrap_or counts.greatest 0) number) }
+
+-- an ACK was sent
+abbrev pub counts_acked : AckCounts → AckCounts
+counts_acked counts = record counts { eliciting = 0; silent = 0; acknowledged = counts.greatest }
+
+-- ---- calls that say all
+
+abbrev pub new_acks : List (Range ℕ) → Acks
+new_acks ranges = record { required = false; base = None; ranges = ranges; counts = fresh }
+
+abbrev pub with_counts : AckCounts → Acks → Acks
+with_counts counts old = record old { counts = counts }
+
+abbrev pub with_thresholds : ℕ → ℕ → Acks → Acks
+with_thresholds threshold reordering old = with_counts (record old.counts { thresholds = (threshold, reordering) }) old
+
+abbrev pub with_required : Bool → Acks → Acks
+with_required required old = record old { required = required }
+
+abbrev pub acks_sent : Acks → Acks
+acks_sent old = record old { required = false; base = None; counts = counts_acked old.counts }
+
 -- a packet that asks for no ACK came
 abbrev pub silent_received : Acks → Acks
-silent_received old = record old { silent = counted old.silent }
+silent_received old = with_counts (counts_received false 0 old.counts) old
 
 -- above the numbers that the last ACK lets the peer call lost, the least one missing lies a threshold below the
 -- greatest
@@ -99,43 +116,38 @@ IsOutOfOrder Known threshold acknowledged before greatest number =
     ((threshold ≡ 1) × ((number < before) ⊎ ((m : ℕ) × IsLeastMissing Known before number (Some m))))
     ⊎ ((1 < threshold) × IsReported Known threshold greatest acknowledged)
 
+-- an ack-eliciting packet asks for an ACK at once: with it more came since the last ACK than may, or it is out of
+-- order; these are the counts before it, and the numbers known with it
+abbrev pub AsksAtOnce : (ℕ → Type 0) → AckCounts → ℕ → Type 0
+AsksAtOnce Known counts number =
+    let before = unwrap_or counts.greatest 0 in
+    (counts.thresholds.0 < counted counts.eliciting)
+    ⊎ IsOutOfOrder Known counts.thresholds.1 counts.acknowledged before (max before number) number
+
 -- an ack-eliciting packet came
 pub record ReceivesEliciting (Known : ℕ → Type 0) (old : Acks) (now number : ℕ) (arm : Bool) (new : Acks) : Type 0 where
-  pub greatest : new.greatest ≡ Some (max (number_or_zero old.greatest) number)
-  pub eliciting : new.eliciting ≡ counted old.eliciting
-  pub required : IsTrue new.required
-      ↔ (IsTrue old.required ⊎ ((old.threshold < new.eliciting) ⊎ IsOutOfOrder Known old.reordering old.acknowledged
-      (number_or_zero old.greatest) (number_or_zero new.greatest) number))
+  pub counts : new.counts ≡ counts_received true number old.counts
+  pub required : IsTrue new.required ↔ (IsTrue old.required ⊎ AsksAtOnce Known old.counts number)
   pub armed : IsTrue arm ↔ ((old.base ≡ None) × ¬ CanSend new)
   pub base : new.base ≡ cond arm (Some now) old.base
-  pub others : (new.silent ≡ old.silent) × (new.threshold ≡ old.threshold) × (new.reordering ≡ old.reordering)
-      × (new.ranges ≡ old.ranges) × (new.largest ≡ old.largest) × (new.acknowledged ≡ old.acknowledged)
+  pub ranges : new.ranges ≡ old.ranges
 
 -- a packet came: whether it asks for an ACK, and whether the delay timer is to be armed
 abbrev pub Receives : (ℕ → Type 0) → Acks → ℕ → ℕ → Bool → Bool → Acks → Type 0
 Receives Known old now number true arm new = ReceivesEliciting Known old now number arm new
 Receives Known old now number false arm new = (arm ≡ false) × (new ≡ silent_received old)
 
--- the largest packet, with its moment, once another came
-abbrev pub largest_with : Option (ℕ × ℕ) → ℕ → ℕ → Option (ℕ × ℕ)
-largest_with None number now = Some (number, now)
-largest_with (Some largest) number now = cond (nat_lt largest.0 number) (Some (number, now)) (Some largest)
-
 -- a number is to be acknowledged; the highest runs stay, as many as are kept
 pub record AddsPending (old : Acks) (number now : ℕ) (new : Acks) : Type 0 where
   pub pending : (n : ℕ) → IsPending new n ↔ IsInHighest most_ranges (With number (IsPending old)) n
   pub some : (n : ℕ) × IsPending new n
-  pub largest : new.largest ≡ largest_with old.largest number now
-  pub others : (new.required ≡ old.required) × (new.eliciting ≡ old.eliciting) × (new.silent ≡ old.silent)
-      × (new.threshold ≡ old.threshold) × (new.reordering ≡ old.reordering) × (new.base ≡ old.base)
-      × (new.greatest ≡ old.greatest) × (new.acknowledged ≡ old.acknowledged)
+  pub counts : new.counts ≡ counts_inserted now number old.counts
+  pub others : (new.required ≡ old.required) × (new.base ≡ old.base)
 
 -- the peer knows of the ACKs up to a number
 pub record SubtractsBelow (old : Acks) (last : ℕ) (new : Acks) : Type 0 where
   pub pending : (n : ℕ) → IsPending new n ↔ (IsPending old n × (last < n))
-  pub others : (new.required ≡ old.required) × (new.eliciting ≡ old.eliciting) × (new.silent ≡ old.silent)
-      × (new.threshold ≡ old.threshold) × (new.reordering ≡ old.reordering) × (new.base ≡ old.base)
-      × (new.largest ≡ old.largest) × (new.greatest ≡ old.greatest) × (new.acknowledged ≡ old.acknowledged)
+  pub others : (new.required ≡ old.required) × (new.base ≡ old.base) × (new.counts ≡ old.counts)
 
 -- how long ago the largest packet came
 abbrev pub delay_at : ℕ → Option (ℕ × ℕ) → ℕ

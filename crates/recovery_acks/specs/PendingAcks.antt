@@ -5,13 +5,14 @@ use Rattle.recovery_acks.specs.declared.pending.PendingAcks.TheInside.{Inside}
 abbrev pub acks_in : Inside → Acks
 acks_in acks = record {
   required = acks.immediate_ack_required;
-  eliciting = acks.ack_eliciting_since_last_ack_sent;
-  silent = acks.non_ack_eliciting_since_last_ack_sent;
-  threshold = acks.ack_eliciting_threshold;
-  reordering = acks.reordering_threshold;
   base = acks.earliest_ack_eliciting_since_last_ack_sent;
   ranges = acks.ranges;
-  largest = acks.largest_packet;
-  greatest = acks.largest_ack_eliciting_packet;
-  acknowledged = acks.largest_acked;
+  counts = record {
+    eliciting = acks.ack_eliciting_since_last_ack_sent;
+    silent = acks.non_ack_eliciting_since_last_ack_sent;
+    thresholds = (acks.ack_eliciting_threshold, acks.reordering_threshold);
+    largest = acks.largest_packet;
+    greatest = acks.largest_ack_eliciting_packet;
+    acknowledged = acks.largest_acked;
+  };
 }

@@ -1,6 +1,6 @@
 //! How often the peer is asked to acknowledge, and how often it asks (draft-ietf-quic-ack-frequency-04).
 ghost use Rattle.std.specs.Prelude.{◌≡◌, ◌<◌, ◌≤◌, ◌^◌, ◌+◌, [], min, max, Decides, MatchOption, Some, None};
-ghost use Rattle.recovery_acks.specs.AckFrequencies.{pending_of, next_of, candidate_delay, current_delay, longest_delay, IsWorthSending, FrequencyReceived, AcksRequest, view_of};
+ghost use Rattle.recovery_acks.specs.AckFrequencies.{pending_of, next_of, candidate_delay, current_delay, longest_delay, IsWorthSending, FrequencyReceived, AcksRequest, with_next, with_pending};
 ghost use Rattle.recovery_acks.specs.RequestLog.{frequency_by};
 
 use crate::PendingAcks;
@@ -30,7 +30,7 @@ pub struct AckFrequencyState {
 impl AckFrequencyState {
     /// Nothing was asked yet; both delays are this one.
     pub fn new(default_max_ack_delay: Duration) -> Self
-        ensures { view_of result ≡ frequency_by default_max_ack_delay [] }
+        ensures { result ≡ frequency_by default_max_ack_delay [] }
     {
         AckFrequencyState {
             in_flight_ack_frequency_frame: None,
@@ -79,7 +79,7 @@ impl AckFrequencyState {
         ensures number { MatchOption result (2 ^ 62 ≤ next_of self.old)
             (λ number. number ≡ next_of self.old) }
         ensures next { MatchOption result (self.new ≡ self.old)
-            (λ number. view_of self.new ≡ record (view_of self.old) { next = number + 1 }) }
+            (λ number. self.new ≡ with_next (number + 1) self.old) }
     {
         match VarInt::from_u64(self.next_outgoing_sequence_number) {
             Ok(number) => {
@@ -118,15 +118,14 @@ impl AckFrequencyState {
 
     /// A packet with a request went out.
     pub fn ack_frequency_sent(&mut self, pn: u64, requested_max_ack_delay: Duration)
-        ensures { view_of self.new
-            ≡ record (view_of self.old) { pending = Some (pn, requested_max_ack_delay) } }
+        ensures { self.new ≡ with_pending (pn, requested_max_ack_delay) self.old }
     {
         self.in_flight_ack_frequency_frame = Some((pn, requested_max_ack_delay));
     }
 
     /// A packet was acknowledged: where it held the request on its way, the peer uses that delay from now on.
     pub fn on_acked(&mut self, pn: u64)
-        ensures { AcksRequest pn (view_of self.old) (view_of self.new) }
+        ensures { AcksRequest pn self.old self.new }
     {
         if let Some((number, requested)) = self.in_flight_ack_frequency_frame {
             if number == pn {
@@ -144,8 +143,8 @@ impl AckFrequencyState {
         frame: &AckFrequency,
         pending_acks: &mut PendingAcks,
     ) -> Result<bool, TransportError>
-        ensures { FrequencyReceived (view_of self.old) pending_acks.old frame.now result
-            (view_of self.new) pending_acks.new }
+        ensures { FrequencyReceived self.old pending_acks.old frame.now result
+            self.new pending_acks.new }
     {
         let sequence = frame.sequence.into_inner();
         if let Some(last) = self.last_ack_frequency_frame {

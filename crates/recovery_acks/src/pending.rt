@@ -87,7 +87,7 @@ impl PendingAcks {
 
     /// The longest delay is over: an ACK is required at once exactly where an ack-eliciting packet came since the last one.
     pub fn on_max_ack_delay_timeout(&mut self)
-        ensures requires_one { self.new ≡ with_required (nat_lt 0 self.old.eliciting) self.old }
+        ensures requires_one { self.new ≡ with_required (nat_lt 0 self.old.counts.eliciting) self.old }
         ensures sound { AreAcksSound self.new }
     {
         self.immediate_ack_required = self.ack_eliciting_since_last_ack_sent > 0;
@@ -120,7 +120,7 @@ impl PendingAcks {
 
     /// How long ago the largest packet came; zero before the first.
     pub fn ack_delay(&self, now: Instant) -> Duration
-        ensures { result ≡ delay_at now self.now.largest }
+        ensures { result ≡ delay_at now self.now.counts.largest }
     {
         match self.largest_packet {
             Some((_, received)) => now - received,
@@ -137,12 +137,12 @@ impl PendingAcks {
         dedup: &Dedup,
     ) -> bool
         requires number { HasReached (Has dedup.now) packet_number }
-        requires earlier { IfSome self.old.greatest (HasReached (Has dedup.now)) }
+        requires earlier { IfSome self.old.counts.greatest (HasReached (Has dedup.now)) }
         ensures receives { Receives (Has dedup.now) self.old now packet_number ack_eliciting
             result self.new }
         ensures noticed { IsTrue ack_eliciting → IsSome self.new.base ⊎ IsTrue self.new.required }
         ensures within_threshold { IsTrue ack_eliciting → ¬ IsTrue self.new.required
-            → self.new.eliciting ≤ self.new.threshold }
+            → self.new.counts.eliciting ≤ self.new.counts.thresholds.0 }
         ensures sound { AreAcksSound self.new }
     {
         if !ack_eliciting {
@@ -223,8 +223,8 @@ impl PendingAcks {
     ///
     /// To be called where a packet is sent anyway.
     pub fn maybe_ack_non_eliciting(&mut self)
-        ensures many { 10 < self.old.silent → self.new ≡ with_required true self.old }
-        ensures few { self.old.silent ≤ 10 → self.new ≡ self.old }
+        ensures many { 10 < self.old.counts.silent → self.new ≡ with_required true self.old }
+        ensures few { self.old.counts.silent ≤ 10 → self.new ≡ self.old }
         ensures sound { AreAcksSound self.new }
     {
         if self.non_ack_eliciting_since_last_ack_sent > LAZY_ACK_THRESHOLD {

@@ -5,7 +5,7 @@ use Rattle.std.proofs.lemmas.Bool.{cases_lt}
 use Rattle.recovery_base.specs.declared.dedup.Dedup.{Dedup}
 use Rattle.recovery_base.specs.Numbers.{IsMissing, IsLeastMissing, Recent, With, Exceeds}
 use Rattle.recovery_base.specs.Received.{Has}
-use Rattle.recovery_base.proofs.WindowLaws.{HasGreatest, greatest_with, missing_with, window_known}
+use Rattle.recovery_base.proofs.WindowLaws.{HasGreatest, greatest_with, window_known}
 
 -- sets from which the same numbers are missing
 pub least_missing_by : (A B : ℕ → Type 0) → ((m : ℕ) → IsMissing A m ↔ IsMissing B m)
@@ -14,34 +14,11 @@ least_missing_by A B same low high None none = λ m above below missing. none m 
 least_missing_by A B same low high (Some n) least =
     (least.0, least.1, (same n).0 least.2, λ m above below missing. least.3 m above below ((same m).1 missing))
 
--- Known has what is left of Numbers
-module _ (Numbers Known : ℕ → Type 0) (has_greatest : HasGreatest Numbers) (left : (q : ℕ) → Known q ↔ Recent Numbers q)
-  where
-    missing_left : (m : ℕ) → IsMissing Known m ↔ IsMissing Numbers m
-    missing_left m = grind (arith, left m, window_known Numbers Known has_greatest left m)
-
-    pub least_missing_left : (low high : ℕ) (found : Option ℕ) → IsLeastMissing Known low high found
-        → IsLeastMissing Numbers low high found
-    least_missing_left = least_missing_by Known Numbers missing_left
-
-    pub least_missing_cut : (low high : ℕ) (found : Option ℕ) → IsLeastMissing Numbers low high found
-        → IsLeastMissing Known low high found
-    least_missing_cut = least_missing_by Numbers Known (λ m. grind (arith, missing_left m))
-
-    -- the same with one number more
-    pub least_missing_with : (n low high : ℕ) (found : Option ℕ) → IsLeastMissing (With n Known) low high found
-        → IsLeastMissing (With n Numbers) low high found
-    least_missing_with n =
-        least_missing_by (With n Known) (With n Numbers) (missing_with Numbers Known has_greatest left n)
-
-    pub least_missing_back : (n low high : ℕ) (found : Option ℕ) → IsLeastMissing (With n Numbers) low high found
-        → IsLeastMissing (With n Known) low high found
-    least_missing_back n =
-        least_missing_by (With n Numbers) (With n Known) (λ m. grind (
-          arith,
-          missing_with Numbers Known has_greatest
-              left n m,
-        ))
+-- from what is left of a set the same are
+pub missing_left : (Numbers Known : ℕ → Type 0) → HasGreatest Numbers → ((q : ℕ) → Known q ↔ Recent Numbers q)
+    → (m : ℕ) → IsMissing Known m ↔ IsMissing Numbers m
+missing_left Numbers Known has_greatest left m =
+    grind (arith, left m, window_known Numbers Known has_greatest left m)
 
 -- ---- numbers that were reached
 

@@ -1,13 +1,14 @@
 -- The packet number spaces (RFC 9000, 12.3).
-use Rattle.std.specs.Prelude.{ℕ, ◌==◌, Bool}
+use Rattle.std.specs.Prelude.{ℕ, Bool}
+use denote.Enum.Bare.{sameb}
+use denote.Enum.Declared.{tag_of}
+use Rattle.recovery_base.specs.contracts.below.SpaceId.{the_type}
 use Rattle.recovery_base.specs.declared.below.SpaceId.{SpaceId}
-use Rattle.recovery_base.specs.declared.below.SpaceId.TheVariants.{Initial, Handshake, Data}
 
--- a space's place in the order of a handshake
-abbrev pub space_index : SpaceId → ℕ
-space_index Initial = 0
-space_index Handshake = 1
-space_index Data = 2
-
+-- `==` of spaces
 abbrev pub same_space : SpaceId → SpaceId → Bool
-same_space space other = space_index space == space_index other
+same_space = sameb the_type
+
+-- a space's place in the order of a handshake, which is that of the enum: Initial 0, Handshake 1, Data 2
+abbrev pub space_index : SpaceId → ℕ
+space_index = tag_of the_type

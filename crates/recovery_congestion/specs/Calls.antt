@@ -1,24 +1,20 @@
--- What a controller was told, and the content that this leaves (RFC 9002, 7 and appendix B).
-use Rattle.std.specs.Prelude.{ℕ, Bool, List, [], ◌∷◌, Option}
+-- What a controller is told (RFC 9002, 7 and appendix B).
+use Rattle.std.specs.Prelude.{ℕ, ◌<◌, ⊤, Bool, Option}
 use Rattle.recovery_congestion.specs.Rtt.{Rtt}
-use Rattle.recovery_congestion.specs.Controllers.{ControllerWords}
 
 pub data ControllerCall : Type 0 where
+  -- packets went out, up to this number
   sends : (now bytes number : ℕ) → ControllerCall
+  -- a packet is acknowledged that was sent at a moment; whether the application limits
   acks : (now sent bytes : ℕ) (limited : Bool) (rtt : Rtt) → ControllerCall
+  -- all packets of one ACK were told, with the bytes in flight and the largest number acknowledged
   ends_acks : (now in_flight : ℕ) (limited : Bool) (largest : Option ℕ) → ControllerCall
+  -- packets were lost, the last of them sent at a moment, or marked; whether the congestion is persistent
   congests : (now sent : ℕ) (persistent : Bool) (lost : ℕ) → ControllerCall
+  -- the MTU changes
   takes_mtu : (mtu : ℕ) → ControllerCall
 
--- the content after a call
-abbrev pub told : {K : Type 0} → ControllerWords K → ControllerCall → K → K
-told words (sends now bytes number) k = words.on_sent now bytes number k
-told words (acks now sent bytes limited rtt) k = words.on_ack now sent bytes limited rtt k
-told words (ends_acks now in_flight limited largest) k = words.on_end_acks now in_flight limited largest k
-told words (congests now sent persistent lost) k = words.on_congestion_event now sent persistent lost k
-told words (takes_mtu mtu) k = words.on_mtu_update mtu k
-
--- the content after calls, the newest first, from the content that was built
-abbrev pub content_by : {K : Type 0} → ControllerWords K → K → List ControllerCall → K
-content_by words built [] = built
-content_by words built (call ∷ earlier) = told words call (content_by words built earlier)
+-- MTUs are above zero
+abbrev pub IsPositive : ControllerCall → Type 0
+IsPositive (takes_mtu mtu) = 0 < mtu
+IsPositive call = ⊤

@@ -4,6 +4,7 @@ use Rattle.std.specs.Prelude.{ℕ, ◌≡◌, ◌+◌, ◌-◌, ◌*◌, ◌/◌
 use Rattle.recovery_congestion.specs.declared.congestion.ControllerMetrics.{ControllerMetrics}
 use Rattle.recovery_congestion.specs.declared.congestion.new_reno.NewReno.{NewReno}
 use Rattle.recovery_congestion.specs.RenoSettings.{RenoSettings}
+use Rattle.recovery_congestion.specs.Calls.{ControllerCall, acks, congests, takes_mtu}
 use Rattle.recovery_congestion.specs.Controllers.{ControllerWords}
 
 -- the greatest number of 64 bits
@@ -87,13 +88,15 @@ reno_metrics reno = record { congestion_window = reno.window; ssthresh = Some re
 abbrev pub IsRenoSound : NewReno → Type 0
 IsRenoSound reno = (0 < reno.window) × (0 < reno.current_mtu)
 
+abbrev pub reno_after : ControllerCall → NewReno → NewReno
+reno_after (acks now sent bytes limited rtt) reno = reno_acked sent bytes limited reno
+reno_after (congests now sent persistent lost) reno = reno_congested now sent persistent reno
+reno_after (takes_mtu mtu) reno = reno_with_mtu mtu reno
+reno_after call reno = reno
+
 abbrev pub reno_words : ControllerWords NewReno
 reno_words = record {
-  on_sent = λ now bytes number reno. reno;
-  on_ack = λ now sent bytes limited rtt reno. reno_acked sent bytes limited reno;
-  on_end_acks = λ now in_flight limited largest reno. reno;
-  on_congestion_event = λ now sent persistent lost reno. reno_congested now sent persistent reno;
-  on_mtu_update = reno_with_mtu;
+  after = reno_after;
   window = λ reno. reno.window;
   metrics = reno_metrics;
   initial = λ reno. reno.config.initial_window;

@@ -2,6 +2,7 @@
 use Rattle.std.specs.Prelude.{ℕ, ◌-◌, ◌*◌, ◌/◌, ◌<◌, min, max, Bool, true, false, nat_le, nat_lt, if◌then◌else◌}
 use Rattle.std.proofs.Common.{arith}
 use Rattle.recovery_congestion.specs.declared.congestion.new_reno.NewReno.{NewReno}
+use Rattle.recovery_congestion.specs.Calls.{ControllerCall, acks, congests, takes_mtu, IsPositive}
 use Rattle.recovery_congestion.specs.Controllers.{ControllerLaws}
 use Rattle.recovery_congestion.specs.NewReno.{most, sum_to_most, is_ignored, slow_started, avoided, reno_grown, reno_acked, reno_recovering, reno_congested, IsRenoSound, reno_words}
 
@@ -41,12 +42,12 @@ sound-congested now sent persistent reno sound =
       )
     ]
 
+sound-after : (call : ControllerCall) (reno : NewReno) → IsPositive call → IsRenoSound reno
+    → IsRenoSound (reno_words.after call reno)
+sound-after (acks now sent bytes limited rtt) reno positive sound = sound-acked sent bytes limited reno sound
+sound-after (congests now sent persistent lost) reno positive sound = sound-congested now sent persistent reno sound
+sound-after (takes_mtu mtu) reno positive sound = (omega (arith, sound.0), positive)
+sound-after call reno positive sound = sound
+
 pub reno_laws : ControllerLaws reno_words IsRenoSound
-reno_laws = record {
-  on_sent = λ now bytes number reno sound. sound;
-  on_ack = λ now sent bytes limited rtt reno sound. sound-acked sent bytes limited reno sound;
-  on_end_acks = λ now in_flight limited largest reno sound. sound;
-  on_congestion_event = λ now sent persistent lost reno sound. sound-congested now sent persistent reno sound;
-  on_mtu_update = λ mtu reno positive sound. (omega (arith, sound.0), positive);
-  window = λ reno sound. sound.0;
-}
+reno_laws = record { after = sound-after; window = λ reno sound. sound.0 }

@@ -1,6 +1,6 @@
 -- The estimate of the round-trip time, in nanoseconds (RFC 9002, 5).
 use Rattle.std.specs.Prelude.{ℕ, ◌≡◌, ◌+◌, ◌-◌, ◌*◌, ◌/◌, ◌≤◌, ◌^◌, min, max, List, [], ◌∷◌, Option, None, Some, nat_le, if◌then◌else◌}
-use Rattle.std.specs.Option.{unwrap_or}
+use Rattle.std.specs.Option.{option_map_or, unwrap_or}
 use Rattle.std.specs.Int.{abs_diff}
 use Rattle.recovery_base.specs.Times.{longest_span}
 
@@ -21,25 +21,17 @@ rtt_made initial = record { latest = initial; smoothed = None; variance = initia
 abbrev pub adjusted_rtt : ℕ → ℕ → ℕ → ℕ
 adjusted_rtt least delay sample = if nat_le (least + delay) sample then sample - delay else sample
 
--- an adjusted sample moves the smoothed value by an eighth, and the variance by a quarter
-abbrev pub rtt_moved : ℕ → ℕ → ℕ → Rtt → Rtt
-rtt_moved adjusted sample smoothed old = record {
-  latest = sample;
-  smoothed = Some ((7 * smoothed + adjusted) / 8);
-  variance = (3 * old.variance + abs_diff smoothed adjusted) / 4;
-  least = min old.least sample;
-}
-
--- the first sample is taken as it is; a later one without the delay of its ACK
-abbrev pub rtt_sampled : ℕ → ℕ → Option ℕ → Rtt → Rtt
-rtt_sampled delay sample None old =
-    record { latest = sample; smoothed = Some sample; variance = sample / 2; least = sample }
-rtt_sampled delay sample (Some smoothed) old =
-    rtt_moved (adjusted_rtt (min old.least sample) delay sample) sample smoothed old
-
--- after a sample, whose ACK was delayed (RFC 9002, 5.3)
+-- after a sample, whose ACK was delayed (RFC 9002, 5.3): the first one is taken as it is; a later one, without that
+-- delay, moves the smoothed value by an eighth, and the variance by a quarter
 abbrev pub rtt_updated : ℕ → ℕ → Rtt → Rtt
-rtt_updated delay sample old = rtt_sampled delay sample old.smoothed old
+rtt_updated delay sample old =
+    let first : Rtt = record { latest = sample; smoothed = Some sample; variance = sample / 2; least = sample } in
+    let adjusted = adjusted_rtt (min old.least sample) delay sample in
+    option_map_or (λ smoothed. record first {
+      smoothed = Some ((7 * smoothed + adjusted) / 8);
+      variance = (3 * old.variance + abs_diff smoothed adjusted) / 4;
+      least = min old.least sample;
+    }) old.smoothed first
 
 -- after samples, each the delay of its ACK and the time measured, the newest first
 abbrev pub rtt_by : ℕ → List (ℕ × ℕ) → Rtt

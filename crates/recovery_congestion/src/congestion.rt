@@ -1,5 +1,6 @@
 //! Congestion controllers and their factories, with their laws (RFC 9002, 7).
 ghost use Rattle.std.specs.Prelude.{◌≡◌, ℕ, ◌<◌, IfOk};
+ghost use Rattle.recovery_congestion.specs.Calls.{sends, acks, ends_acks, congests, takes_mtu};
 ghost use Rattle.recovery_congestion.specs.Controllers.{ControllerWords, ControllerLaws};
 
 use crate::rtt::RttEstimator;
@@ -39,7 +40,7 @@ pub trait Controller: Sized {
 
     /// Packets went out: how many bytes, up to which number.
     fn on_sent(&mut self, now: Instant, bytes: u64, last_packet_number: u64)
-        ensures { content self.new ≡ words.on_sent now bytes last_packet_number (content self.old) };
+        ensures { content self.new ≡ words.after (sends now bytes last_packet_number) (content self.old) };
 
     /// A packet was acknowledged: when it was sent, its bytes, and whether the sender was limited by the application
     /// and not by the window (RFC 9002, 7.8).
@@ -52,7 +53,7 @@ pub trait Controller: Sized {
         rtt: &RttEstimator,
     )
         ensures { content self.new
-            ≡ words.on_ack now sent bytes app_limited rtt.now (content self.old) };
+            ≡ words.after (acks now sent bytes app_limited rtt.now) (content self.old) };
 
     /// All packets of one ACK were told, with the bytes still in flight and the largest number acknowledged.
     fn on_end_acks(
@@ -63,7 +64,7 @@ pub trait Controller: Sized {
         largest_packet_num_acked: Option<u64>,
     )
         ensures { content self.new
-            ≡ words.on_end_acks now in_flight app_limited largest_packet_num_acked (content self.old) };
+            ≡ words.after (ends_acks now in_flight app_limited largest_packet_num_acked) (content self.old) };
 
     /// Packets were lost, or marked by ECN: when the last of them was sent, whether the congestion is persistent
     /// (RFC 9002, 7.6), and the bytes lost, none for ECN.
@@ -75,11 +76,11 @@ pub trait Controller: Sized {
         lost_bytes: u64,
     )
         ensures { content self.new
-            ≡ words.on_congestion_event now sent is_persistent_congestion lost_bytes (content self.old) };
+            ≡ words.after (congests now sent is_persistent_congestion lost_bytes) (content self.old) };
 
     /// The path's MTU changed, in bytes.
     fn on_mtu_update(&mut self, new_mtu: u16)
-        ensures { content self.new ≡ words.on_mtu_update new_mtu (content self.old) };
+        ensures { content self.new ≡ words.after (takes_mtu new_mtu) (content self.old) };
 
     /// How many bytes may be in flight.
     fn window(&self) -> u64

@@ -1,5 +1,6 @@
 -- The congestion controllers that a setting chooses between: each call is that of the chosen one.
 use Rattle.std.specs.Prelude.{◌≡◌, ℕ, ◌<◌, None, refl}
+use Rattle.recovery_congestion.specs.Calls.{ControllerCall, IsPositive}
 use Rattle.recovery_congestion.specs.Controllers.{ControllerWords, ControllerLaws}
 use Rattle.recovery_congestion.specs.NewReno.{reno_made, reno_words, IsRenoSound}
 use Rattle.recovery_congestion.specs.RenoLaws.{reno_laws}
@@ -33,11 +34,7 @@ initial_of (Fixed window) = window
 
 abbrev pub chosen_words : ControllerWords Chosen
 chosen_words = record {
-  on_sent = λ now bytes number. on_reno (reno_words.on_sent now bytes number);
-  on_ack = λ now sent bytes limited rtt. on_reno (reno_words.on_ack now sent bytes limited rtt);
-  on_end_acks = λ now in_flight limited largest. on_reno (reno_words.on_end_acks now in_flight limited largest);
-  on_congestion_event = λ now sent persistent lost. on_reno (reno_words.on_congestion_event now sent persistent lost);
-  on_mtu_update = λ mtu. on_reno (reno_words.on_mtu_update mtu);
+  after = λ call. on_reno (reno_words.after call);
   window = window_of;
   metrics = metrics_of;
   initial = initial_of;
@@ -47,29 +44,17 @@ abbrev pub IsChosenSound : Chosen → Type 0
 IsChosenSound (Reno reno) = IsRenoSound reno
 IsChosenSound (Fixed window) = 0 < window
 
-kept : (change : NewReno → NewReno) → ((reno : NewReno) → IsRenoSound reno → IsRenoSound (change reno))
-    → (chosen : Chosen) → IsChosenSound chosen → IsChosenSound (on_reno change chosen)
-kept change keeps (Reno reno) sound = keeps reno sound
-kept change keeps (Fixed window) sound = sound
+kept : (call : ControllerCall) (chosen : Chosen) → IsPositive call → IsChosenSound chosen
+    → IsChosenSound (on_reno (reno_words.after call) chosen)
+kept call (Reno reno) positive sound = reno_laws.after call reno positive sound
+kept call (Fixed window) positive sound = sound
 
 positive : (chosen : Chosen) → IsChosenSound chosen → 0 < window_of chosen
 positive (Reno reno) sound = reno_laws.window reno sound
 positive (Fixed window) sound = sound
 
 pub chosen_laws : ControllerLaws chosen_words IsChosenSound
-chosen_laws = record {
-  on_sent = λ now bytes number. kept (reno_words.on_sent now bytes number) (reno_laws.on_sent now bytes number);
-  on_ack = λ now sent bytes limited rtt.
-      kept (reno_words.on_ack now sent bytes limited rtt) (reno_laws.on_ack now sent bytes limited rtt);
-  on_end_acks = λ now in_flight limited largest.
-      kept (reno_words.on_end_acks now in_flight limited largest) (reno_laws.on_end_acks now in_flight limited largest);
-  on_congestion_event = λ now sent persistent lost.
-      kept (reno_words.on_congestion_event now sent persistent lost)
-      (reno_laws.on_congestion_event now sent persistent lost);
-  on_mtu_update = λ mtu chosen above sound.
-      kept (reno_words.on_mtu_update mtu) (λ reno. reno_laws.on_mtu_update mtu reno above) chosen sound;
-  window = positive;
-}
+chosen_laws = record { after = kept; window = positive }
 
 pub chosen_starts : (factory : ChosenConfig) (now mtu : ℕ)
     → window_of (chosen_made factory now mtu) ≡ initial_of (chosen_made factory now mtu)

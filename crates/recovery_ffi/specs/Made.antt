@@ -1,10 +1,10 @@
 -- What is made.
-use Rattle.std.specs.Prelude.{◌≡◌, ℕ, Bool, true, false, List, Option, Some, None}
+use Rattle.std.specs.Prelude.{◌≡◌, ℕ, Bool, true, false, List, [], Option, Some, None}
 use Rattle.std.specs.declared.net.socket_addr.SocketAddr.{SocketAddr}
 use Rattle.recovery_ffi.specs.declared.controllers.ChosenConfig.{ChosenConfig}
 use Rattle.rand_core.specs.Stream.{Stream}
 use Rattle.quic_recovery.specs.State.{parts_of}
-use Rattle.quic_recovery.specs.Past.{Came, no_past}
+use Rattle.quic_recovery.specs.Past.{Came}
 use Rattle.quic_recovery.specs.declared.driver.RecoveryConfig.{RecoveryConfig}
 use Rattle.recovery_ffi.specs.Codes.{IsAt}
 use Rattle.recovery_ffi.specs.declared.codes.Address.{Address}
@@ -14,7 +14,7 @@ use Rattle.recovery_ffi.specs.Settings.{config_of, words_of, beginning}
 
 -- a recovery to which nothing has happened yet
 abbrev pub IsFresh : RecoveryConfig ChosenConfig → ℕ → Stream → Stack → Type 0
-IsFresh config now words stack = Came (beginning config now words) no_past (parts_of stack.recovery.recovery)
+IsFresh config now words stack = Came (beginning config now words) [] (parts_of stack.recovery.recovery)
 
 pub record Made (settings : Settings) (given : Address) (cid : List ℕ) (now : ℕ) (in_handle : Option Stack)
     : Type 0 where

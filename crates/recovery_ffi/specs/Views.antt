@@ -99,7 +99,7 @@ ids_shown parts = record {
   active = active_of parts.remote_cids;
   issued = parts.local_ids.issued;
   retire_prior_to = parts.local_ids.retire_prior_to;
-  max_ack_delay = nanos_shown parts.frequency.own;
+  max_ack_delay = nanos_shown parts.frequency.max_ack_delay;
 }
 
 -- items are counted, and written in front where there is room for all; what lies behind them stays

@@ -1,46 +1,12 @@
 -- Deadlines with equal moments. `StateLaws` rest on it.
-use Rattle.std.proofs.Common.{◌≡◌, ℕ, zero, suc, ◌+◌, ◌<◌, nat_eq, cond, List, [], ◌∷◌, ◌++◌, length, map, take, get_or, Option, None, Some, refl, ◌∙◌, arith}
-use Rattle.std.specs.List.{range_with_len}
+use Rattle.std.proofs.Common.{◌≡◌, ℕ, zero, suc, ◌+◌, ◌<◌, nat_eq, cond, List, [], ◌∷◌, length, map, take, get_or, Option, None, Some, refl, arith}
 use Rattle.std.proofs.lemmas.Bool.Decides.{nat_tests}
-use Rattle.recovery_ids.specs.LocalIds.{without_last_at, with_deadline, deadlines_with, deadlines_with_last, deadlines_with_each, Rise}
+use Rattle.recovery_ids.specs.LocalIds.{without_last_at, with_deadline, deadlines_with, deadlines_with_last, Rise}
 use Rattle.recovery_ids.specs.declared.state.CidTimestamp.{CidTimestamp}
 use Rattle.recovery_ids.proofs.RiseLaws.{Rise-wider}
 
 abbrev made : ℕ → ℕ → CidTimestamp
 made number moment = record { sequence = number; timestamp = moment }
-
-without_last_at-end : (moment : ℕ) (front : List CidTimestamp) (last : CidTimestamp) →
-    without_last_at moment (front ++ last ∷ []) ≡ cond (nat_eq last.timestamp moment) front (front ++ last ∷ [])
-without_last_at-end moment [] last = refl
-without_last_at-end moment (first ∷ []) last = grind (arith, nat_tests)
-without_last_at-end moment (first ∷ next ∷ later) last =
-    grind (arith, nat_tests, without_last_at-end moment (next ∷ later) last)
-
--- a second deadline with the same moment takes the first one's place
-deadlines_with-again : (lifetime : Option ℕ) (now first number : ℕ) (deadlines : List CidTimestamp) →
-    deadlines_with lifetime now number (deadlines_with lifetime now first deadlines) ≡ deadlines_with lifetime now
-    number deadlines
-deadlines_with-again None now first number deadlines = refl
-deadlines_with-again (Some lifetime) now first number deadlines =
-    let moment = now + lifetime in
-    grind (arith, nat_tests, without_last_at-end moment (without_last_at moment deadlines) (made first moment))
-
--- deadlines for each number of a run, all made at one moment, are one for the last
-deadlines_with_each-last : (lifetime : Option ℕ) (now first count : ℕ) (deadlines : List CidTimestamp) →
-    deadlines_with_each lifetime now (range_with_len first (suc count)) deadlines ≡ deadlines_with lifetime now
-    (first + count) deadlines
-deadlines_with_each-last lifetime now first zero deadlines = let none : first + 0 ≡ first = omega arith in rw none refl
-deadlines_with_each-last lifetime now first (suc count) deadlines =
-    let next : first + 1 + count ≡ first + suc count = omega arith in
-    deadlines_with_each-last lifetime now (first + 1) count (deadlines_with lifetime now first deadlines)
-    ∙ rw next (deadlines_with-again lifetime now first (first + suc count) deadlines)
-
-pub deadlines_with_each-deadlines_with_last : (lifetime : Option ℕ) (now count : ℕ) →
-    deadlines_with_each lifetime now (range_with_len 0 count) [] ≡ deadlines_with_last lifetime now count []
-deadlines_with_each-deadlines_with_last lifetime now zero = refl
-deadlines_with_each-deadlines_with_last lifetime now (suc count) =
-    let same : 0 + count ≡ count = omega arith in
-    deadlines_with_each-last lifetime now 0 count [] ∙ rw same refl
 
 -- ---- the numbers of the deadlines rise
 

@@ -1,7 +1,6 @@
 pub mod DeadlineLaws
 pub mod IterLaws
-pub mod LocalLogLaws
-mod LocalLogRows
+mod LocalIdRows
 pub mod QueueLaws
 pub mod RemoteLogLaws
 mod RemoteLogRows

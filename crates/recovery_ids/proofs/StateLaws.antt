@@ -2,9 +2,9 @@
 use Rattle.std.proofs.Common.{◌≡◌, ◌≢◌, ℕ, zero, suc, ◌+◌, ◌-◌, ◌^◌, ◌≤◌, ◌==◌, nat_lt, not, Bool, true, false, List, [], ◌∷◌, ◌++◌, map, drop, Option, refl, sym, arith}
 use Rattle.std.specs.List.{list_any, range_with_len}
 use Rattle.recovery_ids.specs.declared.state.CidTimestamp.{CidTimestamp}
-use Rattle.recovery_ids.specs.LocalIds.{LocalIds, first_issued, AreSound, Rise, timed_out, next_mark, holds_unretired, with_issued, without_number, deadlines_with_last}
+use Rattle.recovery_ids.specs.LocalIds.{LocalIds, no_ids, AreSound, Rise, timed_out, next_mark, holds_unretired, with_issued, without_number, deadlines_with_last}
 use Rattle.recovery_ids.proofs.RiseLaws.{Rise-bound, Rise-wider, Rise-from, Rise-filter, Rise-append, list_any-between, list_any-nowhere}
-use Rattle.recovery_ids.proofs.DeadlineLaws.{deadlines_with_each-deadlines_with_last, deadlines_with_last-rise, deadlines_with_last-rise_first}
+use Rattle.recovery_ids.proofs.DeadlineLaws.{deadlines_with_last-rise, deadlines_with_last-rise_first}
 
 abbrev pub any_below : ℕ → LocalIds → Bool
 any_below end ids = list_any (λ n. nat_lt n end) ids.unretired
@@ -111,15 +111,22 @@ pub first_made : (cid_len : ℕ) (lifetime : Option ℕ) (now issued : ℕ) (bef
       retired_below = 0;
       retire_prior_to = 0;
       deadlines = deadlines;
-    } in (made ≡ first_issued cid_len lifetime now issued) × AreSound made)
-first_made cid_len lifetime now issued before numbers deadlines small empty added last =
-    let run : issued - 0 ≡ issued = omega arith in
+    } in (made ≡ with_issued issued now (no_ids cid_len lifetime)) × AreSound made)
+first_made cid_len lifetime now zero before numbers deadlines small empty added last =
+    rw (added, last, empty) (
+      refl,
+      record { small = small; marks = omega arith; unretired = omega arith; deadlines = omega arith },
+    )
+first_made cid_len lifetime now (suc count) before numbers deadlines small empty added last =
+    let run : suc count - 0 ≡ suc count = omega arith in
+    let same : 0 + count ≡ count = omega arith in
+    let end : 0 + suc count ≡ suc count = omega arith in
     rw (added, last, empty, run) (
-      rw (deadlines_with_each-deadlines_with_last lifetime now issued) refl,
+      rw (same, end) refl,
       record {
         small = small;
         marks = omega arith;
-        unretired = Rise-append 0 0 issued issued [] (omega arith) (omega arith);
-        deadlines = deadlines_with_last-rise_first lifetime now issued;
+        unretired = Rise-append 0 0 (suc count) (suc count) [] (omega arith) (omega arith);
+        deadlines = deadlines_with_last-rise_first lifetime now (suc count);
       },
     )

@@ -1,7 +1,6 @@
 pub mod CidQueue
 pub mod CidState
 pub mod LocalIds
-pub mod LocalLog
 pub mod RemoteIds
 pub mod RemoteLog
 pub mod Window

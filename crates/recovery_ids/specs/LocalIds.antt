@@ -45,22 +45,16 @@ abbrev pub deadlines_with_last : Option ℕ → ℕ → ℕ → List Deadline �
 deadlines_with_last lifetime now zero deadlines = deadlines
 deadlines_with_last lifetime now (suc number) deadlines = deadlines_with lifetime now number deadlines
 
--- the deadlines once each of these numbers is issued in turn
-abbrev pub deadlines_with_each : Option ℕ → ℕ → List ℕ → List Deadline → List Deadline
-deadlines_with_each lifetime now [] deadlines = deadlines
-deadlines_with_each lifetime now (number ∷ numbers) deadlines =
-    deadlines_with_each lifetime now numbers (deadlines_with lifetime now number deadlines)
-
--- the ids 0 to issued - 1, none of which is retired, each with a deadline
-abbrev pub first_issued : ℕ → Option ℕ → ℕ → ℕ → LocalIds
-first_issued cid_len lifetime now issued = record {
+-- no ids yet, which will have so many bytes, and each of which is to be retired after this lifetime, if there is one
+abbrev pub no_ids : ℕ → Option ℕ → LocalIds
+no_ids cid_len lifetime = record {
   cid_len = cid_len;
   cid_lifetime = lifetime;
-  issued = issued;
-  unretired = range_with_len 0 issued;
+  issued = 0;
+  unretired = [];
   retired_below = 0;
   retire_prior_to = 0;
-  deadlines = deadlines_with_each lifetime now (range_with_len 0 issued) [];
+  deadlines = [];
 }
 
 -- this many ids more, with a deadline for the last of them alone
@@ -84,13 +78,10 @@ next_mark mark (oldest ∷ later) = oldest.sequence + 1
 -- a timeout takes the oldest deadline; the marks move on where all numbers between them are retired
 abbrev pub timed_out : LocalIds → LocalIds
 timed_out ids =
-    if holds_unretired ids.retired_below ids.retire_prior_to ids
-    then record ids { deadlines = drop 1 ids.deadlines }
-    else record ids {
-      deadlines = drop 1 ids.deadlines;
-      retired_below = ids.retire_prior_to;
-      retire_prior_to = next_mark ids.retire_prior_to ids.deadlines;
-    }
+    let later = record ids { deadlines = drop 1 ids.deadlines } in
+    let mark = ids.retire_prior_to in
+    if holds_unretired ids.retired_below mark ids then later
+    else record later { retired_below = mark; retire_prior_to = next_mark mark ids.deadlines }
 
 -- the ids without a number that the peer retires
 abbrev pub without_number : ℕ → LocalIds → LocalIds

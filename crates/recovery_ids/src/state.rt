@@ -2,7 +2,7 @@
 ghost use Rattle.std.specs.Prelude.{◌≡◌, ℕ, List, ◌+◌, ◌-◌, ◌<◌, ◌≤◌, ◌^◌, ◌==◌, nat_lt, [], ◌++◌, length, map, filter, drop, not, IsOk, IfOk, OnOk, OnErr, MatchResult};
 ghost use Rattle.std.specs.List.{list_any, range_with_len};
 ghost use Rattle.std.specs.VecDeque.{deque_len, deque_capacity};
-ghost use Rattle.recovery_ids.specs.LocalIds.{without_last_at, with_deadline, deadlines_with_last, next_mark, first_issued, with_issued, holds_unretired, timed_out, first_moment, RefusesRetirement, AcceptsRetirement, Rise, AreSound};
+ghost use Rattle.recovery_ids.specs.LocalIds.{without_last_at, with_deadline, deadlines_with_last, next_mark, no_ids, with_issued, holds_unretired, timed_out, first_moment, RefusesRetirement, AcceptsRetirement, Rise, AreSound};
 ghost use Rattle.recovery_ids.specs.CidState.{numbers_in};
 
 use recovery_base::below::{IssuedCid, NoMemory, TransportError};
@@ -99,7 +99,7 @@ impl CidState {
         issued: u64,
     ) -> Result<Self, NoMemory>
         requires { issued ≤ 2 ^ 62 }
-        ensures ids { IfOk result (λ ids. ids ≡ first_issued cid_len cid_lifetime now issued) }
+        ensures ids { IfOk result (λ ids. ids ≡ with_issued issued now (no_ids cid_len cid_lifetime)) }
         ensures memory { OnErr result (0 < issued) }
         ensures sound { IfOk result AreSound }
     {

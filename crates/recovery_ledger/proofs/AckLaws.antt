@@ -1,15 +1,14 @@
 -- What is to be acknowledged in a space, one event at a time. `receive` rests on it, and the driver's `acked`.
-use Rattle.std.proofs.Common.{◌≡◌, ℕ, ◌<◌, ◌≤◌, ◌⊎◌, inl, inr, ◌↔◌, Bool, true, false, cond, IsTrue, IfSome, Option, None, Some, refl, sym, ◌∙◌, arith}
+use Rattle.std.proofs.Common.{◌≡◌, ℕ, ◌<◌, ◌≤◌, ◌⊎◌, inl, inr, ◌↔◌, Bool, true, false, cond, IsTrue, IfSome, Option, None, Some, refl, sym, ap, ◌∙◌, arith}
 use Rattle.recovery_base.specs.Numbers.{Recent, With, Exceeds}
 use Rattle.std.proofs.lemmas.Option.{none-some}
 use Rattle.recovery_base.specs.Received.{Has}
 use Rattle.recovery_base.proofs.WindowLaws.{HasGreatest, greatest_with}
-use Rattle.recovery_base.proofs.MissingLaws.{has_greatest, reached, stays_reached, least_missing_left, least_missing_cut}
-use Rattle.recovery_acks.specs.Acks.{Acks, AddsPending, HasReached, Receives, ReceivesEliciting, CanSend, IsOutOfOrder, silent_received}
-use Rattle.recovery_acks.proofs.AckLaws.{out_of_order_by}
-use Rattle.recovery_ledger.specs.Acks.{AsksAtOnce, Arms}
+use Rattle.recovery_base.proofs.MissingLaws.{has_greatest, reached, stays_reached, missing_left}
+use Rattle.recovery_acks.specs.Acks.{Acks, AsksAtOnce, AddsPending, HasReached, Receives, ReceivesEliciting, CanSend, counts_received, silent_received}
+use Rattle.recovery_acks.proofs.AckLaws.{out_of_order_alike}
 use Rattle.recovery_ledger.specs.Packets.{Packet}
-use Rattle.recovery_ledger.specs.Spaces.{Space, acks_of, with_acks, counts_of, after_acknowledging, heard_with, HasGreatestCome, HearsNew, ReceivesNew, SubtractsLargest}
+use Rattle.recovery_ledger.specs.Spaces.{Space, acks_of, with_acks, after_acknowledging, heard_with, ArmsBy, HasGreatestCome, HearsNew, ReceivesNew, SubtractsLargest}
 
 -- ---- a timer that is started or goes on
 
@@ -38,60 +37,34 @@ armed_by arms unset only can required = grind (arith, arms, unset, only, can, re
 module _ (Old New : ℕ → Type 0) (number : ℕ) (greatest : HasGreatest Old)
     (numbers : (n : ℕ) → New n ↔ Recent (With number Old) n) (old added new : Acks) (now : ℕ) (arm : Bool)
     (adds : AddsPending old number now added) where
-  -- a packet is out of order by one set of numbers or the other
-  out_of_order : (threshold : ℕ) (acknowledged : Option ℕ) (before after : ℕ)
-      → IsOutOfOrder New threshold acknowledged before after number
-      ↔ IsOutOfOrder (With number Old) threshold acknowledged before after number
-  out_of_order threshold acknowledged before after = (
-    out_of_order_by New (With number Old)
-        (least_missing_left (With number Old) New (greatest_with Old number greatest) numbers)
-        threshold acknowledged before after number,
-    out_of_order_by (With number Old) New
-        (least_missing_cut (With number Old) New (greatest_with Old number greatest) numbers)
-        threshold acknowledged before after number,
-  )
-
   module _ (receives : ReceivesEliciting New added now number arm new) where
     required_eliciting : IsTrue new.required
-        ↔ (IsTrue old.required ⊎ (IsTrue true × AsksAtOnce Old (counts_of old) number))
+        ↔ (IsTrue old.required ⊎ (IsTrue true × AsksAtOnce (With number Old) old.counts number))
     required_eliciting =
-        required_by (rw (
-          receives.eliciting,
-          receives.greatest,
-          adds.others.0,
-          adds.others.1,
-          adds.others.3,
-          adds.others.4,
-          adds.others.6,
-          adds.others.7,
-        ) at receives.required) (out_of_order _ _ _ _)
+        required_by (rw (adds.others.0, adds.counts) at receives.required) (out_of_order_alike
+        (missing_left (With number Old) New (greatest_with Old number greatest) numbers) _ _ _ _ _)
 
-    arms_eliciting : IsTrue arm ↔ Arms (heard_with Old old) (counts_of old) number true
+    arms_eliciting : IsTrue arm ↔ ArmsBy (heard_with Old old) old.counts number true
     arms_eliciting =
-        let can : IsTrue new.required → CanSend new = λ required. (required, rw (receives.others.3) adds.some) in
-        armed_by (rw (adds.others.5) at receives.armed) (is_none old.base) (λ send. send.0) can required_eliciting
+        let can : IsTrue new.required → CanSend new = λ required. (required, rw receives.ranges adds.some) in
+        armed_by (rw (adds.others.1) at receives.armed) (is_none old.base) (λ send. send.0) can required_eliciting
 
     hears_eliciting : HearsNew Old old now number true new
     hears_eliciting = record {
-      pending = λ n. rw (receives.others.3) (adds.pending n);
+      pending = λ n. rw receives.ranges (adds.pending n);
       required = required_eliciting;
-      started = starts arm now old.base new.base (Arms (heard_with Old old) (counts_of old) number true)
-          (rw (adds.others.5) at receives.base) arms_eliciting (λ should. (is_none old.base).1 should.1);
-      counts = grind (arith, receives, adds);
-      silent = grind (arith, receives, adds);
-      largest = grind (arith, receives, adds);
+      started = starts arm now old.base new.base (ArmsBy (heard_with Old old) old.counts number true)
+          (rw (adds.others.1) at receives.base) arms_eliciting (λ should. (is_none old.base).1 should.1);
+      counts = receives.counts ∙ ap (counts_received true number) adds.counts;
     }
 
   hears_silent : new ≡ silent_received added → HearsNew Old old now number false new
   hears_silent is = rw is (record {
     pending = adds.pending;
     required = grind (arith, adds);
-    started = starts false now old.base added.base (Arms (heard_with Old old) (counts_of old) number false)
-        adds.others.5 (λ armed. absurd (cc (armed)), λ should. absurd (cc (should.0)))
-        (λ should. absurd (cc (should.0)));
-    counts = grind (arith, adds);
-    silent = grind (arith, adds);
-    largest = adds.largest;
+    started = starts false now old.base added.base (ArmsBy (heard_with Old old) old.counts number false)
+        adds.others.1 (grind arith) (grind arith);
+    counts = ap (counts_received false number) adds.counts;
   })
 
   pub hears : (ack_eliciting : Bool) → Receives New added now number ack_eliciting arm new
@@ -101,9 +74,9 @@ module _ (Old New : ℕ → Type 0) (number : ℕ) (greatest : HasGreatest Old)
 
   -- and when it starts the timer for a late ACK
   pub arms : (ack_eliciting : Bool) → Receives New added now number ack_eliciting arm new
-      → IsTrue arm ↔ Arms (heard_with Old old) (counts_of old) number ack_eliciting
+      → IsTrue arm ↔ ArmsBy (heard_with Old old) old.counts number ack_eliciting
   arms true receives = arms_eliciting receives
-  arms false receives = (λ armed. absurd (cc (receives.0, armed)), λ should. absurd (cc (should.0)))
+  arms false receives = grind (arith, receives.0)
 
 -- the greatest ack-eliciting number was reached by the numbers before, and is by those after
 pub still_reached : (Old New : ℕ → Type 0) (number : ℕ) → HasGreatest Old → HasGreatest New
@@ -119,7 +92,7 @@ pub heard_greatest : {P M : Type 0} → (old new : Space P M) (now number : ℕ)
 heard_greatest old new now number ack_eliciting come step n is exceeds =
     grind (arith, step.hears.counts, is, here (greatest_with (Has old.dedup) number (has_greatest old.dedup)), below)
   where
-    below : (k : ℕ) → (acks_of old).greatest ≡ Some k → k ≡ n → ⊥
+    below : (k : ℕ) → (acks_of old).counts.greatest ≡ Some k → k ≡ n → ⊥
     below k was same = stays_reached (Has old.dedup) (Has new.dedup) number (has_greatest old.dedup) step.numbers k
         (come k was) (rw same exceeds)
 
@@ -131,13 +104,9 @@ heard_greatest old new now number ack_eliciting come step n is exceeds =
         let lt : g.0 < n = exceeds g.0 ((step.numbers g.0).1 (g.1, λ k there. omega (arith, g.2 k there))) in
         omega (arith, same)
 
-subtracted_greatest : (largest : Option ℕ) (old new : Acks) → SubtractsLargest largest old new
-    → new.greatest ≡ old.greatest
-subtracted_greatest largest old new step = grind (arith, step)
-
 -- what is acknowledged leaves the greatest ack-eliciting number
 pub acked_greatest : {P M : Type 0} → (number : ℕ) (packet : Packet P M) (old new : Space P M) → HasGreatestCome old
     → SubtractsLargest packet.largest_acked (acks_of old) (acks_of new)
     → new ≡ with_acks (acks_of new) (after_acknowledging number packet.time_sent old) → HasGreatestCome new
 acked_greatest number packet old new come subtracts others n is =
-    rw others (come n (sym (subtracted_greatest packet.largest_acked (acks_of old) (acks_of new) subtracts) ∙ is))
+    rw others (come n (grind (arith, subtracts, is)))

@@ -1,13 +1,13 @@
 -- The parts of a space go together, whatever happens in it. The balance of the paths, and so each call of the driver on
 -- a space, rests on it.
 use Rattle.recovery_ledger.proofs.SpaceLaws.{each_with}
-use Rattle.std.proofs.Common.{◌≡◌, ℕ, ◌+◌, ◌≤◌, Bool, [], refl, sym, ◌∙◌, arith}
+use Rattle.std.proofs.Common.{◌≡◌, ℕ, ◌+◌, ◌≤◌, Bool, [], refl, sym, ◌∙◌, arith, Option, None, Some}
 use Rattle.recovery_base.specs.declared.below.SpaceId.{SpaceId}
 use Rattle.recovery_acks.specs.Acks.{new_acks}
 use Rattle.recovery_queue.specs.Queues.{QueueWords}
 use Rattle.recovery_ledger.specs.Ledger.{AreCoherent}
 use Rattle.recovery_ledger.specs.Packets.{Packet, no_packets, forgotten_number, IsTooLarge, AreAcknowledging, after_sending, after_taking, after_carrying}
-use Rattle.recovery_ledger.specs.Probes.{ProbeFound, moves}
+use Rattle.recovery_ledger.specs.Probes.{ProbeFound}
 use Rattle.recovery_ledger.specs.Spaces.{Space, Spaces, space_of, with_space, tracking_of, packets_of, acks_of, next_number_of, HasGreatestCome, IsCoherent, one_probe_more, space_probes, space_loses}
 use Rattle.recovery_ledger.proofs.AmongLaws.{Acknowledges, all_without, all_sent, all_carrying}
 use Rattle.recovery_ledger.proofs.PacketLaws.{AllBelow, all_below, are_below, AllBelow-without, AllBelow-push, AllBelow-more, AllBelow-carrying, AllBelow-without_some}
@@ -85,13 +85,12 @@ module _ {P M : Type 0} where
   -- ---- probes and queues
 
   module _ {S : Type 0} (words : QueueWords P S) (old : Space P M) (coherent : IsCoherent old) where
-    pub coherent_probed : (immediate : Bool) (found : ProbeFound)
-        → IsCoherent (space_probes words immediate found (one_probe_more old))
-    coherent_probed immediate (moves number) = coherent_carrying old
-        (space_probes words immediate (moves number) (one_probe_more old)) coherent coherent.received number words.empty
-        refl refl
-    coherent_probed immediate found =
-        coherent_kept old (space_probes words immediate found (one_probe_more old)) coherent coherent.received refl refl
+    pub coherent_probed : (immediate nothing : Bool) (moved : Option ℕ)
+        → (let found : ProbeFound = record { moved = moved; nothing = nothing } in
+        IsCoherent (space_probes words immediate found (one_probe_more old)))
+    coherent_probed immediate nothing (Some number) =
+        coherent_carrying old _ coherent coherent.received number words.empty refl refl
+    coherent_probed immediate nothing None = coherent_kept old _ coherent coherent.received refl refl
 
     pub coherent_lost : (number : ℕ) → IsCoherent (space_loses words number old)
     coherent_lost number = coherent_taken old (space_loses words number old) coherent coherent.received number refl refl

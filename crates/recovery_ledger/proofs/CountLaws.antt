@@ -3,7 +3,7 @@ use Rattle.std.proofs.lemmas.Bool.Decides.{nat_tests}
 use Rattle.std.proofs.Common.{Bool, ◌≡◌, ℕ, ◌+◌, ◌-◌, ◌<◌, ◌≤◌, ◌==◌, ◌↔◌, ◌⊎◌, MatchOption, IsTrue, true, false, not, [], ◌∷◌, ◌++◌, length, ◌^◌, Option, None, Some, refl, arith, filter}
 use Rattle.std.specs.Prelude.{sum_by}
 use Rattle.std.proofs.lemmas.List.Sums.{sum_by_push, sum_by-cons}
-use Rattle.recovery_ledger.specs.Packets.{forgotten_entry, Packet, Packets, Tracking, IsAboveLast, packet_at, without, with_contents, replaced, HasSize, is_above, silent_above, least_number, forgotten_silent, forgotten_number, without_some, after_sending}
+use Rattle.recovery_ledger.specs.Packets.{forgotten_entry, Packet, Packets, Tracking, IsAboveLast, packet_at, without, with_contents, replaced, HasSize, is_above, silent_above, least_number, forgotten_number, without_some, after_sending}
 use Rattle.recovery_ledger.specs.Counts.{silent_count, eliciting_count, size_count, AreCounted}
 use Rattle.recovery_ledger.proofs.PacketLaws.{AllBelow-push, packet_at-append, without-append, AllBelow, sum-without, sum-replaced, silent_found, sized_counted, silent_count-length, sizes-le-length, all_silent, first_above_found}
 
@@ -180,8 +180,3 @@ module _ {P M : Type 0} where
             → Some least ≡ forgotten_number tracking.last_eliciting packet tracking.packets
             → packet_at packets least ≡ Some gone → Some (least, gone) ≡ forgotten_entry packet tracking
         entry_forgotten packet least gone which found = rw (← which, ← is) (grind (arith, found))
-
-  -- what is forgotten is the first silent packet, where there are 1001
-  pub is_forgotten : (last : Option ℕ) (packets : Packets P M) (number : ℕ)
-      → forgotten_silent last packets ≡ Some number → least_number (silent_above last packets) ≡ Some number
-  is_forgotten last packets number some = grind arith

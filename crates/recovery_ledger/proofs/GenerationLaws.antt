@@ -1,11 +1,10 @@
 -- No tracked packet is of a generation above the newest path's. `BalanceLaws` of the paths rest on it.
-use Rattle.std.proofs.Common.{◌≡◌, ℕ, ◌≤◌, Bool, [], Option, subst, arith}
+use Rattle.std.proofs.Common.{◌≡◌, ℕ, ◌≤◌, [], Option, subst, arith, None, Some}
 use Rattle.recovery_base.specs.declared.below.SpaceId.{SpaceId}
 use Rattle.recovery_queue.specs.Queues.{QueueWords}
 use Rattle.recovery_ledger.specs.Ledger.{IsUpTo, AreUpTo}
 use Rattle.recovery_ledger.specs.Packets.{Packet, Packets, Tracking, no_packets, IsAmong, without, carrying, sent_onto}
-use Rattle.recovery_ledger.specs.Probes.{ProbeFound, moves}
-use Rattle.recovery_ledger.specs.Spaces.{Space, Spaces, space_of, with_space, tracking_of, packets_of, one_probe_more, space_probes}
+use Rattle.recovery_ledger.specs.Spaces.{Space, Spaces, space_of, with_space, tracking_of, packets_of, space_finds}
 use Rattle.recovery_ledger.proofs.SpaceLaws.{each_with}
 use Rattle.recovery_ledger.proofs.AmongLaws.{all_without, all_sent, all_carrying}
 
@@ -45,8 +44,7 @@ module _ {P M : Type 0} (generation : ℕ) where
       → IsUpTo generation (sent_onto last number packet packets)
   up_to_sent last number packet packets all one = all_sent Is last number packet packets all one
 
-  pub up_to_probed : {S : Type 0} → (words : QueueWords P S) (immediate : Bool) (found : ProbeFound) (old : Space P M)
-      → IsUpTo generation (packets_of old)
-      → IsUpTo generation (packets_of (space_probes words immediate found (one_probe_more old)))
-  up_to_probed words immediate (moves number) old all = up_to_carrying (packets_of old) number words.empty all
-  up_to_probed words immediate found old all = all
+  pub up_to_moved : {S : Type 0} → (words : QueueWords P S) (moved : Option ℕ) (old : Space P M)
+      → IsUpTo generation (packets_of old) → IsUpTo generation (packets_of (space_finds words moved old))
+  up_to_moved words (Some number) old all = up_to_carrying (packets_of old) number words.empty all
+  up_to_moved words None old all = all

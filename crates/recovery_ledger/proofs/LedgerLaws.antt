@@ -76,8 +76,7 @@ module _ {P M : Type 0} where
       × ((counters_of after).bytes + gone (size_in (generation_of path)) forgotten ≡ (counters_of path).bytes)
       × ((counters_of after).ack_eliciting + gone (eliciting_in (generation_of path)) forgotten
       ≡ (counters_of path).ack_eliciting))
-  forgotten_leaves path None size eliciting = grind arith
-  forgotten_leaves path (Some entry) size eliciting = grind (arith, leaves path entry)
+  forgotten_leaves path forgotten size eliciting = grind (arith, leaves path)
 
   module _ (path : PathLedger) (packets : Packets P M) where
     -- a tracked packet has other contents
@@ -165,16 +164,6 @@ module _ {P M : Type 0} where
     balanced_by Initial here after follows = grind (arith, balanced, follows)
     balanced_by Handshake here after follows = grind (arith, balanced, follows)
     balanced_by Data here after follows = grind (arith, balanced, follows)
-
-  pub generation_after_forgetting : (path : PathLedger) (forgotten : Option (ℕ × Packet P M))
-      → generation_of (after_forgetting path forgotten) ≡ generation_of path
-  generation_after_forgetting path None = refl
-  generation_after_forgetting path (Some entry) = refl
-
-  pub generation_after_sending : (path : PathLedger) (packet : Packet P M) (forgotten : Option (ℕ × Packet P M))
-      → generation_of (path_after_sending path packet forgotten) ≡ generation_of path
-  generation_after_sending path packet forgotten =
-      generation_after_forgetting (with_counters (with_packet (counters_of path) packet) path) forgotten
 
   -- ---- a path on which nothing is in flight
 

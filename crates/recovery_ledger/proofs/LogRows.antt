@@ -3,14 +3,13 @@ use Rattle.std.proofs.Common.{◌≡◌, ℕ, Bool, true, false, List, [], ◌�
 use Rattle.recovery_base.specs.declared.below.SpaceId.{SpaceId}
 use Rattle.recovery_base.specs.declared.below.SpaceId.TheVariants.{Initial, Data}
 use Rattle.recovery_queue.specs.Queues.{QueueWords}
-use Rattle.recovery_ledger.specs.Acks.{counts_by, silent_since, largest_new}
+use Rattle.recovery_ledger.specs.Acks.{counts_by}
 use Rattle.recovery_ledger.specs.Discarded.{was_discarded}
 use Rattle.recovery_ledger.specs.InFlight.{in_flight}
-use Rattle.recovery_ledger.specs.Kept.{kept_by, largest_acknowledged, probes_by}
+use Rattle.recovery_ledger.specs.Kept.{largest_acknowledged, last_eliciting_sent, probes_by}
 use Rattle.recovery_ledger.specs.Packets.{Packet, Packets}
-use Rattle.recovery_ledger.specs.Probes.{pending_stands, moves, nothing_found, probe_found}
-use Rattle.recovery_ledger.specs.Queued.{pending_by, marks_by, has_other, queued_by}
-use Rattle.recovery_ledger.specs.Received.{greatest_new}
+use Rattle.recovery_ledger.specs.Probes.{ProbeFound, probe_found}
+use Rattle.recovery_ledger.specs.Queued.{has_other, queued_by}
 use Rattle.recovery_ledger.specs.SpaceLog.{SpaceEntry, heard, heard_again, sends, acknowledged, loses, probes, takes_pending, ack_goes}
 use Rattle.recovery_ledger.specs.Tracked.{packet_sent, sent_by}
 
@@ -29,6 +28,16 @@ first = packet_sent 0 7 500 true None (1 ∷ 2 ∷ []) 30
 
 abbrev second : Packet (List ℕ) ℕ
 second = packet_sent 0 8 40 false (Some 3) [] 31
+
+-- what a probe finds: what is pending, a packet, or nothing
+abbrev pending_stands : ProbeFound
+pending_stands = record { moved = None; nothing = false }
+
+abbrev moves : ℕ → ProbeFound
+moves number = record { moved = Some number; nothing = false }
+
+abbrev nothing_found : ProbeFound
+nothing_found = record { moved = None; nothing = true }
 
 abbrev both_sent : List (SpaceEntry (List ℕ) ℕ)
 both_sent = sends 1 second ∷ sends 0 first ∷ []
@@ -49,32 +58,38 @@ sent_by-last = refl
 sent_by-skipped : (sent_by words (sends 4 first ∷ both_sent)).next ≡ 5
 sent_by-skipped = refl
 
+abbrev pending_by : List (SpaceEntry (List ℕ) ℕ) → List ℕ
+pending_by log = (queued_by words log).pending
+
 -- the first is lost, or a probe finds it
-pending_by-lost : pending_by words (loses 0 ∷ both_sent) ≡ 1 ∷ 2 ∷ []
+pending_by-lost : pending_by (loses 0 ∷ both_sent) ≡ 1 ∷ 2 ∷ []
 pending_by-lost = refl
 
-pending_by-moved : pending_by words (loses 0 ∷ probes false (moves 0) ∷ both_sent) ≡ 1 ∷ 2 ∷ []
+pending_by-moved : pending_by (loses 0 ∷ probes false (moves 0) ∷ both_sent) ≡ 1 ∷ 2 ∷ []
 pending_by-moved = refl
 
-pending_by-taken : pending_by words (takes_pending ∷ loses 0 ∷ both_sent) ≡ []
+pending_by-taken : pending_by (takes_pending ∷ loses 0 ∷ both_sent) ≡ []
 pending_by-taken = refl
 
-probe_found-first : probe_found words tt (pending_by words both_sent) (sent_by words both_sent).tracked ≡ moves 0
+probe_found-first : probe_found words tt (pending_by both_sent) (sent_by words both_sent).tracked ≡ moves 0
 probe_found-first = refl
 
 probe_found-nothing : probe_found words tt [] (sent_by words (probes false (moves 0) ∷ both_sent)).tracked
     ≡ nothing_found
 probe_found-nothing = refl
 
-probe_found-pending : probe_found {M = ℕ} words tt (pending_by words (loses 0 ∷ both_sent)) [] ≡ pending_stands
+probe_found-pending : probe_found {M = ℕ} words tt (pending_by (loses 0 ∷ both_sent)) [] ≡ pending_stands
 probe_found-pending = refl
 
 -- a PING is marked only where no ACK at once is asked for
-marks_by-ping : marks_by (probes false nothing_found ∷ both_sent) ≡ record { ping = true; immediate = false }
+abbrev marks_by : List (SpaceEntry (List ℕ) ℕ) → Bool × Bool
+marks_by log = ((queued_by words log).ping, (queued_by words log).immediate)
+
+marks_by-ping : marks_by (probes false nothing_found ∷ both_sent) ≡ (true, false)
 marks_by-ping = refl
 
 marks_by-immediate : marks_by (probes false nothing_found ∷ probes true nothing_found ∷ both_sent)
-    ≡ record { ping = false; immediate = true }
+    ≡ (false, true)
 marks_by-immediate = refl
 
 probes_by-two : probes_by (probes false nothing_found ∷ probes true nothing_found ∷ both_sent) ≡ 2
@@ -97,35 +112,25 @@ unfolding in_data
 in_flight-other_path = refl
 
 -- the largest number that was acknowledged, with the moment when its packet was sent
-largest_acknowledged-none : largest_acknowledged words 5 both_sent ≡ record { number = None; time_sent = 5 }
+largest_acknowledged-none : largest_acknowledged words 5 both_sent ≡ (None, 5)
 largest_acknowledged-none = refl
 
 largest_acknowledged-second : largest_acknowledged words 5 (acknowledged 0 ∷ acknowledged 1 ∷ both_sent)
-    ≡ record { number = Some 1; time_sent = 8 }
+    ≡ (Some 1, 8)
 largest_acknowledged-second = refl
 
-kept_by-given_out : (kept_by words 5 both_sent).given_out ≡ 2
-kept_by-given_out = refl
-
-kept_by-last_sent : (kept_by words 5 both_sent).last_sent ≡ Some 7
-kept_by-last_sent = refl
+last_eliciting_sent-both : last_eliciting_sent both_sent ≡ Some 7
+last_eliciting_sent-both = refl
 
 -- packets 4 and 9 came, then 9 again, and an ACK went out; then 6 came
 abbrev came_in : List (SpaceEntry (List ℕ) ℕ)
 came_in = heard 3 6 false ∷ ack_goes ∷ heard_again 9 ∷ heard 2 9 true ∷ heard 1 4 true ∷ []
 
-greatest_new-row : greatest_new came_in ≡ 9
-greatest_new-row = refl
-
-largest_new-row : largest_new came_in ≡ Some (9, 2)
-largest_new-row = refl
-
-silent_since-row : silent_since came_in ≡ 1
-silent_since-row = refl
-
 counts_by-row : counts_by came_in ≡ record {
   eliciting = 0;
+  silent = 1;
   thresholds = (1, 1);
+  largest = Some (9, 2);
   greatest = Some 9;
   acknowledged = Some 9;
 }

@@ -7,17 +7,13 @@ use Rattle.recovery_base.specs.Numbers.{Recent, With}
 use Rattle.recovery_base.specs.Received.{Has}
 use Rattle.recovery_base.proofs.WindowLaws.{left_with, iff_trans}
 use Rattle.recovery_base.specs.Ranges.{InRanges}
-use Rattle.recovery_acks.specs.Acks.{new_acks}
 use Rattle.recovery_queue.specs.Queues.{QueueWords}
-use Rattle.recovery_ledger.specs.Kept.{kept_by}
-use Rattle.recovery_ledger.specs.Packets.{no_packets, packet_at}
-use Rattle.recovery_ledger.specs.Probes.{moves}
-use Rattle.recovery_ledger.specs.Queued.{queued_by}
+use Rattle.recovery_ledger.specs.Packets.{packet_at}
 use Rattle.recovery_ledger.specs.Received.{CameIn}
-use Rattle.recovery_ledger.specs.SpaceLog.{SpaceEntry, heard, heard_again, sends, acknowledged, probes}
+use Rattle.recovery_ledger.specs.SpaceLog.{SpaceEntry, heard, heard_again, sends, acknowledged}
 use Rattle.recovery_base.specs.declared.below.SpaceId.{SpaceId}
 use Rattle.recovery_base.specs.declared.below.SpaceId.TheVariants.{Initial, Handshake, Data}
-use Rattle.recovery_ledger.specs.Spaces.{Spaces, space_of, with_space, Space, tracking_of, queued_of, kept_of, acks_of, next_number_of, SpaceStep, SpaceLeft}
+use Rattle.recovery_ledger.specs.Spaces.{Spaces, space_of, with_space, Space, IsMade, acks_of, SpaceStep, SpaceLeft}
 use Rattle.recovery_ledger.specs.Tracked.{Sent}
 use Rattle.recovery_ledger.proofs.HeardLaws.{heard_law, acknowledged_law, ack_goes_law, ack_is_late_law, asked_law}
 use Rattle.recovery_ledger.proofs.ReceivedLaws.{fails, came_greatest}
@@ -55,8 +51,6 @@ module _ {P M S : Type 0} (words : QueueWords P S) where
         acknowledged_law words log (acks_of old) left.acks number (acks_of new) step.packet
             (sym (ap (λ (s : Sent P M). packet_at s.tracked number) left.sent) ∙ step.found) step.subtracts,
       )
-  space_law start (probes immediate (moves number)) log old new left step =
-      grind (arith, step, left)
   space_law start entry log old new left step =
       grind (
         arith,
@@ -68,25 +62,24 @@ module _ {P M S : Type 0} (words : QueueWords P S) where
       )
 
   -- a space in which nothing happened yet
-  pub fresh_space : (start : ℕ) (fresh : Space P M) → ((n : ℕ) → ¬ Has fresh.dedup n) → acks_of fresh ≡ new_acks []
-      → tracking_of fresh ≡ no_packets → next_number_of fresh ≡ 0 → fresh.rx_packet ≡ 0 → kept_of fresh
-      ≡ kept_by {M = M} words start [] → queued_of fresh ≡ queued_by {M = M} words [] → SpaceLeft words start [] fresh
+  pub fresh_space : (start : ℕ) (fresh : Space P M) → IsMade words start fresh → SpaceLeft words start [] fresh
   unfolding InRanges
-  fresh_space start fresh none no_acks no_tracking zero none_received none_kept none_queued = record {
-    numbers = λ n. (λ here. absurd (none n here), λ here. absurd here.0);
-    acks = rw no_acks
+  fresh_space start fresh made = record {
+    numbers = λ n. (λ here. absurd (made.numbers n here), λ here. absurd here.0);
+    acks = rw (made.acks)
         (record {
           pending = λ n. (λ here. here, λ here. here);
           required = (λ h. absurd (fails false refl h), λ h. absurd h);
           started = λ m. (none-some m, λ h. absurd h);
           counts = refl;
-          silent = refl;
-          largest = refl;
         });
-    greatest = none_received;
-    kept = none_kept;
-    queued = none_queued;
-    sent = grind (arith, no_tracking, zero);
+    greatest = made.received;
+    acknowledged = rw (made.acknowledged, made.acknowledged_sent) refl;
+    last_sent = made.last_sent;
+    probes = made.probes;
+    given_out = made.given_out;
+    queued = made.queued;
+    sent = grind (arith, made.packets, made.next);
   }
 
 -- what holds of three spaces holds of each

@@ -10,8 +10,7 @@ abbrev pub size_in : {P M : Type 0} → ℕ → ℕ × Packet P M → ℕ
 size_in generation entry = if entry.1.path_generation == generation then entry.1.size else 0
 
 abbrev pub eliciting_in : {P M : Type 0} → ℕ → ℕ × Packet P M → ℕ
-eliciting_in generation entry =
-    if entry.1.path_generation == generation && entry.1.ack_eliciting then 1 else 0
+eliciting_in generation entry = if entry.1.path_generation == generation && entry.1.ack_eliciting then 1 else 0
 
 abbrev pub over_spaces : (SpaceId → ℕ) → ℕ
 over_spaces count = count Initial + count Handshake + count Data
@@ -61,4 +60,4 @@ SumsLeave old generation packets new =
 abbrev pub Overflows : {P M : Type 0} → InFlight → Packet P M → Type 0
 Overflows counters packet =
     (2 ^ 64 ≤ counters.bytes + packet.size)
-    ⊎ (2 ^ 64 ≤ counters.ack_eliciting + eliciting_one packet)
+    ⊎ (2 ^ 64 ≤ counters.ack_eliciting + (if packet.ack_eliciting then 1 else 0))

@@ -1,5 +1,6 @@
 -- Tracked packets of one space, in the order of their numbers (RFC 9002, A.1).
 use Rattle.std.specs.Prelude.{◌≡◌, ◌≢◌, ℕ, ◌<◌, ◌≤◌, ◌^◌, IsSomeAnd, option_map, ◌⊎◌, Bool, true, not, ◌&&◌, nat_lt, List, [], ◌∷◌, ◌++◌, length, filter, Option, None, Some, if◌then◌else◌}
+use Rattle.std.specs.Option.{option_and_then, option_map_or}
 use Rattle.std.specs.Ordering.{nat_cmp}
 use Rattle.std.specs.BTreeMap.{is_at}
 use Rattle.std.specs.Map.{lookup, remove_entry, set_value}
@@ -36,8 +37,7 @@ abbrev pub with_contents : {P M : Type 0} → P → Packet P M → Packet P M
 with_contents contents packet = record packet { retransmits = contents }
 
 abbrev pub replaced : {P M : Type 0} → ℕ → Option (Packet P M) → Packets P M → Packets P M
-replaced number None packets = packets
-replaced number (Some packet) packets = set_value (is_at (nat_cmp number)) packets packet
+replaced number packet packets = option_map_or (set_value (is_at (nat_cmp number)) packets) packet packets
 
 -- the packets, where that of a number, if there is one, has other contents
 abbrev pub carrying : {P M : Type 0} → ℕ → P → Packets P M → Packets P M
@@ -46,8 +46,7 @@ carrying number contents packets =
 
 -- what a packet carries, where there is one
 abbrev pub contents_or : {P M : Type 0} → P → Option (Packet P M) → P
-contents_or other None = other
-contents_or other (Some packet) = packet.retransmits
+contents_or other packet = option_map_or (λ there. there.retransmits) packet other
 
 -- every packet has a number below this one
 abbrev pub AreBelow : {P M : Type 0} → Packets P M → ℕ → Type 0
@@ -67,8 +66,7 @@ HasSize (entry ∷ packets) = (entry.1.size ≢ 0) ⊎ HasSize packets
 
 -- above a number, where there is one
 abbrev pub is_above : Option ℕ → ℕ → Bool
-is_above None number = true
-is_above (Some last) number = nat_lt last number
+is_above last number = option_map_or (λ other. nat_lt other number) last true
 
 -- a packet that elicits no ACK, above the last number that elicited one
 abbrev pub is_silent_above : {P M : Type 0} → Option ℕ → ℕ × Packet P M → Bool
@@ -81,20 +79,14 @@ abbrev pub least_number : {P M : Type 0} → Packets P M → Option ℕ
 least_number [] = None
 least_number (entry ∷ packets) = Some entry.0
 
--- the number that is forgotten when one more silent packet is sent: the least of 1001 silent ones
-abbrev pub forgotten_silent : {P M : Type 0} → Option ℕ → Packets P M → Option ℕ
-forgotten_silent last packets =
-    let silent = silent_above last packets in
-    if nat_lt 1000 (length silent) then least_number silent else None
-
--- the number that is forgotten when a packet is sent
+-- the number that is forgotten when a packet is sent: where that is silent, the least of 1001 silent ones
 abbrev pub forgotten_number : {P M : Type 0} → Option ℕ → Packet P M → Packets P M → Option ℕ
 forgotten_number last packet packets =
-    if packet.ack_eliciting then None else forgotten_silent last packets
+    let silent = silent_above last packets in
+    if packet.ack_eliciting then None else if nat_lt 1000 (length silent) then least_number silent else None
 
 abbrev pub without_some : {P M : Type 0} → Packets P M → Option ℕ → Packets P M
-without_some packets None = packets
-without_some packets (Some number) = without packets number
+without_some packets number = option_map_or (without packets) number packets
 
 -- the packets when one more was sent
 abbrev pub sent_onto : {P M : Type 0} → Option ℕ → ℕ → Packet P M → Packets P M → Packets P M
@@ -120,8 +112,7 @@ IsTooLarge number = IsSomeAnd number (λ n. 2 ^ 62 ≤ n)
 
 -- the largest number that a packet acknowledges, where it is tracked and acknowledges one
 abbrev pub largest_acked_by : {P M : Type 0} → Option (Packet P M) → Option ℕ
-largest_acked_by None = None
-largest_acked_by (Some packet) = packet.largest_acked
+largest_acked_by = option_and_then (λ packet. packet.largest_acked)
 
 -- a packet is among others
 abbrev pub IsAmong : {P M : Type 0} → Packets P M → Packet P M → Type 0

@@ -1,6 +1,6 @@
 -- The ledger of a path: its generation, and what it has in flight.
-use Rattle.std.specs.Prelude.{ℕ, ◌≡◌, ◌==◌, Option, None, Some, if◌then◌else◌}
-use Rattle.std.specs.Option.{ForSome}
+use Rattle.std.specs.Prelude.{ℕ, ◌≡◌, ◌==◌, Option, if◌then◌else◌}
+use Rattle.std.specs.Option.{ForSome, option_map_or}
 use Rattle.recovery_ledger.specs.declared.paths.InFlight.{InFlight}
 use Rattle.recovery_ledger.specs.declared.paths.PathLedger.{PathLedger}
 use Rattle.recovery_ledger.specs.InFlight.{with_packet, without_packet, IsCounted}
@@ -34,8 +34,8 @@ abbrev pub after_leaving : {P M : Type 0} → PathLedger → Packet P M → Path
 after_leaving path packet = with_counters (counters_left path packet) path
 
 abbrev pub after_forgetting : {P M : Type 0} → PathLedger → Option (ℕ × Packet P M) → PathLedger
-after_forgetting path None = path
-after_forgetting path (Some entry) = after_leaving path entry.1
+after_forgetting path forgotten =
+    with_counters (option_map_or (λ entry. counters_left path entry.1) forgotten (counters_of path)) path
 
 -- the path when a packet was sent on it, and perhaps another forgotten
 abbrev pub path_after_sending : {P M : Type 0}

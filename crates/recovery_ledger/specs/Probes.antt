@@ -1,30 +1,14 @@
 -- What a probe finds to send (RFC 9002, 6.2.4).
-use Rattle.std.specs.Prelude.{ℕ, Bool, true, false, not, filter, Option, None, Some}
+use Rattle.std.specs.Prelude.{ℕ, Bool, not, ◌&&◌, filter, Option, None, if◌then◌else◌}
+use Rattle.std.specs.Option.{is_none}
 use Rattle.recovery_queue.specs.Queues.{QueueWords}
 use Rattle.recovery_ledger.specs.Packets.{Packets, Packet, least_number}
 
-pub data ProbeFound : Type 0 where
-  -- what was lost is still to be sent
-  pending_stands : ProbeFound
-  -- a tracked packet's contents are sent again
-  moves : (number : ℕ) → ProbeFound
+pub record ProbeFound : Type 0 where
+  -- the tracked packet whose contents are sent again, where nothing else is still to be sent
+  pub moved : Option ℕ
   -- there is nothing to send again
-  nothing_found : ProbeFound
-
-abbrev pub is_nothing : ProbeFound → Bool
-is_nothing nothing_found = true
-is_nothing other = false
-
--- contents are moved
-abbrev pub Moves : ProbeFound → Type 0
-Moves (moves number) = Unit {0}
-Moves other = ⊥
-
--- what is found, by whether nothing is pending, and the first packet with contents
-abbrev pub found_by : Bool → Option ℕ → ProbeFound
-found_by true (Some number) = moves number
-found_by true None = nothing_found
-found_by false first = pending_stands
+  pub nothing : Bool
 
 module _ {P M S : Type 0} (words : QueueWords P S) (streams : S) where
   -- the packet has contents to be sent
@@ -37,4 +21,7 @@ module _ {P M S : Type 0} (words : QueueWords P S) (streams : S) where
 
   -- what a probe finds, with these contents pending
   abbrev pub probe_found : P → Packets P M → ProbeFound
-  probe_found pending packets = found_by (words.is_empty pending streams) (first_filled packets)
+  probe_found pending packets =
+      let none_pending = words.is_empty pending streams in
+      let moved = if none_pending then first_filled packets else None in
+      record { moved = moved; nothing = none_pending && is_none moved }

@@ -1,5 +1,5 @@
 -- Packets received in a space (RFC 9000, 12.3 and 13.2).
-use Rattle.std.specs.Prelude.{ℕ, max, List, [], ◌∷◌}
+use Rattle.std.specs.Prelude.{ℕ, List, [], ◌∷◌}
 use Rattle.recovery_base.specs.Numbers.{With}
 use Rattle.recovery_ledger.specs.SpaceLog.{SpaceEntry, heard, heard_again}
 
@@ -9,9 +9,3 @@ CameIn [] n = ⊥
 CameIn (heard now number ack_eliciting ∷ earlier) n = With number (CameIn earlier) n
 CameIn (heard_again number ∷ earlier) n = With number (CameIn earlier) n
 CameIn (entry ∷ earlier) n = CameIn earlier n
-
--- the greatest new number, and 0 before the first
-abbrev pub greatest_new : {P M : Type 0} → List (SpaceEntry P M) → ℕ
-greatest_new [] = 0
-greatest_new (heard now number ack_eliciting ∷ earlier) = max (greatest_new earlier) number
-greatest_new (entry ∷ earlier) = greatest_new earlier

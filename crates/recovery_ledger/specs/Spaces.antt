@@ -1,5 +1,6 @@
 -- The three packet number spaces, and what an event does to one.
-use Rattle.std.specs.Prelude.{◌≡◌, ℕ, ◌+◌, ◌-◌, ◌^◌, ◌⊎◌, ◌↔◌, min, max, nat_lt, List, [], Bool, IsTrue, Option, None, Some, if◌then◌else◌, ◌<◌, ◌≤◌, Result, Ok, Err}
+use Rattle.std.specs.Prelude.{◌≡◌, ℕ, ◌+◌, ◌-◌, ◌^◌, ◌⊎◌, ◌↔◌, ◌||◌, ◌&&◌, not, min, max, nat_lt, List, [], Bool, IsTrue, Option, None, Some, if◌then◌else◌, ◌<◌, ◌≤◌, Result, Ok, Err}
+use Rattle.std.specs.Option.{option_and_then, option_map_or}
 use Rattle.recovery_base.specs.declared.below.SpaceId.{SpaceId}
 use Rattle.recovery_base.specs.declared.below.SpaceId.TheVariants.{Initial, Handshake, Data}
 use Rattle.recovery_base.specs.declared.below.frames.AckFrequency.{AckFrequency}
@@ -7,21 +8,21 @@ use Rattle.recovery_base.specs.declared.below.frames.EcnCounts.{EcnCounts}
 use Rattle.recovery_base.specs.declared.dedup.Dedup.{Dedup}
 use Rattle.recovery_base.specs.Numbers.{Recent, With, Exceeds, IsNew}
 use Rattle.recovery_base.specs.Received.{Has}
-use Rattle.recovery_acks.specs.Acks.{Acks, IsPending, counted, largest_with, SubtractsBelow, acks_sent, with_required, with_thresholds}
+use Rattle.recovery_acks.specs.Acks.{AckCounts, Acks, AsksAtOnce, IsPending, SubtractsBelow, acks_sent, counts_inserted, counts_received, new_acks, with_required, with_thresholds}
 use Rattle.recovery_queue.specs.Queues.{QueueWords}
 use Rattle.recovery_ledger.specs.declared.spaces.ReceiveError.{ReceiveError}
 use Rattle.recovery_ledger.specs.declared.spaces.ReceiveError.TheVariants.{NumberTooLarge, NoMemory}
 use Rattle.recovery_ledger.specs.declared.spaces.Receipt.{Receipt}
 use Rattle.recovery_ledger.specs.declared.spaces.Receipt.TheVariants.{New, Duplicate}
 use Rattle.recovery_acks.specs.Runs.{IsInHighest}
-use Rattle.recovery_ledger.specs.Acks.{AckCounts, AcksSaid, Heard, AsksAtOnce, Arms, counts_with, acks_by}
-use Rattle.recovery_ledger.specs.Kept.{Kept, kept_by, one_more}
-use Rattle.recovery_ledger.specs.Probes.{ProbeFound, pending_stands, moves, nothing_found}
-use Rattle.recovery_ledger.specs.Queued.{Marks, Queued, marks_with, joined_with, queued_by}
+use Rattle.recovery_ledger.specs.Acks.{Heard, Arms, counts_by, heard_by}
+use Rattle.recovery_ledger.specs.Kept.{largest_acknowledged, last_eliciting_sent, one_more, probes_by}
+use Rattle.recovery_ledger.specs.Probes.{ProbeFound}
+use Rattle.recovery_ledger.specs.Queued.{Queued, joined_with, no_ecn, queued_by}
 use Rattle.recovery_ledger.specs.SpaceLog.{SpaceEntry, heard, heard_again, sends, acknowledged, loses, probes, takes_pending, feeds_back, emptied, ack_goes, ack_is_late, asked}
 use Rattle.recovery_ledger.specs.Tracked.{Sent, sent_by}
-use Rattle.recovery_ledger.specs.Received.{CameIn, greatest_new}
-use Rattle.recovery_ledger.specs.Packets.{Packet, Packets, Tracking, packet_at, AreBelow, IsAboveLast, AreAcknowledging, after_sending, after_taking, after_carrying, is_above}
+use Rattle.recovery_ledger.specs.Received.{CameIn}
+use Rattle.recovery_ledger.specs.Packets.{Packet, Packets, Tracking, packet_at, AreBelow, IsAboveLast, AreAcknowledging, after_sending, after_taking, after_carrying, is_above, no_packets}
 
 -- a space as contracts see it; the contents P are what its queues hold
 pub record Space (P M : Type 0) : Type 0 where
@@ -68,33 +69,20 @@ abbrev pub with_tracking : {P M : Type 0} → Tracking P M → Space P M → Spa
 with_tracking tracking space = record space { sent_packets = tracking }
 
 abbrev pub packets_of : {P M : Type 0} → Space P M → Packets P M
-packets_of space = (tracking_of space).packets
+packets_of space = space.sent_packets.packets
 
 -- what is known of the packets sent
 abbrev pub sent_of : {P M : Type 0} → Space P M → Sent P M
-sent_of space = record {
-  next = space.next_packet_number;
-  last = (tracking_of space).last_eliciting;
-  tracked = packets_of space;
-}
-
--- what is kept of the packets sent
-abbrev pub kept_of : {P M : Type 0} → Space P M → Kept
-kept_of space = record {
-  largest = record { number = space.largest_acked_packet; time_sent = space.largest_acked_packet_sent };
-  last_sent = space.time_of_last_ack_eliciting_packet;
-  probes = space.loss_probes;
-  given_out = space.sent_with_keys;
-}
-
-abbrev pub marks_of : {P M : Type 0} → Space P M → Marks
-marks_of space = record { ping = space.ping_pending; immediate = space.immediate_ack_pending }
+sent_of space =
+    let packets = space.sent_packets in
+    record { next = space.next_packet_number; last = packets.last_eliciting; tracked = packets.packets }
 
 -- what is to be sent again, and what probes ask for
 abbrev pub queued_of : {P M : Type 0} → Space P M → Queued P
 queued_of space = record {
   pending = space.pending;
-  marks = marks_of space;
+  ping = space.ping_pending;
+  immediate = space.immediate_ack_pending;
   ecn = space.ecn_feedback;
 }
 
@@ -104,22 +92,13 @@ acks_of space = space.pending_acks
 abbrev pub with_acks : {P M : Type 0} → Acks → Space P M → Space P M
 with_acks acks space = record space { pending_acks = acks }
 
--- what decides of the next ACK
-abbrev pub counts_of : Acks → AckCounts
-counts_of acks = record {
-  eliciting = acks.eliciting;
-  thresholds = (acks.threshold, acks.reordering);
-  greatest = acks.greatest;
-  acknowledged = acks.acknowledged;
-}
-
 abbrev pub next_number_of : {P M : Type 0} → Space P M → ℕ
 next_number_of space = space.next_packet_number
 
 -- the greatest ack-eliciting number was received
 abbrev pub HasGreatestCome : {P M : Type 0} → Space P M → Type 0
 HasGreatestCome space =
-    (number : ℕ) → (acks_of space).greatest ≡ Some number → ¬ Exceeds (Has space.dedup) number
+    (number : ℕ) → (acks_of space).counts.greatest ≡ Some number → ¬ Exceeds (Has space.dedup) number
 
 -- all that was sent has a number below the next one, and acknowledges numbers of packets; what asks
 -- for an ACK was received
@@ -133,8 +112,7 @@ pub record IsCoherent {P M : Type 0} (space : Space P M) : Type 0 where
 abbrev pub after_number : {P M : Type 0} → ℕ → Space P M → Space P M
 after_number number space = record space {
   next_packet_number = number + 1;
-  sent_with_keys =
-      min (space.sent_with_keys + (number + 1 - space.next_packet_number)) (2 ^ 64 - 1);
+  sent_with_keys = min (space.sent_with_keys + (number + 1 - space.next_packet_number)) (2 ^ 64 - 1);
 }
 
 -- a packet that elicits an ACK was sent at this moment
@@ -153,6 +131,23 @@ after_acknowledging number sent space = record space {
       (if is_above space.largest_acked_packet number then sent else space.largest_acked_packet_sent);
 }
 
+-- nothing happened in it since it was made at this moment
+pub record IsMade {P M S : Type 0} (words : QueueWords P S) (start : ℕ) (space : Space P M) : Type 0 where
+  pub numbers : (n : ℕ) → ¬ Has space.dedup n
+  pub acks : acks_of space ≡ new_acks []
+  pub received : space.rx_packet ≡ 0
+  pub packets : tracking_of space ≡ no_packets
+  pub next : next_number_of space ≡ 0
+  pub acknowledged : space.largest_acked_packet ≡ None
+  pub acknowledged_sent : space.largest_acked_packet_sent ≡ start
+  pub last_sent : space.time_of_last_ack_eliciting_packet ≡ None
+  pub probes : space.loss_probes ≡ 0
+  pub given_out : space.sent_with_keys ≡ 0
+  pub queued : queued_of space ≡ queued_by {M = M} words []
+  pub ecn : space.ecn_counters ≡ no_ecn
+  pub loss_time : space.loss_time ≡ None
+  pub crypto_offset : space.crypto_offset ≡ 0
+
 -- ---- what an event does to its space
 
 -- what is known of the packets that came, where these are the numbers
@@ -160,23 +155,24 @@ abbrev pub heard_with : (ℕ → Type 0) → Acks → Heard
 heard_with Numbers acks = record {
   came = Numbers;
   required = IsTrue acks.required;
-  waits = (n : ℕ) × IsPending acks n;
-  started = (m : ℕ) × (acks.base ≡ Some m);
+  pending = IsPending acks;
+  started = λ m. acks.base ≡ Some m;
 }
 
 abbrev pub heard_of : {P M : Type 0} → Space P M → Heard
 heard_of space = heard_with (Has space.dedup) (acks_of space)
 
+abbrev pub ArmsBy : Heard → AckCounts → ℕ → Bool → Type 0
+ArmsBy known = Arms known.came known.required known.started
+
 -- a new number came and is to be acknowledged
 pub record HearsNew (Numbers : ℕ → Type 0) (old : Acks) (now number : ℕ) (eliciting : Bool) (new : Acks) : Type 0 where
   pub pending : (n : ℕ) → IsPending new n ↔ IsInHighest 64 (With number (IsPending old)) n
   pub required : IsTrue new.required
-      ↔ (IsTrue old.required ⊎ (IsTrue eliciting × AsksAtOnce Numbers (counts_of old) number))
+      ↔ (IsTrue old.required ⊎ (IsTrue eliciting × AsksAtOnce (With number Numbers) old.counts number))
   pub started : (m : ℕ) → (new.base ≡ Some m)
-      ↔ ((old.base ≡ Some m) ⊎ ((m ≡ now) × Arms (heard_with Numbers old) (counts_of old) number eliciting))
-  pub counts : counts_of new ≡ counts_with eliciting number (counts_of old)
-  pub silent : new.silent ≡ (if eliciting then old.silent else counted old.silent)
-  pub largest : new.largest ≡ largest_with old.largest number now
+      ↔ ((old.base ≡ Some m) ⊎ ((m ≡ now) × ArmsBy (heard_with Numbers old) old.counts number eliciting))
+  pub counts : new.counts ≡ counts_received eliciting number (counts_inserted now number old.counts)
 
 pub record ReceivesNew {P M : Type 0} (old : Space P M) (now number : ℕ) (eliciting : Bool)
     (new : Space P M) : Type 0 where
@@ -221,7 +217,7 @@ space_acks_sent space = with_acks (acks_sent (acks_of space)) space
 -- the timer for a late ACK expired
 abbrev pub space_late : {P M : Type 0} → Space P M → Space P M
 space_late space =
-    with_acks (with_required (nat_lt 0 (acks_of space).eliciting) (acks_of space)) space
+    with_acks (with_required (nat_lt 0 (acks_of space).counts.eliciting) (acks_of space)) space
 
 -- the peer asked for other thresholds
 abbrev pub space_asked : {P M : Type 0} → AckFrequency → Space P M → Space P M
@@ -233,12 +229,6 @@ space_asked frame space =
 -- counts of ECN were kept
 abbrev pub space_fed_back : {P M : Type 0} → EcnCounts → Space P M → Space P M
 space_fed_back counts space = record space { ecn_feedback = counts }
-
-abbrev pub with_marks : {P M : Type 0} → Marks → Space P M → Space P M
-with_marks marks space = record space {
-  ping_pending = marks.ping;
-  immediate_ack_pending = marks.immediate;
-}
 
 -- one probe more is to be sent
 abbrev pub one_probe_more : {P M : Type 0} → Space P M → Space P M
@@ -259,15 +249,19 @@ module _ {P M S : Type 0} (words : QueueWords P S) where
     pending = joined_with words space.pending (packet_at (packets_of space) number);
   }
 
-  abbrev pub space_finds : ProbeFound → Space P M → Space P M
-  space_finds (moves number) space = space_moves number space
-  space_finds pending_stands space = space
-  space_finds nothing_found space = space
+  abbrev pub space_finds : Option ℕ → Space P M → Space P M
+  space_finds moved space = record space {
+    sent_packets =
+        option_map_or (λ number. after_carrying number words.empty (tracking_of space)) moved (tracking_of space);
+    pending = joined_with words space.pending (option_and_then (packet_at (packets_of space)) moved);
+  }
 
   -- contents for a probe were looked for
   abbrev pub space_probes : Bool → ProbeFound → Space P M → Space P M
-  space_probes immediate found space =
-      with_marks (marks_with immediate found (marks_of space)) (space_finds found space)
+  space_probes immediate found space = record (space_finds found.moved space) {
+    ping_pending = space.ping_pending || (found.nothing && not (immediate || space.immediate_ack_pending));
+    immediate_ack_pending = immediate || space.immediate_ack_pending;
+  }
 
   -- the pending contents were handed out
   abbrev pub space_hands_out : Space P M → Space P M
@@ -278,14 +272,15 @@ module _ {P M S : Type 0} (words : QueueWords P S) where
   space_discards space = space_hands_out (space_empties space)
 
 -- a packet came in
-abbrev pub came : {P M : Type 0} → ℕ → ℕ → Bool → Receipt → SpaceEntry P M
-came now number ack_eliciting (New arm) = heard now number ack_eliciting
-came now number ack_eliciting Duplicate = heard_again number
+abbrev pub arrives : {P M : Type 0} → ℕ → ℕ → Bool → Receipt → SpaceEntry P M
+arrives now number ack_eliciting (New arm) = heard now number ack_eliciting
+arrives now number ack_eliciting Duplicate = heard_again number
 
 -- what a received packet is, by the numbers that came before it and by what decides of the next ACK
 abbrev pub IsReceipt : Heard → AckCounts → ℕ → Bool → Receipt → Type 0
 IsReceipt known counts number eliciting (New arm) =
-    IsNew known.came number × (IsTrue arm ↔ Arms known counts number eliciting)
+    IsNew known.came number
+    × (IsTrue arm ↔ Arms known.came known.required known.started counts number eliciting)
 IsReceipt known counts number eliciting Duplicate = ¬ IsNew known.came number
 
 -- what comes of a received packet: its number may be too large, and only a new one takes memory
@@ -298,13 +293,11 @@ ReceiveReply known counts number eliciting (Err NoMemory) = (number < 2 ^ 62) ×
 -- ---- what a log leaves
 
 -- what is to be acknowledged in a space, and what decides when
-pub record AcksLeft (said : AcksSaid) (acks : Acks) : Type 0 where
+pub record AcksLeft (said : Heard) (said_counts : AckCounts) (acks : Acks) : Type 0 where
   pub pending : (n : ℕ) → IsPending acks n ↔ said.pending n
   pub required : IsTrue acks.required ↔ said.required
   pub started : (m : ℕ) → (acks.base ≡ Some m) ↔ said.started m
-  pub counts : counts_of acks ≡ said.counts
-  pub silent : acks.silent ≡ said.silent
-  pub largest : acks.largest ≡ said.largest
+  pub counts : acks.counts ≡ said_counts
 
 module _ {P M S : Type 0} (words : QueueWords P S) where
   abbrev pub SpaceStep : SpaceEntry P M → Space P M → Space P M → Type 0
@@ -328,8 +321,14 @@ module _ {P M S : Type 0} (words : QueueWords P S) where
   pub record SpaceLeft (start : ℕ) (log : List (SpaceEntry P M)) (left : Space P M) : Type 0 where
     -- a space knows the numbers that came in it, at most 128 below the greatest
     pub numbers : (n : ℕ) → Has left.dedup n ↔ Recent (CameIn log) n
-    pub acks : AcksLeft (acks_by words log) (acks_of left)
-    pub greatest : left.rx_packet ≡ greatest_new log
+    pub acks : AcksLeft (heard_by words log) (counts_by log) left.pending_acks
+    -- the greatest new number, and 0 before the first
+    pub greatest : left.rx_packet ≡ option_map_or (λ largest. largest.0) (counts_by log).largest 0
     pub sent : sent_of left ≡ sent_by words log
-    pub kept : kept_of left ≡ kept_by words start log
+    pub acknowledged :
+        (left.largest_acked_packet, left.largest_acked_packet_sent) ≡ largest_acknowledged words start log
+    pub last_sent : left.time_of_last_ack_eliciting_packet ≡ last_eliciting_sent log
+    pub probes : left.loss_probes ≡ probes_by log
+    -- how many numbers were given out or skipped, as far as its type counts
+    pub given_out : left.sent_with_keys ≡ min (sent_by words log).next (2 ^ 64 - 1)
     pub queued : queued_of left ≡ queued_by words log

@@ -1,8 +1,8 @@
 -- Packets sent in a space, and those still tracked (RFC 9002, A.1).
-use Rattle.std.specs.Prelude.{ℕ, ◌+◌, List, [], ◌∷◌, Bool, Option, None, Some, if◌then◌else◌}
+use Rattle.std.specs.Prelude.{ℕ, ◌+◌, List, [], ◌∷◌, ◌++◌, Bool, Option, None, Some, if◌then◌else◌}
+use Rattle.std.specs.Option.{option_map_or}
 use Rattle.recovery_queue.specs.Queues.{QueueWords}
-use Rattle.recovery_ledger.specs.Packets.{Packet, Packets, without, carrying, forgotten_number, sent_onto}
-use Rattle.recovery_ledger.specs.Probes.{ProbeFound, pending_stands, moves, nothing_found}
+use Rattle.recovery_ledger.specs.Packets.{Packet, Packets, without, carrying, forgotten_number, without_some}
 use Rattle.recovery_ledger.specs.SpaceLog.{SpaceEntry, sends, acknowledged, loses, probes, emptied}
 
 -- a packet as it is sent
@@ -33,7 +33,7 @@ abbrev pub sent_more : {P M : Type 0} → ℕ → Packet P M → Sent P M → Se
 sent_more number packet sent = record {
   next = number + 1;
   last = (if packet.ack_eliciting then Some number else sent.last);
-  tracked = sent_onto sent.last number packet sent.tracked;
+  tracked = without_some sent.tracked (forgotten_by sent packet) ++ (number, packet) ∷ [];
 }
 
 -- a packet is tracked no more
@@ -41,10 +41,9 @@ abbrev pub sent_less : {P M : Type 0} → ℕ → Sent P M → Sent P M
 sent_less number sent = record sent { tracked = without sent.tracked number }
 
 -- a packet's contents are moved out, where a probe finds them
-abbrev pub sent_moved : {P M : Type 0} → P → ProbeFound → Sent P M → Sent P M
-sent_moved empty (moves number) sent = record sent { tracked = carrying number empty sent.tracked }
-sent_moved empty pending_stands sent = sent
-sent_moved empty nothing_found sent = sent
+abbrev pub sent_moved : {P M : Type 0} → P → Option ℕ → Sent P M → Sent P M
+sent_moved empty moved sent =
+    record sent { tracked = option_map_or (λ number. carrying number empty sent.tracked) moved sent.tracked }
 
 module _ {P M S : Type 0} (words : QueueWords P S) where
   abbrev pub sent_by : List (SpaceEntry P M) → Sent P M
@@ -52,6 +51,6 @@ module _ {P M S : Type 0} (words : QueueWords P S) where
   sent_by (sends number packet ∷ earlier) = sent_more number packet (sent_by earlier)
   sent_by (acknowledged number ∷ earlier) = sent_less number (sent_by earlier)
   sent_by (loses number ∷ earlier) = sent_less number (sent_by earlier)
-  sent_by (probes immediate found ∷ earlier) = sent_moved words.empty found (sent_by earlier)
+  sent_by (probes immediate found ∷ earlier) = sent_moved words.empty found.moved (sent_by earlier)
   sent_by (emptied ∷ earlier) = record (sent_by earlier) { tracked = [] }
   sent_by (entry ∷ earlier) = sent_by earlier

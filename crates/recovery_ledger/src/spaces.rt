@@ -1,18 +1,15 @@
 //! What is kept for each packet number space (RFC 9000, 12.3): received numbers, sent numbers, tracked packets, what is
 //! to be sent again, and what probes ask for.
-ghost use Rattle.std.specs.Prelude.{◌≡◌, ◌≢◌, Decides, ◌<◌, ◌≤◌, ◌^◌, ◌∷◌, [], ℕ, IfOk, OnOk, OnErr, IfSome, IfNone, None, Some, MatchOption, MatchResult, false, not, ◌||◌, length, nat_lt, option_map};
+ghost use Rattle.std.specs.Prelude.{◌≡◌, ◌≢◌, Decides, ◌<◌, ◌≤◌, ◌^◌, ◌∷◌, [], IfOk, OnOk, OnErr, IfSome, IfNone, IsSome, None, Some, MatchOption, MatchResult, false, not, ◌||◌, length, nat_lt, option_map};
 ghost use Rattle.std.specs.Option.{is_some};
 ghost use Rattle.recovery_base.specs.declared.below.SpaceId.{SpaceId};
 ghost use Rattle.recovery_base.specs.Ecn.{ecn_fault};
-ghost use Rattle.recovery_base.specs.Received.{Has};
-ghost use Rattle.recovery_acks.specs.Acks.{new_acks};
-ghost use Rattle.recovery_ledger.specs.Kept.{kept_by};
-ghost use Rattle.recovery_ledger.specs.Packets.{AreBelow, IsAboveLast, HasSize, IsTooLarge, silent_in, no_packets, packet_at, with_contents, forgotten_entry, after_sending};
+ghost use Rattle.recovery_ledger.specs.Packets.{AreBelow, IsAboveLast, HasSize, IsTooLarge, silent_in, packet_at, with_contents, forgotten_entry, after_sending};
 ghost use Rattle.recovery_ledger.specs.Places.{HasSlots, FindsPacket};
-ghost use Rattle.recovery_ledger.specs.Probes.{Moves, probe_found};
-ghost use Rattle.recovery_ledger.specs.Queued.{IsSendable, queued_by, no_ecn};
+ghost use Rattle.recovery_ledger.specs.Probes.{probe_found};
+ghost use Rattle.recovery_ledger.specs.Queued.{IsSendable};
 ghost use Rattle.recovery_ledger.specs.SpaceLog.{loses, probes, takes_pending, feeds_back};
-ghost use Rattle.recovery_ledger.specs.Spaces.{space_of, tracking_of, with_tracking, packets_of, kept_of, acks_of, queued_of, with_acks, counts_of, next_number_of, after_number, after_eliciting, after_acknowledging, space_takes, space_moves, space_probes, HasGreatestCome, SpaceStep, ReceiveReply, heard_of, came, SubtractsLargest};
+ghost use Rattle.recovery_ledger.specs.Spaces.{space_of, tracking_of, with_tracking, packets_of, acks_of, queued_of, with_acks, next_number_of, IsMade, after_number, after_eliciting, after_acknowledging, space_takes, space_moves, space_probes, HasGreatestCome, SpaceStep, ReceiveReply, heard_of, arrives, SubtractsLargest};
 
 use crate::sent_packets::SentPackets;
 use recovery_acks::PendingAcks;
@@ -187,16 +184,7 @@ where
 {
     /// A space in which nothing was received or sent yet.
     pub fn new(alloc: Global, now: Instant) -> Self
-        ensures numbers { (n : ℕ) → ¬ Has result.dedup n }
-        ensures acks { acks_of result ≡ new_acks [] }
-        ensures received { result.rx_packet ≡ 0 }
-        ensures packets { tracking_of result ≡ no_packets }
-        ensures next { next_number_of result ≡ 0 }
-        ensures kept { kept_of result ≡ kept_by {M = Q.Meta} Q.words now [] }
-        ensures queued { queued_of result ≡ queued_by {M = Q.Meta} Q.words [] }
-        ensures ecn { result.ecn_counters ≡ no_ecn }
-        ensures loss_time { result.loss_time ≡ None }
-        ensures crypto_offset { result.crypto_offset ≡ 0 }
+        ensures { IsMade Q.words now result }
     {
         PacketSpace {
             dedup: Dedup::new(),
@@ -272,9 +260,9 @@ where
     ) -> Result<Receipt, ReceiveError>
         requires received { HasGreatestCome self.old }
         ensures reply { ReceiveReply
-            (heard_of self.old) (counts_of (acks_of self.old)) number ack_eliciting result }
+            (heard_of self.old) (acks_of self.old).counts number ack_eliciting result }
         ensures step { IfOk result
-            (λ receipt. SpaceStep Q.words (came now number ack_eliciting receipt) self.old self.new) }
+            (λ receipt. SpaceStep Q.words (arrives now number ack_eliciting receipt) self.old self.new) }
         ensures refused { OnErr result (self.new ≡ self.old) }
     {
         if number >= NUMBER_LIMIT {
@@ -460,7 +448,7 @@ where
             ≡ space_probes Q.words request_immediate_ack
             (probe_found Q.words streams.now self.old.pending (packets_of self.old)) self.old) }
         ensures moves { OnErr result
-            (Moves (probe_found Q.words streams.now self.old.pending (packets_of self.old))) }
+            (IsSome (probe_found Q.words streams.now self.old.pending (packets_of self.old)).moved) }
         ensures err { OnErr result (self.new ≡ self.old) }
     {
         if self.loss_probes == 0 {
@@ -494,7 +482,7 @@ where
         ensures frames { IfOk result (λ frames.
             IsSendable Q.words streams.now (heard_of self.new) (queued_of self.new) frames) }
         ensures moves { OnErr result
-            (Moves (probe_found Q.words streams.now self.old.pending (packets_of self.old))) }
+            (IsSome (probe_found Q.words streams.now self.old.pending (packets_of self.old)).moved) }
         ensures err { OnErr result (self.new ≡ self.old) }
     {
         let before = self.loss_probes;
@@ -574,18 +562,7 @@ where
 {
     /// Three spaces in which nothing was received or sent yet.
     pub fn new(alloc: Global, now: Instant) -> Self
-        ensures numbers { (space : SpaceId) (n : ℕ) → ¬ Has (space_of space result).dedup n }
-        ensures acks { (space : SpaceId) → acks_of (space_of space result) ≡ new_acks [] }
-        ensures received { (space : SpaceId) → (space_of space result).rx_packet ≡ 0 }
-        ensures kept { (space : SpaceId) →
-            kept_of (space_of space result) ≡ kept_by {M = Q.Meta} Q.words now [] }
-        ensures queued { (space : SpaceId) →
-            queued_of (space_of space result) ≡ queued_by {M = Q.Meta} Q.words [] }
-        ensures packets { (space : SpaceId) → tracking_of (space_of space result) ≡ no_packets }
-        ensures next { (space : SpaceId) → next_number_of (space_of space result) ≡ 0 }
-        ensures ecn { (space : SpaceId) → (space_of space result).ecn_counters ≡ no_ecn }
-        ensures loss_time { (space : SpaceId) → (space_of space result).loss_time ≡ None }
-        ensures crypto_offset { (space : SpaceId) → (space_of space result).crypto_offset ≡ 0 }
+        ensures { (space : SpaceId) → IsMade Q.words now (space_of space result) }
     {
         PacketSpaces {
             initial: PacketSpace::new(alloc, now),

@@ -22,9 +22,6 @@ bind_some None f y e = absurd cc
 abbrev pub some_of : {A : Type 0} → A → Option A
 some_of x = Some x
 
-pub some_is : {A : Type 0} (x y : A) → some_of x ≡ some_of y → x ≡ y
-some_is x y e = cc
-
 -- a word for each value that fits, and its reading
 pub record IsField {A : Type 0} (word : A → List ℕ) (Fits : A → Type 0) (read : List ℕ → Option A) : Type 0 where
   pub takes : (text : List ℕ) (x : A) → read text ≡ Some x → (text ≡ word x) × Fits x

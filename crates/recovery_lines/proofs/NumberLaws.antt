@@ -157,13 +157,7 @@ not_both b p q = absurd cc
 pub decimal_is_no_dash : (n : ℕ) → n < 2 ^ 64 → bytes_eq (decimal n) (codes "-") ≡ false
 decimal_is_no_dash n lt = grind (arith, first_is_digit n lt, bytes_eq-Decides (decimal n) (codes "-"))
 
--- a number below another limit
-pub other_limit : (limit other : ℕ) (word : List ℕ) (n : ℕ) → number_of limit word ≡ Some n → n < other
-    → number_of other word ≡ Some n
-unfolding number_of
-other_limit limit other word n some lt = grind (arith, nat_tests, some)
-
--- the same below a greater limit
+-- a number below a limit is one below a greater limit
 pub wider_limit : (limit other : ℕ) (word : List ℕ) (n : ℕ) → limit ≤ other → other ≤ 10 ^ 64
     → number_of limit word ≡ Some n → number_of other word ≡ Some n
 unfolding number_of

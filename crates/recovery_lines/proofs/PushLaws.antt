@@ -71,13 +71,6 @@ pushes_refused line (Some said) before (Err refused) after is short pushes = ref
 pushes_refused line None before (Err refused) after is short pushes = absurd pushes
 pushes_refused line said before (Ok spells) after is short pushes = tt
 
--- then nothing was put
-pub pushes_kept : {E : Type 0} (said : Option Line) (before : List ItemEvent) (result : Result Bool E)
-    (after : List ItemEvent) → Pushes said before result after → OnErr result (after ≡ before)
-pushes_kept (Some said) before (Err refused) after pushes = pushes.1
-pushes_kept None before (Err refused) after pushes = absurd pushes
-pushes_kept said before (Ok spells) after pushes = tt
-
 -- ---- of a line that is not too long, and its first word
 
 module _ (line : List ℕ) (words rest : List (List ℕ)) (name : List ℕ) (is : words ≡ words_of line)

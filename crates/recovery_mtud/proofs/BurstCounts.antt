@@ -2,9 +2,11 @@
 use Rattle.std.proofs.Common.{◌≡◌, ℕ, suc, ◌+◌, ◌<◌, ◌≤◌, min, max, Bool, true, false, List, [], ◌∷◌, ◌++◌, length, arith, refl, length-append}
 use Rattle.std.specs.Prelude.{nat_lt, nat_eq, filter}
 use Rattle.std.specs.List.{list_all}
+use Rattle.std.specs.List.{reduce}
+use Rattle.std.specs.Option.{unwrap_or}
 use Rattle.std.specs.Set.{is_member}
 use Rattle.std.proofs.lemmas.Bool.Decides.{nat_tests}
-use Rattle.recovery_mtud.specs.Bursts.{least_of, in_place, with_burst}
+use Rattle.recovery_mtud.specs.Bursts.{in_place, with_burst}
 
 -- 1 where the test is passed
 abbrev pub one : Bool → ℕ
@@ -77,13 +79,15 @@ length-with_burst size sizes = grind (arith, nat_tests, length-append {A = ℕ},
 pub tally-with_burst : (low size : ℕ) (sizes : List ℕ)
     → tally (λ other. nat_lt low other) (with_burst size sizes) ≤ tally (λ other. nat_lt low other) sizes + one
     (nat_lt low size)
-tally-with_burst low size sizes = grind
-    (arith, tally-append (λ other. nat_lt low other) sizes (size ∷ []), tally-in_place low size (least_of sizes) sizes)
+tally-with_burst low size sizes =
+    let least = unwrap_or (reduce min sizes) 0 in
+    grind (arith, tally-append (λ other. nat_lt low other) sizes (size ∷ []), tally-in_place low size least sizes)
 
 pub all-with_burst : (low size : ℕ) (sizes : List ℕ) → low < size → AllAbove low sizes
     → AllAbove low (with_burst size sizes)
 all-with_burst low size sizes above all =
-    grind (arith, all-push low size sizes above all, all-in_place low size (least_of sizes) sizes above all)
+    let least = unwrap_or (reduce min sizes) 0 in
+    grind (arith, all-push low size sizes above all, all-in_place low size least sizes above all)
 
 -- ---- numbers
 

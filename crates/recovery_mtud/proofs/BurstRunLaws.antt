@@ -1,10 +1,11 @@
 -- Whole runs of the detection of black holes: a report needs four bursts, and comes at four. The driver's `BurstLaws`
 -- rest on it.
-use Rattle.std.proofs.Common.{◌≡◌, ℕ, true, false, List, [], ◌∷◌, refl, ap, arith, ◌∙◌}
+use Rattle.std.proofs.Common.{◌≡◌, ℕ, Bool, Option, Some, None, is_some, ◌||◌, nat_lt, filter, if◌then◌else◌, true, false, List, [], ◌∷◌, refl, ap, arith, ◌∙◌}
+use Rattle.recovery_mtud.specs.Bursts.{LossBursts, bursts_acked, bursts_closed}
 use Rattle.recovery_mtud.specs.Discovery.{Discovery, reports, size_of_probe}
 use Rattle.recovery_mtud.specs.DiscoveryLog.{MtuCall, polls, acks, loses, losses_end, discovery_after, discovery_by}
-use Rattle.recovery_mtud.specs.MtuEntries.{IsUntold, MtuEntry, probe_in_flight, size_at, entry_of, entries_by, min_mtu_in_use}
-use Rattle.recovery_mtud.specs.BurstRuns.{open_run, standing, unanswered, larger_acked, acked_numbers, lost_numbers, AreFatesApart, AreFourStanding, AreFourUnanswered}
+use Rattle.recovery_mtud.specs.MtuEntries.{IsUntold, MtuEntry, losses_over, reported, probe_in_flight, size_at, entry_of, entries_by, min_mtu_in_use}
+use Rattle.recovery_mtud.specs.BurstRuns.{Loss, is_above, open_run, standing, unanswered, larger_acked, acked_numbers, lost_numbers, AreFatesApart, AreFourStanding, AreFourUnanswered}
 use Rattle.recovery_mtud.proofs.EntryLaws.{polled, Holds, holds_by, size_in_held}
 use Rattle.recovery_mtud.proofs.BurstCounts.{has}
 use Rattle.recovery_mtud.proofs.BurstTies.{Needy, Coming, needy_acked, needy_probed, needy_lost, needy_ended, needy_report, needy_made, coming_acked, coming_probed, coming_lost, coming_ended, coming_report, coming_made}
@@ -21,56 +22,84 @@ apart_before entry entries apart number good = grind (arith, apart number)
 
 -- ---- one call
 
-abbrev NeedyAt : Discovery → List MtuEntry → Discovery → Type 0
-NeedyAt made entries new =
+abbrev NeedyAt : Discovery → List MtuEntry → LossBursts → Type 0
+NeedyAt made entries =
     Needy (min_mtu_in_use made entries) (open_run entries) (standing entries) (acked_numbers entries)
-    (lost_numbers entries) new.bursts
+    (lost_numbers entries)
 
-abbrev ComingAt : Discovery → List MtuEntry → Discovery → Type 0
-ComingAt made entries new =
+abbrev ComingAt : Discovery → List MtuEntry → LossBursts → Type 0
+ComingAt made entries =
     let least = min_mtu_in_use made entries in
-    Coming least (open_run entries) (unanswered least entries) (larger_acked least entries) new.bursts
+    Coming least (open_run entries) (unanswered least entries) (larger_acked least entries)
 
 module _ (made : Discovery) (entries : List MtuEntry) (old : Discovery) (holds : Holds made entries old) where
-  size_is : (number : ℕ) → size_of_probe number old ≡ size_at number (probe_in_flight entries)
-  size_is number = size_in_held number old.search ∙ ap (size_at number) holds.probe
+  -- what holds where a packet is no probe and where it is the one in flight holds after its acknowledgement
+  at_ack : (number bytes : ℕ) (G : Bool → LossBursts → Type 0) → G false (bursts_acked number bytes old.bursts)
+      → G true (record old.bursts { kept = []; acked = bytes; newest = number })
+      → G (is_some (size_at number (probe_in_flight entries))) (discovery_after (acks number bytes) old).bursts
+  at_ack number bytes G other probe =
+      go (size_at number (probe_in_flight entries)) (size_in_held number old.search ∙ ap (size_at number) holds.probe)
+    where
+      go : (taken : Option ℕ) → size_of_probe number old ≡ taken
+          → G (is_some taken) (discovery_after (acks number bytes) old).bursts
+      go None is = rw is other
+      go (Some mtu) is = rw is probe
 
-  needy_after : (call : MtuCall) → AreFatesApart entries → NeedyAt made entries old
-      → NeedyAt made (entry_of call old ∷ entries) (discovery_after call old)
+  -- the same of the end of losses, with a report and without one
+  at_end : (now : ℕ) (G : MtuEntry → LossBursts → Type 0) → G losses_over (bursts_closed old.bursts)
+      → G (reported now) (record (bursts_closed old.bursts) { kept = [] })
+      → G (entry_of (losses_end now) old) (discovery_after (losses_end now) old).bursts
+  at_end now G none hole = go (reports old) refl
+    where
+      go : (is_hole : Bool) → reports old ≡ is_hole
+          → G (if is_hole then reported now else losses_over) (discovery_after (losses_end now) old).bursts
+      go true is = rw is hole
+      go false is = rw is none
+
+  needy_after : (call : MtuCall) → AreFatesApart entries → NeedyAt made entries old.bursts
+      → NeedyAt made (entry_of call old ∷ entries) (discovery_after call old).bursts
   needy_after (acks number bytes) apart tie =
-      grind (
-        arith,
-        size_is number,
-        needy_acked _ _ _ _ _ old.bursts tie number bytes,
-        needy_probed _ _ _ _ _ old.bursts tie number bytes,
-      )
+      at_ack number bytes (λ probe. Needy (min_mtu_in_use made entries) (open_run entries)
+      (if probe then [] else filter (is_above bytes) (standing entries)) (number ∷ acked_numbers entries)
+      (lost_numbers entries))
+      (needy_acked _ _ _ _ _ old.bursts tie number bytes) (needy_probed _ _ _ _ _ old.bursts tie number bytes)
   needy_after (loses number bytes) apart tie =
       needy_lost _ _ _ _ _ old.bursts tie (never_both entries apart) number bytes
   needy_after (losses_end now) apart tie =
-      grind (arith, needy_ended _ _ _ _ _ old.bursts tie (never_both entries apart))
+      let ended = needy_ended _ _ _ _ _ old.bursts tie (never_both entries apart) in
+      at_end now (λ entry. NeedyAt made (entry ∷ entries)) ended.0 ended.1
   needy_after (polls now next) apart tie = polled
-      (λ entry. NeedyAt made (entry ∷ entries) old) now next _ tie (λ size. tie)
+      (λ entry. NeedyAt made (entry ∷ entries) old.bursts) now next _ tie (λ size. tie)
   needy_after call apart tie = grind (arith, needy_made)
 
-  coming_after : (call : MtuCall) → ComingAt made entries old
-      → ComingAt made (entry_of call old ∷ entries) (discovery_after call old)
+  abbrev size : ℕ
+  size = min_mtu_in_use made entries
+
+  abbrev bursts : List (List Loss)
+  bursts = unanswered size entries
+
+  abbrev numbers : List ℕ
+  numbers = larger_acked size entries
+
+  coming_after : (call : MtuCall) → ComingAt made entries old.bursts
+      → ComingAt made (entry_of call old ∷ entries) (discovery_after call old).bursts
   coming_after (acks number bytes) tie =
-      grind (
-        arith,
-        size_is number,
-        coming_acked _ _ _ _ old.bursts tie number bytes,
-        coming_probed _ _ _ _ old.bursts tie number bytes,
-      )
-  coming_after (loses number bytes) tie = coming_lost _ _ _ _ old.bursts tie number bytes
-  coming_after (losses_end now) tie = grind (arith, coming_ended _ _ _ _ old.bursts tie)
+      at_ack number bytes (λ probe. let larger = probe || nat_lt size bytes in
+      Coming size (open_run entries) (if larger then [] else bursts) (if larger then number ∷ numbers else numbers))
+      (coming_acked size _ bursts numbers old.bursts tie number bytes)
+      (coming_probed size _ bursts numbers old.bursts tie number bytes)
+  coming_after (loses number bytes) tie = coming_lost size _ bursts numbers old.bursts tie number bytes
+  coming_after (losses_end now) tie =
+      let ended = coming_ended size _ bursts numbers old.bursts tie in
+      at_end now (λ entry. ComingAt made (entry ∷ entries)) ended.0 ended.1
   coming_after (polls now next) tie = polled
-      (λ entry. ComingAt made (entry ∷ entries) old) now next _ tie (λ size. tie)
+      (λ entry. ComingAt made (entry ∷ entries) old.bursts) now next _ tie (λ size. tie)
   coming_after call tie = grind (arith, coming_made)
 
 -- ---- all calls
 
 needy_by : (made : Discovery) → IsUntold made → (calls : List MtuCall) → AreFatesApart (entries_by made calls)
-    → NeedyAt made (entries_by made calls) (discovery_by made calls)
+    → NeedyAt made (entries_by made calls) (discovery_by made calls).bursts
 needy_by made new [] apart =
     rw new.bursts (needy_made made.bursts.min_mtu [] [])
 needy_by made new (call ∷ earlier) apart =
@@ -78,7 +107,7 @@ needy_by made new (call ∷ earlier) apart =
     needy_after made _ _ (holds_by made new earlier) call before (needy_by made new earlier before)
 
 coming_by : (made : Discovery) → IsUntold made → (calls : List MtuCall)
-    → ComingAt made (entries_by made calls) (discovery_by made calls)
+    → ComingAt made (entries_by made calls) (discovery_by made calls).bursts
 coming_by made new [] =
     rw new.bursts (coming_made made.bursts.min_mtu [])
 coming_by made new (call ∷ earlier) =
@@ -93,7 +122,10 @@ four_stand made new calls apart =
 -- where four have closed unanswered, the end of losses reports a black hole
 pub four_report : (made : Discovery) → IsUntold made → (calls : List MtuCall)
     → AreFourUnanswered made (entries_by made calls) → reports (discovery_by made calls) ≡ true
-four_report made new calls = coming_report _ _ _ _ _ (coming_by made new calls)
+four_report made new calls =
+    let entries = entries_by made calls in
+    let least = min_mtu_in_use made entries in
+    coming_report least _ (unanswered least entries) (larger_acked least entries) _ (coming_by made new calls)
 
 -- ---- numbers by the calls
 

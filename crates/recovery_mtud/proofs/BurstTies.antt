@@ -1,14 +1,25 @@
 -- What is kept of bursts, against the bursts of the entries. `BurstRunLaws` rest on it.
-use Rattle.std.proofs.Common.{◌≡◌, ◌⊎◌, ℕ, ◌<◌, ◌≤◌, min, max, Option, Some, None, Bool, true, List, [], ◌∷◌, ◌++◌, length, arith, refl}
-use Rattle.std.specs.Prelude.{nat_lt, ◌&&◌, if◌then◌else◌, filter}
+use Rattle.std.proofs.Common.{◌≡◌, ◌⊎◌, ℕ, zero, suc, ◌<◌, ◌≤◌, min, max, Option, Some, None, Bool, true, false, List, [], ◌∷◌, ◌++◌, drop, length, arith, refl}
+use Rattle.std.specs.Prelude.{nat_lt, nat_le, ◌&&◌, if◌then◌else◌, filter}
 use Rattle.std.specs.List.{list_any}
 use Rattle.std.proofs.lemmas.Bool.Decides.{nat_tests}
 use Rattle.recovery_mtud.specs.declared.detector.Burst.{Burst}
-use Rattle.recovery_mtud.specs.Bursts.{LossBursts, bursts_made, bursts_probed, bursts_acked, bursts_closed, bursts_ended, bursts_lost, is_black_hole}
-use Rattle.recovery_mtud.specs.BurstRuns.{Loss, follows, if_any, from_first, least_size, is_above, is_past}
+use Rattle.recovery_mtud.specs.Bursts.{LossBursts, bursts_made, bursts_acked, bursts_closed, bursts_lost}
+use Rattle.recovery_mtud.specs.BurstRuns.{Loss, follows, is_above, is_past}
 use Rattle.recovery_mtud.proofs.BurstCounts.{tally, AllAbove, length-filter, all-filter, all-kept, tally-all, tally-raise, length-with_burst, tally-with_burst, all-with_burst, has, past_has}
 
 -- ---- the open burst
+
+abbrev least_size : List Loss → ℕ
+least_size [] = 0
+least_size (loss ∷ []) = loss.bytes
+least_size (loss ∷ other ∷ losses) = min loss.bytes (least_size (other ∷ losses))
+
+-- all are larger where the least is
+above_least : (size : ℕ) (burst : List Loss) → is_above size burst ≡ nat_lt size (least_size burst)
+above_least size [] = grind (arith, nat_tests)
+above_least size (loss ∷ []) = grind (arith, nat_tests)
+above_least size (loss ∷ other ∷ losses) = grind (arith, nat_tests, above_least size (other ∷ losses))
 
 -- its least size and its last number
 abbrev pub summary : List Loss → Option Burst
@@ -41,7 +52,8 @@ Needy min_mtu run standing acked lost s = (s.open_burst ≡ summary run) × (s.m
 filter_both : (min_mtu low bytes : ℕ) (bursts : List (List Loss))
     → tally (both min_mtu low) (filter (is_above bytes) bursts) ≡ tally (both min_mtu (max low bytes)) bursts
 filter_both min_mtu low bytes [] = refl
-filter_both min_mtu low bytes (burst ∷ bursts) = grind (arith, nat_tests, filter_both min_mtu low bytes bursts)
+filter_both min_mtu low bytes (burst ∷ bursts) =
+    grind (arith, nat_tests, filter_both min_mtu low bytes bursts, λ (size : ℕ). above_least size burst)
 
 filtered : (low bytes : ℕ) (sizes : List ℕ)
     → tally (λ size. nat_lt low size) (filter (λ size. nat_lt bytes size) sizes)
@@ -55,22 +67,13 @@ above_both min_mtu [] = refl
 above_both min_mtu (burst ∷ bursts) = grind (arith, nat_tests, above_both min_mtu bursts)
 
 module _ (min_mtu : ℕ) (acked lost : List ℕ) (s : LossBursts) where
-  -- a burst closes
-  close_one : (loss : Loss) (losses : List Loss) (bursts : List (List Loss))
-      → Needy min_mtu (loss ∷ losses) bursts acked lost s → AreApart acked lost
-      → Needy min_mtu [] ((loss ∷ losses) ∷ bursts) acked lost (bursts_closed s)
-  close_one loss losses bursts tie apart = grind (
-    arith,
-    nat_tests,
-    apart loss.number,
-    all-with_burst,
-    tally-with_burst,
-  )
-
+  -- the open burst closes
   pub close_needs : (run : List Loss) (bursts : List (List Loss)) → Needy min_mtu run bursts acked lost s
-      → AreApart acked lost → Needy min_mtu [] (if_any run ++ bursts) acked lost (bursts_closed s)
+      → AreApart acked lost → Needy min_mtu [] (run ∷ bursts) acked lost (bursts_closed s)
   close_needs [] bursts tie apart = grind arith
-  close_needs (loss ∷ losses) bursts tie apart = close_one loss losses bursts tie apart
+  close_needs (loss ∷ losses) bursts tie apart =
+      let above = λ (size : ℕ). above_least size (loss ∷ losses) in
+      grind (arith, nat_tests, apart loss.number, above, all-with_burst, tally-with_burst)
 
 module _ (min_mtu : ℕ) (run : List Loss) (bursts : List (List Loss)) (acked lost : List ℕ) (s : LossBursts)
     (tie : Needy min_mtu run bursts acked lost s) where
@@ -78,34 +81,42 @@ module _ (min_mtu : ℕ) (run : List Loss) (bursts : List (List Loss)) (acked lo
       → Needy min_mtu run (filter (is_above bytes) bursts) (number ∷ acked) lost (bursts_acked number bytes s)
   needy_acked number bytes =
       let raise = λ (low : ℕ). tally-raise low bytes s.acked s.kept in
-      grind (arith, nat_tests, filter_both, filtered, raise, all-kept, all-filter)
+      let both_above = λ (low : ℕ). filter_both min_mtu low bytes bursts in
+      grind (arith, nat_tests, both_above, filtered, raise, all-kept, all-filter)
 
-  pub needy_probed : (number bytes : ℕ) → Needy min_mtu run [] (number ∷ acked) lost (bursts_probed number bytes s)
+  pub needy_probed : (number bytes : ℕ)
+      → Needy min_mtu run [] (number ∷ acked) lost (record s { kept = []; acked = bytes; newest = number })
   needy_probed number bytes = grind (arith, nat_tests)
 
   module _ (apart : AreApart acked lost) where
     pub needy_lost : (number bytes : ℕ)
         → (let this : Loss = record { number = number; bytes = bytes } in
         let joined = follows number run in
-        Needy min_mtu (this ∷ (if joined then run else [])) ((if joined then [] else if_any run) ++ bursts) acked
+        Needy min_mtu (this ∷ (if joined then run else [])) ((if joined then [] else run ∷ []) ++ bursts) acked
         (number ∷ lost) (bursts_lost number bytes s))
     needy_lost number bytes = grind (arith, nat_tests, close_needs min_mtu acked lost s run bursts tie apart)
 
-    pub needy_ended : Needy min_mtu [] (if is_black_hole (bursts_closed s) then [] else if_any run ++ bursts) acked lost
-        (bursts_ended s)
-    needy_ended = grind (arith, close_needs min_mtu acked lost s run bursts tie apart)
+    pub needy_ended : Needy min_mtu [] (run ∷ bursts) acked lost (bursts_closed s)
+        × Needy min_mtu [] [] acked lost (record (bursts_closed s) { kept = [] })
+    needy_ended =
+        let closed = close_needs min_mtu acked lost s run bursts tie apart in (closed, grind (arith, closed))
 
-    pub needy_report : is_black_hole (bursts_closed s) ≡ true
-        → 4 ≤ length (filter (is_above min_mtu) (if_any run ++ bursts))
+    pub needy_report : nat_le 4 (length (bursts_closed s).kept) ≡ true
+        → 4 ≤ length (filter (is_above min_mtu) (run ∷ bursts))
     needy_report is =
         let closed = close_needs min_mtu acked lost s run bursts tie apart in
         let kept = tally-all min_mtu min_mtu (bursts_closed s).kept in
-        grind (arith, nat_tests, closed, kept, above_both min_mtu (if_any run ++ bursts))
+        grind (arith, nat_tests, closed, kept, above_both min_mtu (run ∷ bursts))
 
 pub needy_made : (min_mtu : ℕ) (acked lost : List ℕ) → Needy min_mtu [] [] acked lost (bursts_made min_mtu)
 needy_made min_mtu acked lost = grind arith
 
 -- ---- the same for what must come
+
+-- from the first one on that passes the test
+abbrev from_first : (List Loss → Bool) → List (List Loss) → List (List Loss)
+from_first test [] = []
+from_first test (burst ∷ earlier) = if list_any test (burst ∷ earlier) then burst ∷ from_first test earlier else []
 
 -- how many there are above the least MTU, from the first one past these numbers on
 abbrev pub counted : ℕ → List ℕ → List (List Loss) → ℕ
@@ -124,18 +135,21 @@ some_counted : (test : List Loss → Bool) (bursts : List (List Loss)) → list_
 some_counted test [] any = absurd (cc)
 some_counted test (burst ∷ bursts) any = grind arith
 
-module _ (min_mtu : ℕ) (numbers : List ℕ) (s : LossBursts) where
-  come_one : (loss : Loss) (losses : List Loss) (bursts : List (List Loss))
-      → Coming min_mtu (loss ∷ losses) bursts numbers s
-      → Coming min_mtu [] ((loss ∷ losses) ∷ bursts) numbers (bursts_closed s)
-  come_one loss losses bursts tie =
-      let some = some_counted (is_past numbers) (filter (is_above min_mtu) bursts) in
-      grind (arith, nat_tests, some, past_has loss.number numbers s.newest, all-with_burst, length-with_burst)
+-- and more, where so many have closed since
+behind : (test : List Loss → Bool) (count : ℕ) (bursts : List (List Loss)) → list_any test (drop count bursts) ≡ true
+    → (list_any test bursts ≡ true) × (count < length (from_first test bursts))
+behind test zero bursts any = grind (arith, some_counted test bursts any)
+behind test (suc count) [] any = absurd (cc)
+behind test (suc count) (burst ∷ bursts) any = grind (arith, behind test count bursts any)
 
+module _ (min_mtu : ℕ) (numbers : List ℕ) (s : LossBursts) where
   close_comes : (run : List Loss) (bursts : List (List Loss)) → Coming min_mtu run bursts numbers s
-      → Coming min_mtu [] (if_any run ++ bursts) numbers (bursts_closed s)
+      → Coming min_mtu [] (run ∷ bursts) numbers (bursts_closed s)
   close_comes [] bursts tie = grind arith
-  close_comes (loss ∷ losses) bursts tie = come_one loss losses bursts tie
+  close_comes (loss ∷ losses) bursts tie =
+      let some = some_counted (is_past numbers) (filter (is_above min_mtu) bursts) in
+      let above = above_least min_mtu (loss ∷ losses) in
+      grind (arith, nat_tests, above, some, past_has loss.number numbers s.newest, all-with_burst, length-with_burst)
 
 module _ (min_mtu : ℕ) (run : List Loss) (bursts : List (List Loss)) (numbers : List ℕ) (s : LossBursts)
     (tie : Coming min_mtu run bursts numbers s) where
@@ -143,26 +157,33 @@ module _ (min_mtu : ℕ) (run : List Loss) (bursts : List (List Loss)) (numbers 
   pub coming_acked : (number bytes : ℕ) → (let larger = nat_lt min_mtu bytes in
       Coming min_mtu run (if larger then [] else bursts) (if larger then number ∷ numbers else numbers)
       (bursts_acked number bytes s))
-  coming_acked number bytes =
-      grind (arith, nat_tests, all-filter, length-filter, tally-all bytes min_mtu s.kept)
+  coming_acked number bytes = go (nat_lt min_mtu bytes) refl
+    where
+      go : (larger : Bool) → nat_lt min_mtu bytes ≡ larger → Coming min_mtu run (if larger then [] else bursts)
+          (if larger then number ∷ numbers else numbers) (bursts_acked number bytes s)
+      go true is = grind (arith, nat_tests, is, all-filter)
+      go false is = grind (arith, nat_tests, is, all-filter, length-filter, tally-all bytes min_mtu s.kept)
 
-  pub coming_probed : (number bytes : ℕ) → Coming min_mtu run [] (number ∷ numbers) (bursts_probed number bytes s)
+  pub coming_probed : (number bytes : ℕ)
+      → Coming min_mtu run [] (number ∷ numbers) (record s { kept = []; acked = bytes; newest = number })
   coming_probed number bytes = grind (arith, nat_tests)
 
   pub coming_lost : (number bytes : ℕ) → (let this : Loss = record { number = number; bytes = bytes } in
       let joined = follows number run in
-      Coming min_mtu (this ∷ (if joined then run else [])) ((if joined then [] else if_any run) ++ bursts) numbers
+      Coming min_mtu (this ∷ (if joined then run else [])) ((if joined then [] else run ∷ []) ++ bursts) numbers
       (bursts_lost number bytes s))
   coming_lost number bytes = grind (arith, nat_tests, close_comes min_mtu numbers s run bursts tie)
 
-  pub coming_ended : Coming min_mtu [] (if is_black_hole (bursts_closed s) then [] else if_any run ++ bursts) numbers
-      (bursts_ended s)
-  coming_ended = grind (arith, close_comes min_mtu numbers s run bursts tie)
+  pub coming_ended : Coming min_mtu [] (run ∷ bursts) numbers (bursts_closed s)
+      × Coming min_mtu [] [] numbers (record (bursts_closed s) { kept = [] })
+  coming_ended = let closed = close_comes min_mtu numbers s run bursts tie in (closed, grind (arith, closed))
 
   -- a report comes at four
-  pub coming_report : 4 ≤ length (from_first (is_past numbers) (filter (is_above min_mtu) (if_any run ++ bursts)))
-      → is_black_hole (bursts_closed s) ≡ true
-  coming_report many = grind (arith, nat_tests, close_comes min_mtu numbers s run bursts tie)
+  pub coming_report : list_any (is_past numbers) (drop 3 (filter (is_above min_mtu) (run ∷ bursts))) ≡ true
+      → nat_le 4 (length (bursts_closed s).kept) ≡ true
+  coming_report many =
+      let four = behind (is_past numbers) 3 (filter (is_above min_mtu) (run ∷ bursts)) many in
+      grind (arith, nat_tests, close_comes min_mtu numbers s run bursts tie, four)
 
 pub coming_made : (min_mtu : ℕ) (numbers : List ℕ) → Coming min_mtu [] [] numbers (bursts_made min_mtu)
 coming_made min_mtu numbers = grind arith

@@ -6,7 +6,7 @@ use Rattle.recovery_mtud.specs.DiscoveryLog.{polls, is_limited, acks, loses_prob
 
 -- with the default settings, from 1,200 bytes
 abbrev made : Discovery
-made = discovery_made 1_200 1_200 None default_settings
+made = discovery_made 1_200 1_200 None (Some default_settings)
 
 first_probe : poll_of 0 made ≡ Some 1_326
 first_probe = refl

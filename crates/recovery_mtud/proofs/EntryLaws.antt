@@ -1,26 +1,20 @@
 -- A discovery holds what its entries say: the sizes in use, the probe in flight, and whether a search runs. The laws of
 -- whole runs rest on it.
 use Rattle.std.proofs.Common.{◌≡◌, ℕ, Option, Some, None, is_some, List, [], ◌∷◌, arith, refl, sym}
-use Rattle.std.specs.Option.{option_map}
+use Rattle.std.specs.Option.{option_map, option_and_then}
 use Rattle.recovery_mtud.specs.declared.config.MtuDiscoveryConfig.{MtuDiscoveryConfig}
-use Rattle.recovery_mtud.specs.declared.search.Phase.{Phase}
-use Rattle.recovery_mtud.specs.declared.search.Phase.TheVariants.{Initial, Searching, Complete}
-use Rattle.recovery_mtud.specs.Search.{MtuSearch}
-use Rattle.recovery_mtud.specs.Discovery.{Discovery, discovery_made, discovery_disabled, is_probe, is_searching_of, size_in}
+use Rattle.recovery_mtud.specs.Search.{MtuSearch, probed_size}
+use Rattle.recovery_mtud.specs.Discovery.{Discovery, discovery_made, is_probe, is_searching_of}
 use Rattle.recovery_mtud.specs.DiscoveryLog.{MtuCall, polls, discovery_after, discovery_by, kept_limit}
-use Rattle.recovery_mtud.specs.MtuEntries.{probed, unprobed, poll_entry, IsUntold, MtuEntry, entry_of, entries_by, MtuProbe, probe_in_flight, size_at, limit_in_use, min_mtu_in_use, mtu_in_use}
+use Rattle.recovery_mtud.specs.MtuEntries.{probed, unprobed, poll_entry, IsUntold, search_settings, MtuEntry, entry_of, entries_by, MtuProbe, probe_in_flight, size_at, limit_in_use, min_mtu_in_use, mtu_in_use}
 use Rattle.recovery_mtud.specs.SearchRuns.{search_runs}
 
 -- ---- the probe that a discovery holds
 
-abbrev pub held_in : Phase → Option MtuProbe
-held_in Initial = None
-held_in (Searching p) = option_map (λ number. record { number = number; size = p.last }) p.in_flight
-held_in (Complete activation) = None
-
 abbrev pub held : Option MtuSearch → Option MtuProbe
-held None = None
-held (Some search) = held_in search.phase
+held search =
+    let probing = option_and_then (λ own. own.probing) search in
+    option_and_then (λ p. option_map (λ number. record { number = number; size = p.last }) p.in_flight) probing
 
 pub record Holds (made : Discovery) (entries : List MtuEntry) (discovery : Discovery) : Type 0 where
   pub mtu : discovery.mtu ≡ mtu_in_use made entries
@@ -30,7 +24,8 @@ pub record Holds (made : Discovery) (entries : List MtuEntry) (discovery : Disco
   pub runs : is_searching_of discovery ≡ search_runs entries
 
 -- the size that the state gives at a number is the one of the probe held
-pub size_in_held : (number : ℕ) (search : Option MtuSearch) → size_in number search ≡ size_at number (held search)
+pub size_in_held : (number : ℕ) (search : Option MtuSearch)
+    → option_and_then (probed_size number) search ≡ size_at number (held search)
 size_in_held number own = grind arith
 
 -- what holds of a poll's entry without a probe, and with one
@@ -64,9 +59,11 @@ pub is_probe_by : (made : Discovery) → IsUntold made → (calls : List MtuCall
 is_probe_by made new calls number = grind (arith, sym (holds_by made new calls).probe)
 
 -- a discovery that was made, enabled or not, was told nothing
-pub discovery_made_untold : (mtu min_mtu : ℕ) (limit : Option ℕ) (settings : MtuDiscoveryConfig)
-    → IsUntold (discovery_made mtu min_mtu limit settings)
-discovery_made_untold mtu min_mtu limit settings = record { search = refl; bursts = refl }
+pub discovery_made_untold : (mtu min_mtu : ℕ) (limit : Option ℕ) (searched : Option MtuDiscoveryConfig)
+    → IsUntold (discovery_made mtu min_mtu limit searched)
+discovery_made_untold mtu min_mtu limit None = record { search = tt; bursts = refl }
+discovery_made_untold mtu min_mtu limit (Some settings) = record { search = (refl, refl); bursts = refl }
 
-pub discovery_disabled_untold : (mtu min_mtu : ℕ) → IsUntold (discovery_disabled mtu min_mtu)
-discovery_disabled_untold mtu min_mtu = record { search = tt; bursts = refl }
+pub made_settings : (mtu min_mtu : ℕ) (limit : Option ℕ) (searched : Option MtuDiscoveryConfig)
+    → search_settings (discovery_made mtu min_mtu limit searched) ≡ searched
+made_settings mtu min_mtu limit searched = grind arith

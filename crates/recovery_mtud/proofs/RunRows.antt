@@ -28,7 +28,7 @@ abbrev mtu_after_turns : ℕ → Discovery → ℕ → ℕ
 mtu_after_turns link made turns = mtu_in_use made (entries_by made (played link made turns))
 
 abbrev usual : Discovery
-usual = discovery_made 1_200 1_200 None default_settings
+usual = discovery_made 1_200 1_200 None (Some default_settings)
 
 usual_sizes : sizes_after 1_400 usual 5 ≡ 1_420 ∷ 1_420 ∷ 1_420 ∷ 1_389 ∷ 1_326 ∷ []
 usual_sizes = refl
@@ -44,7 +44,7 @@ no_larger = refl
 
 -- the widest bounds that there are, in steps of three at least
 abbrev widest : Discovery
-widest = discovery_made 1 1 None (record default_settings { upper_bound = 65_527; minimum_change = 3 })
+widest = discovery_made 1 1 None (Some (record default_settings { upper_bound = 65_527; minimum_change = 3 }))
 
 -- where every probe is lost, each of 14 sizes is probed three times
 most_probes : length (sizes_after 1 widest 42) ≡ 42
@@ -73,4 +73,4 @@ apart : open_run (entries_by usual (loses 5 1_300 ∷ loses_probe ∷ loses 3 1_
 apart = refl
 
 four : AreFourUnanswered usual (entries_by usual (loses 6 1_300 ∷ loses 4 1_300 ∷ loses 2 1_300 ∷ loses 0 1_300 ∷ []))
-four = omega arith
+four = refl

@@ -1,32 +1,30 @@
 -- Whole searches: at most 16 sizes and 48 probes, and an end near the best size of an honest link. The driver's
 -- `SearchLaws` rest on it.
-use Rattle.std.proofs.Common.{◌≡◌, ℕ, ◌^◌, ◌<◌, ◌≤◌, Option, Some, None, true, false, List, [], ◌∷◌, arith, refl, sym, ap}
-use Rattle.std.specs.Prelude.{⊤, ◌||◌, unwrap_or, IfSome}
-use Rattle.std.specs.Option.{option_map}
+use Rattle.std.proofs.Common.{◌≡◌, ℕ, ◌^◌, ◌<◌, ◌≤◌, Option, Some, None, true, false, List, [], ◌∷◌, arith, refl, sym, ap, ap₂, ◌∙◌}
+use Rattle.std.specs.Prelude.{⊤, ◌||◌, nat_le, is_some, IfSome}
+use Rattle.std.specs.Option.{option_map, option_and_then}
 use Rattle.std.specs.List.{AllByRecursion}
 use Rattle.std.proofs.lemmas.Bool.Decides.{nat_tests}
 use Rattle.std.proofs.lemmas.List.Elements.{recursion_from_All}
 use Rattle.recovery_mtud.specs.declared.config.MtuDiscoveryConfig.{MtuDiscoveryConfig}
-use Rattle.recovery_mtud.specs.declared.search.Phase.{Phase}
-use Rattle.recovery_mtud.specs.declared.search.Phase.TheVariants.{Initial, Searching, Complete}
 use Rattle.recovery_mtud.specs.declared.search.Probing.{Probing}
-use Rattle.recovery_mtud.specs.Search.{MtuSearch, later, upper_from, begun, size_to_probe, phase_with, is_running}
+use Rattle.recovery_mtud.specs.Search.{MtuSearch, upper_from, begun, size_to_probe, probing_on}
 use Rattle.recovery_mtud.specs.Bursts.{LossBursts}
 use Rattle.recovery_mtud.specs.Discovery.{Discovery, is_searching_of, limit_or_greatest}
-use Rattle.recovery_mtud.specs.DiscoveryLog.{MtuCall, polls, is_limited, discovery_after, discovery_by}
-use Rattle.recovery_mtud.specs.MtuEntries.{IsUntold, search_settings, MtuEntry, unprobed, poll_entry, entry_of, entries_by, probe_in_flight, limit_in_use, mtu_in_use}
-use Rattle.recovery_mtud.specs.SearchRuns.{search_runs, search_of, before_search, is_due, next_activation, is_searched, ProbesInSearch, probed_sizes, acked_sizes, lost_sizes, TakesFew, AreLimitsOutside, IsHonest, IsNearBest, EndsNearBest}
-use Rattle.recovery_mtud.proofs.EntryLaws.{polled, Holds, holds_by}
-use Rattle.recovery_mtud.proofs.SearchTies.{Narrows, narrows_begun, left, narrows_next, Fair, fair_next, fair_end}
+use Rattle.recovery_mtud.specs.DiscoveryLog.{MtuCall, polls, acks, is_limited, discovery_after, discovery_by}
+use Rattle.recovery_mtud.specs.MtuEntries.{IsUntold, search_settings, MtuEntry, unprobed, poll_entry, entry_of, entries_by, MtuProbe, probe_in_flight, limit_in_use, mtu_in_use}
+use Rattle.recovery_mtud.specs.SearchRuns.{search_runs, search_of, before_search, next_activation, is_searched, ProbesInSearch, probed_sizes, acked_sizes, lost_sizes, TakesFew, AreLimitsOutside, IsHonest, IsNearBest, EndsNearBest, start_upper}
+use Rattle.recovery_mtud.proofs.EntryLaws.{polled, held, Holds, holds_by}
+use Rattle.recovery_mtud.proofs.SearchTies.{Narrows, narrows_begun, left, narrows_next, Fair, fair_next, fair_end, Within, within_begun, within_next}
 
 -- ---- the entries of a search
 
 -- where none runs, there are none
-idle_before : (entries : List MtuEntry) → search_runs entries ≡ false → before_search entries ≡ entries
+pub idle_before : (entries : List MtuEntry) → search_runs entries ≡ false → before_search entries ≡ entries
 idle_before [] idle = refl
 idle_before (entry ∷ earlier) idle = grind (arith, idle)
 
-idle_search : (entries : List MtuEntry) → search_runs entries ≡ false → search_of entries ≡ []
+pub idle_search : (entries : List MtuEntry) → search_runs entries ≡ false → search_of entries ≡ []
 idle_search [] idle = refl
 idle_search (entry ∷ earlier) idle = grind (arith, idle)
 
@@ -43,26 +41,30 @@ abbrev IsWide : MtuDiscoveryConfig → Type 0
 IsWide settings = (3 ≤ settings.minimum_change) × (settings.upper_bound < 2 ^ 16)
 
 module _ (made : Discovery) (link : ℕ) (settings : MtuDiscoveryConfig) where
+  -- the upper bound of a search that began behind these
+  abbrev upper_behind : List MtuEntry → ℕ
+  upper_behind before =
+      upper_from (mtu_in_use made before) (limit_or_greatest (limit_in_use made before)) settings.upper_bound
+
   -- a search with these entries, which began after those
   abbrev Searches : ℕ → (before search : List MtuEntry) → Type 0 → ℕ → Probing → Type 0
   Searches further before search outside mtu p =
       Narrows further settings.minimum_change (probed_sizes search) p
       × (outside → mtu_in_use made before ≤ link → AllByRecursion (λ size. size ≤ link) (acked_sizes search)
       → AllByRecursion (λ size. link < size) (lost_sizes search)
-      → Fair link (upper_from (mtu_in_use made before) (limit_or_greatest (limit_in_use made before))
-      settings.upper_bound) mtu p)
+      → Fair link (upper_behind before) mtu p)
 
-  abbrev Kept : ℕ → List MtuEntry → ℕ → Phase → Type 0
-  Kept further entries mtu Initial = next_activation settings entries ≡ None
-  Kept further entries mtu (Searching p) = IsWide settings
-      → Searches further (before_search entries) (search_of entries) (AreLimitsOutside entries) mtu p
-  Kept further entries mtu (Complete activation) = next_activation settings entries ≡ Some activation
+  abbrev Kept : ℕ → List MtuEntry → ℕ → ℕ → Option Probing → Type 0
+  Kept further entries mtu activation None = next_activation settings entries ≡ activation
+  Kept further entries mtu activation (Some p) = Within settings (upper_behind (before_search entries)) mtu p
+      × (IsWide settings
+      → Searches further (before_search entries) (search_of entries) (AreLimitsOutside entries) mtu p)
 
 -- by these settings
 abbrev KeptIn : Discovery → ℕ → MtuDiscoveryConfig → ℕ → List MtuEntry → ℕ → Option MtuSearch → Type 0
 KeptIn made link settings further entries mtu None = ⊥
 KeptIn made link settings further entries mtu (Some search) =
-    (search.settings ≡ settings) × Kept made link search.settings further entries mtu search.phase
+    (search.settings ≡ settings) × Kept made link search.settings further entries mtu search.activation search.probing
 
 module _ (made : Discovery) (link : ℕ) (settings : MtuDiscoveryConfig) where
   -- a search that an entry ends
@@ -82,41 +84,44 @@ module _ (made : Discovery) (link : ℕ) (settings : MtuDiscoveryConfig) where
   Leaves entries call old = let new = discovery_after call old in
       (further : ℕ) × Told further (entry_of call old) entries new.mtu new.search
 
-module _ (made : Discovery) (link : ℕ) (settings : MtuDiscoveryConfig) (entries : List MtuEntry) (mtu limit : ℕ)
-    (bursts : LossBursts) where
-  abbrev search_in : Phase → MtuSearch
-  search_in phase = record { limit = limit; phase = phase; settings = settings }
+module _ (made : Discovery) (link : ℕ) (settings : MtuDiscoveryConfig) (entries : List MtuEntry)
+    (mtu limit activation : ℕ) (bursts : LossBursts) where
+  abbrev search_in : Option Probing → MtuSearch
+  search_in probing = record { limit = limit; probing = probing; activation = activation; settings = settings }
 
-  abbrev old : Phase → Discovery
-  old phase = record { mtu = mtu; search = Some (search_in phase); bursts = bursts }
+  abbrev old : Option Probing → Discovery
+  old probing = record { mtu = mtu; search = Some (search_in probing); bursts = bursts }
 
   -- a poll that ends one
   ends_near : (further : ℕ) (p : Probing) → p.in_flight ≡ None
-      → Kept made link settings further entries mtu (Searching p) → mtu ≡ mtu_in_use made entries
+      → Kept made link settings further entries mtu activation (Some p) → mtu ≡ mtu_in_use made entries
       → size_to_probe settings.minimum_change p ≡ None → IsWide settings → AreLimitsOutside entries
       → IsHonest made link entries → IsNearBest made settings link entries
   ends_near further p empty kept same is wide outside honest =
-      let tie = kept wide in
+      let tie = kept.1 wide in
       let fair = tie.1 outside honest.start (recursion_from_All (λ size. size ≤ link) _ honest.acked)
       (recursion_from_All (λ size. link < size) _ honest.lost) in
       let near = fair_end _ _ _ _ further _ p wide.0 empty is tie.0 fair in
       record { carried = omega (arith, fair.0, same); near = omega (arith, near, same) }
 
   -- a poll that goes on with one
-  goes_on : (further now next : ℕ) (p : Probing) → p.in_flight ≡ None
-      → Kept made link settings further entries mtu (Searching p) → mtu ≡ mtu_in_use made entries
+  goes_on : (further now next : ℕ) (probing : Option Probing) (p : Probing) → p.in_flight ≡ None
+      → Kept made link settings further entries mtu activation (Some p) → mtu ≡ mtu_in_use made entries
       → probe_in_flight entries ≡ None → is_searched settings now entries ≡ true
       → (answer : Option ℕ) → size_to_probe settings.minimum_change p ≡ answer
       → Told made link settings (left further p) (poll_entry now next answer) entries mtu
-      (Some (search_in (phase_with (later now settings.interval) next p answer)))
-  goes_on further now next p empty kept same quiet searched None is =
+      (Some (probing_on now next (search_in probing) p answer))
+  goes_on further now next probing p empty kept same quiet searched None is =
       let ends = ends_near further p empty kept same is in grind (arith, ends)
-  goes_on further now next p empty kept same quiet searched (Some size) is = (
+  goes_on further now next probing p empty kept same quiet searched (Some size) is = (
     (
       refl,
-      λ wide. (
-        narrows_next _ _ next size _ p wide.0 empty is (kept wide).0,
-        λ outside start good bad. fair_next _ _ _ _ next size p empty is ((kept wide).1 outside start good bad),
+      (
+        within_next settings _ mtu next size p kept.0 is,
+        λ wide. (
+          narrows_next _ _ next size _ p wide.0 empty is (kept.1 wide).0,
+          λ outside start good bad. fair_next _ _ _ _ next size p empty is ((kept.1 wide).1 outside start good bad),
+        ),
       ),
     ),
     (quiet, searched),
@@ -124,40 +129,48 @@ module _ (made : Discovery) (link : ℕ) (settings : MtuDiscoveryConfig) (entrie
   )
 
   -- a poll that begins a search
-  fresh_kept : (phase : Phase) → Holds made entries (old phase) → search_runs entries ≡ false
-      → Kept made link settings 16 entries mtu (Searching (begun mtu (search_in phase)))
-  fresh_kept phase holds idle =
-      grind (arith, idle_before entries idle, idle_search entries idle, narrows_begun, holds.mtu, holds.limit)
+  fresh_kept : Holds made entries (old None) → search_runs entries ≡ false
+      → Kept made link settings 16 entries mtu activation (Some (begun mtu (search_in None)))
+  fresh_kept holds idle =
+      let within = within_begun mtu (search_in None) in
+      let bound = ap₂ (λ (m : ℕ) (l : Option ℕ). upper_from m (limit_or_greatest l) settings.upper_bound)
+      holds.mtu holds.limit ∙ ap (upper_behind made link settings) (sym (idle_before entries idle)) in (
+        grind (arith, bound, within),
+        grind (arith, idle_before entries idle, idle_search entries idle, narrows_begun, holds.mtu, holds.limit),
+      )
 
   searching : (further : ℕ) (call : MtuCall) (p : Probing) (flight : Option ℕ)
-      → (let phase = Searching (record p { in_flight = flight }) in
-      Holds made entries (old phase) → Kept made link settings further entries mtu phase
-      → Leaves made link settings entries call (old phase))
+      → (let probing = Some (record p { in_flight = flight }) in
+      Holds made entries (old probing) → Kept made link settings further entries mtu activation probing
+      → Leaves made link settings entries call (old probing))
   searching further (polls now next) p None holds kept = (
     left further p,
-    goes_on further now next
+    goes_on further now next (Some (record p { in_flight = None }))
         (record p { in_flight = None }) refl kept holds.mtu (sym holds.probe)
-        (ap (λ b. b || is_due (next_activation settings entries) now) (sym holds.runs)) _ refl,
+        (ap (λ b. b || nat_le (next_activation settings entries) now) (sym holds.runs)) _ refl,
   )
   searching further call p None holds kept = (further, grind (arith, nat_tests, sym holds.runs))
+  searching further (acks number bytes) p (Some own) holds kept =
+      (further, grind (arith, nat_tests, sym holds.runs, sym holds.probe, search_probe entries))
   searching further call p (Some own) holds kept =
       (further, grind (arith, nat_tests, sym holds.runs, sym holds.probe, search_probe entries))
 
-  told : (further : ℕ) (call : MtuCall) (phase : Phase) → Holds made entries (old phase)
-      → Kept made link settings further entries mtu phase → Leaves made link settings entries call (old phase)
-  told further call (Searching p) = searching further call p p.in_flight
-  told further (polls now next) phase = λ holds kept. (
-      let fresh = begun mtu (search_in phase) in
-      let found = goes_on 16 now next fresh refl (fresh_kept phase holds (sym holds.runs)) in
+  told : (further : ℕ) (call : MtuCall) (probing : Option Probing) → Holds made entries (old probing)
+      → Kept made link settings further entries mtu activation probing
+      → Leaves made link settings entries call (old probing)
+  told further call (Some p) = searching further call p p.in_flight
+  told further (polls now next) None = λ holds kept. (
+      let fresh = begun mtu (search_in None) in
+      let found = goes_on 16 now next None fresh refl (fresh_kept holds (sym holds.runs)) in
       (left 16 fresh, grind (arith, nat_tests, found))
       )
-  told further call phase = λ holds kept. (further, grind (arith, nat_tests))
+  told further call None = λ holds kept. (further, grind (arith, nat_tests))
 
 -- ---- all calls
 
 module _ (made : Discovery) (link : ℕ) (settings : MtuDiscoveryConfig) (new : IsUntold made)
     (is : search_settings made ≡ Some settings) where
-  kept_first : (search : Option MtuSearch) → IfSome search (λ own. own.phase ≡ Initial)
+  kept_first : (search : Option MtuSearch) → IfSome search (λ own. (own.probing ≡ None) × (own.activation ≡ 0))
       → option_map (λ own. own.settings) search ≡ Some settings → KeptIn made link settings 0 [] made.mtu search
   kept_first None initial is = absurd (cc)
   kept_first (Some search) initial is = grind arith
@@ -169,7 +182,8 @@ module _ (made : Discovery) (link : ℕ) (settings : MtuDiscoveryConfig) (new : 
   told_next further call entries old None holds kept = absurd kept
   told_next further call entries old (Some search) holds kept =
       rw (← kept.0)
-      (told made link search.settings entries old.mtu search.limit old.bursts further call search.phase holds kept.1)
+      (told made link search.settings entries old.mtu search.limit search.activation old.bursts further call
+      search.probing holds kept.1)
 
   abbrev KeptBy : List MtuCall → Type 0
   KeptBy calls = let now = discovery_by made calls in
@@ -189,16 +203,16 @@ module _ (made : Discovery) (link : ℕ) (settings : MtuDiscoveryConfig) (new : 
 
 few_in : (made : Discovery) (settings : MtuDiscoveryConfig) → IsWide settings → (further : ℕ) (entries : List MtuEntry)
     (mtu : ℕ) (search : Option MtuSearch)
-    → unwrap_or (option_map (λ own. is_running own.phase) search) false ≡ search_runs entries
+    → is_some (option_and_then (λ own. own.probing) search) ≡ search_runs entries
     → KeptIn made 0 settings further entries mtu search → TakesFew entries
 few_in made settings wide further entries mtu None runs kept = absurd kept
-few_in made settings wide further entries mtu (Some own) runs kept = go own.phase runs kept.1 (rw kept.0 wide)
+few_in made settings wide further entries mtu (Some own) runs kept = go own.probing runs kept.1 (rw kept.0 wide)
   where
-    go : (phase : Phase) → is_running phase ≡ search_runs entries
-        → Kept made 0 own.settings further entries mtu phase → IsWide own.settings → TakesFew entries
-    go (Searching p) runs kept wide = let narrows = (kept wide).0 in
+    go : (probing : Option Probing) → is_some probing ≡ search_runs entries
+        → Kept made 0 own.settings further entries mtu own.activation probing → IsWide own.settings → TakesFew entries
+    go (Some p) runs kept wide = let narrows = (kept.1 wide).0 in
         record { sizes = omega (arith, narrows); probes = omega (arith, narrows) }
-    go phase runs kept wide = grind (arith, idle_search entries)
+    go None runs kept wide = grind (arith, idle_search entries)
 
 near_all : (made : Discovery) (settings : MtuDiscoveryConfig) (entry : MtuEntry) (entries : List MtuEntry)
     → AreLimitsOutside (entry ∷ entries)
@@ -261,3 +275,30 @@ mtu_by made new calls = (holds_by made new calls).mtu
 pub search_runs_by : (made : Discovery) → IsUntold made → (calls : List MtuCall)
     → is_searching_of (discovery_by made calls) ≡ search_runs (entries_by made calls)
 search_runs_by made new calls = (holds_by made new calls).runs
+
+-- ---- the probe in flight
+
+abbrev IsBetween : Discovery → MtuDiscoveryConfig → List MtuEntry → ℕ → ℕ → Type 0
+IsBetween made settings entries mtu size =
+    (size ≤ start_upper made settings entries)
+    × (3 ≤ settings.minimum_change → (mtu < size) × (size ≤ settings.upper_bound))
+
+between : (made : Discovery) (settings : MtuDiscoveryConfig) (further : ℕ) (entries : List MtuEntry) (mtu : ℕ)
+    (probe : MtuProbe) (search : Option MtuSearch) → held search ≡ Some probe
+    → KeptIn made 0 settings further entries mtu search → IsBetween made settings entries mtu probe.size
+between made settings further entries mtu probe search flies kept = grind arith
+
+-- it lies within the bounds of its search, and above the MTU in use
+pub flight_within : (made : Discovery) (settings : MtuDiscoveryConfig) → IsUntold made
+    → search_settings made ≡ Some settings → (calls : List MtuCall) (probe : MtuProbe)
+    → probe_in_flight (entries_by made calls) ≡ Some probe
+    → IsBetween made settings (entries_by made calls) (mtu_in_use made (entries_by made calls)) probe.size
+flight_within made settings new is calls probe flies =
+    let holds = holds_by made new calls in
+    let kept = kept_by made 0 settings new is calls in
+    let now = discovery_by made calls in
+    grind (
+      arith,
+      holds.mtu,
+      between made settings kept.0 (entries_by made calls) now.mtu probe now.search (holds.probe ∙ flies) kept.1,
+    )

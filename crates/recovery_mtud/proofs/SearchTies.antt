@@ -1,10 +1,11 @@
 -- What a search keeps: how many sizes may still come by its bounds (a size in the middle halves what is left: RFC 8899,
 -- 5.3.2), and what an honest link leaves of them. `SearchRunLaws` rest on it.
-use Rattle.std.proofs.Common.{◌≡◌, ◌⊎◌, inl, inr, ℕ, zero, suc, ◌+◌, ◌-◌, ◌*◌, ◌/◌, ◌^◌, ◌<◌, ◌≤◌, min, if◌then◌else◌, Option, Some, None, Bool, true, false, List, [], ◌∷◌, length, arith, refl}
+use Rattle.std.proofs.Common.{◌≡◌, ◌⊎◌, inl, inr, ℕ, zero, suc, ◌+◌, ◌-◌, ◌*◌, ◌/◌, ◌^◌, ◌<◌, ◌≤◌, min, max, if◌then◌else◌, Option, Some, None, Bool, true, false, List, [], ◌∷◌, length, arith, refl}
 use Rattle.std.specs.Prelude.{nat_eq}
 use Rattle.std.specs.Set.{distinct_count, is_member}
 use Rattle.std.proofs.Math.Nat.{pow-suc}
 use Rattle.std.proofs.lemmas.Bool.Decides.{nat_tests}
+use Rattle.recovery_mtud.specs.declared.config.MtuDiscoveryConfig.{MtuDiscoveryConfig}
 use Rattle.recovery_mtud.specs.declared.search.Probing.{Probing}
 use Rattle.recovery_mtud.specs.Search.{MtuSearch, begun, narrowed, repeats, size_to_probe}
 
@@ -67,3 +68,21 @@ pub fair_end : (link upper mtu change further : ℕ) (probed : List ℕ) (p : Pr
     → size_to_probe change p ≡ None → Narrows further change probed p → Fair link upper mtu p
     → min link upper < mtu + 2 * change
 fair_end link upper mtu change further probed p wide empty is narrows fair = grind (arith, nat_tests)
+
+-- all sizes are within the bound; the last one got through, or is tried: above the MTU in use, and within the upper
+-- bound of the settings
+abbrev pub Within : MtuDiscoveryConfig → ℕ → ℕ → Probing → Type 0
+Within settings bound mtu p = (p.lower ≤ bound) × (p.upper ≤ bound) × (p.last ≤ bound)
+    × (3 ≤ settings.minimum_change → (p.last ≤ p.upper) × (min mtu p.upper ≤ p.last)
+    × (p.upper ≤ max settings.upper_bound p.last)
+    × (1 ≤ p.losses + flying p.in_flight
+    → (mtu ≤ p.lower) × (p.lower < p.last) × (p.upper ≤ settings.upper_bound)))
+
+pub within_begun : (mtu : ℕ) (search : MtuSearch)
+    → (let fresh = begun mtu search in Within search.settings fresh.upper mtu fresh)
+within_begun mtu search = grind arith
+
+pub within_next : (settings : MtuDiscoveryConfig) (bound mtu number size : ℕ) (p : Probing)
+    → Within settings bound mtu p → size_to_probe settings.minimum_change p ≡ Some size
+    → Within settings bound mtu (next number size p)
+within_next settings bound mtu number size p within is = grind (arith, nat_tests)

@@ -1,6 +1,6 @@
 -- Whole runs of the detection of black holes (RFC 8899, 4.3), over what a discovery was told and answered. Every list
 -- here has the newest entry first.
-use Rattle.std.specs.Prelude.{◌≡◌, ℕ, ◌+◌, ◌≤◌, ◌==◌, nat_lt, nat_eq, min, Bool, true, false, ◌||◌, if◌then◌else◌, Option, is_some, List, [], ◌∷◌, ◌++◌, length, filter}
+use Rattle.std.specs.Prelude.{◌≡◌, ℕ, ◌+◌, ◌≤◌, ◌==◌, nat_lt, nat_eq, Bool, true, false, ◌||◌, if◌then◌else◌, Option, is_some, List, [], ◌∷◌, ◌++◌, drop, length, filter}
 use Rattle.std.specs.List.{list_all, list_any}
 use Rattle.std.specs.Set.{is_member}
 use Rattle.recovery_mtud.specs.Discovery.{Discovery}
@@ -27,30 +27,18 @@ open_run (reported now ∷ earlier) = []
 open_run (reset mtu min_mtu ∷ earlier) = []
 open_run (entry ∷ earlier) = open_run earlier
 
-abbrev pub if_any : List Loss → List (List Loss)
-if_any [] = []
-if_any (last ∷ burst) = (last ∷ burst) ∷ []
-
--- the burst that an entry closes, if any: a lost number that does not follow closes it, and the end of a moment's
--- losses
+-- the burst that an entry closes, empty where none was open: a lost number that does not follow closes it, and the end
+-- of a moment's losses
 abbrev pub closed_by : MtuEntry → List MtuEntry → List (List Loss)
-closed_by (lost number bytes) earlier = if follows number (open_run earlier) then [] else if_any (open_run earlier)
-closed_by losses_over earlier = if_any (open_run earlier)
-closed_by (reported now) earlier = if_any (open_run earlier)
+closed_by (lost number bytes) earlier = if follows number (open_run earlier) then [] else open_run earlier ∷ []
+closed_by losses_over earlier = open_run earlier ∷ []
+closed_by (reported now) earlier = open_run earlier ∷ []
 closed_by entry earlier = []
 
-abbrev pub least_size : List Loss → ℕ
-least_size [] = 0
-least_size (loss ∷ []) = loss.bytes
-least_size (loss ∷ other ∷ losses) = min loss.bytes (least_size (other ∷ losses))
-
-abbrev pub last_number : List Loss → ℕ
-last_number [] = 0
-last_number (last ∷ burst) = last.number
-
--- all its packets are larger than this: the least is
+-- there are packets in it, and all are larger than this
 abbrev pub is_above : ℕ → List Loss → Bool
-is_above size burst = nat_lt size (least_size burst)
+is_above size [] = false
+is_above size burst = list_all (λ loss. nat_lt size loss.bytes) burst
 
 -- ---- bursts that have closed
 
@@ -88,7 +76,8 @@ AreFatesApart entries =
 
 -- the last number of the burst exceeds all of these
 abbrev pub is_past : List ℕ → List Loss → Bool
-is_past numbers burst = list_all (λ number. nat_lt number (last_number burst)) numbers
+is_past numbers [] = false
+is_past numbers (last ∷ burst) = list_all (λ number. nat_lt number last.number) numbers
 
 -- ---- larger packets that were acknowledged
 
@@ -113,23 +102,18 @@ module _ (size : ℕ) where
   unanswered (reset mtu min_mtu ∷ earlier) = []
   unanswered (entry ∷ earlier) = closed_by entry earlier ++ unanswered earlier
 
--- from the first one on that passes the test
-abbrev pub from_first : (List Loss → Bool) → List (List Loss) → List (List Loss)
-from_first test [] = []
-from_first test (burst ∷ earlier) = if list_any test (burst ∷ earlier) then burst ∷ from_first test earlier else []
-
 -- ---- reports: they come as all losses of a moment were told, which closes the open burst
 
 module _ (made : Discovery) where
   -- four bursts stand whose packets are all larger than the least MTU
   abbrev pub AreFourStanding : List MtuEntry → Type 0
   AreFourStanding entries =
-      4 ≤ length (filter (is_above (min_mtu_in_use made entries)) (if_any (open_run entries) ++ standing entries))
+      4 ≤ length (filter (is_above (min_mtu_in_use made entries)) (open_run entries ∷ standing entries))
 
-  -- four such bursts have closed, the first of them past every larger packet that was acknowledged, and none was since
-  -- it closed
+  -- behind such a burst that ends past every larger packet that was acknowledged three more have closed, and none was
+  -- acknowledged since it closed
   abbrev pub AreFourUnanswered : List MtuEntry → Type 0
   AreFourUnanswered entries =
       let least = min_mtu_in_use made entries in
-      let bursts = filter (is_above least) (if_any (open_run entries) ++ unanswered least entries) in
-      4 ≤ length (from_first (is_past (larger_acked least entries)) bursts)
+      let bursts = filter (is_above least) (open_run entries ∷ unanswered least entries) in
+      list_any (is_past (larger_acked least entries)) (drop 3 bursts) ≡ true

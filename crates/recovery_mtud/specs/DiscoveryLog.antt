@@ -1,7 +1,9 @@
--- MTU discovery by what was told to it.
-use Rattle.std.specs.Prelude.{ℕ, ◌<◌, min, ⊤, if◌then◌else◌, Option, List, [], ◌∷◌, unwrap_or}
-use Rattle.std.specs.Option.{option_map}
-use Rattle.recovery_mtud.specs.Discovery.{Discovery, discovery_polled, discovery_limited, discovery_acked, discovery_probe_lost, discovery_lost, discovery_ended, discovery_reset, size_of_probe, reports, within}
+-- MTU discovery by what was told to it, call by call (RFC 8899, 4.3 and 5; RFC 9000, 14.3).
+use Rattle.std.specs.Prelude.{ℕ, ◌<◌, min, ⊤, if◌then◌else◌, Option, None, List, [], ◌∷◌, unwrap_or}
+use Rattle.std.specs.Option.{option_map, option_map_or}
+use Rattle.recovery_mtud.specs.Search.{MtuSearch, search_polled, search_with, probing_acked, probing_lost, later}
+use Rattle.recovery_mtud.specs.Bursts.{bursts_acked, bursts_closed, bursts_lost}
+use Rattle.recovery_mtud.specs.Discovery.{Discovery, discovery_made, size_of_probe, reports, within}
 
 pub data MtuCall : Type 0 where
   -- may a probe go out? It would be the packet of that number
@@ -19,15 +21,33 @@ pub data MtuCall : Type 0 where
   -- all begins anew
   resets : (mtu min_mtu : ℕ) → MtuCall
 
--- what a call leaves
+-- what a call leaves: the size of a probe that is acknowledged is in use from then on, and it is larger than what was
+-- lost before it; a report leaves the least MTU in use, and no search before the cooldown is over; a reset keeps the
+-- peer's limit
 abbrev pub discovery_after : MtuCall → Discovery → Discovery
-discovery_after (polls now next) old = discovery_polled now next old
-discovery_after (is_limited limit) old = discovery_limited limit old
-discovery_after (acks number bytes) old = discovery_acked number bytes old
-discovery_after loses_probe old = discovery_probe_lost old
-discovery_after (loses number bytes) old = discovery_lost number bytes old
-discovery_after (losses_end now) old = discovery_ended now old
-discovery_after (resets mtu min_mtu) old = discovery_reset mtu min_mtu old
+discovery_after (polls now next) old = record old { search = option_map (search_polled old.mtu now next) old.search }
+discovery_after (is_limited limit) old = record old {
+  mtu = min old.mtu limit;
+  search = option_map {T = MtuSearch} (λ own. record own { limit = limit }) old.search;
+}
+discovery_after (acks number bytes) old =
+    option_map_or (λ size. record old {
+      mtu = size;
+      search = option_map (search_with probing_acked) old.search;
+      bursts = record old.bursts { kept = []; acked = bytes; newest = number };
+    }) (size_of_probe number old) (record old { bursts = bursts_acked number bytes old.bursts })
+discovery_after loses_probe old = record old { search = option_map (search_with probing_lost) old.search }
+discovery_after (loses number bytes) old = record old { bursts = bursts_lost number bytes old.bursts }
+discovery_after (losses_end now) old =
+    let closed = bursts_closed old.bursts in
+    if reports old then record old {
+      mtu = old.bursts.min_mtu;
+      search = option_map {T = MtuSearch}
+          (λ own. record own { probing = None; activation = later now own.settings.black_hole_cooldown }) old.search;
+      bursts = record closed { kept = [] };
+    } else record old { bursts = closed }
+discovery_after (resets mtu min_mtu) old =
+    discovery_made mtu min_mtu (option_map (λ own. own.limit) old.search) (option_map (λ own. own.settings) old.search)
 
 -- what calls leave of the discovery that was made, the newest first
 abbrev pub discovery_by : Discovery → List MtuCall → Discovery
@@ -36,13 +56,9 @@ discovery_by made (call ∷ earlier) = discovery_after call (discovery_by made e
 
 -- sizes that are told are above zero
 abbrev pub IsPositiveMtuCall : MtuCall → Type 0
-IsPositiveMtuCall (polls now next) = ⊤
 IsPositiveMtuCall (is_limited limit) = 0 < limit
-IsPositiveMtuCall (acks number bytes) = ⊤
-IsPositiveMtuCall loses_probe = ⊤
-IsPositiveMtuCall (loses number bytes) = ⊤
-IsPositiveMtuCall (losses_end now) = ⊤
 IsPositiveMtuCall (resets mtu min_mtu) = (0 < mtu) × (0 < min_mtu)
+IsPositiveMtuCall call = ⊤
 
 abbrev pub ArePositiveMtuCalls : List MtuCall → Type 0
 ArePositiveMtuCalls [] = ⊤
@@ -55,10 +71,8 @@ kept_limit discovery = option_map (λ search. search.limit) discovery.search
 -- the MTU in use after a call: the size of a probe that was acknowledged, at most a limit that was told, the least MTU
 -- after a report, or what a reset begins with, at most the limit; else what it was
 abbrev pub mtu_after : MtuCall → Discovery → ℕ
-mtu_after (polls now next) old = old.mtu
 mtu_after (is_limited limit) old = min old.mtu limit
 mtu_after (acks number bytes) old = unwrap_or (size_of_probe number old) old.mtu
-mtu_after loses_probe old = old.mtu
-mtu_after (loses number bytes) old = old.mtu
 mtu_after (losses_end now) old = if reports old then old.bursts.min_mtu else old.mtu
 mtu_after (resets mtu min_mtu) old = within mtu (kept_limit old)
+mtu_after call old = old.mtu

@@ -3,14 +3,13 @@
 use Rattle.std.specs.Prelude.{◌≡◌, ℕ, ◌==◌, IfSome, min, if◌then◌else◌, Option, Some, None, List, [], ◌∷◌, unwrap_or}
 use Rattle.std.specs.Option.{option_map}
 use Rattle.recovery_mtud.specs.declared.config.MtuDiscoveryConfig.{MtuDiscoveryConfig}
-use Rattle.recovery_mtud.specs.declared.search.Phase.TheVariants.{Initial}
 use Rattle.recovery_mtud.specs.Bursts.{bursts_made}
 use Rattle.recovery_mtud.specs.Discovery.{Discovery, poll_of, reports, within}
 use Rattle.recovery_mtud.specs.DiscoveryLog.{MtuCall, polls, is_limited, acks, loses_probe, loses, losses_end, resets, discovery_by, kept_limit}
 
 -- a discovery to which nothing was told yet
 pub record IsUntold (made : Discovery) : Type 0 where
-  pub search : IfSome made.search (λ search. search.phase ≡ Initial)
+  pub search : IfSome made.search (λ search. (search.probing ≡ None) × (search.activation ≡ 0))
   pub bursts : made.bursts ≡ bursts_made made.bursts.min_mtu
 
 -- the settings that it searches by, where it does

@@ -1,6 +1,6 @@
 -- Whole searches for a path's MTU (RFC 8899, 5; RFC 9000, 14.3), over what a discovery was told and answered. Every
 -- list here has the newest entry first.
-use Rattle.std.specs.Prelude.{◌≡◌, ℕ, ◌+◌, ◌*◌, ◌≤◌, ◌<◌, nat_le, nat_eq, min, ⊤, Bool, true, false, ◌&&◌, ◌||◌, not, if◌then◌else◌, Option, Some, None, is_none, List, [], ◌∷◌, ◌++◌, length, option_to_list, All}
+use Rattle.std.specs.Prelude.{◌≡◌, ℕ, ◌+◌, ◌*◌, ◌≤◌, ◌<◌, nat_le, nat_eq, min, ⊤, Bool, true, false, ◌&&◌, ◌||◌, not, if◌then◌else◌, None, is_none, List, [], ◌∷◌, ◌++◌, length, option_to_list, All}
 use Rattle.std.specs.Option.{option_map}
 use Rattle.std.specs.Set.{distinct_count}
 use Rattle.recovery_mtud.specs.declared.config.MtuDiscoveryConfig.{MtuDiscoveryConfig}
@@ -35,26 +35,22 @@ before_search (entry ∷ earlier) = if search_runs (entry ∷ earlier) then befo
 
 -- ---- when a search begins
 
-abbrev pub is_due : Option ℕ → ℕ → Bool
-is_due None now = true
-is_due (Some activation) now = nat_le activation now
-
 module _ (settings : MtuDiscoveryConfig) where
-  -- the next activation: the interval after the poll that ended a search, or the cooldown after a report, whichever
-  -- came last
-  abbrev pub next_activation : List MtuEntry → Option ℕ
-  next_activation [] = None
+  -- from when on a search may begin: at once at first; then the interval after the poll that ended a search, or the
+  -- cooldown after a report, whichever came last
+  abbrev pub next_activation : List MtuEntry → ℕ
+  next_activation [] = 0
   next_activation (unprobed now ∷ earlier) =
       let last = next_activation earlier in
-      if is_none (probe_in_flight earlier) && (search_runs earlier || is_due last now) then Some
-      (later now settings.interval) else last
-  next_activation (reported now ∷ earlier) = Some (later now settings.black_hole_cooldown)
-  next_activation (reset mtu min_mtu ∷ earlier) = None
+      if is_none (probe_in_flight earlier) && (search_runs earlier || nat_le last now)
+      then later now settings.interval else last
+  next_activation (reported now ∷ earlier) = later now settings.black_hole_cooldown
+  next_activation (reset mtu min_mtu ∷ earlier) = 0
   next_activation (entry ∷ earlier) = next_activation earlier
 
-  -- a poll finds a search that runs, or begins one: the first poll does, and one at or after the next activation
+  -- a poll finds a search that runs, or begins one that is due
   abbrev pub is_searched : ℕ → List MtuEntry → Bool
-  is_searched now earlier = search_runs earlier || is_due (next_activation earlier) now
+  is_searched now earlier = search_runs earlier || nat_le (next_activation earlier) now
 
   -- a probe comes in a search alone, while none is in flight
   abbrev pub ProbesInSearch : List MtuEntry → Type 0

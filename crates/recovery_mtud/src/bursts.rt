@@ -68,7 +68,7 @@ impl Bursts {
             return;
         }
         let [a, b, c, d] = self.sizes;
-        let least = a.min(b.min(c.min(d)));
+        let least = a.min(b).min(c).min(d);
         if least >= size {
             return;
         }

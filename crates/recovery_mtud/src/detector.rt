@@ -3,8 +3,8 @@
 //! A path whose MTU fell loses every packet above a size, and no smaller one for its size; congestion loses packets of
 //! any size. So losses are held against the MTU only where all packets that were lost together are above the least MTU,
 //! and none as large as the smallest of them arrived after them.
-ghost use Rattle.std.specs.Prelude.{◌≡◌, ◌<◌, ◌≤◌, length};
-ghost use Rattle.recovery_mtud.specs.Bursts.{bursts_made, bursts_probed, bursts_acked, bursts_closed, bursts_lost, bursts_ended, is_black_hole};
+ghost use Rattle.std.specs.Prelude.{◌≡◌, ◌<◌, ◌≤◌, nat_le, [], length, if◌then◌else◌};
+ghost use Rattle.recovery_mtud.specs.Bursts.{bursts_made, bursts_acked, bursts_closed, bursts_lost};
 
 use crate::bursts::{BLACK_HOLE_BURSTS, Bursts};
 use std::marker::Model;
@@ -71,7 +71,7 @@ impl Detector {
     /// least change below 3): none of them was lost for its size. `newest` may fall: what counts is what arrived since
     /// the last loss.
     pub(crate) fn on_probe_acked(&mut self, number: u64, size: u16)
-        ensures { self.new ≡ bursts_probed number size self.old }
+        ensures { self.new ≡ record self.old { kept = []; acked = size; newest = number } }
     {
         self.bursts = Bursts::new();
         self.acked_mtu = size;
@@ -140,8 +140,9 @@ impl Detector {
     /// All losses of a moment were told: whether there is a black hole. The open burst closes here, since a black hole
     /// lets nothing through that would close it.
     pub(crate) fn black_hole_detected(&mut self) -> bool
-        ensures answer { result ≡ is_black_hole (bursts_closed self.old) }
-        ensures after { self.new ≡ bursts_ended self.old }
+        ensures answer { result ≡ nat_le 4 (length (bursts_closed self.old).kept) }
+        ensures after { self.new
+            ≡ (if result then record (bursts_closed self.old) { kept = [] } else bursts_closed self.old) }
     {
         self.close();
         if self.bursts.len() < BLACK_HOLE_BURSTS {

@@ -1,8 +1,10 @@
 //! Discovery of the MTU of a path, and detection of black holes (RFC 8899; RFC 9000, 14.3).
-ghost use Rattle.std.specs.Prelude.{◌≡◌, ◌<◌, ◌≤◌, Bool, false, ◌&&◌, if◌then◌else◌};
+ghost use Rattle.std.specs.Prelude.{◌≡◌, ◌<◌, ◌≤◌, Bool, false, ◌&&◌, Some, None, if◌then◌else◌};
 ghost use Rattle.std.specs.Option.{IfSome};
-ghost use Rattle.recovery_mtud.specs.Discovery.{discovery_made, discovery_disabled, discovery_polled, discovery_limited, discovery_acked, discovery_probe_lost, discovery_lost, discovery_ended, discovery_reset};
-ghost use Rattle.recovery_mtud.specs.Discovery.{poll_of, probe_of, is_probe, is_searching_of, reports, is_data};
+ghost use Rattle.recovery_base.specs.declared.below.SpaceId.TheVariants.{Data};
+ghost use Rattle.recovery_base.specs.Spaces.{same_space};
+ghost use Rattle.recovery_mtud.specs.Discovery.{discovery_made, poll_of, probe_of, is_probe, is_searching_of, reports};
+ghost use Rattle.recovery_mtud.specs.DiscoveryLog.{discovery_after, polls, is_limited, acks, loses_probe, loses, losses_end, resets};
 
 use crate::config::{MAX_UDP_PAYLOAD, MtuDiscoveryConfig};
 use crate::detector::Detector;
@@ -55,7 +57,7 @@ impl MtuDiscovery {
         requires least { 0 < min_mtu }
         requires initial { min_mtu ≤ initial_plpmtu }
         requires limit { IfSome peer_max_udp_payload_size (λ limit. 0 < limit) }
-        ensures { result ≡ discovery_made initial_plpmtu min_mtu peer_max_udp_payload_size config }
+        ensures { result ≡ discovery_made initial_plpmtu min_mtu peer_max_udp_payload_size (Some config) }
     {
         let (current_mtu, limit) = match peer_max_udp_payload_size {
             Some(limit) => (initial_plpmtu.min(limit), limit),
@@ -73,7 +75,7 @@ impl MtuDiscovery {
     pub fn disabled(plpmtu: u16, min_mtu: u16) -> Self
         requires mtu { 0 < plpmtu }
         requires least { 0 < min_mtu }
-        ensures { result ≡ discovery_disabled plpmtu min_mtu }
+        ensures { result ≡ discovery_made plpmtu min_mtu None None }
     {
         MtuDiscovery {
             current_mtu: plpmtu,
@@ -87,7 +89,7 @@ impl MtuDiscovery {
     pub fn reset(&mut self, current_mtu: u16, min_mtu: u16)
         requires mtu { 0 < current_mtu }
         requires least { 0 < min_mtu }
-        ensures { self.new ≡ discovery_reset current_mtu min_mtu self.old }
+        ensures { self.new ≡ discovery_after (resets current_mtu min_mtu) self.old }
     {
         self.detector = Detector::new(min_mtu);
         self.current_mtu = match &mut self.search {
@@ -112,7 +114,7 @@ impl MtuDiscovery {
     /// None while a probe is in flight, before the next search is due, and where discovery is disabled.
     pub fn poll_transmit(&mut self, now: Instant, next_packet_number: u64) -> Option<u16>
         ensures answer { result ≡ poll_of now self.old }
-        ensures after { self.new ≡ discovery_polled now next_packet_number self.old }
+        ensures after { self.new ≡ discovery_after (polls now next_packet_number) self.old }
     {
         match &mut self.search {
             Some(search) => search.poll(self.current_mtu, now, next_packet_number),
@@ -125,7 +127,7 @@ impl MtuDiscovery {
     pub fn on_peer_max_udp_payload_size_received(&mut self, peer_max_udp_payload_size: u16)
         requires size { 0 < peer_max_udp_payload_size }
         requires no_search { is_searching_of self.old ≡ false }
-        ensures { self.new ≡ discovery_limited peer_max_udp_payload_size self.old }
+        ensures { self.new ≡ discovery_after (is_limited peer_max_udp_payload_size) self.old }
     {
         self.current_mtu = self.current_mtu.min(peer_max_udp_payload_size);
         if let Some(search) = &mut self.search {
@@ -138,9 +140,10 @@ impl MtuDiscovery {
     /// (RFC 9000, 12.3).
     #[tactic(auto, using(crate::proofs::BurstLaws::bursts_acked_sound))]
     pub fn on_acked(&mut self, space: SpaceId, packet_number: u64, packet_bytes: u16) -> bool
-        ensures answer { result ≡ is_data space && is_probe packet_number self.old }
+        ensures answer { result ≡ same_space space Data && is_probe packet_number self.old }
         ensures after { self.new
-            ≡ (if is_data space then discovery_acked packet_number packet_bytes self.old else self.old) }
+            ≡ (if same_space space Data then discovery_after (acks packet_number packet_bytes) self.old
+            else self.old) }
     {
         if space != SpaceId::Data {
             return false;
@@ -175,7 +178,7 @@ impl MtuDiscovery {
 
     /// The probe in flight was lost. With none in flight nothing changes.
     pub fn on_probe_lost(&mut self)
-        ensures { self.new ≡ discovery_probe_lost self.old }
+        ensures { self.new ≡ discovery_after loses_probe self.old }
     {
         if let Some(search) = &mut self.search {
             search.on_probe_lost();
@@ -188,7 +191,7 @@ impl MtuDiscovery {
     /// `black_hole_detected` is to be called once all losses of a moment were told: only then is the last burst known
     /// to be whole.
     pub fn on_non_probe_lost(&mut self, packet_number: u64, packet_bytes: u16)
-        ensures { self.new ≡ discovery_lost packet_number packet_bytes self.old }
+        ensures { self.new ≡ discovery_after (loses packet_number packet_bytes) self.old }
     {
         self.detector.on_non_probe_lost(packet_number, packet_bytes);
     }
@@ -198,7 +201,7 @@ impl MtuDiscovery {
     /// search ends, and none begins before the cooldown is over.
     pub fn black_hole_detected(&mut self, now: Instant) -> bool
         ensures answer { result ≡ reports self.old }
-        ensures after { self.new ≡ discovery_ended now self.old }
+        ensures after { self.new ≡ discovery_after (losses_end now) self.old }
     {
         if !self.detector.black_hole_detected() {
             return false;

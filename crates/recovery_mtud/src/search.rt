@@ -1,8 +1,8 @@
 //! The search for a path's MTU (RFC 8899, 5; RFC 9000, 14.3).
-ghost use Rattle.std.specs.Prelude.{◌≡◌, ◌<◌, ◌≤◌, IfSome};
-ghost use Rattle.recovery_mtud.specs.Search.{search_made, begun, narrowed, next_size, size_to_probe, probing_at, search_poll, search_polled};
-ghost use Rattle.recovery_mtud.specs.Search.{flight_in, is_running, probed_size, search_acked, search_lost, search_reported, search_limited};
-ghost use Rattle.recovery_mtud.specs.Search.{IsProbingSound};
+ghost use Rattle.std.specs.Prelude.{◌≡◌, ◌<◌, ◌≤◌, None, is_some, IfSome, if◌then◌else◌};
+ghost use Rattle.std.specs.Option.{option_and_then};
+ghost use Rattle.recovery_mtud.specs.Search.{begun, narrowed, next_size, size_to_probe, probing_at, search_poll, search_polled};
+ghost use Rattle.recovery_mtud.specs.Search.{later, probed_size, probing_acked, probing_lost, search_with, IsProbingSound};
 
 use crate::config::MtuDiscoveryConfig;
 use recovery_base::time::Instant;
@@ -10,16 +10,6 @@ use std::marker::Model;
 
 /// A size that was lost so often is too large: a single loss may be congestion's (RFC 8899, 5.1.2).
 const MAX_PROBES: u8 = 3;
-
-/// What a search does.
-#[derive(Clone, Copy)]
-pub(crate) enum Phase {
-    /// It waits for the first poll.
-    Initial,
-    Searching(Probing),
-    /// It is over until this moment.
-    Complete(Instant),
-}
 
 /// A search that runs.
 #[derive(Clone, Copy)]
@@ -39,7 +29,10 @@ pub(crate) struct Probing {
 /// The search of a discovery that is enabled.
 #[derive(Clone, Copy)]
 pub(crate) struct Search {
-    phase: Phase,
+    /// The one that runs.
+    probing: Option<Probing>,
+    /// Where none runs, the next one may begin from this moment on.
+    activation: Instant,
     /// The largest size that the peer takes.
     limit: u16,
     config: MtuDiscoveryConfig,
@@ -95,28 +88,29 @@ impl Probing {
 impl Search {
     pub(crate) fn new(limit: u16, config: MtuDiscoveryConfig) -> Self
         requires { 0 < limit }
-        ensures { result ≡ search_made limit config }
+        ensures { result ≡ record { limit = limit; probing = None; activation = 0; settings = config } }
     {
         Search {
-            phase: Phase::Initial,
+            probing: None,
+            activation: Instant::from_nanos(0),
             limit,
             config,
         }
     }
 
     pub(crate) fn is_running(&self) -> bool
-        ensures { result ≡ is_running self.now.phase }
+        ensures { result ≡ is_some self.now.probing }
     {
-        matches!(self.phase, Phase::Searching(_))
+        self.probing.is_some()
     }
 
     /// The number of the probe in flight.
     pub(crate) fn in_flight(&self) -> Option<u64>
-        ensures { result ≡ flight_in self.now.phase }
+        ensures { result ≡ option_and_then (λ p. p.in_flight) self.now.probing }
     {
-        match self.phase {
-            Phase::Searching(probing) => probing.in_flight,
-            _ => None,
+        match self.probing {
+            Some(probing) => probing.in_flight,
+            None => None,
         }
     }
 
@@ -130,14 +124,15 @@ impl Search {
 
     /// Begins anew, with the peer's limit kept.
     pub(crate) fn restart(&mut self)
-        ensures { self.new ≡ search_made self.old.limit self.old.settings }
+        ensures { self.new ≡ record self.old { probing = None; activation = 0 } }
     {
-        self.phase = Phase::Initial;
+        self.probing = None;
+        self.activation = Instant::from_nanos(0);
     }
 
     pub(crate) fn set_limit(&mut self, limit: u16)
         requires { 0 < limit }
-        ensures { self.new ≡ search_limited limit self.old }
+        ensures { self.new ≡ record self.old { limit = limit } }
     {
         self.limit = limit;
     }
@@ -158,18 +153,23 @@ impl Search {
         }
     }
 
-    /// The search that a poll finds, or begins: another one after a while, since a path may come to carry more (RFC
-    /// 8899, 5.1.1).
+    /// The search that a poll goes on with, or begins: none while a probe is in flight, since what becomes of it says which
+    /// size is next, and a lost one costs a whole packet; another search after a while, since a path may come to carry
+    /// more (RFC 8899, 5.1.1).
     fn probing_at(&self, mtu: u16, now: Instant) -> Option<Probing>
         requires { 0 < mtu }
         ensures value { result ≡ probing_at mtu now self.now }
         ensures sound { IfSome result IsProbingSound }
     {
-        match self.phase {
-            Phase::Initial => Some(self.begin(mtu)),
-            Phase::Searching(probing) => Some(probing),
-            Phase::Complete(activation) => {
-                if now < activation {
+        match self.probing {
+            Some(probing) => {
+                if probing.in_flight.is_some() {
+                    return None;
+                }
+                Some(probing)
+            }
+            None => {
+                if now < self.activation {
                     return None;
                 }
                 Some(self.begin(mtu))
@@ -177,25 +177,24 @@ impl Search {
         }
     }
 
-    /// The size to probe now, if any, with a packet of this number. One probe at a time: what becomes of it says which
-    /// size is next, and a lost one costs a whole packet.
+    /// The size to probe now, if any, with a packet of this number.
     pub(crate) fn poll(&mut self, mtu: u16, now: Instant, number: u64) -> Option<u16>
         requires { 0 < mtu }
         ensures answer { result ≡ search_poll mtu now self.old }
         ensures after { self.new ≡ search_polled mtu now number self.old }
     {
         let mut probing = self.probing_at(mtu, now)?;
-        if probing.in_flight.is_some() {
-            return None;
-        }
         let next = probing.advance(self.config.minimum_change);
         match next {
             Some(size) => {
                 probing.in_flight = Some(number);
                 probing.last = size;
-                self.phase = Phase::Searching(probing);
+                self.probing = Some(probing);
             }
-            None => self.phase = Phase::Complete(now + self.config.interval),
+            None => {
+                self.probing = None;
+                self.activation = now + self.config.interval;
+            }
         }
         next
     }
@@ -204,9 +203,9 @@ impl Search {
     pub(crate) fn on_acked(&mut self, number: u64) -> Option<u16>
         ensures size { result ≡ probed_size number self.old }
         ensures positive { IfSome result (λ size. 0 < size) }
-        ensures after { self.new ≡ search_acked number self.old }
+        ensures after { self.new ≡ (if is_some result then search_with probing_acked self.old else self.old) }
     {
-        let Phase::Searching(probing) = &mut self.phase else {
+        let Some(probing) = &mut self.probing else {
             return None;
         };
         if probing.in_flight != Some(number) {
@@ -220,9 +219,9 @@ impl Search {
     /// The probe in flight was lost, if there is one: a black hole ends a search, and its probe may be called lost
     /// after that.
     pub(crate) fn on_probe_lost(&mut self)
-        ensures { self.new ≡ search_lost self.old }
+        ensures { self.new ≡ search_with probing_lost self.old }
     {
-        if let Phase::Searching(probing) = &mut self.phase
+        if let Some(probing) = &mut self.probing
             && probing.in_flight.is_some()
         {
             probing.in_flight = None;
@@ -232,8 +231,10 @@ impl Search {
 
     /// A black hole was found at this moment. For a while nothing is probed: larger sizes were just seen to fail.
     pub(crate) fn on_black_hole(&mut self, now: Instant)
-        ensures { self.new ≡ search_reported now self.old }
+        ensures { self.new
+            ≡ record self.old { probing = None; activation = later now self.old.settings.black_hole_cooldown } }
     {
-        self.phase = Phase::Complete(now + self.config.black_hole_cooldown);
+        self.probing = None;
+        self.activation = now + self.config.black_hole_cooldown;
     }
 }

@@ -1,30 +1,15 @@
 -- Laws of the balance and of the rate, on histories alone. `PacerLogLaws` rest on it.
 use Rattle.std.proofs.Common.{◌≡◌, ℕ, ◌+◌, ◌-◌, ◌*◌, ◌≤◌, max, List, [], ◌∷◌, ◌++◌, refl, ap, arith, inl, inr}
+use Rattle.std.specs.List.{AllByRecursion}
 use Rattle.std.proofs.Math.Nat.{mul-le-mul, mul-le-mul_left, mul-add}
 use Rattle.std.proofs.lemmas.Bool.{cases_lt}
 use Rattle.recovery_pacing.specs.Pacing.{Bucket, PacerCall, capacity_of}
-use Rattle.recovery_pacing.specs.PacerLog.{PacerMark, changed, credited, answered, transmitted, IsCapPoint, credits_in, bytes_in, calls_in, greatest_window, least_rtt, latest_moment, capacity_in, greatest_moment, balance_from, balance_in, IsBalance}
+use Rattle.recovery_pacing.specs.PacerLog.{PacerMark, changed, credited, answered, transmitted, IsCapPoint, credits_in, bytes_in, calls_in, capacity_in, greatest_moment, balance_from, balance_in, IsBalance}
 
 -- the calls have at most this window, at least this RTT and no later moment
 abbrev AreWithin : ℕ → ℕ → ℕ → List PacerCall → Type 0
-AreWithin window rtt latest [] = Unit {0}
-AreWithin window rtt latest (call ∷ calls) = ((call.window ≤ window) × (rtt ≤ call.rtt) × (call.now ≤ latest))
-    × AreWithin window rtt latest calls
-
-within_wider : (w w' r r' l l' : ℕ) (calls : List PacerCall) → w ≤ w' → r' ≤ r → l ≤ l' → AreWithin w r l calls
-    → AreWithin w' r' l' calls
-within_wider w w' r r' l l' [] p q o h = tt
-within_wider w w' r r' l l' (call ∷ calls) p q o h =
-    grind (arith, within_wider w w' r r' l l' calls p q o)
-
-within_own : (calls : List PacerCall) → AreWithin (greatest_window calls) (least_rtt calls) (latest_moment calls) calls
-within_own [] = tt
-within_own (call ∷ []) = ((omega arith, omega arith, omega arith), tt)
-within_own (call ∷ other ∷ calls) = (
-  (omega arith, omega arith, omega arith),
-  within_wider _ _ _ _ _ _ (other ∷ calls) (omega arith) (omega arith)
-      (omega arith) (within_own (other ∷ calls)),
-)
+AreWithin window rtt latest calls =
+    AllByRecursion (λ call. (rtt ≤ call.rtt) × (call.window ≤ window) × (call.now ≤ latest)) calls
 
 -- one credit more
 step_bound : (r r' w w' x c n g g0 : ℕ) → r ≤ r' → w' ≤ w → g0 ≤ g → 4 * r' * x ≤ 5 * w' * (n - g)
@@ -58,36 +43,29 @@ module _ (made : Bucket) where
   -- each credit is at most five fourths of a window for each RTT since the greatest moment
   abbrev pub AreEarned : List PacerMark → Type 0
   AreEarned [] = Unit {0}
-  AreEarned (changed call ∷ past) = AreEarned past
   AreEarned (credited call credit ∷ past) =
       (4 * call.rtt * credit ≤ 5 * call.window * (call.now - greatest_moment made past)) × AreEarned past
-  AreEarned (answered call ∷ past) = AreEarned past
-  AreEarned (transmitted sent ∷ past) = AreEarned past
+  AreEarned (mark ∷ past) = AreEarned past
 
   -- credits and bytes that come after a history without debt move its balance by as much
   pub no_debt_more : (credits bytes more : ℕ) (past : List PacerMark) → NoDebt credits bytes past
       → NoDebt (credits + more) bytes past
   no_debt_more credits bytes more [] h = omega arith
-  no_debt_more credits bytes more (changed call ∷ past) h = (omega arith, no_debt_more credits bytes more past h.1)
   no_debt_more credits bytes more (mark ∷ past) h = grind (arith, h, λ (c b : ℕ). no_debt_more c b more past)
 
   pub balance_more : (credits bytes more : ℕ) (past : List PacerMark) → NoDebt credits bytes past
       → balance_from made (credits + more) bytes past ≡ balance_from made credits bytes past + more
   balance_more credits bytes more [] h = omega arith
-  balance_more credits bytes more (changed call ∷ past) h = omega (arith, balance_more credits bytes more past h.1)
   balance_more credits bytes more (mark ∷ past) h = grind (arith, h, λ (c b : ℕ). balance_more c b more past)
 
   pub balance_less : (credits bytes taken : ℕ) (past : List PacerMark)
       → balance_from made credits (bytes + taken) past ≡ balance_from made credits bytes past - taken
   balance_less credits bytes taken [] = omega arith
-  balance_less credits bytes taken (changed call ∷ past) = omega (arith, balance_less credits bytes taken past)
   balance_less credits bytes taken (mark ∷ past) = grind (arith, λ (c b : ℕ). balance_less c b taken past)
 
   pub no_debt_less : (credits bytes taken : ℕ) (past : List PacerMark) → NoDebt credits bytes past
       → taken ≤ balance_from made credits bytes past → NoDebt credits (bytes + taken) past
   no_debt_less credits bytes taken [] h low = omega arith
-  no_debt_less credits bytes taken (changed call ∷ past) h low =
-      (omega arith, no_debt_less credits bytes taken past h.1 (omega arith))
   no_debt_less credits bytes taken (mark ∷ past) h low =
       grind (arith, h, low, λ (c b : ℕ). no_debt_less c b taken past)
 
@@ -96,21 +74,17 @@ module _ (made : Bucket) where
       → NoDebt credits bytes (later ++ past)
       → balance_from made credits bytes (later ++ past) + bytes + bytes_in later ≤ capacity_in made past + credits +
       credits_in later
-  below_each credits bytes [] (changed call ∷ past) p h = omega arith
   below_each credits bytes [] past p h = grind (arith, p, h)
-  below_each credits bytes (changed call ∷ later) past p h = omega (arith, below_each credits bytes later past p h.1)
   below_each credits bytes (mark ∷ later) past p h = grind (arith, h, λ (c b : ℕ). below_each c b later past p)
 
   -- the greatest moment rises, and is at most the latest of the calls
   greatest_rises : (later past : List PacerMark) → greatest_moment made past ≤ greatest_moment made (later ++ past)
   greatest_rises [] past = omega arith
-  greatest_rises (changed call ∷ later) past = greatest_rises later past
-  greatest_rises (mark ∷ later) past = omega (arith, greatest_rises later past)
+  greatest_rises (mark ∷ later) past = grind (arith, greatest_rises later past)
 
   greatest_below : (w r latest : ℕ) (later past : List PacerMark) → AreWithin w r latest (calls_in later)
       → greatest_moment made (later ++ past) ≤ max latest (greatest_moment made past)
   greatest_below w r latest [] past h = omega arith
-  greatest_below w r latest (changed call ∷ later) past h = greatest_below w r latest later past h.1
   greatest_below w r latest (mark ∷ later) past h = grind (arith, h, greatest_below w r latest later past)
 
   -- all credits together are at most five fourths of the greatest window for each least RTT
@@ -118,28 +92,22 @@ module _ (made : Bucket) where
       → AreEarned (later ++ past)
       → 4 * r * credits_in later ≤ 5 * w * (greatest_moment made (later ++ past) - greatest_moment made past)
   credits_below w r latest [] past h e = omega arith
-  credits_below w r latest (changed call ∷ later) past h e = credits_below w r latest later past h.1 e
   credits_below w r latest (credited call credit ∷ later) past h e =
       step_bound r call.rtt w call.window credit (credits_in later) call.now (greatest_moment made (later ++ past))
-      (greatest_moment made past) h.0.1 h.0.0 (greatest_rises later past) e.0
+      (greatest_moment made past) h.0.0 h.0.1 (greatest_rises later past) e.0
       (credits_below w r latest later past h.1 e.1)
   credits_below w r latest (mark ∷ later) past h e = grind (arith, h, e, credits_below w r latest later past)
 
   -- the pacing bound
-  pub rate_bound : (history later past : List PacerMark) → NoDebt 0 0 history → AreEarned history
-      → later ++ past ≡ history → IsCapPoint past
-      → 4 * least_rtt (calls_in later) * (bytes_in later - capacity_in made past) ≤ 5 * greatest_window (calls_in later)
-      * (latest_moment (calls_in later) - greatest_moment made past)
-  rate_bound history later past debt earned is point =
-      let debt' : NoDebt 0 0 (later ++ past) = rw is debt in
-      let earned' : AreEarned (later ++ past) = rw is earned in
-      let within = within_own (calls_in later) in
+  pub rate_bound : (history later past : List PacerMark) (rtt window moment : ℕ) → NoDebt 0 0 history
+      → AreEarned history → later ++ past ≡ history → IsCapPoint past → AreWithin window rtt moment (calls_in later)
+      → 4 * rtt * (bytes_in later - capacity_in made past) ≤ 5 * window * (moment - greatest_moment made past)
+  rate_bound history later past rtt window moment debt earned is point within =
       let all : bytes_in later ≤ capacity_in made past + credits_in later =
-      omega (arith, below_each 0 0 later past point debt') in
-      bound_at (least_rtt (calls_in later)) (greatest_window (calls_in later)) (bytes_in later) (capacity_in made past)
-      (credits_in later) (greatest_moment made (later ++ past)) (latest_moment (calls_in later))
-      (greatest_moment made past) all
-      (credits_below _ _ _ later past within earned') (greatest_below _ _ _ later past within)
+      omega (arith, below_each 0 0 later past point (rw is debt)) in
+      bound_at rtt window (bytes_in later) (capacity_in made past) (credits_in later)
+      (greatest_moment made (later ++ past)) moment (greatest_moment made past) all
+      (credits_below _ _ _ later past within (rw is earned)) (greatest_below _ _ _ later past within)
 
   -- ---- the balance is the least over the cap points
 
@@ -149,43 +117,34 @@ module _ (made : Bucket) where
       × (balance_from made credits bytes history + bytes + bytes_in later
       ≡ capacity_in made past + credits + credits_in later)
 
+  met_behind : (mark : PacerMark) (credits bytes credits' bytes' : ℕ) (past : List PacerMark)
+      → balance_from made credits bytes (mark ∷ past) ≡ balance_from made credits' bytes' past
+      → ((later : List PacerMark) → (bytes + bytes_in (mark ∷ later) ≡ bytes' + bytes_in later)
+      × (credits + credits_in (mark ∷ later) ≡ credits' + credits_in later))
+      → Met credits' bytes' past → Met credits bytes (mark ∷ past)
+  met_behind mark credits bytes credits' bytes' past same adds rest =
+      (mark ∷ rest.0, rest.1, ap (λ l. mark ∷ l) rest.2, rest.3, omega (arith, same, adds rest.0, rest.4))
+
   met_at : (credits bytes : ℕ) (history : List PacerMark) → NoDebt credits bytes history → Met credits bytes history
   met_at credits bytes [] h = ([], [], refl, tt, omega arith)
   met_at credits bytes (changed call ∷ past) h =
-      let rest = met_at credits bytes past h.1 in
       elim (cases_lt (capacity_of call.rtt call.window call.mtu + credits - bytes)
       (balance_from made credits bytes past)) [
         | inl low ↦ ([], changed call ∷ past, refl, tt, omega arith)
-        | inr high ↦ (changed call ∷ rest.0, rest.1, ap (λ l. changed call ∷ l) rest.2, rest.3, omega (arith, rest.4))
+        | inr high ↦ met_behind (changed call) credits bytes _ _ past (omega arith) (λ later. (refl, refl))
+            (met_at credits bytes past h.1)
       ]
   met_at credits bytes (credited call credit ∷ past) h =
-      let rest = met_at (credits + credit) bytes past h.1 in
       elim (cases_lt (capacity_in made past + credits - bytes) (balance_from made (credits + credit) bytes past)) [
         | inl low ↦ ([], credited call credit ∷ past, refl, tt, omega arith)
-        | inr high ↦ (
-          credited call credit ∷ rest.0,
-          rest.1,
-          ap (λ l. credited call credit ∷ l) rest.2,
-          rest.3,
-          omega (arith, rest.4),
-        )
+        | inr high ↦ met_behind (credited call credit) credits bytes _ _ past (omega arith)
+            (λ later. (refl, omega arith)) (met_at (credits + credit) bytes past h.1)
       ]
   met_at credits bytes (answered call ∷ past) h =
-      let rest = met_at credits bytes past h in (
-        answered call ∷ rest.0,
-        rest.1,
-        ap (λ l. answered call ∷ l) rest.2,
-        rest.3,
-        omega (arith, rest.4),
-      )
+      met_behind (answered call) credits bytes _ _ past refl (λ later. (refl, refl)) (met_at credits bytes past h)
   met_at credits bytes (transmitted sent ∷ past) h =
-      let rest = met_at credits (bytes + sent) past h in (
-        transmitted sent ∷ rest.0,
-        rest.1,
-        ap (λ l. transmitted sent ∷ l) rest.2,
-        rest.3,
-        omega (arith, rest.4),
-      )
+      met_behind (transmitted sent) credits bytes _ _ past refl (λ later. (omega arith, refl))
+      (met_at credits (bytes + sent) past h)
 
   pub balance_is : (history : List PacerMark) → NoDebt 0 0 history → IsBalance made history (balance_in made history)
   unfolding balance_in

@@ -6,10 +6,11 @@ use Rattle.std.specs.List.{AllByRecursion}
 use Rattle.std.proofs.Math.Nat.{div-add-mod, mod-lt, mul-le-mul_left}
 use Rattle.std.proofs.lemmas.Bool.{cases_lt}
 use Rattle.recovery_base.specs.Times.{longest_span}
-use Rattle.recovery_pacing.specs.NamedMoment.{HasRoom, IsAlike, PassesAtMoment}
+use Rattle.recovery_pacing.specs.NamedMoment.{HasRoom, PassesAtMoment}
 use Rattle.recovery_pacing.specs.PacerLog.{PacerEntry, asked, bucket_by}
 use Rattle.recovery_pacing.specs.Pacing.{Bucket, PacerCall, credit_of, wait_of, resized, refilled, may_send, paced, next_moment, delay_of}
-use Rattle.recovery_pacing.proofs.PacerLogLaws.{paced-knows}
+use Rattle.recovery_pacing.specs.Progress.{IsInReach}
+use Rattle.recovery_pacing.proofs.PacerLogLaws.{Knows, paced-knows}
 use Rattle.recovery_pacing.proofs.ProgressLaws.{short_of, wait_comes}
 
 -- a credit is rounded down by less than one byte
@@ -18,13 +19,6 @@ credit_comes : (rtt window elapsed : ℕ) → 0 < rtt
 credit_comes rtt window elapsed some =
     let lt : 5 * window * elapsed % (4 * rtt) < 4 * rtt = mod-lt (5 * window * elapsed) (omega (arith, some)) in
     omega (arith, div-add-mod (5 * window * elapsed) (4 * rtt), lt)
-
--- a factor that is not zero keeps the order
-le_by_product : (k a b : ℕ) → 0 < k → k * a ≤ k * b → a ≤ b
-le_by_product k a b some below = elim (cases_lt b a) [
-  | inl greater ↦ (let more = mul-le-mul_left k greater in omega (arith, some, below, more))
-  | inr within ↦ within
-]
 
 -- where tokens are wanting in spite of the time that passed, there was no room
 no_room : (r w bytes questions capacity before lacking elapsed tokens wait : ℕ)
@@ -36,12 +30,15 @@ no_room r w bytes questions capacity before lacking elapsed tokens wait filled w
     omega (arith, filled, waits, passed, wants, all, room)
 
 module _ (call : PacerCall) (first : Bucket) where
+  -- with the same RTT, MTU and window
+  abbrev IsAlike : PacerCall → Type 0
+  IsAlike other = other ≡ record call { bytes = other.bytes; now = other.now }
+
   -- so many questions alike behind a delayed call: so much time was counted, and where the bucket is not full, no more
   -- was lost than a byte each
   record Fills (questions : ℕ) (bucket : Bucket) : Type 0 where
     capacity : bucket.capacity ≡ first.capacity
-    window : bucket.window ≡ call.window
-    mtu : bucket.mtu ≡ call.mtu
+    knows : Knows call bucket
     bounded : bucket.tokens ≤ bucket.capacity
     elapsed : ℕ
     last : bucket.last ≡ first.last + elapsed
@@ -53,8 +50,7 @@ module _ (call : PacerCall) (first : Bucket) where
       → Fills (suc questions) (refilled call.rtt call.window now bucket)
   fills_refilled now questions bucket some fills = record {
     capacity = fills.capacity;
-    window = fills.window;
-    mtu = fills.mtu;
+    knows = fills.knows;
     bounded = omega arith;
     elapsed = fills.elapsed + (now - bucket.last);
     last = omega (arith, fills.last);
@@ -77,38 +73,37 @@ module _ (call : PacerCall) (first : Bucket) where
           ))
 
   -- one question more, whatever it asks
-  fills_asked : (other : PacerCall) (questions : ℕ) (bucket : Bucket) → 0 < call.rtt → IsAlike call other
+  fills_asked : (other : PacerCall) (questions : ℕ) (bucket : Bucket) → 0 < call.rtt → IsAlike other
       → Fills questions bucket
       → Fills (suc questions) (paced other bucket)
   fills_asked other questions bucket some alike fills =
       rw same (by_test (may_send other bucket))
     where
       same : resized other.rtt other.window other.mtu bucket ≡ bucket
-      same = grind (arith, nat_tests, alike, fills.window, fills.mtu)
+      same = grind (arith, nat_tests, alike, fills.knows)
 
       by_test : (pass : Bool)
           → Fills (suc questions) (cond pass bucket (refilled other.rtt other.window other.now bucket))
       by_test true = record {
         capacity = fills.capacity;
-        window = fills.window;
-        mtu = fills.mtu;
+        knows = fills.knows;
         bounded = fills.bounded;
         elapsed = fills.elapsed;
         last = fills.last;
         filled = λ below. omega (arith, fills.filled below);
       }
-      by_test false = rw (alike.rtt, alike.window) (fills_refilled other.now questions bucket some fills)
+      by_test false = rw (ap (λ (c : PacerCall). c.rtt) alike, ap (λ (c : PacerCall). c.window) alike)
+          (fills_refilled other.now questions bucket some fills)
 
   -- what so many questions leave
   fills_by : (made : Bucket) (earlier : List PacerEntry) (between : List PacerCall) → 0 < call.rtt
       → first ≡ paced call (bucket_by made earlier) → first.tokens ≤ first.capacity
-      → AllByRecursion (IsAlike call) between
+      → AllByRecursion IsAlike between
       → Fills (length between) (bucket_by made (map asked between ++ asked call ∷ earlier))
   fills_by made earlier [] some is sound alike =
       subst (Fills 0) is (record {
         capacity = refl;
-        window = ap (λ (b : Bucket). b.window) is ∙ (paced-knows call (bucket_by made earlier)).0;
-        mtu = ap (λ (b : Bucket). b.mtu) is ∙ (paced-knows call (bucket_by made earlier)).1;
+        knows = rw is (paced-knows call (bucket_by made earlier));
         bounded = sound;
         elapsed = 0;
         last = omega arith;
@@ -120,10 +115,10 @@ module _ (call : PacerCall) (first : Bucket) where
 
   -- the bucket fills enough by the moment that was named
   covers : (questions : ℕ) (bucket : Bucket) → 0 < call.rtt → Fills questions bucket → (now : ℕ)
-      → HasRoom call questions first
+      → IsInReach call first → HasRoom call questions first
       → first.last + wait_of call.rtt call.window (first.capacity - first.tokens) ≤ now → first.tokens ≤ first.capacity
       → call.bytes ≤ (refilled call.rtt call.window now bucket).tokens
-  covers questions bucket some fills now room late sound = elim (cases_lt tokens call.bytes) [
+  covers questions bucket some fills now reach room late sound = elim (cases_lt tokens call.bytes) [
     | inl below ↦ contradicts below
     | inr enough ↦ enough
   ]
@@ -140,21 +135,19 @@ module _ (call : PacerCall) (first : Bucket) where
       within : call.rtt * lacking ≤ longest_span
       within =
           let less : lacking ≤ first.capacity = omega arith in
-          omega (arith, room.uncut, mul-le-mul_left call.rtt less)
+          omega (arith, reach.uncut, mul-le-mul_left call.rtt less)
 
       waits : wait_of call.rtt call.window lacking ≤ after.elapsed
       waits = omega (arith, after.last, late)
 
       contradicts : tokens < call.bytes → call.bytes ≤ tokens
       contradicts below =
-          let whole : call.bytes ≤ first.capacity =
-          le_by_product call.rtt call.bytes first.capacity some (omega (arith, room.room)) in
           let all : first.tokens + lacking ≡ first.capacity = omega (arith, sound) in
           absurd (no_room call.rtt call.window call.bytes questions first.capacity first.tokens lacking after.elapsed
           tokens
-          (wait_of call.rtt call.window lacking) (after.filled (omega (arith, below, whole)))
-          (wait_comes call.rtt call.window lacking room.window within) (mul-le-mul_left (5 * call.window) waits)
-          (omega (arith, mul-le-mul_left (4 * call.rtt) below)) (ap (λ (n : ℕ). call.rtt * n) all) room.room)
+          (wait_of call.rtt call.window lacking) (after.filled (omega (arith, below, reach.fits)))
+          (wait_comes call.rtt call.window lacking reach.window within) (mul-le-mul_left (5 * call.window) waits)
+          (omega (arith, mul-le-mul_left (4 * call.rtt) below)) (ap (λ (n : ℕ). call.rtt * n) all) room)
 
 -- a moment that is not the last one was not cut
 late_by : (moment until now : ℕ) → until ≡ min moment (2 ^ 64 - 1) → until < 2 ^ 64 - 1 → until ≤ now → moment ≤ now
@@ -167,7 +160,7 @@ refilled_sound call old until delays = grind (arith, nat_tests, delays)
 
 pub passes_at_moment : (made : Bucket) (entries : List PacerEntry) (later : PacerCall)
     → PassesAtMoment made entries later (delay_of later (paced later (bucket_by made entries)))
-passes_at_moment made entries later between call earlier until is alike like same_bytes delays before_end room late =
+passes_at_moment made entries later between call earlier until is alike delays like reach room before_end late =
     rw is goes
   where
     first : Bucket
@@ -176,7 +169,7 @@ passes_at_moment made entries later between call earlier until is alike like sam
     bucket : Bucket
     bucket = bucket_by made (map asked between ++ asked call ∷ earlier)
 
-    short : (may_send call first ≡ false) × (until ≡ next_moment call first)
+    short : (may_send call first ≡ false) × (until ≡ next_moment call first.capacity first.tokens first.last)
     short = short_of call first until delays
 
     some_rtt : 0 < call.rtt
@@ -191,18 +184,15 @@ passes_at_moment made entries later between call earlier until is alike like sam
     lacking : ℕ
     lacking = first.capacity - first.tokens
 
-    fits : call.bytes ≤ first.capacity
-    fits = le_by_product call.rtt call.bytes first.capacity some_rtt (omega (arith, room.room))
-
     moment : until ≡ min (first.last + wait_of call.rtt call.window lacking) (2 ^ 64 - 1)
-    moment = let most : max call.bytes first.capacity - first.tokens ≡ lacking = omega (arith, fits) in
+    moment = let most : max call.bytes first.capacity - first.tokens ≡ lacking = omega (arith, reach.fits) in
         short.1 ∙ ap (λ (n : ℕ). min (first.last + wait_of call.rtt call.window n) (2 ^ 64 - 1)) most
 
     waited : first.last + wait_of call.rtt call.window lacking ≤ later.now
     waited = late_by (first.last + wait_of call.rtt call.window lacking) until later.now moment before_end late
 
     enough : call.bytes ≤ (refilled call.rtt call.window later.now bucket).tokens
-    enough = covers call first (length between) bucket some_rtt fills later.now room waited sound
+    enough = covers call first (length between) bucket some_rtt fills later.now reach room waited sound
 
     goes : delay_of later (paced later bucket) ≡ None
-    goes = grind (arith, nat_tests, fills.window, fills.mtu, like, enough, same_bytes)
+    goes = grind (arith, nat_tests, fills.knows, like, enough)

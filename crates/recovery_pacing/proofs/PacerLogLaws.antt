@@ -1,11 +1,11 @@
 -- What a pacer holds is what its history says, as long as all that was transmitted was checked. The clauses of `run` on
 -- pacers rest on it.
 use Rattle.std.proofs.lemmas.Bool.Decides.{nat_tests}
-use Rattle.std.proofs.Common.{◌≡◌, ℕ, ◌-◌, ◌*◌, ◌^◌, ◌<◌, ◌≤◌, true, false, List, [], ◌∷◌, None, arith}
-use Rattle.std.specs.Prelude.{if◌then◌else◌}
+use Rattle.std.proofs.Common.{◌≡◌, ℕ, ◌-◌, ◌*◌, ◌^◌, ◌<◌, ◌≤◌, true, false, List, [], ◌∷◌, None, arith, refl}
+use Rattle.std.specs.Prelude.{◌&&◌, ◌==◌, if◌then◌else◌}
 use Rattle.std.proofs.Math.Nat.{mul-div-le}
-use Rattle.recovery_pacing.specs.Pacing.{Bucket, PacerCall, resized, refilled, is_unpaced, may_send, paced, delay_of, less_tokens}
-use Rattle.recovery_pacing.specs.PacerLog.{PacerEntry, asked, took, bucket_by, AreChecked, PacerMark, credited, answered, transmitted, window_in, mtu_in, capacity_in, greatest_moment, balance_in, with_change, credit_in, with_refill, marks_by, marks_asking, DelaysBy, KeepsRate}
+use Rattle.recovery_pacing.specs.Pacing.{Bucket, PacerCall, credit_of, resized, refilled, is_unpaced, paced, delay_of, less_tokens}
+use Rattle.recovery_pacing.specs.PacerLog.{PacerEntry, asked, took, bucket_by, AreChecked, PacerMark, credited, answered, transmitted, changed, calls_in, capacity_in, greatest_moment, balance_in, is_as_before, marks_by, marks_asking, DelaysBy, KeepsRate}
 use Rattle.recovery_pacing.proofs.BalanceLaws.{NoDebt, AreEarned, no_debt_more, no_debt_less, balance_more, balance_less, balance_is, rate_bound}
 
 -- the window is within 32 bits, and the RTT above zero
@@ -30,12 +30,30 @@ HavePassed made (took bytes checked ∷ earlier) = (checked ≡ true → HasPass
 
 -- ---- the ties
 
+-- the bucket knows the call's window and MTU
+abbrev pub Knows : PacerCall → Bucket → Type 0
+Knows call bucket = (bucket.window ≡ call.window) × (bucket.mtu ≡ call.mtu)
+
 module _ (made : Bucket) where
+  -- the window and the MTU of the last call, or of the making
+  abbrev window_in : List PacerCall → ℕ
+  window_in [] = made.window
+  window_in (call ∷ earlier) = call.window
+
+  abbrev mtu_in : List PacerCall → ℕ
+  mtu_in [] = made.mtu
+  mtu_in (call ∷ earlier) = call.mtu
+
+  same_in : (call : PacerCall) (calls : List PacerCall)
+      → is_as_before made call calls ≡ ((call.window == window_in calls) && (call.mtu == mtu_in calls))
+  same_in call [] = refl
+  same_in call (before ∷ earlier) = refl
+
   -- the bucket holds what the history says: its tokens are the balance, its last moment the greatest one
   pub record Tied (past : List PacerMark) (bucket : Bucket) : Type 0 where
     pub capacity : bucket.capacity ≡ capacity_in made past
-    pub window : bucket.window ≡ window_in made past
-    pub mtu : bucket.mtu ≡ mtu_in made past
+    pub window : bucket.window ≡ window_in (calls_in past)
+    pub mtu : bucket.mtu ≡ mtu_in (calls_in past)
     pub tokens : bucket.tokens ≡ balance_in made past
     pub last : bucket.last ≡ greatest_moment made past
     pub no_debt : NoDebt made 0 0 past
@@ -48,39 +66,32 @@ module _ (made : Bucket) where
 
   -- a call changes the capacity
   tied_change : (call : PacerCall) (past : List PacerMark) (bucket : Bucket) → Tied past bucket
-      → Tied (with_change made call past) (resized call.rtt call.window call.mtu bucket)
+      → Tied (if is_as_before made call (calls_in past) then past else changed call ∷ past)
+      (resized call.rtt call.window call.mtu bucket)
   unfolding balance_in
-  tied_change call past bucket t = grind (arith, nat_tests, t)
+  tied_change call past bucket t = grind (arith, nat_tests, t, same_in call (calls_in past))
 
   -- it refills
-  tied_credit : (call : PacerCall) (past : List PacerMark) (bucket : Bucket) → bucket.window ≡ call.window
-      → bucket.mtu ≡ call.mtu → Tied past bucket
-      → Tied (credited call (credit_in made call past) ∷ past) (refilled call.rtt call.window call.now bucket)
+  tied_credit : (call : PacerCall) (past : List PacerMark) (bucket : Bucket) → Knows call bucket → Tied past bucket
+      → Tied (credited call (credit_of call.rtt call.window (call.now - greatest_moment made past)) ∷ past)
+      (refilled call.rtt call.window call.now bucket)
   unfolding balance_in
-  tied_credit call past bucket window mtu t =
+  tied_credit call past bucket knows t =
+      let credit = credit_of call.rtt call.window (call.now - greatest_moment made past) in
       grind (
         arith,
-        window,
-        mtu,
+        knows,
         t,
-        balance_more made 0 0 (credit_in made call past) past,
-        no_debt_more made 0 0 (credit_in made call past) past,
+        balance_more made 0 0 credit past,
+        no_debt_more made 0 0 credit past,
         mul-div-le (5 * call.window * (call.now - greatest_moment made past)) (4 * call.rtt),
       )
 
-  tied_refill : (call : PacerCall) (past : List PacerMark) (bucket : Bucket) → bucket.window ≡ call.window
-      → bucket.mtu ≡ call.mtu → Tied past bucket →
-      Tied (with_refill made call past) (if may_send call bucket then bucket else refilled call.rtt call.window call.now
-      bucket)
-  tied_refill call past bucket window mtu t =
-      let credits = tied_credit call past bucket window mtu t in
-      grind (arith, nat_tests, t, t.tokens, credits)
-
   -- it is answered
-  tied_answered : (call : PacerCall) (past : List PacerMark) (bucket : Bucket) → bucket.window ≡ call.window
-      → bucket.mtu ≡ call.mtu → Tied past bucket → Tied (answered call ∷ past) bucket
+  tied_answered : (call : PacerCall) (past : List PacerMark) (bucket : Bucket) → Knows call bucket → Tied past bucket
+      → Tied (answered call ∷ past) bucket
   unfolding balance_in
-  tied_answered call past bucket window mtu t = grind (arith, window, mtu, t)
+  tied_answered call past bucket knows t = grind (arith, knows, t)
 
   -- bytes are transmitted that the tokens cover
   tied_took : (bytes : ℕ) (past : List PacerMark) (bucket : Bucket) → bytes ≤ bucket.tokens → Tied past bucket
@@ -89,14 +100,11 @@ module _ (made : Bucket) where
   tied_took bytes past bucket low t =
       grind (arith, low, t, balance_less made 0 0 bytes past, no_debt_less made 0 0 bytes past)
 
--- after a call the bucket knows the call's window and MTU
-resized-knows : (call : PacerCall) (old : Bucket)
-    → ((resized call.rtt call.window call.mtu old).window ≡ call.window)
-    × ((resized call.rtt call.window call.mtu old).mtu ≡ call.mtu)
+-- so it does after a call
+resized-knows : (call : PacerCall) (old : Bucket) → Knows call (resized call.rtt call.window call.mtu old)
 resized-knows call old = grind (arith, nat_tests)
 
-pub paced-knows : (call : PacerCall) (old : Bucket) → ((paced call old).window ≡ call.window)
-    × ((paced call old).mtu ≡ call.mtu)
+pub paced-knows : (call : PacerCall) (old : Bucket) → Knows call (paced call old)
 paced-knows call old = grind (arith, nat_tests, resized-knows call old)
 
 -- a call within the bounds is paced
@@ -109,54 +117,41 @@ passed_is_covered : (call : PacerCall) (bucket : Bucket) → IsPaced call → de
 passed_is_covered call bucket bounds passes = grind (arith, nat_tests, bounds, passes)
 
 module _ (made : Bucket) where
-  -- the law of a call, before its answer and after it
+  -- the law of a call, before its answer
   tied_asking : (call : PacerCall) (past : List PacerMark) (bucket : Bucket) → Tied made past bucket
-      → Tied made (with_refill made call (with_change made call past)) (paced call bucket)
+      → Tied made (marks_asking made call past) (paced call bucket)
   tied_asking call past bucket t =
-      let known = resized-knows call bucket in
-      tied_refill made call (with_change made call past) (resized call.rtt call.window call.mtu bucket) known.0 known.1
-      (tied_change made call past bucket t)
-
-  tied_paced : (call : PacerCall) (past : List PacerMark) (bucket : Bucket) → Tied made past bucket
-      → Tied made (answered call ∷ with_refill made call (with_change made call past)) (paced call bucket)
-  tied_paced call past bucket t =
-      let known = paced-knows call bucket in
-      tied_answered made call (with_refill made call (with_change made call past)) (paced call bucket) known.0 known.1
-      (tied_asking call past bucket t)
+      let changed = tied_change made call past bucket t in
+      grind (arith, nat_tests, changed, changed.tokens, tied_credit made call _ _ (resized-knows call bucket) changed)
 
   -- what the pacer holds is what the history says
   pub tied_by : (entries : List PacerEntry) → made.tokens ≡ made.capacity → AreChecked entries → HavePassed made entries
       → Tied made (marks_by made entries) (bucket_by made entries)
   tied_by [] full checked passed = tied_made made full
   tied_by (asked call ∷ earlier) full checked passed =
-      tied_paced call (marks_by made earlier) (bucket_by made earlier) (tied_by earlier full checked.1 passed)
-  tied_by (took bytes flag ∷ []) full checked passed = absurd (passed.0 checked.0)
-  tied_by (took bytes flag ∷ took other before ∷ earlier) full checked passed = absurd (passed.0 checked.0)
+      tied_answered made call _ _ (paced-knows call (bucket_by made earlier))
+      (tied_asking call _ _ (tied_by earlier full checked.1 passed))
   tied_by (took bytes flag ∷ asked call ∷ earlier) full checked passed =
       let bucket = paced call (bucket_by made earlier) in
       let pass = passed.0 checked.0 in
       let low : bytes ≤ bucket.tokens = omega (arith, pass.0, passed_is_covered call bucket checked.1.0 pass.1) in
       tied_took made bytes (marks_by made (asked call ∷ earlier)) bucket low
       (tied_by (asked call ∷ earlier) full checked.1 passed.1)
+  tied_by (took bytes flag ∷ earlier) full checked passed = absurd (passed.0 checked.0)
 
   -- a call is delayed exactly by the balance
   pub delays_by : (earlier : List PacerEntry) (call : PacerCall) → made.tokens ≡ made.capacity
       → AreChecked (asked call ∷ earlier) → HavePassed made earlier
       → DelaysBy made earlier call (delay_of call (paced call (bucket_by made earlier)))
-  delays_by earlier call full checked passed = record {
-    balance = balance_is made (marks_asking made call earlier) tied.no_debt;
-    delayed = grind (arith, nat_tests, is_bounded call checked.0, tied.tokens, tied.last, tied.capacity);
-  }
-    where
-      bucket : Bucket
-      bucket = paced call (bucket_by made earlier)
-
-      tied : Tied made (marks_asking made call earlier) bucket
-      tied = tied_asking call (marks_by made earlier) (bucket_by made earlier) (tied_by earlier full checked.1 passed)
+  delays_by earlier call full checked passed =
+      let tied = tied_asking call _ _ (tied_by earlier full checked.1 passed) in (
+        balance_is made _ tied.no_debt,
+        grind (arith, nat_tests, is_bounded call checked.0, tied.tokens, tied.last, tied.capacity),
+      )
 
   -- the pacing bound
   pub keeps_rate : (entries : List PacerEntry) → made.tokens ≡ made.capacity → AreChecked entries
       → HavePassed made entries → KeepsRate made entries
-  keeps_rate entries full checked passed later past is point =
-      let t = tied_by entries full checked passed in rate_bound made (marks_by made entries) later past t.no_debt
-      t.earned is point
+  keeps_rate entries full checked passed later past rtt window moment is =
+      let t = tied_by entries full checked passed in
+      rate_bound made (marks_by made entries) later past rtt window moment t.no_debt t.earned is

@@ -1,7 +1,7 @@
 -- A worked row: what the history of one pacer comes to, computed. Nothing rests on it.
 use Rattle.std.proofs.Common.{◌≡◌, ℕ, zero, suc, ◌-◌, ◌*◌, true, List, [], ◌∷◌, Some, refl, arith}
-use Rattle.recovery_pacing.specs.Pacing.{Bucket, PacerCall, bucket_made, paced, delay_of}
-use Rattle.recovery_pacing.specs.PacerLog.{PacerEntry, asked, took, bucket_by, AreChecked, PacerMark, bytes_in, calls_in, greatest_window, least_rtt, latest_moment, balance_in, marks_by, marks_asking, moment_by}
+use Rattle.recovery_pacing.specs.Pacing.{Bucket, PacerCall, bucket_made, next_moment, paced, delay_of}
+use Rattle.recovery_pacing.specs.PacerLog.{PacerEntry, asked, took, bucket_by, AreChecked, PacerMark, bytes_in, capacity_in, greatest_moment, balance_in, marks_by, marks_asking}
 
 -- at an RTT of 333 ms, a window of 12,000 bytes and an MTU of 1,200
 abbrev asks : ℕ → PacerCall
@@ -39,7 +39,11 @@ all_checked = (
       ((omega arith, omega arith), sends_checked 10 0 [] tt),
 )
 
-first_moment : moment_by made (asks 0) (marks_asking made (asks 0) first_ten) ≡ 266_400_000
+-- until when a call is delayed, by the balance
+abbrev moment_by : PacerCall → List PacerMark → ℕ
+moment_by call past = next_moment call (capacity_in made past) (balance_in made past) (greatest_moment made past)
+
+first_moment : moment_by (asks 0) (marks_asking made (asks 0) (marks_by made first_ten)) ≡ 266_400_000
 unfolding balance_in
 first_moment = refl
 
@@ -47,19 +51,19 @@ second_balance : balance_in made history ≡ 0
 unfolding balance_in
 second_balance = refl
 
-second_moment : moment_by made (asks 266_400_000) (marks_asking made (asks 266_400_000) all_twenty) ≡ 532_800_000
+second_moment : moment_by (asks 266_400_000) (marks_asking made (asks 266_400_000) (marks_by made all_twenty))
+    ≡ 532_800_000
 unfolding balance_in
 second_moment = refl
 
 second_delay : delay_of (asks 266_400_000) (paced (asks 266_400_000) (bucket_by made all_twenty)) ≡ Some 532_800_000
 second_delay = refl
 
--- from the making the bound is met with equality
-rate_met : 4 * least_rtt (calls_in history) * (bytes_in history - made.capacity)
-    ≡ 5 * greatest_window (calls_in history) * (latest_moment (calls_in history) - made.last)
+-- from the making the bound is met with equality, at this RTT, this window and the last moment
+rate_met : 4 * 333_000_000 * (bytes_in history - made.capacity) ≡ 5 * 12_000 * (266_400_000 - made.last)
 unfolding balance_in
 rate_met = refl
 
-rate_is : 4 * least_rtt (calls_in history) * (bytes_in history - made.capacity) ≡ 15_984_000_000_000
+rate_is : 4 * 333_000_000 * (bytes_in history - made.capacity) ≡ 15_984_000_000_000
 unfolding balance_in
 rate_is = refl

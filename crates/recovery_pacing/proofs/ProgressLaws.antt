@@ -4,10 +4,10 @@ use Rattle.std.proofs.Common.{◌≡◌, ℕ, ◌+◌, ◌-◌, ◌*◌, ◌/◌
 use Rattle.std.proofs.Math.Nat.{div-add-mod, mod-lt, mul-le-mul_left, mul-le-mul_right}
 use Rattle.std.proofs.lemmas.Nat.{le-div}
 use Rattle.recovery_base.specs.Times.{longest_span}
-use Rattle.recovery_pacing.specs.PacerLog.{PacerEntry, asked, took, bucket_by}
+use Rattle.recovery_pacing.specs.PacerLog.{PacerEntry, asked, bucket_by}
 use Rattle.recovery_pacing.specs.Pacing.{Bucket, PacerCall, credit_of, wait_of, refilled, may_send, paced, next_moment, delay_of}
 use Rattle.recovery_pacing.proofs.PacerLogLaws.{paced-knows}
-use Rattle.recovery_pacing.specs.Progress.{PassesInTime, PassesBehind}
+use Rattle.recovery_pacing.specs.Progress.{IsInReach, PassesBehind}
 
 -- a wait is rounded down by less than four nanoseconds
 pub wait_comes : (rtt window short : ℕ) → 0 < window → rtt * short ≤ longest_span
@@ -37,17 +37,19 @@ waited rtt window short elapsed some_rtt some_window uncut waits =
 
 -- a call that is delayed is paced, and the tokens do not cover it
 pub short_of : (call : PacerCall) (bucket : Bucket) (until : ℕ) → delay_of call bucket ≡ Some until
-    → (may_send call bucket ≡ false) × (until ≡ next_moment call bucket)
+    → (may_send call bucket ≡ false) × (until ≡ next_moment call bucket.capacity bucket.tokens bucket.last)
 short_of call bucket until delays = grind (arith, nat_tests, delays)
 
-pub passes_in_time : (call later : PacerCall) (old : Bucket)
-    → PassesInTime old call later (delay_of later (paced later (paced call old)))
+passes_in_time : (call later : PacerCall) (old : Bucket) (until : ℕ) → (let bucket = paced call old in
+    delay_of call bucket ≡ Some until → later ≡ record call { now = later.now } → IsInReach call bucket
+    → until + 4 ≤ later.now → later.now < 2 ^ 64 → delay_of later (paced later bucket) ≡ None)
 passes_in_time call later old until delays again reach late before_end = goes
   where
     bucket : Bucket
     bucket = paced call old
 
-    short : (may_send call bucket ≡ false) × (until ≡ next_moment call bucket)
+    short : (may_send call bucket ≡ false)
+        × (until ≡ next_moment call bucket.capacity bucket.tokens bucket.last)
     short = short_of call bucket until delays
 
     some : (bucket.tokens < call.bytes) × (0 < call.rtt)
@@ -79,6 +81,5 @@ passes_in_time call later old until delays again reach late before_end = goes
 
 pub passes_behind : (made : Bucket) (entries : List PacerEntry) (later : PacerCall)
     → PassesBehind made entries later (delay_of later (paced later (bucket_by made entries)))
-passes_behind made [] later = tt
 passes_behind made (asked call ∷ earlier) later = passes_in_time call later (bucket_by made earlier)
-passes_behind made (took bytes checked ∷ earlier) later = tt
+passes_behind made entries later = tt

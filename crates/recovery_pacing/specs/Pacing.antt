@@ -73,14 +73,14 @@ paced call old =
     if may_send call bucket then bucket else refilled call.rtt call.window call.now bucket
 
 -- when the bytes that are short have come, or a full bucket where that is more; it stops at the last moment
-abbrev pub next_moment : PacerCall → Bucket → ℕ
-next_moment call bucket =
-    let short = max call.bytes bucket.capacity - bucket.tokens in
-    min (bucket.last + wait_of call.rtt call.window short) (2 ^ 64 - 1)
+abbrev pub next_moment : PacerCall → ℕ → ℕ → ℕ → ℕ
+next_moment call capacity tokens last =
+    min (last + wait_of call.rtt call.window (max call.bytes capacity - tokens)) (2 ^ 64 - 1)
 
 -- what a call is told, by the bucket that it leaves: nothing where the bytes may be sent, and else when to ask again
 abbrev pub delay_of : PacerCall → Bucket → Option ℕ
-delay_of call bucket = if may_send call bucket then None else Some (next_moment call bucket)
+delay_of call bucket =
+    if may_send call bucket then None else Some (next_moment call bucket.capacity bucket.tokens bucket.last)
 
 -- a packet of so many bytes was sent; a debt is not kept
 abbrev pub less_tokens : ℕ → Bucket → Bucket

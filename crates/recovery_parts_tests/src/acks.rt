@@ -1,6 +1,5 @@
 //! Acknowledgements. Rows are what happens, and what is seen after it.
-ghost use Rattle.std.specs.Prelude.{◌≡◌, ◌<◌, ◌≤◌, ◌^◌, None};
-ghost use Rattle.recovery_acks.specs.Acks.{number_or_zero};
+ghost use Rattle.std.specs.Prelude.{◌≡◌, ◌<◌, ◌≤◌, ◌^◌, None, unwrap_or};
 
 use crate::rows::{holds, same};
 use recovery_base::below::{AckFrequency, NoMemory, TransportParameters, VarInt};
@@ -47,8 +46,8 @@ fn receive(
     ack_eliciting: bool,
 ) -> Option<bool>
     requires small { number < 2 ^ 62 }
-    requires above { number_or_zero acks.old.greatest ≤ number }
-    ensures { number_or_zero acks.new.greatest ≤ number }
+    requires above { unwrap_or acks.old.counts.greatest 0 ≤ number }
+    ensures { unwrap_or acks.new.counts.greatest 0 ≤ number }
 {
     let now = Instant::from_nanos(number);
     if dedup.insert(number) {
@@ -61,8 +60,8 @@ fn receive(
 /// What happens, to the packet of a number where it is one that comes: whether it starts the timer.
 fn apply(acks: &mut PendingAcks, dedup: &mut Dedup, call: Call, number: u64) -> Option<bool>
     requires small { number < 2 ^ 62 }
-    requires above { number_or_zero acks.old.greatest ≤ number }
-    ensures { number_or_zero acks.new.greatest ≤ number }
+    requires above { unwrap_or acks.old.counts.greatest 0 ≤ number }
+    ensures { unwrap_or acks.new.counts.greatest 0 ≤ number }
 {
     match call {
         Call::Eliciting => return receive(acks, dedup, number, true),
@@ -81,7 +80,7 @@ type Row = (Call, u64, bool, bool, Option<u64>);
 
 /// Asserts that in each row all is seen as it says. Numbers rise.
 fn play(rt: &impl Abort, acks: &mut PendingAcks, rows: &[Row])
-    requires { acks.old.greatest ≡ None }
+    requires { acks.old.counts.greatest ≡ None }
 {
     let mut dedup = Dedup::new();
     let mut last = 0u64;

@@ -1,18 +1,18 @@
--- What checked transmissions keep on one path holds of each path that lives, whatever happens. `ThreefoldLaws`,
--- `PassedLaws` and `SearchedLaws` rest on it.
-use Rattle.std.proofs.Common.{◌≡◌, false, List, [], ◌∷◌, ◌++◌, None}
+-- What checked transmissions keep on one path holds of each path that lives, whatever happens. `PassedLaws` and
+-- `SearchedLaws` rest on it.
+use Rattle.std.proofs.Common.{◌≡◌, List, [], ◌∷◌, ◌++◌, None}
 use Rattle.std.proofs.lemmas.Option.{none-some}
 use Rattle.recovery_congestion.specs.Controllers.{ControllerWords}
 use Rattle.recovery_mtud.proofs.SearchRunLaws.{IsInTurn}
 use Rattle.recovery_paths.specs.declared.live_paths.PathName.TheVariants.{Current, Previous}
-use Rattle.recovery_paths.specs.PathMaking.{PathMaking, PathSettings}
-use Rattle.recovery_paths.specs.PathStates.{PathState, is_blocked, path_delay}
+use Rattle.recovery_paths.specs.PathMaking.{PathSettings}
+use Rattle.recovery_paths.specs.PathStates.{PathState, path_delay}
 use Rattle.recovery_paths.specs.PathLog.{OfPaths, OnEachPath, PathsEntry, PathEntry, PathPast, PathKnown, Following, paths_with, paths_after, pasts_by, each_path, state_of, known_of, known_with, known_following, past_with, past_following, on, moves, drops_previous, searches, passes}
 use Rattle.recovery_paths.proofs.PathLogLaws.{some_same, for_changed, each-after}
 
--- what passes was neither blocked nor delayed, and a limit is told while no search runs
+-- what passes was not delayed, and a limit is told while no search runs
 abbrev pub IsAllowed : {K : Type 0} → ControllerWords K → PathState K → PathEntry → Type 0
-IsAllowed words state (passes now bytes) = (is_blocked state bytes ≡ false) × (path_delay words now bytes state ≡ None)
+IsAllowed words state (passes now bytes) = path_delay words now bytes state ≡ None
 IsAllowed words state (searches call) = IsInTurn call state.discovery
 IsAllowed words state entry = Unit {0}
 
@@ -25,7 +25,7 @@ PassesNothing entry = Unit {0}
 module _ {K : Type 0} (settings : PathSettings K) where
   -- it goes on to hold of a path as long as what happens is allowed, and of a path that follows on it
   pub record IsKept (Holds : PathPast K → Type 0) : Type 0 where
-    pub by_entry : (entry : PathEntry) (past : PathPast K) → IsAllowed settings.words (state_of settings past) entry
+    pub by_entry : (entry : PathEntry) (past : PathPast K) → IsAllowed settings.words (state_of past) entry
         → Holds past → Holds (past_with settings entry past)
     pub following : (following : Following) (past : PathPast K) → Holds past
         → Holds (past_following settings following past)
@@ -55,21 +55,21 @@ module _ {K : Type 0} (settings : PathSettings K) where
   module _ (Holds : PathPast K → Type 0) (kept : IsKept Holds) where
     -- an entry keeps it
     entry_kept : (entry : PathsEntry) (pasts : OfPaths (PathPast K))
-        → IsAllowedOn (each_path (known_of settings) pasts) entry → OnEachPath Holds pasts
+        → IsAllowedOn (each_path known_of pasts) entry → OnEachPath Holds pasts
         → OnEachPath Holds (paths_with (past_with settings) (past_following settings) entry pasts)
     entry_kept (on Current entry) pasts allowed holds = (kept.by_entry entry pasts.current allowed holds.0, holds.1)
     entry_kept (on Previous entry) pasts allowed holds = (
       holds.0,
       for_changed Holds (past_with settings entry) pasts.previous (λ path is.
-          kept.by_entry entry path (allowed_anywhere entry (state_of settings path) allowed) (holds.1 path is)),
+          kept.by_entry entry path (allowed_anywhere entry (state_of path) allowed) (holds.1 path is)),
     )
     entry_kept (moves following) pasts allowed holds =
         (kept.following following pasts.current holds.0, λ past is. rw (← some_same is) holds.0)
     entry_kept drops_previous pasts allowed holds = (holds.0, λ past is. absurd (none-some _ is))
 
     -- an event's entries keep it
-    pub kept_after : (first : PathMaking K) (entries log : List PathsEntry) → let pasts = pasts_by settings first log in
-        AreAllowed (each_path (known_of settings) pasts) entries → OnEachPath Holds pasts
+    pub kept_after : (first : PathState K) (entries log : List PathsEntry) → let pasts = pasts_by settings first log in
+        AreAllowed (each_path known_of pasts) entries → OnEachPath Holds pasts
         → OnEachPath Holds (pasts_by settings first (entries ++ log))
     kept_after first [] log allowed holds = holds
     kept_after first (entry ∷ earlier) log allowed holds =

@@ -9,11 +9,10 @@ use Rattle.recovery_ledger.specs.Ledger.{tracked_by, IsBalancedOn, AreCoherent, 
 use Rattle.recovery_ledger.specs.Packets.{IsAmong, Packet, Packets, Tracking, no_packets, packet_at, without, with_contents, forgotten_entry, IsTooLarge, after_sending}
 use Rattle.recovery_ledger.specs.Paths.{generation_of, counters_of, fresh_ledger, after_leaving, after_forgetting, path_after_sending}
 use Rattle.recovery_ledger.specs.Probes.{ProbeFound}
-use Rattle.recovery_ledger.specs.Spaces.{Space, Spaces, space_of, with_space, tracking_of, packets_of, next_number_of, HasGreatestCome, IsCoherent, one_probe_more, space_probes}
+use Rattle.recovery_ledger.specs.Spaces.{Space, Spaces, space_of, with_space, tracking_of, packets_of, next_number_of, HasGreatestCome, IsCoherent, one_probe_more, space_finds, space_probes}
 use Rattle.recovery_ledger.proofs.CoherentLaws.{coherent_with, coherent_sent, coherent_probed}
-use Rattle.recovery_ledger.proofs.GenerationLaws.{up_to_with, up_to_fresh, up_to_more, up_to_none, up_to_taken, up_to_sent, up_to_probed}
+use Rattle.recovery_ledger.proofs.GenerationLaws.{up_to_with, up_to_fresh, up_to_more, up_to_none, up_to_taken, up_to_sent, up_to_moved}
 use Rattle.recovery_ledger.specs.InFlight.{IsCountedIn}
-use Rattle.recovery_ledger.specs.Probes.{moves}
 use Rattle.recovery_ledger.proofs.LedgerLaws.{Follows, carrying_follows, taken_follows, lost_follows, forgotten_counted, sent_follows, sent_elsewhere_follows, first_leaves, space_counted, balanced_by, none_balanced}
 use Rattle.recovery_paths.proofs.PathLogLaws.{some_same, for_changed}
 use Rattle.recovery_paths.specs.Balance.{AreBalanced}
@@ -228,15 +227,15 @@ module _ {K P M : Type 0} (spaces : Spaces P M) (paths : OfPaths (Path K)) (bala
       (one_probe_more (space_of space spaces)))) paths
   probed words space immediate found =
       staying space (space_probes words immediate found (one_probe_more (space_of space spaces)))
-      (λ ledger. go ledger found)
-      (up_to_probed (generation_of paths.current.ledger) words immediate found (space_of space spaces)
+      (λ ledger. go ledger found.moved)
+      (up_to_moved (generation_of paths.current.ledger) words found.moved (one_probe_more (space_of space spaces))
       (balanced.up_to space))
-      (coherent_probed words (space_of space spaces) (balanced.coherent space) immediate found)
+      (coherent_probed words (space_of space spaces) (balanced.coherent space) immediate found.nothing found.moved)
     where
-      go : (ledger : PathLedger) (it : ProbeFound) → Follows ledger (tracked_by spaces space)
-          (packets_of (space_probes words immediate it (one_probe_more (space_of space spaces)))) ledger
-      go ledger (moves number) = carrying_follows ledger (tracked_by spaces space) number words.empty
-      go ledger it = record { generation = refl; bytes = refl; count = refl }
+      go : (ledger : PathLedger) (moved : Option ℕ) → Follows ledger (tracked_by spaces space)
+          (packets_of (space_finds words moved (one_probe_more (space_of space spaces)))) ledger
+      go ledger (Some number) = carrying_follows ledger (tracked_by spaces space) number words.empty
+      go ledger None = record { generation = refl; bytes = refl; count = refl }
 
   -- ---- a space is emptied
 

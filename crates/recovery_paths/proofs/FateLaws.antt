@@ -12,7 +12,8 @@ use Rattle.recovery_mtud.specs.MtuEntries.{entries_by}
 use Rattle.recovery_mtud.proofs.BurstRunLaws.{acked_in_calls, lost_in_calls, fates_apart_by}
 use Rattle.recovery_paths.specs.declared.live_paths.PathName.TheVariants.{Current, Previous}
 use Rattle.recovery_paths.specs.PathLog.{PathsEntry, PathEntry, PathPast, Following, pasts_by, past_with, past_following, on, moves, drops_previous, searches}
-use Rattle.recovery_paths.specs.PathMaking.{PathMaking, PathSettings}
+use Rattle.recovery_paths.specs.PathMaking.{PathSettings}
+use Rattle.recovery_paths.specs.PathStates.{PathState}
 
 -- ---- the fates of a number, by the calls of a search
 
@@ -98,7 +99,7 @@ module _ {K : Type 0} (settings : PathSettings K) (number : ℕ) where
   fates_following following past = grind arith
 
   -- on the path in use a number has at most the fates that were told
-  pub fates_by : (first : PathMaking K) (log : List PathsEntry)
+  pub fates_by : (first : PathState K) (log : List PathsEntry)
       → fates_on (pasts_by settings first log).current ≤ told_in number log
   fates_by first [] = omega arith
   fates_by first (on Current entry ∷ log) =

@@ -6,5 +6,4 @@ pub mod PassedLaws
 pub mod PathLogLaws
 pub mod ResponseLaws
 pub mod SearchedLaws
-pub mod ThreefoldLaws
 pub mod UntoldLaws

@@ -3,8 +3,9 @@
 use Rattle.std.proofs.Common.{◌≡◌, List, [], ◌∷◌, ◌++◌, Option, None, Some, option_map, refl, ap, ◌∙◌}
 use Rattle.std.specs.Option.{ForSome}
 use Rattle.recovery_paths.specs.declared.live_paths.PathName.TheVariants.{Current, Previous}
-use Rattle.recovery_paths.specs.PathMaking.{PathMaking, PathSettings}
+use Rattle.recovery_paths.specs.PathMaking.{PathSettings}
 use Rattle.recovery_paths.specs.PathLog.{OfPaths, PathsEntry, PathEntry, PathPast, PathKnown, Following, paths_with, paths_after, pasts_by, each_path, past_with, past_following, known_of, known_with, known_following, PathsStep, PathsLeft, on, moves, drops_previous, fresh, goes_on, receives}
+use Rattle.recovery_paths.specs.PathStates.{PathState}
 
 pub some_same : {A : Type 0} {a b : A} → Some a ≡ Some b → a ≡ b
 some_same e = cc
@@ -24,36 +25,36 @@ option-each f change changed same (Some path) = ap (λ q. Some q) (same path)
 module _ {K : Type 0} (settings : PathSettings K) where
   -- what is known after an entry is what the past with the entry gives
   pub known_of-with : (entry : PathEntry) (past : PathPast K)
-      → known_with settings entry (known_of settings past) ≡ known_of settings (past_with settings entry past)
+      → known_with settings entry (known_of past) ≡ known_of (past_with settings entry past)
   known_of-with (receives bytes) past = refl
   known_of-with entry past = refl
 
   known_of-following : (following : Following) (past : PathPast K)
-      → known_following settings following (known_of settings past)
-      ≡ known_of settings (past_following settings following past)
+      → known_following settings following (known_of past)
+      ≡ known_of (past_following settings following past)
   known_of-following (fresh remote limit now) past = refl
   known_of-following (goes_on remote now) past = refl
 
   each-with : (entry : PathsEntry) (pasts : OfPaths (PathPast K))
-      → paths_with (known_with settings) (known_following settings) entry (each_path (known_of settings) pasts)
-      ≡ each_path (known_of settings) (paths_with (past_with settings) (past_following settings) entry pasts)
+      → paths_with (known_with settings) (known_following settings) entry (each_path known_of pasts)
+      ≡ each_path known_of (paths_with (past_with settings) (past_following settings) entry pasts)
   each-with (on Current entry) pasts = rw (known_of-with entry pasts.current) refl
   each-with (on Previous entry) pasts =
-      rw (option-each (known_of settings) (past_with settings entry) (known_with settings entry) (known_of-with entry)
+      rw (option-each known_of (past_with settings entry) (known_with settings entry) (known_of-with entry)
       pasts.previous) refl
   each-with (moves following) pasts = rw (known_of-following following pasts.current) refl
   each-with drops_previous pasts = refl
 
   -- entries before a log, as they change what the log leaves
-  pub each-after : (first : PathMaking K) (entries log : List PathsEntry)
+  pub each-after : (first : PathState K) (entries log : List PathsEntry)
       → paths_after (known_with settings) (known_following settings) entries
-      (each_path (known_of settings) (pasts_by settings first log))
-      ≡ each_path (known_of settings) (pasts_by settings first (entries ++ log))
+      (each_path known_of (pasts_by settings first log))
+      ≡ each_path known_of (pasts_by settings first (entries ++ log))
   each-after first [] log = refl
   each-after first (entry ∷ entries) log =
       rw (each-after first entries log) (each-with entry (pasts_by settings first (entries ++ log)))
 
-  pub paths_law : (first : PathMaking K) (entries log : List PathsEntry) (old new : OfPaths (PathKnown K))
+  pub paths_law : (first : PathState K) (entries log : List PathsEntry) (old new : OfPaths (PathKnown K))
       → PathsLeft settings first log old → PathsStep settings entries old new
       → PathsLeft settings first (entries ++ log) new
   paths_law first entries log old new left step = step ∙ rw left (each-after first entries log)

@@ -1,6 +1,6 @@
 -- How each path is searched: all of them by the same settings, each from a discovery to which nothing was told, and
 -- with each limit in turn. The driver's `SearchLaws` rest on it.
-use Rattle.std.proofs.Common.{ℕ, ◌≡◌, Bool, List, [], ◌∷◌, ◌++◌, Option, None, Some, if◌then◌else◌, refl}
+use Rattle.std.proofs.Common.{ℕ, ◌≡◌, Bool, List, [], ◌∷◌, ◌++◌, Option, None, if◌then◌else◌}
 use Rattle.std.proofs.lemmas.Option.{none-some}
 use Rattle.recovery_config.specs.declared.config.TransportConfig.{TransportConfig}
 use Rattle.recovery_config.specs.Settings.{initial_mtu_of}
@@ -9,10 +9,11 @@ use Rattle.recovery_mtud.specs.Discovery.{Discovery}
 use Rattle.recovery_mtud.specs.DiscoveryLog.{MtuCall, discovery_by}
 use Rattle.recovery_mtud.specs.MtuEntries.{IsUntold, search_settings, entries_by}
 use Rattle.recovery_mtud.specs.SearchRuns.{AreLimitsOutside}
-use Rattle.recovery_mtud.proofs.EntryLaws.{discovery_made_untold, discovery_disabled_untold}
+use Rattle.recovery_mtud.proofs.EntryLaws.{discovery_made_untold, made_settings}
 use Rattle.recovery_mtud.proofs.SearchRunLaws.{IsInTurn, limits_outside_after}
-use Rattle.recovery_paths.specs.PathMaking.{PathMaking, PathSettings, discovery_with, first_discovery, reset_call}
+use Rattle.recovery_paths.specs.PathMaking.{PathSettings, first_discovery, reset_call}
 use Rattle.recovery_paths.specs.PathLog.{OnEachPath, PathsEntry, PathEntry, PathPast, Following, pasts_by, each_path, state_of, known_of, past_with, past_following, fresh, goes_on, searches, is_reset}
+use Rattle.recovery_paths.specs.PathStates.{PathState}
 use Rattle.recovery_paths.proofs.AllowedLaws.{IsAllowed, AreAllowed, kept_after}
 
 -- a discovery that was made so and called so is searched by these settings, if any
@@ -22,7 +23,7 @@ pub record IsSearchedBy (settings : Option MtuDiscoveryConfig) (made : Discovery
   pub outside : AreLimitsOutside (entries_by made calls)
 
 abbrev pub IsPathSearchedBy : {K : Type 0} → Option MtuDiscoveryConfig → PathPast K → Type 0
-IsPathSearchedBy by past = IsSearchedBy by past.making.discovery past.searched
+IsPathSearchedBy by past = IsSearchedBy by past.kept.discovery past.searched
 
 -- one more call that is in turn
 searched_after : (by : Option MtuDiscoveryConfig) (made : Discovery) (call : MtuCall) (earlier : List MtuCall)
@@ -36,29 +37,23 @@ searched_after by made call earlier turn searched = record {
 -- the discovery of a path that is made is searched where that is allowed, as the settings of paths say
 pub first_searched : {F : Type 0} (allowed : Bool) (limit : Option ℕ) (config : TransportConfig F)
     → IsSearchedBy (if allowed then config.mtu_discovery_config else None) (first_discovery allowed limit config) []
-first_searched allowed limit config = go (if allowed then config.mtu_discovery_config else None)
-  where
-    go : (by : Option MtuDiscoveryConfig) → IsSearchedBy by (discovery_with limit config by) []
-    go None = record {
-      untold = discovery_disabled_untold (initial_mtu_of config) config.min_mtu;
-      settings_are = refl;
-      outside = tt;
-    }
-    go (Some own) = record {
-      untold = discovery_made_untold (initial_mtu_of config) config.min_mtu limit own;
-      settings_are = refl;
+first_searched allowed limit config =
+    let by = if allowed then config.mtu_discovery_config else None in
+    record {
+      untold = discovery_made_untold (initial_mtu_of config) config.min_mtu limit by;
+      settings_are = made_settings (initial_mtu_of config) config.min_mtu limit by;
       outside = tt;
     }
 
 module _ {K : Type 0} (settings : PathSettings K) (by : Option MtuDiscoveryConfig)
     (fresh_is : (limit : Option ℕ) → IsSearchedBy by (settings.discovery limit) []) where
   -- an entry that is allowed keeps that
-  searched_law : (entry : PathEntry) (past : PathPast K) → IsAllowed settings.words (state_of settings past) entry
+  searched_law : (entry : PathEntry) (past : PathPast K) → IsAllowed settings.words (state_of past) entry
       → IsPathSearchedBy by past → IsPathSearchedBy by (past_with settings entry past)
   searched_law (searches call) past allowed searched =
-      searched_after by past.making.discovery call past.searched allowed searched
+      searched_after by past.kept.discovery call past.searched allowed searched
   searched_law (is_reset now) past allowed searched =
-      searched_after by past.making.discovery (reset_call settings) past.searched tt searched
+      searched_after by past.kept.discovery (reset_call settings) past.searched tt searched
   searched_law entry past allowed searched = searched
 
   -- a fresh path is searched from its making on, and one that goes on as the path before it
@@ -68,13 +63,13 @@ module _ {K : Type 0} (settings : PathSettings K) (by : Option MtuDiscoveryConfi
   follows_searched (goes_on remote now) past searched = searched
 
   -- an event's entries keep that
-  pub searched_over : (first : PathMaking K) (entries log : List PathsEntry) → let pasts =
+  pub searched_over : (first : PathState K) (entries log : List PathsEntry) → let pasts =
       pasts_by settings first log in
-      AreAllowed settings (each_path (known_of settings) pasts) entries → OnEachPath (IsPathSearchedBy by) pasts
+      AreAllowed settings (each_path known_of pasts) entries → OnEachPath (IsPathSearchedBy by) pasts
       → OnEachPath (IsPathSearchedBy by) (pasts_by settings first (entries ++ log))
   searched_over =
       kept_after settings (IsPathSearchedBy by) (record { by_entry = searched_law; following = follows_searched })
 
-  pub searched_at_first : (first : PathMaking K) → IsSearchedBy by first.discovery []
+  pub searched_at_first : (first : PathState K) → IsSearchedBy by first.discovery []
       → OnEachPath (IsPathSearchedBy by) (pasts_by settings first [])
   searched_at_first first searched = (searched, λ past is. absurd (none-some _ is))

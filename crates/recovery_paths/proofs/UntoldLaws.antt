@@ -3,11 +3,12 @@ use Rattle.std.proofs.Common.{ℕ, List, [], ◌∷◌, Option}
 use Rattle.recovery_mtud.specs.MtuEntries.{IsUntold}
 use Rattle.recovery_paths.specs.declared.live_paths.PathName.TheVariants.{Current, Previous}
 use Rattle.recovery_paths.specs.PathLog.{PathsEntry, PathEntry, PathPast, Following, pasts_by, past_with, past_following, on, moves, drops_previous, fresh, goes_on, receives}
-use Rattle.recovery_paths.specs.PathMaking.{PathMaking, PathSettings}
+use Rattle.recovery_paths.specs.PathMaking.{PathSettings}
+use Rattle.recovery_paths.specs.PathStates.{PathState}
 
 -- of one path
 abbrev pub WasUntold : {K : Type 0} → PathPast K → Type 0
-WasUntold past = IsUntold past.making.discovery
+WasUntold past = IsUntold past.kept.discovery
 
 module _ {K : Type 0} (settings : PathSettings K) (made : (limit : Option ℕ) → IsUntold (settings.discovery limit))
   where
@@ -23,7 +24,7 @@ module _ {K : Type 0} (settings : PathSettings K) (made : (limit : Option ℕ) �
     follows_untold (goes_on remote now) past untold = untold
 
     -- whatever happens, the path in use has one that was made so
-    pub untold_by : (first : PathMaking K) → IsUntold first.discovery → (log : List PathsEntry)
+    pub untold_by : (first : PathState K) → IsUntold first.discovery → (log : List PathsEntry)
         → WasUntold (pasts_by settings first log).current
     untold_by first untold [] = untold
     untold_by first untold (on Current entry ∷ log) =

@@ -4,4 +4,3 @@ pub mod PathLog
 pub mod PathMaking
 pub mod PathStates
 pub mod Responses
-pub mod Threefold

@@ -2,13 +2,12 @@
 use Rattle.std.specs.Prelude.{ℕ, ◌≡◌, ◌+◌, Bool, true, false, List, [], ◌∷◌, Option, None, Some, option_map}
 use Rattle.std.specs.Option.{ForSome}
 use Rattle.std.specs.declared.net.socket_addr.SocketAddr.{SocketAddr}
-use Rattle.recovery_congestion.specs.Calls.{ControllerCall, content_by}
+use Rattle.recovery_congestion.specs.Calls.{ControllerCall}
 use Rattle.recovery_mtud.specs.DiscoveryLog.{MtuCall, discovery_by}
 use Rattle.recovery_pacing.specs.PacerLog.{PacerEntry, asked, took, bucket_by}
-use Rattle.recovery_congestion.specs.Rtt.{rtt_by}
 use Rattle.recovery_paths.specs.declared.live_paths.PathName.{PathName}
 use Rattle.recovery_paths.specs.declared.live_paths.PathName.TheVariants.{Current, Previous}
-use Rattle.recovery_paths.specs.PathMaking.{PathMaking, PathSettings, bucket_of, making_fresh, pacer_at_first, pacer_going_on, reset_call, state_made, state_going_on, state_reset}
+use Rattle.recovery_paths.specs.PathMaking.{PathSettings, reset_call, begun_anew, state_fresh, state_going_on, state_reset}
 use Rattle.recovery_paths.specs.PathStates.{PathState, PathMarks, Path, pacer_call, after_asking, after_transmitting, after_receiving, after_sample, after_searching, after_telling, after_validation}
 
 -- ---- the paths, whatever is kept for each
@@ -87,121 +86,63 @@ paths_with change follow drops_previous old = record old { previous = None }
 abbrev pub paths_after : {P : Type 0} → (PathEntry → P → P) → (Following → P → P) → List PathsEntry → OfPaths P
     → OfPaths P
 paths_after change follow [] old = old
-paths_after change follow (entry ∷ earlier) old =
-    paths_with change follow entry (paths_after change follow earlier old)
+paths_after change follow (entry ∷ earlier) old = paths_with change follow entry (paths_after change follow earlier old)
 
--- ---- all that happened on one path since it was made, each kind of it the newest first; a path that goes on from
--- another one
--- has what was sampled, told and seen there
-
-pub record Transmission : Type 0 where
-  pub bytes : ℕ
-  pub checked : Bool
+-- ---- all that happened on one path since it was made; a path that goes on from another one has what was seen there
 
 pub record PathPast (K : Type 0) : Type 0 where
   -- how many paths were made before it
   pub generation : ℕ
-  pub making : PathMaking K
-  pub validated : Bool
-  -- the bytes of each datagram that came in
-  pub datagrams : List ℕ
-  pub transmissions : List Transmission
-  -- the delay of the ACK, and the time measured (RFC 9002, 5)
-  pub samples_taken : List (ℕ × ℕ)
-  -- what the controller was told (RFC 9002, 7)
-  pub calls : List ControllerCall
-  -- what the search for the MTU saw (RFC 8899, 5)
+  -- what is kept for it, with search and pacer as they were made
+  pub kept : PathState K
+  -- what the search for the MTU saw since, the newest first (RFC 8899, 5)
   pub searched : List MtuCall
-  -- what the pacer was asked, and what was taken off (RFC 9002, 7.7)
+  -- what the pacer was asked since, and what was taken off, the newest first (RFC 9002, 7.7)
   pub pacing : List PacerEntry
 
-abbrev pub past_made : {K : Type 0} → ℕ → PathMaking K → PathPast K
-past_made generation making = record {
-  generation = generation;
-  making = making;
-  validated = making.validated;
-  datagrams = [];
-  transmissions = [];
-  samples_taken = [];
-  calls = [];
-  searched = [];
-  pacing = [];
+abbrev pub past_made : {K : Type 0} → ℕ → PathState K → PathPast K
+past_made generation kept = record { generation = generation; kept = kept; searched = []; pacing = [] }
+
+-- what is kept after all that
+abbrev pub state_of : {K : Type 0} → PathPast K → PathState K
+state_of past = record past.kept {
+  discovery = discovery_by past.kept.discovery past.searched;
+  pacer = bucket_by past.kept.pacer past.pacing;
 }
-
-abbrev pub total : List ℕ → ℕ
-total [] = 0
-total (bytes ∷ earlier) = total earlier + bytes
-
-abbrev pub total_transmitted : List Transmission → ℕ
-total_transmitted [] = 0
-total_transmitted (transmission ∷ earlier) = total_transmitted earlier + transmission.bytes
 
 abbrev pub past_transmitting : {K : Type 0} → ℕ → Bool → PathPast K → PathPast K
 past_transmitting bytes checked past = record past {
-  transmissions = record { bytes = bytes; checked = checked } ∷ past.transmissions;
+  kept = record past.kept { total_sent = past.kept.total_sent + bytes };
   pacing = took bytes checked ∷ past.pacing;
 }
 
 module _ {K : Type 0} (settings : PathSettings K) where
-  -- what is kept after all that
-  abbrev pub state_of : PathPast K → PathState K
-  state_of past = record {
-    remote = past.making.remote;
-    validated = past.validated;
-    total_recvd = total past.datagrams;
-    total_sent = total_transmitted past.transmissions;
-    discovery = discovery_by past.making.discovery past.searched;
-    rtt = rtt_by past.making.rtt past.samples_taken;
-    controller = content_by settings.words past.making.controller past.calls;
-    pacer = bucket_by (bucket_of past.making.pacer) past.pacing;
-  }
-
   -- the pacer is asked with the RTT, MTU and window that all this gives
   abbrev pub past_asking : ℕ → ℕ → PathPast K → PathPast K
   past_asking now bytes past =
       record past { pacing = asked (pacer_call settings.words (state_of past) now bytes) ∷ past.pacing }
 
-  -- RTT, controller and pacer begin anew, and the search goes on by beginning anew itself
-  abbrev pub past_reset : ℕ → PathPast K → PathPast K
-  past_reset now past =
-      let searched = reset_call settings ∷ past.searched in
-      record past {
-        making = record past.making {
-          rtt = settings.rtt;
-          controller = settings.built now;
-          pacer = pacer_at_first settings (discovery_by past.making.discovery searched).mtu now;
-        };
-        samples_taken = [];
-        calls = [];
-        searched = searched;
-        pacing = [];
-      }
-
   abbrev pub past_with : PathEntry → PathPast K → PathPast K
-  past_with (receives bytes) past = record past { datagrams = bytes ∷ past.datagrams }
-  past_with is_validated past = record past { validated = true }
-  past_with (samples delay rtt) past = record past { samples_taken = (delay, rtt) ∷ past.samples_taken }
-  past_with (tells call) past = record past { calls = call ∷ past.calls }
   past_with (searches call) past = record past { searched = call ∷ past.searched }
   past_with (asks now bytes) past = past_asking now bytes past
   past_with (transmits bytes) past = past_transmitting bytes false past
   past_with (passes now bytes) past = past_transmitting bytes true (past_asking now bytes past)
-  past_with (is_reset now) past = past_reset now past
+  past_with (is_reset now) past =
+      let searched = reset_call settings ∷ past.searched in
+      let mtu = (discovery_by past.kept.discovery searched).mtu in
+      record past { kept = begun_anew settings mtu now past.kept; searched = searched; pacing = [] }
+  past_with (receives bytes) past = record past { kept = after_receiving bytes past.kept }
+  past_with is_validated past = record past { kept = after_validation past.kept }
+  past_with (samples delay rtt) past = record past { kept = after_sample delay rtt past.kept }
+  past_with (tells call) past = record past { kept = after_telling settings.words call past.kept }
 
   -- the past of a path that follows on another one
   abbrev pub past_following : Following → PathPast K → PathPast K
   past_following (fresh remote limit now) past =
-      past_made (past.generation + 1) (making_fresh settings remote false limit now)
+      past_made (past.generation + 1) (state_fresh settings remote false limit now)
   past_following (goes_on remote now) past = record past {
     generation = past.generation + 1;
-    making = record past.making {
-      remote = remote;
-      validated = false;
-      pacer = pacer_going_on settings.words now (state_of past);
-    };
-    validated = false;
-    datagrams = [];
-    transmissions = [];
+    kept = record (state_going_on settings.words remote now (state_of past)) { discovery = past.kept.discovery };
     pacing = [];
   }
 
@@ -219,7 +160,7 @@ module _ {K : Type 0} (settings : PathSettings K) where
   state_with (is_reset now) old = state_reset settings now old
 
   abbrev pub state_following : Following → PathState K → PathState K
-  state_following (fresh remote limit now) old = state_made (making_fresh settings remote false limit now)
+  state_following (fresh remote limit now) old = state_fresh settings remote false limit now
   state_following (goes_on remote now) old = state_going_on settings.words remote now old
 
 -- ---- what is known of the paths
@@ -229,10 +170,10 @@ pub record PathKnown (K : Type 0) : Type 0 where
   pub generation : ℕ
   pub state : PathState K
 
-module _ {K : Type 0} (settings : PathSettings K) where
-  abbrev pub known_of : PathPast K → PathKnown K
-  known_of past = record { generation = past.generation; state = state_of settings past }
+abbrev pub known_of : {K : Type 0} → PathPast K → PathKnown K
+known_of past = record { generation = past.generation; state = state_of past }
 
+module _ {K : Type 0} (settings : PathSettings K) where
   abbrev pub known_with : PathEntry → PathKnown K → PathKnown K
   known_with entry old = record old { state = state_with settings entry old.state }
 
@@ -243,19 +184,19 @@ module _ {K : Type 0} (settings : PathSettings K) where
   }
 
   -- the past of each path, where the first is made so
-  abbrev pub pasts_by : PathMaking K → List PathsEntry → OfPaths (PathPast K)
+  abbrev pub pasts_by : PathState K → List PathsEntry → OfPaths (PathPast K)
   pasts_by first log =
       paths_after (past_with settings) (past_following settings) log
       (record { current = past_made 0 first; previous = None })
 
-  abbrev pub paths_known_by : PathMaking K → List PathsEntry → OfPaths (PathKnown K)
+  abbrev pub paths_known_by : PathState K → List PathsEntry → OfPaths (PathKnown K)
   paths_known_by first log = each_path known_of (pasts_by first log)
 
   -- an event may be several entries to the paths, the newest first
   abbrev pub PathsStep : List PathsEntry → OfPaths (PathKnown K) → OfPaths (PathKnown K) → Type 0
   PathsStep entries old new = new ≡ paths_after known_with known_following entries old
 
-  abbrev pub PathsLeft : PathMaking K → List PathsEntry → OfPaths (PathKnown K) → Type 0
+  abbrev pub PathsLeft : PathState K → List PathsEntry → OfPaths (PathKnown K) → Type 0
   PathsLeft first log paths = paths ≡ paths_known_by first log
 
 -- ---- what the paths hold, and what is known of them

@@ -5,8 +5,7 @@ use Rattle.recovery_base.specs.declared.below.SpaceId.{SpaceId}
 use Rattle.recovery_congestion.specs.Controllers.{ControllerWords}
 use Rattle.recovery_config.specs.declared.config.TransportConfig.{TransportConfig}
 use Rattle.recovery_config.specs.Settings.{initial_mtu_of}
-use Rattle.recovery_mtud.specs.declared.config.MtuDiscoveryConfig.{MtuDiscoveryConfig}
-use Rattle.recovery_mtud.specs.Discovery.{Discovery, discovery_made, discovery_disabled}
+use Rattle.recovery_mtud.specs.Discovery.{Discovery, discovery_made}
 use Rattle.recovery_mtud.specs.DiscoveryLog.{MtuCall, resets, discovery_after}
 use Rattle.recovery_pacing.specs.Pacing.{Bucket, bucket_made}
 use Rattle.recovery_paths.specs.PathStates.{PathState, PathMarks}
@@ -22,24 +21,6 @@ marks_made first = record {
   first_after_sample = first;
 }
 
--- for which RTT, window and MTU a pacer is made, and when
-pub record PacerMaking : Type 0 where
-  pub rtt : ℕ
-  pub window : ℕ
-  pub mtu : ℕ
-  pub now : ℕ
-
-abbrev pub bucket_of : PacerMaking → Bucket
-bucket_of making = bucket_made making.rtt making.window making.mtu making.now
-
-pub record PathMaking (K : Type 0) : Type 0 where
-  pub remote : SocketAddr
-  pub validated : Bool
-  pub discovery : Discovery
-  pub rtt : ℕ
-  pub controller : K
-  pub pacer : PacerMaking
-
 -- the settings of all paths, and what their controllers do
 pub record PathSettings (K : Type 0) : Type 0 where
   pub words : ControllerWords K
@@ -53,14 +34,10 @@ pub record PathSettings (K : Type 0) : Type 0 where
   -- the MTU in use at first and the search for it, where the peer takes datagrams of at most so many bytes
   pub discovery : Option ℕ → Discovery
 
-abbrev pub discovery_with : {F : Type 0} → Option ℕ → TransportConfig F → Option MtuDiscoveryConfig → Discovery
-discovery_with limit config None = discovery_disabled (initial_mtu_of config) config.min_mtu
-discovery_with limit config (Some settings) = discovery_made (initial_mtu_of config) config.min_mtu limit settings
-
 -- the MTU of a path that is made, and the search for it, where it is allowed and the settings say how
 abbrev pub first_discovery : {F : Type 0} → Bool → Option ℕ → TransportConfig F → Discovery
 first_discovery allowed limit config =
-    discovery_with limit config (if allowed then config.mtu_discovery_config else None)
+    discovery_made (initial_mtu_of config) config.min_mtu limit (if allowed then config.mtu_discovery_config else None)
 
 abbrev pub path_settings : {F K : Type 0} → (F → ℕ → ℕ → K) → ControllerWords K → Bool → TransportConfig F
     → PathSettings K
@@ -73,63 +50,36 @@ path_settings built words allowed config = record {
   discovery = λ limit. first_discovery allowed limit config;
 }
 
--- a path to which nothing has happened
-abbrev pub state_made : {K : Type 0} → PathMaking K → PathState K
-state_made making = record {
-  remote = making.remote;
-  validated = making.validated;
-  total_recvd = 0;
-  total_sent = 0;
-  discovery = making.discovery;
-  rtt = rtt_made making.rtt;
-  controller = making.controller;
-  pacer = bucket_of making.pacer;
-}
-
 -- ---- a path that goes on from another one
 
 module _ {K : Type 0} (words : ControllerWords K) where
-  -- the pacer of a path that goes on from another one: for the RTT, window and MTU of that one
-  abbrev pub pacer_going_on : ℕ → PathState K → PacerMaking
-  pacer_going_on now old = record {
-    rtt = rtt_get old.rtt;
-    window = words.window old.controller;
-    mtu = old.discovery.mtu;
-    now = now;
-  }
-
-  -- a path to another address goes on with RTT, controller and search (RFC 9000, 9.4)
+  -- a path to another address goes on with RTT, controller and search (RFC 9000, 9.4); its pacer is full, for the RTT,
+  -- window and MTU of that one
   abbrev pub state_going_on : SocketAddr → ℕ → PathState K → PathState K
-  state_going_on remote now old = record {
+  state_going_on remote now old = record old {
     remote = remote;
     validated = false;
     total_recvd = 0;
     total_sent = 0;
-    discovery = old.discovery;
-    rtt = old.rtt;
-    controller = old.controller;
-    pacer = bucket_of (pacer_going_on now old);
+    pacer = bucket_made (rtt_get old.rtt) (words.window old.controller) old.discovery.mtu now;
   }
 
 -- ---- by the settings
 
 module _ {K : Type 0} (settings : PathSettings K) where
   -- the pacer is made full, for the RTT at first and the initial window
-  abbrev pub pacer_at_first : ℕ → ℕ → PacerMaking
-  pacer_at_first mtu now = record {
-    rtt = settings.rtt;
-    window = settings.words.initial (settings.built now);
-    mtu = mtu;
-    now = now;
-  }
+  abbrev pub pacer_at_first : ℕ → ℕ → Bucket
+  pacer_at_first mtu now = bucket_made settings.rtt (settings.words.initial (settings.built now)) mtu now
 
   -- a fresh path, where the peer takes datagrams of at most so many bytes
-  abbrev pub making_fresh : SocketAddr → Bool → Option ℕ → ℕ → PathMaking K
-  making_fresh remote validated limit now = record {
+  abbrev pub state_fresh : SocketAddr → Bool → Option ℕ → ℕ → PathState K
+  state_fresh remote validated limit now = record {
     remote = remote;
     validated = validated;
+    total_recvd = 0;
+    total_sent = 0;
     discovery = settings.discovery limit;
-    rtt = settings.rtt;
+    rtt = rtt_made settings.rtt;
     controller = settings.built now;
     pacer = pacer_at_first settings.mtu now;
   }
@@ -138,13 +88,13 @@ module _ {K : Type 0} (settings : PathSettings K) where
   abbrev pub reset_call : MtuCall
   reset_call = resets settings.mtu settings.min_mtu
 
-  -- RTT, controller, search and pacer begin anew, the pacer for the MTU then in use
+  -- RTT, controller and pacer begin anew, the pacer for this MTU
+  abbrev pub begun_anew : ℕ → ℕ → PathState K → PathState K
+  begun_anew mtu now old =
+      record old { rtt = rtt_made settings.rtt; controller = settings.built now; pacer = pacer_at_first mtu now }
+
+  -- and the search too, where the MTU then in use is the pacer's
   abbrev pub state_reset : ℕ → PathState K → PathState K
   state_reset now old =
       let discovery = discovery_after reset_call old.discovery in
-      record old {
-        discovery = discovery;
-        rtt = rtt_made settings.rtt;
-        controller = settings.built now;
-        pacer = bucket_of (pacer_at_first discovery.mtu now);
-      }
+      record (begun_anew discovery.mtu now old) { discovery = discovery }

@@ -2,12 +2,14 @@
 use Rattle.std.specs.Prelude.{ℕ, ◌+◌, ◌*◌, ◌&&◌, ◌==◌, not, nat_lt, Bool, true, Option, List, if◌then◌else◌}
 use Rattle.std.specs.declared.net.socket_addr.SocketAddr.{SocketAddr}
 use Rattle.recovery_base.specs.declared.below.SpaceId.{SpaceId}
-use Rattle.recovery_congestion.specs.Calls.{ControllerCall, acks, takes_mtu, told}
+use Rattle.recovery_base.specs.declared.below.SpaceId.TheVariants.{Data}
+use Rattle.recovery_base.specs.Spaces.{same_space}
+use Rattle.recovery_congestion.specs.Calls.{ControllerCall, acks, takes_mtu}
 use Rattle.recovery_congestion.specs.Controllers.{ControllerWords}
 use Rattle.recovery_ledger.specs.declared.paths.PathLedger.{PathLedger}
 use Rattle.recovery_ledger.specs.Packets.{Packet}
 use Rattle.recovery_ledger.specs.Paths.{generation_of, after_leaving}
-use Rattle.recovery_mtud.specs.Discovery.{Discovery, is_data, is_probe}
+use Rattle.recovery_mtud.specs.Discovery.{Discovery, is_probe}
 use Rattle.recovery_mtud.specs.DiscoveryLog.{MtuCall, acks as acks_packet, loses_probe, loses, discovery_after}
 use Rattle.recovery_pacing.specs.Pacing.{Bucket, PacerCall, paced, delay_of, less_tokens}
 use Rattle.recovery_paths.specs.declared.responses.PathResponse.{PathResponse}
@@ -89,19 +91,19 @@ module _ {K : Type 0} where
   -- ---- what the search sees
 
   abbrev pub is_path_probe : SpaceId → ℕ → PathState K → Bool
-  is_path_probe space number path = is_data space && is_probe number path.discovery
+  is_path_probe space number path = same_space space Data && is_probe number path.discovery
 
   abbrev pub path_lost : {P M : Type 0} → SpaceId → ℕ → Packet P M → Path K → Path K
   path_lost space number packet path = record path {
     ledger = after_leaving path.ledger packet;
-    state = (if is_data space then after_searching (loss_call number packet.size path.state.discovery) path.state
-        else path.state);
+    state = (if same_space space Data
+        then after_searching (loss_call number packet.size path.state.discovery) path.state else path.state);
   }
 
 module _ {K : Type 0} (words : ControllerWords K) where
   -- the controller is told of something (RFC 9002, 7)
   abbrev pub after_telling : ControllerCall → PathState K → PathState K
-  after_telling call path = record path { controller = told words call path.controller }
+  after_telling call path = record path { controller = words.after call path.controller }
 
   -- where the search changes the MTU, the controller is told of it
   abbrev pub after_search : Bool → MtuCall → PathState K → PathState K
@@ -112,7 +114,8 @@ module _ {K : Type 0} (words : ControllerWords K) where
   -- what the search sees of an acknowledged packet
   abbrev pub acked_by_search : SpaceId → ℕ → ℕ → PathState K → PathState K
   acked_by_search space number bytes path =
-      if is_data space then after_search (is_path_probe space number path) (acks_packet number bytes) path else path
+      if same_space space Data then after_search (is_path_probe space number path) (acks_packet number bytes) path
+      else path
 
   -- an acknowledged packet of the path that elicits an ACK is told
   abbrev pub acked_by_controller : {P M : Type 0} → ℕ → Bool → Packet P M → PathLedger → PathState K → PathState K
@@ -144,5 +147,4 @@ module _ {K : Type 0} (words : ControllerWords K) where
 
   -- when to ask again, where the bytes may not be sent yet
   abbrev pub path_delay : ℕ → ℕ → PathState K → Option ℕ
-  path_delay now bytes path =
-      let call = pacer_call path now bytes in delay_of call (paced call path.pacer)
+  path_delay now bytes path = let call = pacer_call path now bytes in delay_of call (paced call path.pacer)

@@ -9,7 +9,7 @@ ghost use Rattle.recovery_ledger.specs.Paths.{generation_of, counters_of, fresh_
 ghost use Rattle.recovery_ledger.specs.Spaces.{tracking_of, with_tracking};
 ghost use Rattle.recovery_mtud.specs.Discovery.{is_probe, is_searching_of, reports};
 ghost use Rattle.recovery_mtud.specs.DiscoveryLog.{losses_end, is_limited};
-ghost use Rattle.recovery_paths.specs.PathMaking.{marks_made, path_settings, making_fresh, state_made, state_going_on, state_reset, first_discovery};
+ghost use Rattle.recovery_paths.specs.PathMaking.{marks_made, path_settings, state_fresh, state_going_on, state_reset, first_discovery};
 ghost use Rattle.recovery_paths.specs.PathStates.{Path, on_state, with_discovery, with_marks, is_blocked, after_receiving, after_validation, after_sample, after_searching, after_transmitting, loss_call};
 ghost use Rattle.recovery_paths.specs.PathStates.{after_telling, after_search, path_acked, is_path_probe, path_lost, after_asking, path_delay};
 
@@ -143,7 +143,7 @@ impl<C: Controller + Drop> PathData<C> {
         requires limit { IfSome peer_max_udp_payload_size (λ limit. 0 < limit) }
         ensures ledger { result.ledger ≡ fresh_ledger generation }
         ensures state { let settings = path_settings F.built C.words allow_mtud config.now in
-            result.state ≡ state_made (making_fresh settings remote false peer_max_udp_payload_size now) }
+            result.state ≡ state_fresh settings remote false peer_max_udp_payload_size now }
         ensures marks { result.marks ≡ marks_made None }
     {
         let mtu = config.get_initial_mtu();

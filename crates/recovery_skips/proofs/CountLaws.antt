@@ -9,8 +9,8 @@ use Rattle.recovery_skips.proofs.SkipLaws.{is_at-some, is_at-self, skip_above}
 
 module _ (skips : Skips) (words : Stream) where
   -- the skips before one are there, and lie below it
-  lower : (j k t : ℕ) → j < k → (skip_at skips words k).number ≡ Some t
-      → (s : ℕ) × ((skip_at skips words j).number ≡ Some s) × (s < t)
+  lower : (j k t : ℕ) → j < k → (skip_at skips words k).0 ≡ Some t
+      → (s : ℕ) × ((skip_at skips words j).0 ≡ Some s) × (s < t)
   lower j zero t less is = absurd (omega (arith, less))
   lower j (suc k) t less is =
       let before = skip_above skips words k t is in
@@ -23,10 +23,10 @@ module _ (skips : Skips) (words : Stream) where
 
   -- just so many skips lie below n
   abbrev Counts : ℕ → ℕ → Type 0
-  Counts n count = (k s : ℕ) → (skip_at skips words k).number ≡ Some s → (s < n) ↔ (k < count)
+  Counts n count = (k s : ℕ) → (skip_at skips words k).0 ≡ Some s → (s < n) ↔ (k < count)
 
   -- the skip counted by those below n is the only one that can be n
-  only_at : (n count : ℕ) → Counts n count → (k : ℕ) → (skip_at skips words k).number ≡ Some n → k ≡ count
+  only_at : (n count : ℕ) → Counts n count → (k : ℕ) → (skip_at skips words k).0 ≡ Some n → k ≡ count
   only_at n count counts k here =
       elim (cases_lt count k) [
         | inl further ↦
@@ -35,7 +35,7 @@ module _ (skips : Skips) (words : Stream) where
       ]
 
   -- a skip lies below n just where its place is below their count
-  pub skips_below_counts : (n k s : ℕ) → (skip_at skips words k).number ≡ Some s
+  pub skips_below_counts : (n k s : ℕ) → (skip_at skips words k).0 ≡ Some s
       → (s < n) ↔ (k < skips_below skips words n)
   skips_below_counts zero k s is = grind arith
   skips_below_counts (suc n) k s is = go (skips_below_counts n) (is_skipped skips words n) refl
@@ -44,13 +44,13 @@ module _ (skips : Skips) (words : Stream) where
           → (s < suc n) ↔ (k < (if here then suc (skips_below skips words n) else skips_below skips words n))
       go counts here at =
           let only = only_at n (skips_below skips words n) counts k in
-          let some = is_at-some n (skip_at skips words (skips_below skips words n)).number in
-          let self = is_at-self n (skip_at skips words (skips_below skips words n)).number in
+          let some = is_at-some n (skip_at skips words (skips_below skips words n)).0 in
+          let self = is_at-self n (skip_at skips words (skips_below skips words n)).0 in
           grind (arith, is, at, only, some, self, counts k s is)
 
   -- a number is skipped just where it stands in the sequence
   pub skipped_in_sequence : (n : ℕ) → (is_skipped skips words n ≡ true)
-      ↔ ((k : ℕ) × ((skip_at skips words k).number ≡ Some n))
+      ↔ ((k : ℕ) × ((skip_at skips words k).0 ≡ Some n))
   skipped_in_sequence n = (
     λ here. (skips_below skips words n, is_at-some n _ here),
     λ found. is_at-self n _

@@ -75,27 +75,26 @@ draw_below low end words fit some within = omega (
 -- ---- skips
 
 module _ (skips : Skips) (words : Stream) (is_skips : IsSkips skips) (fit : AreWords words) where
-  next_fits : (exponent : ℕ) (skip : Option ℕ) (rest : Stream) → AreWords rest
-      → AreWords (next_skip exponent skip rest).words
-  next_fits exponent None rest fits = fits
-  next_fits exponent (Some s) rest fits = canon_fits (2 ^ 64) _ rest fits
+  next_fits : (exponent : ℕ) (before : Option ℕ × Stream) → AreWords before.1 → AreWords (next_skip exponent before).1
+  next_fits exponent (None, rest) fits = fits
+  next_fits exponent (Some s, rest) fits = canon_fits (2 ^ 64) _ rest fits
 
-  skip_fits : (k : ℕ) → AreWords (skip_at skips words k).words
-  skip_fits zero = elim skips as (λ s. AreWords (first_skip s words).words) [
+  skip_fits : (k : ℕ) → AreWords (skip_at skips words k).1
+  skip_fits zero = elim skips as (λ s. AreWords (first_skip s words).1) [
     | Drawn ↦ canon_fits (2 ^ 64) 64 words fit
     | Starting n ↦ fit
     | Disabled ↦ fit
   ]
-  skip_fits (suc k) = next_fits (6 + k) _ _ (skip_fits k)
+  skip_fits (suc k) = next_fits (6 + k) _ (skip_fits k)
 
-  first_below : (s : Skips) → IsSkips s → (t : ℕ) → (first_skip s words).number ≡ Some t → t < 64
+  first_below : (s : Skips) → IsSkips s → (t : ℕ) → (first_skip s words).0 ≡ Some t → t < 64
   first_below Drawn sound t is =
       omega (arith, same_Some _ t is, draw_below 0 64 words fit (omega arith) (omega arith))
   first_below (Starting n) sound t is = omega (arith, same_Some _ t is, sound)
   first_below Disabled sound t is = absurd (none-some t is)
 
   next_below : (exponent t : ℕ) (skip : Option ℕ) (rest : Stream) → AreWords rest → 6 ≤ exponent → exponent ≤ 62
-      → ((s : ℕ) → skip ≡ Some s → s < 2 ^ exponent) → (next_skip exponent skip rest).number ≡ Some t
+      → ((s : ℕ) → skip ≡ Some s → s < 2 ^ exponent) → (next_skip exponent (skip, rest)).0 ≡ Some t
       → t < 2 ^ (exponent + 1)
   next_below exponent t None rest fits least most below is = absurd (none-some t is)
   next_below exponent t (Some s) rest fits least most below is =
@@ -108,9 +107,9 @@ module _ (skips : Skips) (words : Stream) (is_skips : IsSkips skips) (fit : AreW
       )
 
   -- of the skips that a filter can have, the one counted k from 0 lies below 2^(6 + k)
-  pub skip_below_power : (k t : ℕ) → k ≤ 57 → (skip_at skips words k).number ≡ Some t → t < 2 ^ (6 + k)
+  pub skip_below_power : (k t : ℕ) → k ≤ 57 → (skip_at skips words k).0 ≡ Some t → t < 2 ^ (6 + k)
   skip_below_power zero t small is = first_below skips is_skips t is
   skip_below_power (suc k) t small is =
       let same : 6 + k + 1 ≡ 6 + suc k = omega arith in
-      rw same at (next_below (6 + k) t (skip_at skips words k).number (skip_at skips words k).words (skip_fits k)
+      rw same at (next_below (6 + k) t (skip_at skips words k).0 (skip_at skips words k).1 (skip_fits k)
       (omega arith) (omega (arith, small)) (λ s here. skip_below_power k s (omega (arith, small)) here) is)

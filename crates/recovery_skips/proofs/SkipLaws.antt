@@ -18,7 +18,7 @@ is_at-self n skip is = rw is (grind arith)
 
 -- ---- skips ascend
 
-next_above : (exponent t : ℕ) (skip : Option ℕ) (words : Stream) → (next_skip exponent skip words).number ≡ Some t
+next_above : (exponent t : ℕ) (skip : Option ℕ) (words : Stream) → (next_skip exponent (skip, words)).0 ≡ Some t
     → (s : ℕ) × (skip ≡ Some s) × (s + 2 ≤ t) × (2 ^ exponent ≤ t)
 next_above exponent t None words is = absurd (none-some t is)
 next_above exponent t (Some s) words is =
@@ -26,25 +26,25 @@ next_above exponent t (Some s) words is =
 
 module _ (skips : Skips) (words : Stream) where
   -- each skip but the first comes behind another one, two or more below it, and lies at a power of two or above
-  pub skip_above : (k t : ℕ) → (skip_at skips words (suc k)).number ≡ Some t
-      → (s : ℕ) × ((skip_at skips words k).number ≡ Some s) × (s + 2 ≤ t) × (2 ^ (6 + k) ≤ t)
-  skip_above k t is = next_above (6 + k) t (skip_at skips words k).number (skip_at skips words k).words is
+  pub skip_above : (k t : ℕ) → (skip_at skips words (suc k)).0 ≡ Some t
+      → (s : ℕ) × ((skip_at skips words k).0 ≡ Some s) × (s + 2 ≤ t) × (2 ^ (6 + k) ≤ t)
+  skip_above k t is = next_above (6 + k) t (skip_at skips words k).0 (skip_at skips words k).1 is
 
-  pub skips_ascend : (k s t : ℕ) → (skip_at skips words k).number ≡ Some s
-      → (skip_at skips words (suc k)).number ≡ Some t → s + 2 ≤ t
+  pub skips_ascend : (k s t : ℕ) → (skip_at skips words k).0 ≡ Some s
+      → (skip_at skips words (suc k)).0 ≡ Some t → s + 2 ≤ t
   skips_ascend k s t here next =
       let above = skip_above k t next in omega (arith, same_Some _ s (sym above.1 ∙ here), above.2)
 
-  pub skip_from_power : (k t : ℕ) → (skip_at skips words (suc k)).number ≡ Some t → 2 ^ (6 + k) ≤ t
+  pub skip_from_power : (k t : ℕ) → (skip_at skips words (suc k)).0 ≡ Some t → 2 ^ (6 + k) ≤ t
   skip_from_power k t is = (skip_above k t is).3
 
   -- ---- one step
 
   -- no number behind a skip is one
   pub behind_not_skipped : (n : ℕ) → is_skipped skips words n ≡ true → is_skipped skips words (suc n) ≡ false
-  behind_not_skipped n here = rw here (go (skip_at skips words (suc (skips_below skips words n))).number refl)
+  behind_not_skipped n here = rw here (go (skip_at skips words (suc (skips_below skips words n))).0 refl)
     where
-      go : (skip : Option ℕ) → (skip_at skips words (suc (skips_below skips words n))).number ≡ skip
+      go : (skip : Option ℕ) → (skip_at skips words (suc (skips_below skips words n))).0 ≡ skip
           → is_at (suc n) skip ≡ false
       go None next = refl
       go (Some t) next =
@@ -77,7 +77,7 @@ module _ (skips : Skips) (words : Stream) where
           → (if is then skipped n old else old) ≡ skipping_at skips words ((if is then n + 1 else n) + 1)
       go true here =
           let free = behind_not_skipped n here in
-          let number : (skip_at skips words (skips_below skips words n)).number ≡ Some n = is_at-some n _ here in
+          let number : (skip_at skips words (skips_below skips words n)).0 ≡ Some n = is_at-some n _ here in
           let next : n + 1 + 1 ≡ suc (suc n) = omega arith in
           rw next (grind (arith, here, free, number))
       go false here = rw add-one (rw here refl)

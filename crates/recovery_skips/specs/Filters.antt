@@ -10,7 +10,7 @@ use Rattle.recovery_base.specs.declared.below.SpaceId.{SpaceId}
 use Rattle.recovery_base.specs.declared.below.SpaceId.TheVariants.{Data}
 use Rattle.recovery_base.specs.declared.below.frames.TransportError.{TransportError}
 use Rattle.recovery_skips.specs.declared.filter.Skips.{Skips}
-use Rattle.recovery_skips.specs.Skips.{skip_behind, skip_at, is_at, skips_below, skip_before}
+use Rattle.recovery_skips.specs.Skips.{next_skip, skip_at, is_at, skips_below, skip_before}
 
 pub record Filter : Type 0 where
   -- the next number to skip
@@ -29,12 +29,9 @@ pub record Skipping : Type 0 where
 abbrev pub skipping_at : Skips → Stream → ℕ → Skipping
 skipping_at skips words n =
     let count = skips_below skips words n in
-    let skip = skip_at skips words count in
-    let last = skip_before skips words n in
-    record {
-      filter = record { skip = skip.number; last = last; exponent = 6 + count };
-      words = skip.words;
-    }
+    let next = skip_at skips words count in
+    let filter : Filter = record { skip = next.0; last = skip_before skips words n; exponent = 6 + count } in
+    record { filter = filter; words = next.1 }
 
 -- the number that a filter gives out where the next one is n
 abbrev pub number_by : Filter → ℕ → ℕ
@@ -43,11 +40,9 @@ number_by filter n = if is_at n filter.skip then n + 1 else n
 -- the skip n was passed: the one behind it is drawn
 abbrev pub skipped : ℕ → Skipping → Skipping
 skipped n old =
-    let skip = skip_behind old.filter.exponent n old.words in
-    record {
-      filter = record { skip = skip.number; last = Some n; exponent = old.filter.exponent + 1 };
-      words = skip.words;
-    }
+    let next = next_skip old.filter.exponent (Some n, old.words) in
+    let filter : Filter = record { skip = next.0; last = Some n; exponent = old.filter.exponent + 1 } in
+    record { filter = filter; words = next.1 }
 
 -- a number was given out where the next one was n
 abbrev pub passed : ℕ → Skipping → Skipping

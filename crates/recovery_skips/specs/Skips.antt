@@ -1,6 +1,7 @@
 -- Packet numbers that are skipped (RFC 9000, 21.4). Which numbers they are follows from how skips
 -- begin and from the words of a generator, and from nothing else.
 use Rattle.std.specs.Prelude.{ℕ, zero, suc, ◌≡◌, ◌+◌, ◌-◌, ◌<◌, ◌^◌, ◌==◌, max, ⊤, Bool, true, false, if◌then◌else◌, Option, None, Some, List}
+use Rattle.std.specs.Option.{option_map_or}
 use Rattle.rand_core.specs.Stream.{Call, Stream, next_u64}
 use Rattle.rand.specs.Draw.{draw_map}
 use Rattle.rand.specs.Uniform.{canon}
@@ -24,54 +25,40 @@ IsSkips Drawn = ⊤
 IsSkips (Starting n) = n < 64
 IsSkips Disabled = ⊤
 
--- a skip, if there is one, and the words behind it
-pub record Skip : Type 0 where
-  pub number : Option ℕ
-  pub words : Stream
+-- a skip that is drawn so
+abbrev pub drawn : ℕ → ℕ → Stream → Option ℕ × Stream
+drawn low end = draw_map Some (draw low end)
 
-abbrev pub drawn_skip : ℕ × Stream → Skip
-drawn_skip drawn = record { number = Some drawn.0; words = drawn.1 }
+-- the first skip, if there is one, and the words behind it
+abbrev pub first_skip : Skips → Stream → Option ℕ × Stream
+first_skip Drawn words = drawn 0 64 words
+first_skip (Starting n) words = (Some n, words)
+first_skip Disabled words = (None, words)
 
-abbrev pub first_skip : Skips → Stream → Skip
-first_skip Drawn words = drawn_skip (draw 0 64 words)
-first_skip (Starting n) words = record { number = Some n; words = words }
-first_skip Disabled words = record { number = None; words = words }
-
--- the skip behind the skip s: above s + 1, which was sent
-abbrev pub skip_behind : ℕ → ℕ → Stream → Skip
-skip_behind exponent s words =
-    drawn_skip (draw (max (2 ^ exponent) (s + 2)) (2 ^ (exponent + 1)) words)
-
--- there is none behind none
-abbrev pub next_skip : ℕ → Option ℕ → Stream → Skip
-next_skip exponent None words = record { number = None; words = words }
-next_skip exponent (Some s) words = skip_behind exponent s words
+-- the skip behind the skip s lies above s + 1, which was sent; there is none behind none
+abbrev pub next_skip : ℕ → Option ℕ × Stream → Option ℕ × Stream
+next_skip exponent (None, words) = (None, words)
+next_skip exponent (Some s, words) = drawn (max (2 ^ exponent) (s + 2)) (2 ^ (exponent + 1)) words
 
 -- the skips, counted from 0
-abbrev pub skip_at : Skips → Stream → ℕ → Skip
+abbrev pub skip_at : Skips → Stream → ℕ → Option ℕ × Stream
 skip_at skips words zero = first_skip skips words
-skip_at skips words (suc k) =
-    let skip = skip_at skips words k in
-    next_skip (6 + k) skip.number skip.words
+skip_at skips words (suc k) = next_skip (6 + k) (skip_at skips words k)
 
 -- ---- the numbers
 
 abbrev pub is_at : ℕ → Option ℕ → Bool
-is_at n None = false
-is_at n (Some s) = n == s
-
--- so many skips lie below n + 1, where count of them lie below n
-abbrev pub with_number : Skips → Stream → ℕ → ℕ → ℕ
-with_number skips words n count =
-    if is_at n (skip_at skips words count).number then suc count else count
+is_at n skip = option_map_or (λ s. n == s) skip false
 
 -- so many skips lie below n
 abbrev pub skips_below : Skips → Stream → ℕ → ℕ
 skips_below skips words zero = 0
-skips_below skips words (suc n) = with_number skips words n (skips_below skips words n)
+skips_below skips words (suc n) =
+    let count = skips_below skips words n in
+    if is_at n (skip_at skips words count).0 then suc count else count
 
 abbrev pub is_skipped : Skips → Stream → ℕ → Bool
-is_skipped skips words n = is_at n (skip_at skips words (skips_below skips words n)).number
+is_skipped skips words n = is_at n (skip_at skips words (skips_below skips words n)).0
 
 -- the least number from n on that is not skipped
 abbrev pub number_from : Skips → Stream → ℕ → ℕ
@@ -80,8 +67,7 @@ number_from skips words n = if is_skipped skips words n then n + 1 else n
 -- the greatest skip below n
 abbrev pub skip_before : Skips → Stream → ℕ → Option ℕ
 skip_before skips words zero = None
-skip_before skips words (suc n) =
-    if is_skipped skips words n then Some n else skip_before skips words n
+skip_before skips words (suc n) = if is_skipped skips words n then Some n else skip_before skips words n
 
 -- it is the greatest skip below n, or there is none
 abbrev pub IsGreatestBelow : Skips → Stream → ℕ → Option ℕ → Type 0

@@ -26,8 +26,8 @@ pub fn numbers_are_not_skipped()
 #[tactic(auto, using(crate::proofs::SkipLaws::skips_ascend))]
 pub fn skips_ascend()
     ensures { (skips : Skips) (words : Stream) (k s t : ℕ) →
-        (skip_at skips words k).number ≡ Some s →
-        (skip_at skips words (suc k)).number ≡ Some t → s + 2 ≤ t }
+        (skip_at skips words k).0 ≡ Some s →
+        (skip_at skips words (suc k)).0 ≡ Some t → s + 2 ≤ t }
 {}
 
 /// The first skip lies below 64, and the one behind so many others as k from `2^(5 + k)` up to below `2^(6 + k)`. A filter
@@ -36,9 +36,9 @@ pub fn skips_ascend()
 pub fn skips_lie_between_powers()
     ensures below { (skips : Skips) (words : Stream) → IsSkips skips → AreWords words →
         (k s : ℕ) → k ≤ 57 →
-        (skip_at skips words k).number ≡ Some s → s < 2 ^ (6 + k) }
+        (skip_at skips words k).0 ≡ Some s → s < 2 ^ (6 + k) }
     ensures above { (skips : Skips) (words : Stream) (k s : ℕ) →
-        (skip_at skips words (suc k)).number ≡ Some s → 2 ^ (6 + k) ≤ s }
+        (skip_at skips words (suc k)).0 ≡ Some s → 2 ^ (6 + k) ≤ s }
 {}
 
 /// A number is skipped just where it stands in the sequence of skips, and those below a number are counted.
@@ -46,9 +46,9 @@ pub fn skips_lie_between_powers()
 pub fn sequence_is_skipped()
     ensures skipped { (skips : Skips) (words : Stream) (n : ℕ) →
         (is_skipped skips words n ≡ true)
-        ↔ ((k : ℕ) × ((skip_at skips words k).number ≡ Some n)) }
+        ↔ ((k : ℕ) × ((skip_at skips words k).0 ≡ Some n)) }
     ensures counted { (skips : Skips) (words : Stream) (n k s : ℕ) →
-        (skip_at skips words k).number ≡ Some s →
+        (skip_at skips words k).0 ≡ Some s →
         (s < n) ↔ (k < skips_below skips words n) }
 {}
 

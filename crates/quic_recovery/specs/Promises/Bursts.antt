@@ -2,7 +2,7 @@
 -- of packets by their numbers.
 use Rattle.std.specs.Prelude.{ℕ, ◌==◌, false, List, [], ◌∷◌, Ok, if◌then◌else◌}
 use Rattle.recovery_base.specs.declared.below.SpaceId.TheVariants.{Data}
-use Rattle.recovery_mtud.specs.BurstRuns.{Loss, follows, if_any}
+use Rattle.recovery_mtud.specs.BurstRuns.{Loss, follows}
 use Rattle.recovery_events.specs.declared.event.Event.{Event}
 use Rattle.recovery_events.specs.declared.event.Event.TheVariants.{Send, PollMtu, Lost, LossesDone}
 use Rattle.recovery_events.specs.declared.event.Answer.TheVariants as answer
@@ -26,9 +26,10 @@ module _ {Q S M P : Type 0} where
   open_run ((LossesDone now, Ok given) ∷ earlier) = []
   open_run (happened ∷ earlier) = if begins_anew happened then [] else open_run earlier
 
-  -- the burst that an event ends, if any: a lost number that does not follow, or the end of a moment's losses
+  -- the burst that an event ends, empty where none was open: a lost number that does not follow, or the end of a
+  -- moment's losses
   abbrev pub closed : Event Q S M P × Reply Q → History Q S M P → List (List Loss)
   closed (Lost Data n, Ok (answer.Lost false)) earlier =
-      if follows n (open_run earlier) then [] else if_any (open_run earlier)
-  closed (LossesDone now, Ok given) earlier = if_any (open_run earlier)
+      if follows n (open_run earlier) then [] else open_run earlier ∷ []
+  closed (LossesDone now, Ok given) earlier = open_run earlier ∷ []
   closed happened earlier = []

@@ -6,14 +6,14 @@ use Rattle.recovery_base.specs.Spaces.{same_space}
 use Rattle.recovery_ledger.specs.Packets.{contents_or, packet_at}
 use Rattle.recovery_events.specs.declared.event.Event.TheVariants.{Send, Acked, TakePending, DiscardSpace}
 use Rattle.recovery_events.specs.declared.event.Answer.TheVariants.{Sent, Queue}
-use Rattle.quic_recovery.specs.Entries.{logs_of}
+use Rattle.quic_recovery.specs.Entries.{known_by}
 use Rattle.quic_recovery.specs.History.{Beginning, History}
-use Rattle.quic_recovery.specs.Known.{SpaceKnown, known_by}
+use Rattle.quic_recovery.specs.Known.{SpaceKnown}
 use Rattle.quic_recovery.specs.Promises.Measures.{AddsUp}
 
 module _ {F K Q S M P : Type 0} (run : Beginning F K Q S M P) (measure : P → ℕ) (space : SpaceId) where
   abbrev known : History Q S M P → SpaceKnown P M
-  known history = (known_by run (logs_of run history)).spaces space
+  known history = (known_by run history).spaces space
 
   -- what the packet of a number carries, if any
   abbrev pub carried : Option ℕ → History Q S M P → ℕ

@@ -23,20 +23,17 @@ module _ {Q S M P : Type 0} (weigh : ℕ → Bool → ℕ) where
   -- the sum over the packets that went out on a path and whose numbers are not gone, nor left since
   abbrev pub sum_on : ℕ → (SpaceId → ℕ → Bool) → History Q S M P → ℕ
   sum_on generation gone [] = 0
-  sum_on generation gone (happened ∷ earlier) =
-      (if paths_made earlier == generation then weight gone happened else 0)
+  sum_on generation gone (happened ∷ earlier) = (if paths_made earlier == generation then weight gone happened else 0)
       + sum_on generation (λ space n. leaves happened space n || gone space n) earlier
 
 module _ {Q S M P : Type 0} where
-  -- at the end of a history no number is gone yet
-  abbrev pub total : (ℕ → Bool → ℕ) → ℕ → History Q S M P → ℕ
-  total weigh generation history = sum_on weigh generation (λ space n. false) history
-
   abbrev pub IsTally : History Q S M P → Option ℕ → Reply Q → Type 0
   IsTally history None reply = reply ≡ Err NoSuchPath
   IsTally history (Some generation) reply =
-      let bytes = total (λ size eliciting. size) generation history in
-      reply ≡ Ok (answer.InFlight bytes (total (λ size eliciting. if eliciting then 1 else 0) generation history))
+      -- at the end of a history no number is gone yet
+      let none_gone : SpaceId → ℕ → Bool = λ space n. false in
+      reply ≡ Ok (answer.InFlight (sum_on (λ size eliciting. size) generation none_gone history)
+      (sum_on (λ size eliciting. if eliciting then 1 else 0) generation none_gone history))
 
   abbrev pub CountsInFlight : History Q S M P → Event Q S M P → Reply Q → Type 0
   CountsInFlight history (InFlight path) reply = IsTally history (generation_of path history) reply

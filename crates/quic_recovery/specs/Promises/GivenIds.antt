@@ -1,7 +1,7 @@
 -- Ids that the peer gave (RFC 9000, 5.1.1): the initial one under number 0, and one by each NEW_CONNECTION_ID frame
 -- that was accepted. The active one has the least number that is not retired (5.1.2).
-use Rattle.std.specs.Prelude.{ℕ, max, min, ◌==◌, nat_lt, List, [], ◌∷◌, Option, None, Some, option_map, unwrap_or, Ok, if◌then◌else◌}
-use Rattle.recovery_ids.specs.RemoteIds.{HeldId}
+use Rattle.std.specs.Prelude.{◌≡◌, ℕ, ◌≤◌, max, min, ◌==◌, nat_lt, List, [], ◌∷◌, Option, None, Some, option_map, unwrap_or, Ok, if◌then◌else◌}
+use Rattle.recovery_ids.specs.RemoteIds.{HeldId, RemoteIds, AreInWindow}
 use Rattle.recovery_events.specs.declared.event.Event.TheVariants.{NewId, NextId, InitialId}
 use Rattle.recovery_events.specs.declared.event.Answer.TheVariants.{Retire}
 use Rattle.quic_recovery.specs.History.{History}
@@ -35,3 +35,16 @@ module _ {Q S M P : Type 0} where
   -- the number of the active id
   abbrev pub active_id : History Q S M P → ℕ
   active_id history = unwrap_or (least_from (retired_below history) history) 0
+
+  -- the ids that are held: those that were given from the active one on
+  abbrev pub ids_held : List ℕ → History Q S M P → RemoteIds
+  ids_held initial history = record {
+    active = active_id history;
+    held = λ n. if nat_lt n (active_id history) then None else id_under initial n history;
+  }
+
+  -- these are held; the active one is held and the least, and all lie among eight numbers from it on
+  pub record AreHeld (initial : List ℕ) (history : History Q S M P) (ids : RemoteIds) : Type 0 where
+    pub held : (n : ℕ) → retired_below history ≤ n → ids.held n ≡ id_under initial n history
+    pub retired : retired_below history ≤ ids.active
+    pub window : AreInWindow ids

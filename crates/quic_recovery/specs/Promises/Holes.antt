@@ -1,8 +1,9 @@
 -- Black holes (RFC 8899, 4.3): a report needs four bursts of losses of large packets that no acknowledgement refuted,
 -- and it comes at four since the first of which no large packet was acknowledged, though small ones may be.
-use Rattle.std.specs.Prelude.{◌≡◌, ℕ, ◌≤◌, nat_lt, true, ◌||◌, List, [], ◌∷◌, ◌++◌, length, filter, Ok, if◌then◌else◌}
+use Rattle.std.specs.Prelude.{◌≡◌, ℕ, ◌≤◌, nat_lt, true, ◌||◌, List, [], ◌∷◌, ◌++◌, drop, length, filter, Ok, if◌then◌else◌}
+use Rattle.std.specs.List.{list_any}
 use Rattle.recovery_base.specs.declared.below.SpaceId.TheVariants.{Data}
-use Rattle.recovery_mtud.specs.BurstRuns.{Loss, from_first, if_any, is_above, is_past}
+use Rattle.recovery_mtud.specs.BurstRuns.{Loss, is_above, is_past}
 use Rattle.recovery_events.specs.declared.event.Event.{Event}
 use Rattle.recovery_events.specs.declared.event.Event.TheVariants.{Acked, LossesDone, NewPath}
 use Rattle.recovery_events.specs.declared.event.Answer.TheVariants as answer
@@ -35,12 +36,11 @@ module _ {Q S M P : Type 0} where
   larger_acked size ((NewPath now remote true, Ok given) ∷ earlier) = []
   larger_acked size (happened ∷ earlier) = larger_acked size earlier
 
-  -- bursts count whose packets are all above the least MTU; of those that force a report the first ends past each such
-  -- number
+  -- bursts count whose packets are all above the least MTU; a report is forced by one that ends past each such number
+  -- with three behind it
   abbrev pub ReportsAtFour : ℕ → History Q S M P → Event Q S M P → Reply Q → Type 0
   ReportsAtFour least history (LossesDone now) reply =
-      let now_closed = if_any (open_run history) in
-      let bursts = filter (is_above least) (now_closed ++ unanswered least history) in
-      (reply ≡ Ok (answer.BlackHole true) → 4 ≤ length (filter (is_above least) (now_closed ++ standing history)))
-      × (4 ≤ length (from_first (is_past (larger_acked least history)) bursts) → reply ≡ Ok (answer.BlackHole true))
+      let bursts = filter (is_above least) (open_run history ∷ unanswered least history) in
+      (reply ≡ Ok (answer.BlackHole true) → 4 ≤ length (filter (is_above least) (open_run history ∷ standing history)))
+      × (list_any (is_past (larger_acked least history)) (drop 3 bursts) ≡ true → reply ≡ Ok (answer.BlackHole true))
   ReportsAtFour least history event reply = Unit {0}

@@ -1,36 +1,30 @@
 -- The MTU in use (RFC 8899, 5; RFC 9000, 14.3): the size of the last probe acknowledged, unless it was lowered since.
-use Rattle.std.specs.Prelude.{◌≡◌, ℕ, min, Bool, true, Option, None, Some, [], ◌∷◌, Ok, is_some, if◌then◌else◌}
+use Rattle.std.specs.Prelude.{◌≡◌, ℕ, min, Bool, true, None, Some, [], ◌∷◌, Ok, is_some, if◌then◌else◌}
 use Rattle.std.specs.Option.{ForSome}
 use Rattle.recovery_config.specs.Settings.{initial_mtu_of}
 use Rattle.recovery_mtud.specs.Discovery.{limit_or_greatest, within}
 use Rattle.recovery_events.specs.declared.event.Event.{Event}
 use Rattle.recovery_events.specs.declared.event.Event.TheVariants.{Acked, LossesDone, PeerLimit, ResetPath, NewPath}
 use Rattle.recovery_events.specs.declared.event.Answer.TheVariants as answer
-use Rattle.quic_recovery.specs.Entries.{logs_of}
 use Rattle.quic_recovery.specs.History.{Beginning, History, Reply}
-use Rattle.quic_recovery.specs.Known.{known_by}
+use Rattle.quic_recovery.specs.Entries.{known_by}
+use Rattle.quic_recovery.specs.Plain.{limit}
 use Rattle.quic_recovery.specs.Promises.Probes.{last_probe}
 use Rattle.quic_recovery.specs.Search.{discovery_settings}
 
-module _ {Q S M P : Type 0} where
-  -- the largest size that the peer takes, as it told last
-  abbrev pub limit : History Q S M P → Option ℕ
-  limit [] = None
-  limit ((PeerLimit size, Ok given) ∷ earlier) = Some size
-  limit (happened ∷ earlier) = limit earlier
-
+module _ {Q S M P : Type 0} (searched : Bool) (first least : ℕ) where
   -- paths begin with the first MTU, and a report leaves the least; where paths are not searched, no limit is kept
-  abbrev pub mtu : Bool → ℕ → ℕ → History Q S M P → ℕ
-  mtu searched first least [] = first
-  mtu searched first least ((Acked space now number app_limited, Ok (answer.Acked true)) ∷ earlier) = last_probe earlier
-  mtu searched first least ((PeerLimit size, Ok given) ∷ earlier) = min (mtu searched first least earlier) size
-  mtu searched first least ((LossesDone now, Ok (answer.BlackHole true)) ∷ earlier) = least
-  mtu searched first least ((ResetPath now, Ok given) ∷ earlier) =
+  abbrev pub mtu : History Q S M P → ℕ
+  mtu [] = first
+  mtu ((Acked space now number app_limited, Ok (answer.Acked true)) ∷ earlier) = (last_probe earlier).1
+  mtu ((PeerLimit size, Ok given) ∷ earlier) = min (mtu earlier) size
+  mtu ((LossesDone now, Ok (answer.BlackHole true)) ∷ earlier) = least
+  mtu ((ResetPath now, Ok given) ∷ earlier) =
       within first (if searched then Some (limit_or_greatest (limit earlier)) else None)
-  mtu searched first least ((NewPath now remote true, Ok given) ∷ earlier) =
-      within first (if searched then limit earlier else None)
-  mtu searched first least (happened ∷ earlier) = mtu searched first least earlier
+  mtu ((NewPath now remote true, Ok given) ∷ earlier) = within first (if searched then limit earlier else None)
+  mtu (happened ∷ earlier) = mtu earlier
 
+module _ {Q S M P : Type 0} where
   -- the history up to the move to the path in use
   abbrev pub before_move : History Q S M P → History Q S M P
   before_move [] = []
@@ -45,6 +39,6 @@ module _ {F K Q S M P : Type 0} (run : Beginning F K Q S M P) where
   -- after an event the path in use has it, and so has the one before, where it lives, that of when it was left
   abbrev pub UsesMtu : History Q S M P → Event Q S M P → Reply Q → Type 0
   UsesMtu history event reply =
-      let now = (event, reply) ∷ history in let paths = (known_by run (logs_of run now)).paths in
+      let now = (event, reply) ∷ history in let paths = (known_by run now).paths in
       (paths.current.state.discovery.mtu ≡ mtu_in_use now)
       × ForSome paths.previous (λ path. path.state.discovery.mtu ≡ mtu_in_use (before_move now))

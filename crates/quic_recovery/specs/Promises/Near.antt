@@ -1,29 +1,28 @@
 -- The end of a search for the MTU (RFC 8899, 5.3): over a link that carries the sizes up to one, it is near the best.
-use Rattle.std.specs.Prelude.{◌≡◌, ℕ, ◌+◌, ◌*◌, ◌<◌, ◌≤◌, min, max, All, true, false, not, ◌&&◌, ◌||◌, Option, None, Some, [], ◌∷◌, Ok, if◌then◌else◌}
+use Rattle.std.specs.Prelude.{◌≡◌, ℕ, ◌+◌, ◌*◌, ◌<◌, ◌≤◌, min, max, All, true, false, not, ◌&&◌, ◌||◌, nat_le, [], ◌∷◌, Ok, if◌then◌else◌}
 use Rattle.recovery_config.specs.Settings.{initial_mtu_of}
 use Rattle.recovery_mtud.specs.declared.config.MtuDiscoveryConfig.{MtuDiscoveryConfig}
 use Rattle.recovery_mtud.specs.Discovery.{limit_or_greatest}
 use Rattle.recovery_mtud.specs.Search.{later}
-use Rattle.recovery_mtud.specs.SearchRuns.{is_due}
 use Rattle.recovery_events.specs.declared.event.Event.{Event}
 use Rattle.recovery_events.specs.declared.event.Event.TheVariants.{PollMtu, LossesDone}
 use Rattle.recovery_events.specs.declared.event.Answer.TheVariants as answer
 use Rattle.quic_recovery.specs.History.{Beginning, History, Reply}
 use Rattle.quic_recovery.specs.Promises.Few.{begins_anew, is_in_flight}
-use Rattle.quic_recovery.specs.Promises.Mtu.{limit, mtu}
+use Rattle.quic_recovery.specs.Plain.{limit}
+use Rattle.quic_recovery.specs.Promises.Mtu.{mtu}
 use Rattle.quic_recovery.specs.Promises.Probes.{acked_probes, lost_probes, runs}
 use Rattle.quic_recovery.specs.Search.{WhereSearched}
 
 module _ {Q S M P : Type 0} where
-  -- a poll begins a search where none runs: the first poll, and one at or after this moment
-  abbrev pub next : MtuDiscoveryConfig → History Q S M P → Option ℕ
-  next settings [] = None
+  -- where no search runs, a poll begins one from this moment on
+  abbrev pub next : MtuDiscoveryConfig → History Q S M P → ℕ
+  next settings [] = 0
   next settings ((PollMtu now, Ok answer.NoProbe) ∷ earlier) =
-      let last = next settings earlier in
-      let ends = not (is_in_flight earlier) && (runs earlier || is_due last now) in
-      if ends then Some (later now settings.interval) else last
-  next settings ((LossesDone now, Ok (answer.BlackHole true)) ∷ earlier) = Some (later now settings.black_hole_cooldown)
-  next settings (happened ∷ earlier) = if begins_anew happened then None else next settings earlier
+      let ends = not (is_in_flight earlier) && (runs earlier || nat_le (next settings earlier) now) in
+      if ends then later now settings.interval else next settings earlier
+  next settings ((LossesDone now, Ok (answer.BlackHole true)) ∷ earlier) = later now settings.black_hole_cooldown
+  next settings (happened ∷ earlier) = if begins_anew happened then 0 else next settings earlier
 
   module _ (first least : ℕ) where
     -- what was in use before the first probe of the search that runs
@@ -34,8 +33,7 @@ module _ {Q S M P : Type 0} where
 
     -- where what was in use at first and each probe acknowledged fit the link, and each lost one does not
     abbrev pub IsNear : MtuDiscoveryConfig → ℕ → History Q S M P → Type 0
-    IsNear settings link history =
-        start history ≤ link
+    IsNear settings link history = start history ≤ link
         → All (λ size. size ≤ link) (acked_probes history) → All (λ size. link < size) (lost_probes history)
         → let best = min link (min (max settings.upper_bound (start history)) (limit_or_greatest (limit history))) in
         (mtu true first least history ≤ link) × (best < mtu true first least history + 2 * settings.minimum_change)
@@ -45,6 +43,6 @@ module _ {F K Q S M P : Type 0} (beginning : Beginning F K Q S M P) where
   abbrev pub EndsNearBy : History Q S M P → Event Q S M P → Reply Q → Type 0
   EndsNearBy history (PollMtu now) (Ok answer.NoProbe) =
       WhereSearched beginning (λ settings. is_in_flight history ≡ false
-      → (runs history || is_due (next settings history) now) ≡ true → (link : ℕ)
+      → (runs history || nat_le (next settings history) now) ≡ true → (link : ℕ)
       → IsNear (initial_mtu_of beginning.config.transport) beginning.config.transport.min_mtu settings link history)
   EndsNearBy history event reply = Unit {0}

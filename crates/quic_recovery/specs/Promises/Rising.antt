@@ -8,10 +8,7 @@ use Rattle.quic_recovery.specs.Promises.Fates.{times, is_given}
 use Rattle.quic_recovery.specs.Promises.Tracked.{goes_out}
 
 module _ {Q S M P : Type 0} where
-  -- neither the number nor one above it was given out in the space
-  abbrev pub IsAbove : SpaceId → ℕ → History Q S M P → Type 0
-  IsAbove space number history = (n : ℕ) → number ≤ n → times (is_given space n) history ≡ 0
-
+  -- neither the number nor one above it was given out in the space before
   abbrev pub GivesRising : History Q S M P → Event Q S M P → Reply Q → Type 0
   GivesRising history event reply = (space : SpaceId) (number : ℕ) → goes_out (event, reply) space number ≡ true
-      → (number < 2 ^ 62) × IsAbove space number history
+      → (number < 2 ^ 62) × ((n : ℕ) → number ≤ n → times (is_given space n) history ≡ 0)

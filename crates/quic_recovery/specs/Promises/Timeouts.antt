@@ -1,6 +1,6 @@
 -- Timers (RFC 9002, 6.2 and A.3): each is set to the moment that it was last set to, unless it was stopped since; the
 -- next timeout is the least of these.
-use Rattle.std.specs.Prelude.{◌≡◌, ℕ, min, List, [], ◌∷◌, map, Option, None, Some, Ok, if◌then◌else◌}
+use Rattle.std.specs.Prelude.{◌≡◌, ℕ, min, List, [], ◌∷◌, map, Option, None, Some, option_map, unwrap_or, Ok, if◌then◌else◌}
 use Rattle.recovery_base.specs.declared.timer.Timer.{Timer}
 use Rattle.recovery_base.specs.declared.timer.Timer.TheVariants.{LossDetection, Idle, Close, KeyDiscard, PathValidation, KeepAlive, Pacing, PushNewCid, MaxAckDelay}
 use Rattle.recovery_base.specs.Timers.{same_timer}
@@ -13,16 +13,11 @@ abbrev pub every_timer : List Timer
 every_timer = LossDetection ∷ Idle ∷ Close ∷ KeyDiscard ∷ PathValidation ∷ KeepAlive ∷ Pacing ∷ PushNewCid ∷ MaxAckDelay
     ∷ []
 
--- the earlier of a moment and another, where there is one
-abbrev pub earlier_of : ℕ → Option ℕ → ℕ
-earlier_of moment None = moment
-earlier_of moment (Some other) = min moment other
-
 -- the least of the moments that are there
 abbrev pub least : List (Option ℕ) → Option ℕ
 least [] = None
 least (None ∷ moments) = least moments
-least (Some moment ∷ moments) = Some (earlier_of moment (least moments))
+least (Some moment ∷ moments) = Some (unwrap_or (option_map (min moment) (least moments)) moment)
 
 module _ {Q S M P : Type 0} where
   -- the moment that a timer is set to

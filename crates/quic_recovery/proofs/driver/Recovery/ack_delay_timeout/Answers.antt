@@ -14,7 +14,7 @@ invariant_of-self g c =
     record {
       balanced = kept c.args.self.now.spaces c.args.self.now.paths balanced c.args.space _ (ap packets_of there)
           (coherent_kept (space_of c.args.space c.args.self.now.spaces) _ (balanced.coherent c.args.space)
-          (λ n is. came n (sym (ap (λ (a : Acks). a.greatest) c.on_max_ack_delay_timeout.ensures.requires_one)
+          (λ n is. came n (sym (ap (λ (a : Acks). a.counts.greatest) c.on_max_ack_delay_timeout.ensures.requires_one)
           ∙ is)) (ap tracking_of there) (ap next_number_of there));
       limited = c.args.self.now.limited;
     }

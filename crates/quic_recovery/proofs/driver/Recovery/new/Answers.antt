@@ -1,11 +1,9 @@
 use Rattle.std.proofs.Common.{◌<◌, ◌^◌, rules, [], refl}
 use Rattle.std.proofs.lemmas.Option.{none-some}
 use Rattle.recovery_base.specs.declared.below.SpaceId.{SpaceId}
-use Rattle.recovery_ids.proofs.LocalLogLaws.{local_ids_first}
 use Rattle.recovery_ledger.specs.Spaces.{space_of, SpaceLeft}
 use Rattle.recovery_ledger.proofs.SpaceLaws.{fresh_space}
 use Rattle.quic_recovery.specs.History.{begins, queue_meaning}
-use Rattle.quic_recovery.specs.Known.{first_ids, no_logs}
 use Rattle.quic_recovery.proofs.AboveLaws.{beside_made, fresh_first}
 use Rattle.quic_recovery.proofs.LeftLaws.{balanced_first, in_flight_law, paths_first}
 use Rattle.quic_recovery.proofs.SearchLaws.{bound_in, where_allowed}
@@ -13,8 +11,8 @@ use Rattle.quic_recovery.proofs.driver.Recovery.new.Goals as goal
 
 pub invariant_of-result : goal.invariant_of-result
 invariant_of-result g c = record {
-  balanced = balanced_first c.new-2.result c.first_path.result c.new-4.result c.new-4.ensures c.new-2.ensures.packets
-      c.new-2.ensures.acks c.first_path.ensures.ledger;
+  balanced = balanced_first c.new-2.result c.first_path.result c.new-4.result c.new-4.ensures c.new-2.ensures
+      c.first_path.ensures.ledger;
   limited = λ limit is. absurd (none-some limit is);
 }
 
@@ -26,26 +24,24 @@ returns-clause-left g c =
     let beginning = begins g.F.ControllerFactory.built g.F.Controller.Controller.words queues c.args.config c.args.now
     random in
     let made = c.new-2.ensures in
-    let balanced = balanced_first c.new-2.result c.first_path.result c.new-4.result c.new-4.ensures made.packets
-    made.acks c.first_path.ensures.ledger in
+    let balanced = balanced_first c.new-2.result c.first_path.result c.new-4.result c.new-4.ensures made
+    c.first_path.ensures.ledger in
     let spaces : (space : SpaceId) → SpaceLeft words c.args.now [] (space_of space c.new-2.result) = λ space.
-    fresh_space words c.args.now _ (made.numbers space) (made.acks space) (made.packets space) (made.next space)
-    (made.received space) (made.kept space) (made.queued space) in
+    fresh_space words c.args.now _ (made space) in
     record {
       settings = refl;
       spaces = spaces;
-      beside = λ space. beside_made _ _ _ (made.ecn space) (made.loss_time space) (made.crypto_offset space);
+      beside = λ space. beside_made _ _ _ (made space).ecn (made space).loss_time (made space).crypto_offset;
       discarded = search rules;
       skipping = c.with_skips-filter.ensures;
       paths = paths_first beginning c.first_path.result c.new-4.result c.new-4.ensures c.first_path.ensures.ledger
           (c.first_path.ensures.state random);
-      limits = refl;
-      in_flight = in_flight_law beginning no_logs c.new-2.result c.new-4.result spaces balanced;
+      peer_limit = refl;
+      in_flight = in_flight_law beginning [] c.new-2.result c.new-4.result spaces balanced;
       frequency = c.new-5.ensures;
       timers = search rules;
-      remote_ids = record { same = search rules; window = search rules };
-      local_ids = local_ids_first (first_ids beginning) c.in_ok-local_cid_state.local_cid_state
-          c.in_ok-local_cid_state.ensures.ids;
+      remote_ids = search rules;
+      local_ids = c.in_ok-local_cid_state.ensures.ids;
     }
 
 -- by no event; the upper bound of a search is a `u16`

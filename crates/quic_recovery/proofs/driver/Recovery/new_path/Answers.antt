@@ -22,6 +22,7 @@ returns-in-Err g c =
     record {
       told = ((λ most. absurd (omega (arith, most, room))), search (rules, c.if-fresh.false));
       steps = nothing_changes g.Q.RetransmitQueue.words (parts_of now) (parts_of now) refl;
+      plain = refl;
       marks = sym (marks_refused event NoMemory (paths_marks now.paths));
       refused = refl;
     }

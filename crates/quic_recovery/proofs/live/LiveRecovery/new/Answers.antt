@@ -1,4 +1,4 @@
-use Rattle.quic_recovery.specs.Past.{no_past}
+use Rattle.std.proofs.Common.{[]}
 use Rattle.quic_recovery.proofs.live.LiveRecovery.new.Goals as goal
 
 pub invariant_of-result : goal.invariant_of-result
@@ -7,7 +7,7 @@ invariant_of-result g c = record {
     config = c.args.config;
     start = c.args.now;
     random = g.R.Rng.stream c.args.rng;
-    past = no_past;
+    past = [];
     came = c.in_ok-recovery.ensures.came;
   } ∣₁;
 }

@@ -5,6 +5,6 @@ pub returns-clause-inserts : goal.returns-clause-inserts
 returns-clause-inserts c = rw (← c.self.view_is) (record {
   pending = c.in_ok-insert.ensures.pending;
   some = c.in_ok-insert.ensures.some;
-  largest = c.larger.ensures;
-  others = (refl, refl, refl, refl, refl, refl, refl, refl);
+  counts = rw c.larger.ensures refl;
+  others = (refl, refl);
 })

@@ -1,6 +1,7 @@
-use Rattle.std.proofs.Common.{refl, sym, subst, arith}
+use Rattle.std.proofs.Common.{refl, sym, ap, subst, arith}
 use Rattle.recovery_base.proofs.MissingLaws.{has_greatest}
 use Rattle.recovery_base.specs.Received.{Has}
+use Rattle.recovery_acks.specs.Acks.{AckCounts}
 use Rattle.recovery_ledger.specs.Spaces.{Space, HasGreatestCome}
 use Rattle.recovery_ledger.proofs.AckLaws.{arms, hears, still_reached}
 use Rattle.recovery_ledger.proofs.spaces.PacketSpace.receive.Goals as goal
@@ -8,7 +9,8 @@ use Rattle.recovery_ledger.proofs.spaces.PacketSpace.receive.Goals as goal
 pub packet_received-arm-requires-clause-earlier : goal.packet_received-arm-requires-clause-earlier
 packet_received-arm-requires-clause-earlier g c =
     still_reached (Has c.self.inside.dedup) (Has c.insert.new.self) c.args.number (has_greatest c.self.inside.dedup)
-    (has_greatest c.insert.new.self) c.insert.ensures.inserts.numbers _ _ c.in-Ok.ensures.inserts.others.6
+    (has_greatest c.insert.new.self) c.insert.ensures.inserts.numbers _ _
+    (ap (λ (counts : AckCounts). counts.greatest) c.in-Ok.ensures.inserts.counts)
     (subst (λ (s : Space _ _). HasGreatestCome s) (sym c.self.view_is) c.requires.received)
 
 pub returns-clause-step : goal.returns-clause-step

@@ -1,0 +1,162 @@
+-- The parts of which no log is kept, one event at a time: what they hold is what the history says. `LeftLaws` rest on
+-- it.
+use Rattle.std.proofs.Common.{arith, ◌≡◌, ℕ, true, List, ◌∷◌, Ok, Err, refl, ap}
+use Rattle.recovery_base.specs.declared.below.SpaceId.{SpaceId}
+use Rattle.recovery_base.specs.declared.timer.Timer.{Timer}
+use Rattle.recovery_base.specs.Timers.{moment}
+use Rattle.recovery_congestion.specs.Controllers.{ControllerWords}
+use Rattle.recovery_ids.specs.LocalIds.{LocalIds}
+use Rattle.recovery_ids.specs.RemoteIds.{RemoteIds}
+use Rattle.recovery_ledger.specs.Acks.{Heard}
+use Rattle.recovery_ledger.specs.Discarded.{is_discarded}
+use Rattle.recovery_events.specs.declared.event.Event.{Event}
+use Rattle.recovery_events.specs.declared.event.Event.TheVariants.{AckFrequencyIn, DiscardSpace, IdTimeout, InitialId, IssueIds, NewId, NextId, NextTimeout, PeerLimit, PeerRetired, SetTimer, StopTimer}
+use Rattle.recovery_events.specs.declared.event.Answer.{Answer}
+use Rattle.recovery_events.specs.declared.event.Answer.TheVariants.{Done, Flag}
+use Rattle.recovery_events.specs.declared.event.Refusal.TheVariants.{DelayTooSmall, NoMemory}
+use Rattle.quic_recovery.specs.History.{Beginning, History, QueueMeaning, Reply}
+use Rattle.quic_recovery.specs.IdReplies.{FrameReply}
+use Rattle.quic_recovery.specs.Known.{Known}
+use Rattle.quic_recovery.specs.Plain.{Plain, PlainStep, frequency_by, limit, own_ids}
+use Rattle.quic_recovery.specs.Promises.GivenIds.{AreHeld, id_under, retired_below}
+use Rattle.quic_recovery.specs.Promises.NewNumbers.{is_discarded as was_discarded}
+use Rattle.quic_recovery.specs.Promises.Timeouts.{TellsTimers, moment_of}
+use Rattle.quic_recovery.specs.Replies.{AlwaysAnswers}
+use Rattle.quic_recovery.specs.Told.{Told, ToldBy}
+use Rattle.quic_recovery.proofs.PeerIdsLaws.{frame_step, next_step, initial_step}
+
+module _ {K Q S M P : Type 0} (q : QueueMeaning Q S M P) (words : ControllerWords K) (heard : SpaceId → Heard)
+    (known : Known K P M) (first : ℕ) (initial : List ℕ) (own : LocalIds) where
+  abbrev pub PlainLeft : History Q S M P → Plain → Type 0
+  PlainLeft history plain =
+      ((space : SpaceId) → is_discarded space plain.discarded ≡ was_discarded space history)
+      × (plain.frequency ≡ frequency_by first history)
+      × ((kind : Timer) → moment kind plain.timers ≡ moment_of history kind)
+      × (plain.peer_limit ≡ limit history)
+      × AreHeld initial history plain.remote_ids
+      × (plain.local_ids ≡ own_ids own history)
+
+  -- the ids of the peer, after an event that is nothing to them
+  stays_held : (history after : History Q S M P) (ids : RemoteIds) → retired_below after ≡ retired_below history
+      → ((n : ℕ) → id_under initial n after ≡ id_under initial n history) → AreHeld initial history ids
+      → AreHeld initial after ids
+  stays_held history after ids retired under held = record {
+    held = λ n above. grind (arith, retired, above, held.held n, under n);
+    retired = grind (arith, retired, held.retired);
+    window = held.window;
+  }
+
+  pub plain_after : (history : History Q S M P) (event : Event Q S M P) (reply : Reply Q) (old new : Plain)
+      → PlainLeft history old → known.remote_ids ≡ old.remote_ids → ToldBy q words heard known event reply
+      → PlainStep event reply old new → PlainLeft ((event, reply) ∷ history) new
+  plain_after history (SetTimer timer time) (Ok answer) old new left is told step =
+      rw step.1 (
+        left.0,
+        left.1,
+        (λ kind. grind (arith, step.0 kind, left.2 kind)),
+        left.3,
+        stays_held _ _ _ refl (λ n. refl) left.4,
+        left.5,
+      )
+  plain_after history (StopTimer timer) (Ok answer) old new left is told step =
+      rw step.1 (
+        left.0,
+        left.1,
+        (λ kind. grind (arith, step.0 kind, left.2 kind)),
+        left.3,
+        stays_held _ _ _ refl (λ n. refl) left.4,
+        left.5,
+      )
+  plain_after history (DiscardSpace there) (Ok answer) old new left is told step =
+      rw step.1 (
+        (λ space. grind (arith, step.0 space, left.0 space)),
+        left.1,
+        left.2,
+        left.3,
+        stays_held _ _ _ refl (λ n. refl) left.4,
+        left.5,
+      )
+  plain_after history (AckFrequencyIn frame) (Ok (Flag true)) old new left is told step =
+      rw step (
+        left.0,
+        grind (arith, left.1),
+        left.2,
+        left.3,
+        stays_held _ _ _ refl (λ n. refl) left.4,
+        left.5,
+      )
+  plain_after history (AckFrequencyIn frame) (Err DelayTooSmall) old new left is told step =
+      rw step (
+        left.0,
+        grind (arith, left.1),
+        left.2,
+        left.3,
+        stays_held _ _ _ refl (λ n. refl) left.4,
+        left.5,
+      )
+  plain_after history (NewId frame) (Ok answer) old new left is told step =
+      let reply : Type 0 = FrameReply old.remote_ids frame (Ok answer) in
+      let here : reply = rw is at told in
+      let held = frame_step initial history old.remote_ids left.4 frame answer here in
+      rw step.1 (left.0, left.1, left.2, left.3, rw step.0.same held, left.5)
+  plain_after history NextId (Ok answer) old new left is told step =
+      let held = next_step initial history old.remote_ids left.4 answer (rw is at told) in
+      rw step.1 (left.0, left.1, left.2, left.3, rw step.0.same held, left.5)
+  plain_after history (InitialId id) (Ok answer) old new left is told step =
+      let held = initial_step initial history old.remote_ids left.4 id answer (rw is at told) in
+      rw step.1 (left.0, left.1, left.2, left.3, rw step.0.same held, left.5)
+  plain_after history (IssueIds now ids) (Ok answer) old new left is told step =
+      rw (step, left.5) (
+        left.0,
+        left.1,
+        left.2,
+        left.3,
+        stays_held _ _ _ refl (λ n. refl) left.4,
+        refl,
+      )
+  plain_after history IdTimeout (Ok answer) old new left is told step =
+      rw (step, left.5) (
+        left.0,
+        left.1,
+        left.2,
+        left.3,
+        stays_held _ _ _ refl (λ n. refl) left.4,
+        refl,
+      )
+  plain_after history (PeerRetired sequence limit) (Ok answer) old new left is told step =
+      rw (step, left.5) (
+        left.0,
+        left.1,
+        left.2,
+        left.3,
+        stays_held _ _ _ refl (λ n. refl) left.4,
+        refl,
+      )
+  plain_after history (PeerLimit size) (Ok answer) old new left is told step =
+      rw step (left.0, left.1, left.2, refl, stays_held _ _ _ refl (λ n. refl) left.4, left.5)
+  plain_after history event reply old new left is told step =
+      rw step (
+        left.0,
+        left.1,
+        left.2,
+        left.3,
+        stays_held _ _ _ refl (λ n. refl) left.4,
+        left.5,
+      )
+
+-- ---- what is told of timers: the clause `timers` of `run`
+
+always : {Q : Type 0} (given : Answer Q) (reply : Reply Q) → AlwaysAnswers (λ answer. answer ≡ given) reply
+    → reply ≡ Ok given
+always given (Ok answer) told = ap Ok told
+always given (Err NoMemory) told = absurd told
+always given (Err refusal) told = absurd told
+
+module _ {F K Q S M P : Type 0} (beginning : Beginning F K Q S M P) where
+  -- what an event is told, it is told of timers
+  pub timers_told : (history : History Q S M P) (event : Event Q S M P) (reply : Reply Q)
+      → Told beginning history event reply → TellsTimers history event reply
+  timers_told history NextTimeout reply told = always _ reply told
+  timers_told history (SetTimer timer time) reply told = always Done reply told
+  timers_told history (StopTimer timer) reply told = always Done reply told
+  timers_told history event reply told = tt
