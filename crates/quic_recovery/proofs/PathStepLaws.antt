@@ -21,10 +21,11 @@ use Rattle.recovery_paths.specs.PathLog.{OfPaths, PathKnown, path_known, paths_k
 use Rattle.recovery_paths.specs.PathStates.{Path, on_state, with_discovery}
 use Rattle.recovery_events.specs.declared.event.Event.TheVariants.{DiscardSpace, PollMtu, Send}
 use Rattle.recovery_events.specs.declared.event.Answer.{Answer}
+use Rattle.recovery_congestion.specs.Calls.{sends as sends_bytes}
 use Rattle.recovery_events.specs.declared.event.Answer.TheVariants.{Done, Sent, Probe}
 use Rattle.recovery_events.specs.declared.event.Refusal.{Refusal}
 use Rattle.recovery_events.specs.declared.event.Refusal.TheVariants.{NoMemory, NumberTooLarge, NumbersExhausted, SpaceDiscarded, Overflow}
-use Rattle.quic_recovery.specs.Entries.{sending, sent_call}
+use Rattle.quic_recovery.specs.Entries.{sending}
 use Rattle.quic_recovery.specs.History.{QueueMeaning}
 use Rattle.quic_recovery.specs.Known.{Known, current_in_flight, number_in, packet_now}
 use Rattle.quic_recovery.specs.Parts.{Parts}
@@ -157,7 +158,7 @@ module _ {K Q S M P : Type 0} (q : QueueMeaning Q S M P) (old then : Parts K P M
       let steps = subst Sending carries_nothing sent.steps in
       let fits = sent.told.1.1.1 in
       let told : OfPaths (PathKnown K) = paths_after (known_with old.settings) (known_following old.settings)
-      (on_current (tells (sent_call known Data now size)) ∷ []) (paths_known old.paths) in
+      (on_current (tells (sends_bytes now size (number_in known Data))) ∷ []) (paths_known old.paths) in
       let seen : Discovery → OfPaths (PathKnown K) → OfPaths (PathKnown K) = λ found all. record all
       { current = record all.current { state = with_discovery found all.current.state } } in
       record {

@@ -7,8 +7,8 @@ use Rattle.std.proofs.lemmas.Bool.Decides.{nat_tests, Decides-ltb}
 use Rattle.std.proofs.lemmas.Slice.Eq.{bytes_eq-Decides}
 use Rattle.recovery_base.specs.declared.below.ids.NewConnectionId.{NewConnectionId}
 use Rattle.recovery_ids.specs.RemoteIds.{HeldId, Table, RemoteIds, IsLeastHeld, Repeats, active_connection_id_limit, with_id, with_frame, without_id}
-use Rattle.recovery_ids.specs.RemoteLog.{given, used, replaced, remote_ids_with}
-use Rattle.recovery_ids.proofs.RemoteLogLaws.{gives, uses, uses_none, replaces}
+use Rattle.recovery_ids.specs.RemoteStep.{given, used, replaced, remote_ids_with}
+use Rattle.recovery_ids.proofs.RemoteStepLaws.{gives, uses, uses_none, replaces}
 use Rattle.recovery_events.specs.declared.event.Event.{Event}
 use Rattle.recovery_events.specs.declared.event.Event.TheVariants.{NewId, NextId, InitialId}
 use Rattle.recovery_events.specs.declared.event.Answer.{Answer}

@@ -49,10 +49,6 @@ on_path entry = record nothing { paths = entry ∷ [] }
 module _ {K P M : Type 0} (known : Known K P M) where
   -- ---- what the controller of the path in use is told (RFC 9002, 7)
 
-  -- a packet that goes out, under the next number of its space
-  abbrev pub sent_call : SpaceId → ℕ → ℕ → ControllerCall
-  sent_call space now size = sends_bytes now size (number_in known space)
-
   -- an acknowledged packet, where it was tracked, went out on the path and elicits an ACK
   abbrev pub acked_entry : ℕ → Bool → Option (Packet P M) → List PathsEntry
   acked_entry now app_limited None = []
@@ -89,7 +85,8 @@ module _ {K P M : Type 0} (known : Known K P M) where
   abbrev pub sending : SpaceId → ℕ → ℕ → Bool → Option ℕ → P → M → Entries P M
   sending space now size eliciting largest contents frames =
       let packet = packet_now known now size eliciting largest contents frames in
-      happens space (sends (number_in known space) packet) (on_current (tells (sent_call space now size)) ∷ [])
+      let number = number_in known space in
+      happens space (sends number packet) (on_current (tells (sends_bytes now size number)) ∷ [])
 
   -- what a probe finds in a space (RFC 9002, 6.2.4)
   abbrev pub found_in : {S : Type 0} → QueueWords P S → S → SpaceId → ProbeFound
@@ -135,7 +132,7 @@ module _ {K Q S M P : Type 0} (q : QueueMeaning Q S M P) (known : Known K P M) w
   answered (PollMtu now) (Probe number size) =
       record (sending known Data now size true None q.words.empty q.blank) {
         paths = searched known false (polls now number)
-            ++ on_current (tells (sent_call known Data now size)) ∷ [];
+            ++ on_current (tells (sends_bytes now size (number_in known Data))) ∷ [];
       }
   answered (PollMtu now) answer = record nothing { paths = searched known false (polls now known.next_number) }
   answered (PeerLimit size) answer = record nothing { paths = searched known false (is_limited size) }
@@ -157,10 +154,8 @@ module _ {K Q S M P : Type 0} (q : QueueMeaning Q S M P) (known : Known K P M) w
 -- ---- the logs of all parts
 
 abbrev pub logs_with : {P M : Type 0} → Entries P M → Logs P M → Logs P M
-logs_with entries logs = record {
-  spaces = λ space. onto (entries.spaces space) (logs.spaces space);
-  paths = entries.paths ++ logs.paths;
-}
+logs_with entries logs =
+    record { spaces = λ space. onto (entries.spaces space) (logs.spaces space); paths = entries.paths ++ logs.paths }
 
 -- the logs of a history: what each event was, by what the logs before it know
 abbrev pub logs_of : {F K Q S M P : Type 0} → Beginning F K Q S M P → History Q S M P → Logs P M

@@ -29,8 +29,7 @@ IsFrameAnswer ids frame answer = ⊥
 
 -- why a frame is refused, and what it is answered (19.15)
 abbrev pub FrameReply : {Q : Type 0} → RemoteIds → NewConnectionId → Reply Q → Type 0
-FrameReply ids frame =
-    Refuses NumberTooLarge (2 ^ 62 ≤ frame.sequence)
+FrameReply ids frame = Refuses NumberTooLarge (2 ^ 62 ≤ frame.sequence)
     (Refuses BadRetirePriorTo (frame.sequence < frame.retire_prior_to)
     (Refuses Retired (frame.sequence < ids.active)
     (Refuses ExceedsLimit (max ids.active frame.retire_prior_to + active_connection_id_limit ≤ frame.sequence)
@@ -49,14 +48,12 @@ IsNextAnswer ids answer = ⊥
 -- ids are issued in the order of their numbers, which go on from the count issued and end below 2^62; only where there
 -- are ids is memory taken
 abbrev pub IssueReply : {Q : Type 0} → LocalIds → List IssuedCid → Reply Q → Type 0
-IssueReply ids more =
-    Refuses NumberTooLarge (2 ^ 62 < ids.issued + length more)
+IssueReply ids more = Refuses NumberTooLarge (2 ^ 62 < ids.issued + length more)
     (Refuses BadRange (map (λ id. id.sequence) more ≢ range_with_len ids.issued (length more))
     (Answers (more ≢ []) (λ answer. answer ≡ Done)))
 
 -- why a retirement is refused; it is told whether the limit leaves room for one more id (19.16)
 abbrev pub RetirementReply : {Q : Type 0} → LocalIds → ℕ → ℕ → Reply Q → Type 0
-RetirementReply ids sequence limit =
-    Refuses CidsNotInUse (ids.cid_len ≡ 0)
+RetirementReply ids sequence limit = Refuses CidsNotInUse (ids.cid_len ≡ 0)
     (Refuses UnissuedCid (ids.issued ≤ sequence)
     (AlwaysAnswers (IsFlag (length (without_number sequence ids).unretired < limit))))

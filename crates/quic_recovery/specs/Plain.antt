@@ -9,7 +9,7 @@ use Rattle.recovery_acks.specs.declared.frequency.AckFrequencyState.{AckFrequenc
 use Rattle.recovery_ids.specs.CidQueue.{remote_ids}
 use Rattle.recovery_ids.specs.LocalIds.{LocalIds, timed_out, with_issued, without_number}
 use Rattle.recovery_ids.specs.RemoteIds.{RemoteIds}
-use Rattle.recovery_ids.specs.RemoteLog.{RemoteStep, given, used, replaced}
+use Rattle.recovery_ids.specs.RemoteStep.{RemoteStep, given, used, replaced}
 use Rattle.recovery_ledger.specs.declared.discarded.DiscardedSpaces.{DiscardedSpaces}
 use Rattle.recovery_ledger.specs.Discarded.{DiscardedStep}
 use Rattle.recovery_events.specs.declared.event.Event.{Event}

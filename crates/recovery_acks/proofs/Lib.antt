@@ -1,4 +1,3 @@
 pub mod AckLaws
-pub mod RequestLogLaws
-mod RequestLogRows
+pub mod FrequencyLaws
 pub mod RunLaws

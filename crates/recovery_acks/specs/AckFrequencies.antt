@@ -1,6 +1,6 @@
 -- How often the peer is asked to acknowledge, and how often it asks (draft-ietf-quic-ack-frequency-04, sections 4 and
 -- 7).
-use Rattle.std.specs.Prelude.{ℕ, ◌≡◌, ◌≢◌, ◌+◌, ◌-◌, ◌*◌, ◌<◌, ◌≤◌, ◌^◌, ◌⊎◌, min, max, IsSomeAnd, Bool, true, false, Option, None, Some, Result, Ok, Err}
+use Rattle.std.specs.Prelude.{ℕ, ◌≡◌, ◌≢◌, ◌*◌, ◌<◌, ◌≤◌, ◌^◌, ◌⊎◌, min, max, IsSomeAnd, Bool, true, false, Option, None, Some, Result, Ok, Err}
 use Rattle.std.specs.Int.{abs_diff}
 use lib.Chars.{codes}
 use Rattle.recovery_base.specs.declared.below.frames.AckFrequency.{AckFrequency}
@@ -11,6 +11,16 @@ use Rattle.recovery_acks.specs.Acks.{Acks, with_thresholds}
 abbrev pub delay_or : Option ℕ → ℕ → ℕ
 delay_or None other = other
 delay_or (Some delay) other = delay
+
+-- before any frame: none went out, none came, and both ends' delay is this one
+abbrev pub frequency_made : ℕ → AckFrequencyState
+frequency_made delay = record {
+  in_flight_ack_frequency_frame = None;
+  next_outgoing_sequence_number = 0;
+  peer_max_ack_delay = delay;
+  last_ack_frequency_frame = None;
+  max_ack_delay = delay;
+}
 
 -- an RTT counts as this much at least, the default of max_ack_delay (RFC 9000, 18.2): on a short path more ACKs would
 -- else be asked for than come without a request

@@ -1,5 +1,4 @@
 pub mod AckFrequencies
 pub mod Acks
 pub mod PendingAcks
-pub mod RequestLog
 pub mod Runs

@@ -1,7 +1,6 @@
 //! How often the peer is asked to acknowledge, and how often it asks (draft-ietf-quic-ack-frequency-04).
 ghost use Rattle.std.specs.Prelude.{◌≡◌, ◌<◌, ◌≤◌, ◌^◌, ◌+◌, [], min, max, Decides, MatchOption, Some, None};
-ghost use Rattle.recovery_acks.specs.AckFrequencies.{pending_of, next_of, candidate_delay, current_delay, longest_delay, IsWorthSending, FrequencyReceived, AcksRequest, with_next, with_pending};
-ghost use Rattle.recovery_acks.specs.RequestLog.{frequency_by};
+ghost use Rattle.recovery_acks.specs.AckFrequencies.{frequency_made, pending_of, next_of, candidate_delay, current_delay, longest_delay, IsWorthSending, FrequencyReceived, AcksRequest, with_next, with_pending};
 
 use crate::PendingAcks;
 use recovery_base::below::{AckFrequency, TransportError, TransportParameters, VarInt};
@@ -30,7 +29,7 @@ pub struct AckFrequencyState {
 impl AckFrequencyState {
     /// Nothing was asked yet; both delays are this one.
     pub fn new(default_max_ack_delay: Duration) -> Self
-        ensures { result ≡ frequency_by default_max_ack_delay [] }
+        ensures { result ≡ frequency_made default_max_ack_delay }
     {
         AckFrequencyState {
             in_flight_ack_frequency_frame: None,

@@ -1,5 +1,5 @@
 -- The ECN counts of a peer's ACK frames, and the check of them (RFC 9000, 13.4.2.1 and 19.3.2).
-use Rattle.std.specs.Prelude.{ℕ, ◌+◌, ◌-◌, ◌||◌, if◌then◌else◌, nat_lt, Bool, List, Option, None, Some}
+use Rattle.std.specs.Prelude.{ℕ, ◌+◌, ◌-◌, ◌||◌, if◌then◌else◌, nat_lt, List, Option, None, Some}
 use lib.Chars.{codes}
 use Rattle.recovery_base.specs.declared.below.frames.EcnCounts.{EcnCounts}
 

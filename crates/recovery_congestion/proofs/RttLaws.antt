@@ -1,5 +1,5 @@
 -- The least RTT is the least of the samples: `update` rests on it.
-use Rattle.std.specs.Prelude.{ℕ, ◌≡◌, min, List, [], ◌∷◌, Option, None, Some, true, is_some}
+use Rattle.std.specs.Prelude.{ℕ, ◌≡◌, min, List, [], ◌∷◌, Some, true, is_some}
 use Rattle.std.proofs.Common.{arith, refl}
 use Rattle.recovery_congestion.specs.Rtt.{Rtt, KeepsLeast, least_of, rtt_by, rtt_updated}
 

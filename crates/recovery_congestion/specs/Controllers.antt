@@ -1,5 +1,5 @@
 -- What a congestion controller's calls do to its content, and the laws that they keep (RFC 9002, 7).
-use Rattle.std.specs.Prelude.{ℕ, ◌<◌, List, [], ◌∷◌}
+use Rattle.std.specs.Prelude.{ℕ, ◌<◌}
 use Rattle.recovery_congestion.specs.Calls.{ControllerCall, IsPositive}
 use Rattle.recovery_congestion.specs.declared.congestion.ControllerMetrics.{ControllerMetrics}
 
@@ -9,11 +9,6 @@ pub record ControllerWords (K : Type 0) : Type 0 where
   pub window : K → ℕ
   pub metrics : K → ControllerMetrics
   pub initial : K → ℕ
-
--- the content after calls, the newest first, from the content that was built
-abbrev pub content_by : {K : Type 0} → ControllerWords K → K → List ControllerCall → K
-content_by words built [] = built
-content_by words built (call ∷ earlier) = words.after call (content_by words built earlier)
 
 -- every call keeps a content sound, as long as MTUs are above zero, and a sound content has a window above zero
 pub record ControllerLaws {K : Type 0} (words : ControllerWords K) (IsSound : K → Type 0) : Type 0 where

@@ -2,8 +2,8 @@ pub mod DeadlineLaws
 pub mod IterLaws
 mod LocalIdRows
 pub mod QueueLaws
-pub mod RemoteLogLaws
-mod RemoteLogRows
+pub mod RemoteStepLaws
+mod RemoteStepRows
 mod RepeatLaws
 pub mod RiseLaws
 pub mod SetLaws

@@ -1,5 +1,5 @@
 -- Worked rows: what issues, timeouts and retirements come to, computed. Nothing rests on them.
-use Rattle.std.proofs.Common.{◌≡◌, ℕ, List, [], ◌∷◌, Some, refl}
+use Rattle.std.proofs.Common.{◌≡◌, ℕ, [], ◌∷◌, Some, refl}
 use Rattle.recovery_ids.specs.LocalIds.{LocalIds, no_ids, timed_out, with_issued, without_number}
 
 -- two ids at first, of eight bytes, each for ten seconds

@@ -2,5 +2,5 @@ pub mod CidQueue
 pub mod CidState
 pub mod LocalIds
 pub mod RemoteIds
-pub mod RemoteLog
+pub mod RemoteStep
 pub mod Window

@@ -7,12 +7,9 @@ use Rattle.recovery_ids.specs.declared.state.CidTimestamp.{CidTimestamp}
 use Rattle.recovery_ids.specs.declared.state.RetireError.{RetireError}
 use Rattle.recovery_ids.specs.declared.state.RetireError.TheVariants.{CidsNotInUse, UnissuedCid}
 
--- a deadline: a number, and the moment when the numbers up to it are to be retired
-abbrev pub Deadline : Type 0
-Deadline = CidTimestamp
-
 -- the numbers issued and not retired, in order; the mark below which all are retired, and the mark below which the peer
--- is asked to retire; the deadlines, the oldest first
+-- is asked to retire; the deadlines, the oldest first: each is a number, and the moment when those up to it are to be
+-- retired
 pub record LocalIds : Type 0 where
   pub cid_len : ℕ
   pub cid_lifetime : Option ℕ
@@ -20,20 +17,20 @@ pub record LocalIds : Type 0 where
   pub unretired : List ℕ
   pub retired_below : ℕ
   pub retire_prior_to : ℕ
-  pub deadlines : List Deadline
+  pub deadlines : List CidTimestamp
 
 -- the list without its last deadline, where that has this moment
-abbrev pub without_last_at : ℕ → List Deadline → List Deadline
+abbrev pub without_last_at : ℕ → List CidTimestamp → List CidTimestamp
 without_last_at moment [] = []
 without_last_at moment (last ∷ []) = if last.timestamp == moment then [] else last ∷ []
 without_last_at moment (first ∷ next ∷ later) = first ∷ without_last_at moment (next ∷ later)
 
 -- the list with a deadline at its end; it replaces a last one with the same moment
-abbrev pub with_deadline : Deadline → List Deadline → List Deadline
+abbrev pub with_deadline : CidTimestamp → List CidTimestamp → List CidTimestamp
 with_deadline deadline deadlines = without_last_at deadline.timestamp deadlines ++ deadline ∷ []
 
 -- the deadlines once a number is issued: one more, a lifetime later, if there is a lifetime and the clock goes so far
-abbrev pub deadlines_with : Option ℕ → ℕ → ℕ → List Deadline → List Deadline
+abbrev pub deadlines_with : Option ℕ → ℕ → ℕ → List CidTimestamp → List CidTimestamp
 deadlines_with None now number deadlines = deadlines
 deadlines_with (Some lifetime) now number deadlines =
     if nat_lt (now + lifetime) (2 ^ 64)
@@ -41,7 +38,7 @@ deadlines_with (Some lifetime) now number deadlines =
     else deadlines
 
 -- the deadlines once numbers below a count are issued, with one for the last of them
-abbrev pub deadlines_with_last : Option ℕ → ℕ → ℕ → List Deadline → List Deadline
+abbrev pub deadlines_with_last : Option ℕ → ℕ → ℕ → List CidTimestamp → List CidTimestamp
 deadlines_with_last lifetime now zero deadlines = deadlines
 deadlines_with_last lifetime now (suc number) deadlines = deadlines_with lifetime now number deadlines
 
@@ -71,7 +68,7 @@ abbrev pub holds_unretired : ℕ → ℕ → LocalIds → Bool
 holds_unretired low high ids = list_any (λ n. nat_le low n && nat_lt n high) ids.unretired
 
 -- the mark behind the number of the oldest deadline; without one it stays
-abbrev pub next_mark : ℕ → List Deadline → ℕ
+abbrev pub next_mark : ℕ → List CidTimestamp → ℕ
 next_mark mark [] = mark
 next_mark mark (oldest ∷ later) = oldest.sequence + 1
 
@@ -117,6 +114,6 @@ pub record AreSound (ids : LocalIds) : Type 0 where
   pub deadlines : Rise ids.retire_prior_to ids.issued (map (λ deadline. deadline.sequence) ids.deadlines)
 
 -- the moment of the oldest deadline
-abbrev pub first_moment : List Deadline → Option ℕ
+abbrev pub first_moment : List CidTimestamp → Option ℕ
 first_moment [] = None
 first_moment (oldest ∷ later) = Some oldest.timestamp

@@ -2,7 +2,7 @@
 ghost use Rattle.std.specs.Prelude.{◌≡◌, ℕ, ◌+◌, ◌<◌, ◌≤◌, ◌^◌, ◌==◌, Some, None, IsSome, IfSome, IfOk, OnOk, OnErr, IfNone, IsSomeAnd, MatchOption, MatchResult, Decides, length, if◌then◌else◌};
 ghost use Rattle.recovery_ids.specs.CidQueue.{held, active_of, remote_ids};
 ghost use Rattle.recovery_ids.specs.RemoteIds.{AcceptsFrame, RefusesFrame, Repeats, TakesNext, IsRetirement, AreInWindow, with_id, items_from, active_connection_id_limit};
-ghost use Rattle.recovery_ids.specs.RemoteLog.{RemoteStep, given, used, replaced, initial_ids};
+ghost use Rattle.recovery_ids.specs.RemoteStep.{RemoteStep, given, used, replaced, initial_ids};
 ghost use Rattle.recovery_ids.specs.Window.{held_at, Advances, IsWindowSound};
 
 use crate::iter::{self, CidIter};

@@ -4,7 +4,6 @@ use Rattle.recovery_base.specs.declared.below.SpaceId.{SpaceId}
 use Rattle.recovery_base.specs.declared.below.SpaceId.TheVariants.{Initial, Data}
 use Rattle.recovery_queue.specs.Queues.{QueueWords}
 use Rattle.recovery_ledger.specs.Acks.{counts_by}
-use Rattle.recovery_ledger.specs.Discarded.{was_discarded}
 use Rattle.recovery_ledger.specs.InFlight.{in_flight}
 use Rattle.recovery_ledger.specs.Kept.{largest_acknowledged, last_eliciting_sent, probes_by}
 use Rattle.recovery_ledger.specs.Packets.{Packet, Packets}
@@ -135,10 +134,3 @@ counts_by-row : counts_by came_in ≡ record {
   acknowledged = Some 9;
 }
 counts_by-row = refl
-
--- a space that was discarded
-was_discarded-initial : was_discarded Initial (Initial ∷ []) ≡ true
-was_discarded-initial = refl
-
-was_discarded-data : was_discarded Data (Initial ∷ []) ≡ false
-was_discarded-data = refl

@@ -10,14 +10,7 @@ is_discarded Initial discarded = discarded.initial
 is_discarded Handshake discarded = discarded.handshake
 is_discarded Data discarded = discarded.«data»
 
--- a space is among those that were discarded
-abbrev pub was_discarded : SpaceId → List SpaceId → Bool
-was_discarded space [] = false
-was_discarded space (other ∷ earlier) = same_space other space || was_discarded space earlier
-
+-- a space is discarded, and the others stay
 abbrev pub DiscardedStep : SpaceId → DiscardedSpaces → DiscardedSpaces → Type 0
 DiscardedStep space old new =
     (other : SpaceId) → is_discarded other new ≡ (same_space space other || is_discarded other old)
-
-abbrev pub DiscardedLeft : List SpaceId → DiscardedSpaces → Type 0
-DiscardedLeft log discarded = (space : SpaceId) → is_discarded space discarded ≡ was_discarded space log

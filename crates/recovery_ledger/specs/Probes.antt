@@ -11,13 +11,9 @@ pub record ProbeFound : Type 0 where
   pub nothing : Bool
 
 module _ {P M S : Type 0} (words : QueueWords P S) (streams : S) where
-  -- the packet has contents to be sent
-  abbrev pub is_filled : ℕ × Packet P M → Bool
-  is_filled entry = not (words.is_empty entry.1.retransmits streams)
-
   -- the least number of a packet with contents
   abbrev pub first_filled : Packets P M → Option ℕ
-  first_filled packets = least_number (filter is_filled packets)
+  first_filled packets = least_number (filter (λ entry. not (words.is_empty entry.1.retransmits streams)) packets)
 
   -- what a probe finds, with these contents pending
   abbrev pub probe_found : P → Packets P M → ProbeFound

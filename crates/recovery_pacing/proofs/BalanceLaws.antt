@@ -4,7 +4,7 @@ use Rattle.std.specs.List.{AllByRecursion}
 use Rattle.std.proofs.Math.Nat.{mul-le-mul, mul-le-mul_left, mul-add}
 use Rattle.std.proofs.lemmas.Bool.{cases_lt}
 use Rattle.recovery_pacing.specs.Pacing.{Bucket, PacerCall, capacity_of}
-use Rattle.recovery_pacing.specs.PacerLog.{PacerMark, changed, credited, answered, transmitted, IsCapPoint, credits_in, bytes_in, calls_in, capacity_in, greatest_moment, balance_from, balance_in, IsBalance}
+use Rattle.recovery_pacing.specs.PacerLog.{PacerMark, changed, credited, transmitted, IsCapPoint, credits_in, bytes_in, refills_in, capacity_in, greatest_moment, balance_from, balance_in, IsBalance}
 
 -- the calls have at most this window, at least this RTT and no later moment
 abbrev AreWithin : ℕ → ℕ → ℕ → List PacerCall → Type 0
@@ -37,7 +37,6 @@ module _ (made : Bucket) where
       × NoDebt credits bytes past
   NoDebt credits bytes (credited call credit ∷ past) = (bytes ≤ capacity_in made past + credits)
       × NoDebt (credits + credit) bytes past
-  NoDebt credits bytes (answered call ∷ past) = NoDebt credits bytes past
   NoDebt credits bytes (transmitted sent ∷ past) = NoDebt credits (bytes + sent) past
 
   -- each credit is at most five fourths of a window for each RTT since the greatest moment
@@ -82,13 +81,13 @@ module _ (made : Bucket) where
   greatest_rises [] past = omega arith
   greatest_rises (mark ∷ later) past = grind (arith, greatest_rises later past)
 
-  greatest_below : (w r latest : ℕ) (later past : List PacerMark) → AreWithin w r latest (calls_in later)
+  greatest_below : (w r latest : ℕ) (later past : List PacerMark) → AreWithin w r latest (refills_in later)
       → greatest_moment made (later ++ past) ≤ max latest (greatest_moment made past)
   greatest_below w r latest [] past h = omega arith
   greatest_below w r latest (mark ∷ later) past h = grind (arith, h, greatest_below w r latest later past)
 
   -- all credits together are at most five fourths of the greatest window for each least RTT
-  credits_below : (w r latest : ℕ) (later past : List PacerMark) → AreWithin w r latest (calls_in later)
+  credits_below : (w r latest : ℕ) (later past : List PacerMark) → AreWithin w r latest (refills_in later)
       → AreEarned (later ++ past)
       → 4 * r * credits_in later ≤ 5 * w * (greatest_moment made (later ++ past) - greatest_moment made past)
   credits_below w r latest [] past h e = omega arith
@@ -100,7 +99,7 @@ module _ (made : Bucket) where
 
   -- the pacing bound
   pub rate_bound : (history later past : List PacerMark) (rtt window moment : ℕ) → NoDebt 0 0 history
-      → AreEarned history → later ++ past ≡ history → IsCapPoint past → AreWithin window rtt moment (calls_in later)
+      → AreEarned history → later ++ past ≡ history → IsCapPoint past → AreWithin window rtt moment (refills_in later)
       → 4 * rtt * (bytes_in later - capacity_in made past) ≤ 5 * window * (moment - greatest_moment made past)
   rate_bound history later past rtt window moment debt earned is point within =
       let all : bytes_in later ≤ capacity_in made past + credits_in later =
@@ -140,8 +139,6 @@ module _ (made : Bucket) where
         | inr high ↦ met_behind (credited call credit) credits bytes _ _ past (omega arith)
             (λ later. (refl, omega arith)) (met_at (credits + credit) bytes past h.1)
       ]
-  met_at credits bytes (answered call ∷ past) h =
-      met_behind (answered call) credits bytes _ _ past refl (λ later. (refl, refl)) (met_at credits bytes past h)
   met_at credits bytes (transmitted sent ∷ past) h =
       met_behind (transmitted sent) credits bytes _ _ past refl (λ later. (omega arith, refl))
       (met_at credits (bytes + sent) past h)

@@ -10,8 +10,7 @@ use Rattle.recovery_pacing.specs.NamedMoment.{HasRoom, PassesAtMoment}
 use Rattle.recovery_pacing.specs.PacerLog.{PacerEntry, asked, bucket_by}
 use Rattle.recovery_pacing.specs.Pacing.{Bucket, PacerCall, credit_of, wait_of, resized, refilled, may_send, paced, next_moment, delay_of}
 use Rattle.recovery_pacing.specs.Progress.{IsInReach}
-use Rattle.recovery_pacing.proofs.PacerLogLaws.{Knows, paced-knows}
-use Rattle.recovery_pacing.proofs.ProgressLaws.{short_of, wait_comes}
+use Rattle.recovery_pacing.proofs.ProgressLaws.{Knows, paced-knows, short_of, wait_comes}
 
 -- a credit is rounded down by less than one byte
 credit_comes : (rtt window elapsed : ℕ) → 0 < rtt

@@ -5,7 +5,7 @@ use Rattle.std.proofs.Common.{◌≡◌, ℕ, ◌-◌, ◌*◌, ◌^◌, ◌<◌
 use Rattle.std.specs.Prelude.{◌&&◌, ◌==◌, if◌then◌else◌}
 use Rattle.std.proofs.Math.Nat.{mul-div-le}
 use Rattle.recovery_pacing.specs.Pacing.{Bucket, PacerCall, credit_of, resized, refilled, is_unpaced, paced, delay_of, less_tokens}
-use Rattle.recovery_pacing.specs.PacerLog.{PacerEntry, asked, took, bucket_by, AreChecked, PacerMark, credited, answered, transmitted, changed, calls_in, capacity_in, greatest_moment, balance_in, is_as_before, marks_by, marks_asking, DelaysBy, KeepsRate}
+use Rattle.recovery_pacing.specs.PacerLog.{PacerEntry, asked, took, bucket_by, AreChecked, PacerMark, credited, transmitted, changed, capacity_in, greatest_moment, balance_in, is_as_before, marks_by, marks_asking, DelaysBy, KeepsRate}
 use Rattle.recovery_pacing.proofs.BalanceLaws.{NoDebt, AreEarned, no_debt_more, no_debt_less, balance_more, balance_less, balance_is, rate_bound}
 
 -- the window is within 32 bits, and the RTT above zero
@@ -30,30 +30,16 @@ HavePassed made (took bytes checked ∷ earlier) = (checked ≡ true → HasPass
 
 -- ---- the ties
 
--- the bucket knows the call's window and MTU
-abbrev pub Knows : PacerCall → Bucket → Type 0
-Knows call bucket = (bucket.window ≡ call.window) × (bucket.mtu ≡ call.mtu)
-
 module _ (made : Bucket) where
-  -- the window and the MTU of the last call, or of the making
-  abbrev window_in : List PacerCall → ℕ
-  window_in [] = made.window
-  window_in (call ∷ earlier) = call.window
-
-  abbrev mtu_in : List PacerCall → ℕ
-  mtu_in [] = made.mtu
-  mtu_in (call ∷ earlier) = call.mtu
-
-  same_in : (call : PacerCall) (calls : List PacerCall)
-      → is_as_before made call calls ≡ ((call.window == window_in calls) && (call.mtu == mtu_in calls))
-  same_in call [] = refl
-  same_in call (before ∷ earlier) = refl
+  -- the bucket has the window and the MTU of the last change, or of the making
+  abbrev HasLast : List PacerMark → Bucket → Type 0
+  HasLast past bucket = (call : PacerCall)
+      → is_as_before made call past ≡ ((call.window == bucket.window) && (call.mtu == bucket.mtu))
 
   -- the bucket holds what the history says: its tokens are the balance, its last moment the greatest one
   pub record Tied (past : List PacerMark) (bucket : Bucket) : Type 0 where
     pub capacity : bucket.capacity ≡ capacity_in made past
-    pub window : bucket.window ≡ window_in (calls_in past)
-    pub mtu : bucket.mtu ≡ mtu_in (calls_in past)
+    pub last_change : HasLast past bucket
     pub tokens : bucket.tokens ≡ balance_in made past
     pub last : bucket.last ≡ greatest_moment made past
     pub no_debt : NoDebt made 0 0 past
@@ -66,32 +52,25 @@ module _ (made : Bucket) where
 
   -- a call changes the capacity
   tied_change : (call : PacerCall) (past : List PacerMark) (bucket : Bucket) → Tied past bucket
-      → Tied (if is_as_before made call (calls_in past) then past else changed call ∷ past)
+      → Tied (if is_as_before made call past then past else changed call ∷ past)
       (resized call.rtt call.window call.mtu bucket)
   unfolding balance_in
-  tied_change call past bucket t = grind (arith, nat_tests, t, same_in call (calls_in past))
+  tied_change call past bucket t = grind (arith, nat_tests, t, t.last_change call)
 
   -- it refills
-  tied_credit : (call : PacerCall) (past : List PacerMark) (bucket : Bucket) → Knows call bucket → Tied past bucket
+  tied_credit : (call : PacerCall) (past : List PacerMark) (bucket : Bucket) → Tied past bucket
       → Tied (credited call (credit_of call.rtt call.window (call.now - greatest_moment made past)) ∷ past)
       (refilled call.rtt call.window call.now bucket)
   unfolding balance_in
-  tied_credit call past bucket knows t =
+  tied_credit call past bucket t =
       let credit = credit_of call.rtt call.window (call.now - greatest_moment made past) in
       grind (
         arith,
-        knows,
         t,
         balance_more made 0 0 credit past,
         no_debt_more made 0 0 credit past,
         mul-div-le (5 * call.window * (call.now - greatest_moment made past)) (4 * call.rtt),
       )
-
-  -- it is answered
-  tied_answered : (call : PacerCall) (past : List PacerMark) (bucket : Bucket) → Knows call bucket → Tied past bucket
-      → Tied (answered call ∷ past) bucket
-  unfolding balance_in
-  tied_answered call past bucket knows t = grind (arith, knows, t)
 
   -- bytes are transmitted that the tokens cover
   tied_took : (bytes : ℕ) (past : List PacerMark) (bucket : Bucket) → bytes ≤ bucket.tokens → Tied past bucket
@@ -99,13 +78,6 @@ module _ (made : Bucket) where
   unfolding balance_in
   tied_took bytes past bucket low t =
       grind (arith, low, t, balance_less made 0 0 bytes past, no_debt_less made 0 0 bytes past)
-
--- so it does after a call
-resized-knows : (call : PacerCall) (old : Bucket) → Knows call (resized call.rtt call.window call.mtu old)
-resized-knows call old = grind (arith, nat_tests)
-
-pub paced-knows : (call : PacerCall) (old : Bucket) → Knows call (paced call old)
-paced-knows call old = grind (arith, nat_tests, resized-knows call old)
 
 -- a call within the bounds is paced
 is_bounded : (call : PacerCall) → IsPaced call → is_unpaced call ≡ false
@@ -122,15 +94,14 @@ module _ (made : Bucket) where
       → Tied made (marks_asking made call past) (paced call bucket)
   tied_asking call past bucket t =
       let changed = tied_change made call past bucket t in
-      grind (arith, nat_tests, changed, changed.tokens, tied_credit made call _ _ (resized-knows call bucket) changed)
+      grind (arith, nat_tests, changed, changed.tokens, tied_credit made call _ _ changed)
 
   -- what the pacer holds is what the history says
   pub tied_by : (entries : List PacerEntry) → made.tokens ≡ made.capacity → AreChecked entries → HavePassed made entries
       → Tied made (marks_by made entries) (bucket_by made entries)
   tied_by [] full checked passed = tied_made made full
   tied_by (asked call ∷ earlier) full checked passed =
-      tied_answered made call _ _ (paced-knows call (bucket_by made earlier))
-      (tied_asking call _ _ (tied_by earlier full checked.1 passed))
+      tied_asking call _ _ (tied_by earlier full checked.1 passed)
   tied_by (took bytes flag ∷ asked call ∷ earlier) full checked passed =
       let bucket = paced call (bucket_by made earlier) in
       let pass = passed.0 checked.0 in

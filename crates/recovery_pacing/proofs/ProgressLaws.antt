@@ -5,9 +5,18 @@ use Rattle.std.proofs.Math.Nat.{div-add-mod, mod-lt, mul-le-mul_left, mul-le-mul
 use Rattle.std.proofs.lemmas.Nat.{le-div}
 use Rattle.recovery_base.specs.Times.{longest_span}
 use Rattle.recovery_pacing.specs.PacerLog.{PacerEntry, asked, bucket_by}
-use Rattle.recovery_pacing.specs.Pacing.{Bucket, PacerCall, credit_of, wait_of, refilled, may_send, paced, next_moment, delay_of}
-use Rattle.recovery_pacing.proofs.PacerLogLaws.{paced-knows}
+use Rattle.recovery_pacing.specs.Pacing.{Bucket, PacerCall, credit_of, wait_of, resized, refilled, may_send, paced, next_moment, delay_of}
 use Rattle.recovery_pacing.specs.Progress.{IsInReach, PassesBehind}
+
+-- the bucket knows the call's window and MTU
+abbrev pub Knows : PacerCall → Bucket → Type 0
+Knows call bucket = (bucket.window ≡ call.window) × (bucket.mtu ≡ call.mtu)
+
+-- so it does after a call
+pub paced-knows : (call : PacerCall) (old : Bucket) → Knows call (paced call old)
+paced-knows call old =
+    let sized : Knows call (resized call.rtt call.window call.mtu old) = grind (arith, nat_tests) in
+    grind (arith, nat_tests, sized)
 
 -- a wait is rounded down by less than four nanoseconds
 pub wait_comes : (rtt window short : ℕ) → 0 < window → rtt * short ≤ longest_span

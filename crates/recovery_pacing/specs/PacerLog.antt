@@ -24,21 +24,18 @@ AreChecked [] = Unit {0}
 AreChecked (asked call ∷ earlier) = ((call.window < 2 ^ 32) × (0 < call.rtt)) × AreChecked earlier
 AreChecked (took bytes checked ∷ earlier) = (checked ≡ true) × AreChecked earlier
 
--- ---- the history: what each call did, and what was transmitted
+-- ---- the history: what calls did, and what was transmitted
 
 pub data PacerMark : Type 0 where
   -- a call came with another window or MTU: the capacity was computed anew
   changed : (call : PacerCall) → PacerMark
   -- a call found too little, and refilled: so many bytes were credited
   credited : (call : PacerCall) (credit : ℕ) → PacerMark
-  -- a call was answered
-  answered : (call : PacerCall) → PacerMark
   -- so many bytes were transmitted
   transmitted : (bytes : ℕ) → PacerMark
 
 -- the cap points, at which no more than the capacity is kept: the making, each change of capacity and each refill
 abbrev pub IsCapPoint : List PacerMark → Type 0
-IsCapPoint (answered call ∷ past) = ⊥
 IsCapPoint (transmitted bytes ∷ past) = ⊥
 IsCapPoint past = Unit {0}
 
@@ -54,13 +51,11 @@ bytes_in [] = 0
 bytes_in (transmitted bytes ∷ past) = bytes + bytes_in past
 bytes_in (mark ∷ past) = bytes_in past
 
--- the calls that these are marks of; one that did more than one thing stands there again
-abbrev pub calls_in : List PacerMark → List PacerCall
-calls_in [] = []
-calls_in (changed call ∷ past) = call ∷ calls_in past
-calls_in (credited call credit ∷ past) = call ∷ calls_in past
-calls_in (answered call ∷ past) = call ∷ calls_in past
-calls_in (transmitted bytes ∷ past) = calls_in past
+-- the calls that refilled
+abbrev pub refills_in : List PacerMark → List PacerCall
+refills_in [] = []
+refills_in (credited call credit ∷ past) = call ∷ refills_in past
+refills_in (mark ∷ past) = refills_in past
 
 module _ (made : Bucket) where
   -- the capacity in use: of the last change, or of the making
@@ -85,7 +80,6 @@ module _ (made : Bucket) where
       min (capacity_in (changed call ∷ past) + credits - bytes) (balance_from credits bytes past)
   balance_from credits bytes (credited call credit ∷ past) =
       min (capacity_in past + credits - bytes) (balance_from (credits + credit) bytes past)
-  balance_from credits bytes (answered call ∷ past) = balance_from credits bytes past
   balance_from credits bytes (transmitted more ∷ past) = balance_from credits (bytes + more) past
 
   unfoldable pub balance_in : List PacerMark → ℕ
@@ -100,23 +94,24 @@ module _ (made : Bucket) where
 
   -- ---- what a call does
 
-  -- the window and the MTU of a call are those of the call before it, or of the making
-  abbrev pub is_as_before : PacerCall → List PacerCall → Bool
+  -- the window and the MTU of a call are those of the last change, or of the making
+  abbrev pub is_as_before : PacerCall → List PacerMark → Bool
   is_as_before call [] = (call.window == made.window) && (call.mtu == made.mtu)
-  is_as_before call (before ∷ earlier) = (call.window == before.window) && (call.mtu == before.mtu)
+  is_as_before call (changed before ∷ past) = (call.window == before.window) && (call.mtu == before.mtu)
+  is_as_before call (mark ∷ past) = is_as_before call past
 
   -- a call changes the capacity where they are not; it refills exactly where the balance is then below the bytes asked,
   -- if it is paced at all; its credit is for the time since the greatest moment: where it comes earlier, there is none
   abbrev pub marks_asking : PacerCall → List PacerMark → List PacerMark
   marks_asking call past =
-      let now = if is_as_before call (calls_in past) then past else changed call ∷ past in
+      let now = if is_as_before call past then past else changed call ∷ past in
       let credit = credit_of call.rtt call.window (call.now - greatest_moment now) in
       if nat_le call.bytes (balance_in now) || is_unpaced call then now else credited call credit ∷ now
 
   -- the history that these entries make
   abbrev pub marks_by : List PacerEntry → List PacerMark
   marks_by [] = []
-  marks_by (asked call ∷ earlier) = answered call ∷ marks_asking call (marks_by earlier)
+  marks_by (asked call ∷ earlier) = marks_asking call (marks_by earlier)
   marks_by (took bytes checked ∷ earlier) = transmitted bytes ∷ marks_by earlier
 
   -- ---- the promises
@@ -130,11 +125,11 @@ module _ (made : Bucket) where
       let moment = next_moment call (capacity_in past) balance (greatest_moment past) in
       IsBalance past balance × SomeIff given (balance < call.bytes) moment
 
-  -- from each cap point on: where the calls at or after it have at least this RTT, at most this window and no later
-  -- moment, the bytes transmitted beyond the capacity there are at most five fourths of the window for each such RTT in
-  -- the time from the greatest moment there to this one (none if that is earlier)
+  -- from each cap point on: where the calls that refilled since have at least this RTT, at most this window and no
+  -- later moment, the bytes transmitted beyond the capacity there are at most five fourths of the window for each such
+  -- RTT in the time from the greatest moment there to this one (none if that is earlier)
   abbrev pub KeepsRate : List PacerEntry → Type 0
   KeepsRate entries =
       (later past : List PacerMark) (rtt window moment : ℕ) → later ++ past ≡ marks_by entries → IsCapPoint past
-      → AllByRecursion (λ call. (rtt ≤ call.rtt) × (call.window ≤ window) × (call.now ≤ moment)) (calls_in later)
+      → AllByRecursion (λ call. (rtt ≤ call.rtt) × (call.window ≤ window) × (call.now ≤ moment)) (refills_in later)
       → 4 * rtt * (bytes_in later - capacity_in past) ≤ 5 * window * (moment - greatest_moment past)

@@ -6,12 +6,12 @@ use Rattle.recovery_config.specs.declared.config.TransportConfig.{TransportConfi
 use Rattle.recovery_config.specs.Settings.{initial_mtu_of}
 use Rattle.recovery_mtud.specs.declared.config.MtuDiscoveryConfig.{MtuDiscoveryConfig}
 use Rattle.recovery_mtud.specs.Discovery.{Discovery}
-use Rattle.recovery_mtud.specs.DiscoveryLog.{MtuCall, discovery_by}
+use Rattle.recovery_mtud.specs.DiscoveryLog.{MtuCall, resets, discovery_by}
 use Rattle.recovery_mtud.specs.MtuEntries.{IsUntold, search_settings, entries_by}
 use Rattle.recovery_mtud.specs.SearchRuns.{AreLimitsOutside}
 use Rattle.recovery_mtud.proofs.EntryLaws.{discovery_made_untold, made_settings}
 use Rattle.recovery_mtud.proofs.SearchRunLaws.{IsInTurn, limits_outside_after}
-use Rattle.recovery_paths.specs.PathMaking.{PathSettings, first_discovery, reset_call}
+use Rattle.recovery_paths.specs.PathMaking.{PathSettings, first_discovery}
 use Rattle.recovery_paths.specs.PathLog.{OnEachPath, PathsEntry, PathEntry, PathPast, Following, pasts_by, each_path, state_of, known_of, past_with, past_following, fresh, goes_on, searches, is_reset}
 use Rattle.recovery_paths.specs.PathStates.{PathState}
 use Rattle.recovery_paths.proofs.AllowedLaws.{IsAllowed, AreAllowed, kept_after}
@@ -53,7 +53,7 @@ module _ {K : Type 0} (settings : PathSettings K) (by : Option MtuDiscoveryConfi
   searched_law (searches call) past allowed searched =
       searched_after by past.kept.discovery call past.searched allowed searched
   searched_law (is_reset now) past allowed searched =
-      searched_after by past.kept.discovery (reset_call settings) past.searched tt searched
+      searched_after by past.kept.discovery (resets settings.mtu settings.min_mtu) past.searched tt searched
   searched_law entry past allowed searched = searched
 
   -- a fresh path is searched from its making on, and one that goes on as the path before it

@@ -3,11 +3,11 @@ use Rattle.std.specs.Prelude.{ℕ, ◌≡◌, ◌+◌, Bool, true, false, List, 
 use Rattle.std.specs.Option.{ForSome}
 use Rattle.std.specs.declared.net.socket_addr.SocketAddr.{SocketAddr}
 use Rattle.recovery_congestion.specs.Calls.{ControllerCall}
-use Rattle.recovery_mtud.specs.DiscoveryLog.{MtuCall, discovery_by}
+use Rattle.recovery_mtud.specs.DiscoveryLog.{MtuCall, resets, discovery_by}
 use Rattle.recovery_pacing.specs.PacerLog.{PacerEntry, asked, took, bucket_by}
 use Rattle.recovery_paths.specs.declared.live_paths.PathName.{PathName}
 use Rattle.recovery_paths.specs.declared.live_paths.PathName.TheVariants.{Current, Previous}
-use Rattle.recovery_paths.specs.PathMaking.{PathSettings, reset_call, begun_anew, state_fresh, state_going_on, state_reset}
+use Rattle.recovery_paths.specs.PathMaking.{PathSettings, begun_anew, state_fresh, state_going_on, state_reset}
 use Rattle.recovery_paths.specs.PathStates.{PathState, PathMarks, Path, pacer_call, after_asking, after_transmitting, after_receiving, after_sample, after_searching, after_telling, after_validation}
 
 -- ---- the paths, whatever is kept for each
@@ -128,7 +128,7 @@ module _ {K : Type 0} (settings : PathSettings K) where
   past_with (transmits bytes) past = past_transmitting bytes false past
   past_with (passes now bytes) past = past_transmitting bytes true (past_asking now bytes past)
   past_with (is_reset now) past =
-      let searched = reset_call settings ∷ past.searched in
+      let searched = resets settings.mtu settings.min_mtu ∷ past.searched in
       let mtu = (discovery_by past.kept.discovery searched).mtu in
       record past { kept = begun_anew settings mtu now past.kept; searched = searched; pacing = [] }
   past_with (receives bytes) past = record past { kept = after_receiving bytes past.kept }

@@ -1,12 +1,12 @@
 -- How a network path is made: fresh, from the one before it, or anew (RFC 9000, 9; RFC 9002, 5 to 7).
-use Rattle.std.specs.Prelude.{ℕ, Bool, true, false, Option, None, Some, [], if◌then◌else◌}
+use Rattle.std.specs.Prelude.{ℕ, Bool, true, false, Option, None, [], if◌then◌else◌}
 use Rattle.std.specs.declared.net.socket_addr.SocketAddr.{SocketAddr}
 use Rattle.recovery_base.specs.declared.below.SpaceId.{SpaceId}
 use Rattle.recovery_congestion.specs.Controllers.{ControllerWords}
 use Rattle.recovery_config.specs.declared.config.TransportConfig.{TransportConfig}
 use Rattle.recovery_config.specs.Settings.{initial_mtu_of}
 use Rattle.recovery_mtud.specs.Discovery.{Discovery, discovery_made}
-use Rattle.recovery_mtud.specs.DiscoveryLog.{MtuCall, resets, discovery_after}
+use Rattle.recovery_mtud.specs.DiscoveryLog.{resets, discovery_after}
 use Rattle.recovery_pacing.specs.Pacing.{Bucket, bucket_made}
 use Rattle.recovery_paths.specs.PathStates.{PathState, PathMarks}
 use Rattle.recovery_congestion.specs.Rtt.{rtt_made, rtt_get}
@@ -84,17 +84,13 @@ module _ {K : Type 0} (settings : PathSettings K) where
     pacer = pacer_at_first settings.mtu now;
   }
 
-  -- the search begins anew, with the peer's limit kept
-  abbrev pub reset_call : MtuCall
-  reset_call = resets settings.mtu settings.min_mtu
-
   -- RTT, controller and pacer begin anew, the pacer for this MTU
   abbrev pub begun_anew : ℕ → ℕ → PathState K → PathState K
   begun_anew mtu now old =
       record old { rtt = rtt_made settings.rtt; controller = settings.built now; pacer = pacer_at_first mtu now }
 
-  -- and the search too, where the MTU then in use is the pacer's
+  -- and the search too, with the peer's limit kept, where the MTU then in use is the pacer's
   abbrev pub state_reset : ℕ → PathState K → PathState K
   state_reset now old =
-      let discovery = discovery_after reset_call old.discovery in
+      let discovery = discovery_after (resets settings.mtu settings.min_mtu) old.discovery in
       record (begun_anew discovery.mtu now old) { discovery = discovery }

@@ -1,7 +1,7 @@
 use Rattle.std.proofs.Common.{None, rules}
 use Rattle.recovery_ids.specs.CidQueue.{remote_ids}
 use Rattle.recovery_ids.proofs.QueueLaws.{accepts_move, retires_move}
-use Rattle.recovery_ids.proofs.RemoteLogLaws.{gives}
+use Rattle.recovery_ids.proofs.RemoteStepLaws.{gives}
 use Rattle.recovery_ids.proofs.queue.CidQueue.insert.Goals as goal
 
 pub returns-then-low-active-clause-step : goal.returns-then-low-active-clause-step

@@ -1,6 +1,6 @@
 use Rattle.std.proofs.Common.{rules}
 use Rattle.recovery_ids.specs.CidQueue.{remote_ids}
-use Rattle.recovery_ids.proofs.RemoteLogLaws.{uses, uses_none}
+use Rattle.recovery_ids.proofs.RemoteStepLaws.{uses, uses_none}
 use Rattle.recovery_ids.proofs.queue.CidQueue.next.Goals as goal
 
 pub returns-in_err-token-clause-step : goal.returns-in_err-token-clause-step

@@ -1,6 +1,6 @@
 use Rattle.std.proofs.Common.{rules}
 use Rattle.recovery_ids.specs.CidQueue.{remote_ids}
-use Rattle.recovery_ids.proofs.RemoteLogLaws.{replaces}
+use Rattle.recovery_ids.proofs.RemoteStepLaws.{replaces}
 use Rattle.recovery_ids.proofs.queue.CidQueue.update_initial_cid.Goals as goal
 
 pub returns-clause-step : goal.returns-clause-step

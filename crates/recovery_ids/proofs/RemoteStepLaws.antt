@@ -1,17 +1,12 @@
--- The ids of the peer, one entry at a time, and what the calls of a queue are to its log. These calls and the driver's
--- `LeftLaws` rest on it.
-use Rattle.std.proofs.Common.{◌≡◌, ℕ, zero, suc, ◌+◌, ◌<◌, ◌≤◌, max, List, ◌∷◌, Option, None, Some, IsSome, refl, sym, ap, ◌∙◌, arith}
+-- What the calls of a queue make of the ids of the peer is what happens to them. These calls and the driver's
+-- `PeerIdsLaws` rest on it.
+use Rattle.std.proofs.Common.{◌≡◌, ℕ, zero, suc, ◌+◌, ◌<◌, ◌≤◌, max, List, Option, None, Some, IsSome, refl, sym, ap, ◌∙◌, arith}
 use Rattle.std.specs.declared.ops.Range.{Range}
 use Rattle.std.proofs.lemmas.Bool.Decides.{nat_tests}
 use Rattle.std.proofs.Math.Path.{fun_ext}
 use Rattle.recovery_base.specs.declared.below.ids.NewConnectionId.{NewConnectionId}
 use Rattle.recovery_ids.specs.RemoteIds.{Table, RemoteIds, AcceptsFrame, TakesNext, AreInWindow, active_connection_id_limit, with_id, with_frame, without_id}
-use Rattle.recovery_ids.specs.RemoteLog.{RemoteEntry, given, used, replaced, first_held, remote_ids_with, RemoteStep, RemoteIdsLeft}
-
-pub remote_law : (initial : List ℕ) (entry : RemoteEntry) (log : List RemoteEntry) (old new : RemoteIds) →
-    RemoteIdsLeft initial log old → RemoteStep entry old new → RemoteIdsLeft initial (entry ∷ log) new
-remote_law initial entry log old new left step =
-    record { same = step.same ∙ ap (remote_ids_with entry) left.same; window = step.window }
+use Rattle.recovery_ids.specs.RemoteStep.{given, used, replaced, first_held, remote_ids_with}
 
 -- ---- the least number held
 
@@ -35,7 +30,7 @@ none_held held low zero none = refl
 none_held held low (suc more) none =
     grind (arith, none low, none_held held (low + 1) more (λ n above. none n (omega arith)))
 
--- ---- what a call is to the log
+-- ---- what a call is to them
 
 same_ids : (active : ℕ) (held : Table) (ids : RemoteIds) → ids.active ≡ active → ((n : ℕ) → ids.held n ≡ held n) →
     ids ≡ record { active = active; held = held }

@@ -1,5 +1,5 @@
--- The ids of the peer by what happened to them (RFC 9000, 5.1.1 and 5.1.2): a log, the newest entry first.
-use Rattle.std.specs.Prelude.{◌≡◌, ℕ, zero, suc, ◌+◌, max, List, [], ◌∷◌, Option, None, Some, is_some, unwrap_or, if◌then◌else◌}
+-- What happens to the ids of the peer, and what it makes of them (RFC 9000, 5.1.1 and 5.1.2).
+use Rattle.std.specs.Prelude.{◌≡◌, ℕ, zero, suc, ◌+◌, max, List, Option, None, Some, is_some, unwrap_or, if◌then◌else◌}
 use Rattle.recovery_base.specs.declared.below.ids.NewConnectionId.{NewConnectionId}
 use Rattle.recovery_ids.specs.RemoteIds.{Table, RemoteIds, AreInWindow, active_connection_id_limit, with_id, with_frame, without_id}
 
@@ -46,20 +46,9 @@ remote_ids_with (replaced id) ids = record ids { held = with_id 0 (id, None) ids
 abbrev pub initial_ids : List ℕ → RemoteIds
 initial_ids initial = record { active = 0; held = with_id 0 (initial, None) (λ n. None) }
 
-abbrev pub remote_ids_by : List ℕ → List RemoteEntry → RemoteIds
-remote_ids_by initial [] = initial_ids initial
-remote_ids_by initial (entry ∷ earlier) = remote_ids_with entry (remote_ids_by initial earlier)
-
 -- ---- what an entry changes
 
 -- the ids are as the entry makes them: the active one is held, and it is the least number held
 pub record RemoteStep (entry : RemoteEntry) (old new : RemoteIds) : Type 0 where
   pub same : new ≡ remote_ids_with entry old
   pub window : AreInWindow new
-
--- ---- what a log leaves
-
--- the ids are as the log says: the active one is held, and it is the least number held
-pub record RemoteIdsLeft (initial : List ℕ) (log : List RemoteEntry) (ids : RemoteIds) : Type 0 where
-  pub same : ids ≡ remote_ids_by initial log
-  pub window : AreInWindow ids
