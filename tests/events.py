@@ -1,7 +1,8 @@
 #!/usr/bin/env python3
-"""Counts in how many files of the library each event is named: in its code and definitions, and in its proofs. Tests, rows and the example
-are apart, and so is the file that declares it. What does not speak of an event should not name it: no event may exceed its bound here,
-nor the mean its own; where fewer files name one, lower them."""
+"""Counts in how many files of the library each event is named: in its code and definitions, at most five, and one for the event whose line
+may hold items; in the promises that speak of it; and in its proofs. Tests, rows and the example are apart, and so is the file that declares
+it. What does not speak of an event should not name it: no event may exceed its bound here, nor the mean its own; where fewer files name one,
+lower them."""
 import pathlib
 import re
 import sys
@@ -13,23 +14,33 @@ IMPORT = re.compile(r"\bEvent\.TheVariants\.\{([^}]*)\}")
 RENAMED = re.compile(r"\bEvent\.TheVariants as (\w+)")
 COMMENT = re.compile(r"^\s*(//|--).*$", re.M)
 
-# files of code and definitions, and of proofs, that may name each event, and the means
+MOST = 5  # files of code and definitions that an event needs: two of the driver, the table, and two of lines
+MORE = {"Send": 1}  # what is read of its line may have taken memory
+
+# promises, and files of proofs, that may name each event, and the means
 BOUNDS = """
-Received 10 9, Send 14 12, Acked 16 18, Lost 13 16, NewId 8 3, NextId 8 3, InitialId 9 4, IssueIds 7 4, IdTimeout 6 2,
-PeerRetired 7 3, AckFrequencyIn 8 4, AcksSent 8 4, AckDelayTimeout 8 4, SetTimer 7 1, StopTimer 7 1, NextTimeout 6 1,
-DiscardSpace 12 8, InFlight 7 3, Sample 6 1, DatagramIn 8 4, Validated 8 4, Transmit 10 6, PacerCheck 7 2,
-Congestion 6 1, EndAcks 6 1, PollMtu 16 19, PeerLimit 9 13, LossesDone 11 9, Ecn 7 3, CheckAck 6 2, QueueProbe 7 5,
-TakePending 8 4, NewPath 12 15, ResetPath 8 8, DropPrevious 10 9
+Received 4 9, Send 7 12, Acked 10 18, Lost 7 16, NewId 2 3, NextId 2 3, InitialId 3 4, IssueIds 1 4, IdTimeout 0 2,
+PeerRetired 1 3, AckFrequencyIn 1 4, AcksSent 2 4, AckDelayTimeout 2 4, SetTimer 1 1, StopTimer 1 1, NextTimeout 1 1,
+DiscardSpace 5 8, InFlight 2 3, Sample 0 1, DatagramIn 2 4, Validated 2 4, Transmit 4 6, PacerCheck 1 2,
+Congestion 0 1, EndAcks 0 1, PollMtu 10 19, PeerLimit 2 13, LossesDone 5 9, Ecn 1 3, CheckAck 1 2, QueueProbe 1 5,
+TakePending 2 4, NewPath 5 15, ResetPath 2 8, DropPrevious 3 9
 """
-MEANS = (8.7, 5.9)
+MEANS = (5.0, 2.7, 5.9)
+
+
+def room_of(path):
+    """Where a file counts: with code and definitions, promises or proofs."""
+    inner = path.relative_to(ROOT / "crates").parts[1:]
+    if inner[0] == "proofs":
+        return 2
+    return int(inner[1] == "Promises" or inner == ("specs", "Pacing.antt"))
 
 
 def files():
-    for room in ("src", "specs", "proofs"):
-        for path in sorted(ROOT.glob(f"crates/*/{room}/**/*.*t")):
-            crate = path.relative_to(ROOT / "crates").parts[0]
-            if not APART.search(crate) and not ROWS.search(path.stem):
-                yield room, path.read_text()
+    for path in sorted(it for room in ("src", "specs", "proofs") for it in ROOT.glob(f"crates/*/{room}/**/*.*t")):
+        crate = path.relative_to(ROOT / "crates").parts[0]
+        if not APART.search(crate) and not ROWS.search(path.stem):
+            yield room_of(path), path.read_text()
 
 
 def declared(text):
@@ -49,20 +60,22 @@ def named_in(text, events):
 def main():
     sources = list(files())
     events = [name for _, text in sources for name in declared(text)]
-    counts = {event: [0, 0] for event in events}
+    counts = {event: [0, 0, 0] for event in events}
     for room, text in sources:
         for event in named_in(text, events):
-            counts[event][room == "proofs"] += 1
-    bounds = {name: (int(ours), int(proofs)) for name, ours, proofs in re.findall(r"(\w+) (\d+) (\d+)", BOUNDS)}
+            counts[event][room] += 1
+    bounds = {name: (MOST + MORE.get(name, 0), int(promises), int(proofs))
+              for name, promises, proofs in re.findall(r"(\w+) (\d+) (\d+)", BOUNDS)}
     means = [round(sum(it) / len(events), 1) for it in zip(*counts.values())]
-    wrong = [f"{name}: {found[0]} and {found[1]} files, and not at most {bounds.get(name)}" for name, found in counts.items()
-             if any(a > b for a, b in zip(found, bounds.get(name, (0, 0))))]
+    wrong = [f"{name}: {found} files, and not at most {bounds.get(name)}" for name, found in counts.items()
+             if any(a > b for a, b in zip(found, bounds.get(name, (0, 0, 0))))]
     wrong += [f"the means: {means}, and not at most {MEANS}"] if any(a > b for a, b in zip(means, MEANS)) else []
     for fault in wrong:
         print(f"events: {fault}", file=sys.stderr)
-    most = [max(counts, key=lambda name: counts[name][room]) for room in (0, 1)]
-    print(f"events: {means[0]} files of code and definitions name one on the mean (most {most[0]}, {counts[most[0]][0]}), "
-          f"and {means[1]} of proofs (most {most[1]}, {counts[most[1]][1]})")
+    most = [max(counts, key=lambda name: counts[name][room]) for room in range(3)]
+    told = ["files of code and definitions", "promises", "files of proofs"]
+    said = [f"{mean} {what} (most {name}, {counts[name][room]})" for room, (mean, what, name) in enumerate(zip(means, told, most))]
+    print(f"events: on the mean one is named in {said[0]}, {said[1]} and {said[2]}")
     print(f"events: {len(events) + 1 - len(wrong)} passed, {len(wrong)} failed")
     return 1 if wrong else 0
 

@@ -12,7 +12,8 @@ use Rattle.recovery_queue.specs.Queues.{QueueWords}
 use Rattle.recovery_events.specs.declared.event.Event.{Event}
 use Rattle.recovery_events.specs.declared.event.Event.TheVariants.{NewPath, DropPrevious}
 use Rattle.recovery_events.specs.declared.event.Refusal.{Refusal}
-use Rattle.quic_recovery.specs.Above.{AreFresh, beside_of, marks_after}
+use Rattle.quic_recovery.specs.Above.{AreFresh, beside_of}
+use Rattle.quic_recovery.specs.Table.{marks_after}
 use Rattle.quic_recovery.specs.History.{Reply}
 use Rattle.quic_recovery.specs.Logs.{StepBy}
 

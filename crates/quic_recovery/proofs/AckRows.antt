@@ -11,7 +11,7 @@ use Rattle.recovery_ledger.specs.Acks.{IsRequired}
 use Rattle.recovery_events.specs.declared.event.Event.{Event}
 use Rattle.recovery_events.specs.declared.event.Event.TheVariants as event
 use Rattle.recovery_events.specs.declared.event.Answer.TheVariants as answer
-use Rattle.quic_recovery.specs.Entries.{logs_of}
+use Rattle.quic_recovery.specs.Told.{logs_of}
 use Rattle.quic_recovery.specs.History.{Beginning, History, Reply}
 use Rattle.quic_recovery.specs.Promises.Acknowledged.{HasCome, LiesBelow, WasDropped, largest_in}
 use Rattle.quic_recovery.specs.Promises.Duty.{AcknowledgesInTime, timer_runs, waits}

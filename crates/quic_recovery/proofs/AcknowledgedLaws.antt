@@ -17,12 +17,12 @@ use Rattle.recovery_queue.specs.Queues.{QueueWords}
 use Rattle.recovery_events.specs.declared.event.Event.{Event}
 use Rattle.recovery_events.specs.declared.event.Event.TheVariants.{Received, Acked}
 use Rattle.recovery_events.specs.declared.event.Answer.TheVariants.{New}
-use Rattle.quic_recovery.specs.Entries.{entries_of, logs_of, known_by}
+use Rattle.quic_recovery.specs.Table.{entries_of}
+use Rattle.quic_recovery.specs.Told.{logs_of, known_by, Told}
 use Rattle.quic_recovery.specs.History.{AtEach, Beginning, History, Reply, history}
 use Rattle.quic_recovery.specs.Known.{Known}
 use Rattle.quic_recovery.specs.Logs.{onto}
 use Rattle.quic_recovery.specs.Promises.Acknowledged.{HasCome, KeepsToAcknowledge, LiesBelow, WasDropped, largest_in}
-use Rattle.quic_recovery.specs.Told.{Told}
 use Rattle.quic_recovery.proofs.CarriedLaws.{AllCarry, carries_largest, keeps_carried, none_carry}
 use Rattle.quic_recovery.proofs.Runs.{kept_after}
 use Rattle.quic_recovery.proofs.EntryKinds.{SpaceKind, hearing, acknowledging, space_kind, space_kept}

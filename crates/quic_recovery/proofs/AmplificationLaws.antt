@@ -16,10 +16,10 @@ use Rattle.recovery_events.specs.declared.event.Event.{Event}
 use Rattle.recovery_events.specs.declared.event.Event.TheVariants.{PeerLimit, Transmit}
 use Rattle.recovery_events.specs.declared.event.Answer.{Answer}
 use Rattle.recovery_events.specs.declared.event.Answer.TheVariants.{Transmitted, Delayed, Blocked}
-use Rattle.quic_recovery.specs.Entries.{answered, entries_of}
+use Rattle.quic_recovery.specs.Table.{answered, entries_of, ToldBy}
 use Rattle.quic_recovery.specs.History.{QueueMeaning, Reply}
 use Rattle.quic_recovery.specs.Known.{Known}
-use Rattle.quic_recovery.specs.Told.{ToldBy, delayed_or}
+use Rattle.quic_recovery.specs.PartReplies.{delayed_or}
 use Rattle.quic_recovery.proofs.EntryKinds.{PathKind, passing, limiting, elsewhere, call_kind, path_kind, paths_kept}
 
 -- what was transmitted was neither blocked nor delayed

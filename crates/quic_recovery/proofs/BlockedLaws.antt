@@ -9,10 +9,10 @@ use Rattle.recovery_events.specs.declared.event.Event.TheVariants.{Transmit}
 use Rattle.recovery_events.specs.declared.event.Answer.{Answer}
 use Rattle.recovery_events.specs.declared.event.Answer.TheVariants.{Transmitted, Blocked}
 use Rattle.recovery_events.specs.declared.event.Refusal.TheVariants.{Overflow}
-use Rattle.quic_recovery.specs.Entries.{pasts_of}
+use Rattle.quic_recovery.specs.Told.{pasts_of, Told}
 use Rattle.quic_recovery.specs.History.{Beginning, History, Reply}
 use Rattle.quic_recovery.specs.Replies.{Refuses, AlwaysAnswers}
-use Rattle.quic_recovery.specs.Told.{Told, Is, delayed_or, transmit_answer}
+use Rattle.quic_recovery.specs.PartReplies.{Is, delayed_or, transmit_answer}
 use Rattle.quic_recovery.specs.Promises.Blocked.{IsPassage, BlocksExactly}
 use Rattle.quic_recovery.proofs.Runs.{AllAlong, throughout_kept}
 use Rattle.quic_recovery.proofs.DatagramLaws.{FlowsAgree, flows_at_first, flows_after}

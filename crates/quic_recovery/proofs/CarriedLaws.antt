@@ -12,12 +12,12 @@ use Rattle.recovery_events.specs.declared.event.Event.{Event}
 use Rattle.recovery_events.specs.declared.event.Event.TheVariants.{Send, PollMtu}
 use Rattle.recovery_events.specs.declared.event.Answer.TheVariants as answers
 use Rattle.recovery_events.specs.declared.event.Answer.TheVariants.{Probe}
-use Rattle.quic_recovery.specs.Entries.{entries_of, logs_of, known_by}
+use Rattle.quic_recovery.specs.Table.{entries_of}
+use Rattle.quic_recovery.specs.Told.{logs_of, known_by, Told}
 use Rattle.quic_recovery.specs.History.{Beginning, History, Reply}
 use Rattle.quic_recovery.specs.Known.{Known, number_in, packet_now}
 use Rattle.quic_recovery.specs.Logs.{onto}
 use Rattle.quic_recovery.specs.Promises.Acknowledged.{largest_in}
-use Rattle.quic_recovery.specs.Told.{Told}
 use Rattle.quic_recovery.proofs.EntryKinds.{sends_none, space_kept}
 use Rattle.quic_recovery.proofs.AnswerLaws.{past_four}
 use Rattle.quic_recovery.proofs.SearchSteps.{found_packet as is_there}

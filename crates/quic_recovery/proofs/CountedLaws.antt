@@ -20,12 +20,14 @@ use Rattle.recovery_events.specs.declared.event.Event.TheVariants.{Send, Acked, 
 use Rattle.recovery_events.specs.declared.event.Answer.TheVariants as answers
 use Rattle.recovery_events.specs.declared.event.Answer.TheVariants.{Probe}
 use Rattle.recovery_events.specs.declared.event.Refusal.TheVariants.{NoMemory, NoSuchPath}
-use Rattle.quic_recovery.specs.Entries.{here, answered, entries_of, logs_of, known_by}
+use Rattle.quic_recovery.specs.Entries.{here}
+use Rattle.quic_recovery.specs.Table.{answered, entries_of}
+use Rattle.quic_recovery.specs.Told.{logs_of, known_by, Told}
 use Rattle.quic_recovery.specs.History.{Beginning, History, Reply}
 use Rattle.quic_recovery.specs.Known.{Known, number_in, packet_now, in_flight_on}
 use Rattle.quic_recovery.specs.Logs.{onto}
 use Rattle.quic_recovery.specs.Replies.{AlwaysAnswers}
-use Rattle.quic_recovery.specs.Told.{Told, Is, OnPath}
+use Rattle.quic_recovery.specs.PartReplies.{Is, OnPath}
 use Rattle.quic_recovery.specs.Promises.Counted.{sum_on, IsTally, CountsInFlight}
 use Rattle.quic_recovery.specs.Promises.Paths.{paths_made}
 use Rattle.quic_recovery.proofs.AnswerLaws.{past_four}

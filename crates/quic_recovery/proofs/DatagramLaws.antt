@@ -14,10 +14,10 @@ use Rattle.recovery_paths.specs.PathStates.{PathState, is_blocked, path_delay}
 use Rattle.recovery_events.specs.declared.event.Event.{Event}
 use Rattle.recovery_events.specs.declared.event.Event.TheVariants.{Transmit, DatagramIn, Validated, NewPath, DropPrevious}
 use Rattle.recovery_events.specs.declared.event.Answer.TheVariants.{Transmitted}
-use Rattle.quic_recovery.specs.Entries.{logs_of, pasts_of, known_by}
+use Rattle.quic_recovery.specs.Told.{logs_of, pasts_of, known_by, first_path, settings_of, Told}
 use Rattle.quic_recovery.specs.History.{Beginning, History, Reply}
-use Rattle.quic_recovery.specs.Known.{Known, first_path, settings_of}
-use Rattle.quic_recovery.specs.Told.{Told, OnPath}
+use Rattle.quic_recovery.specs.Known.{Known}
+use Rattle.quic_recovery.specs.PartReplies.{OnPath}
 use Rattle.quic_recovery.specs.Promises.Datagrams.{datagrams_on, bytes_in, bytes_out, is_validated}
 use Rattle.quic_recovery.specs.Promises.Threefold.{is_checked}
 use Rattle.quic_recovery.proofs.AmplificationLaws.{sent_freely}

@@ -12,10 +12,10 @@ use Rattle.recovery_events.specs.declared.event.Event.TheVariants.{PollMtu, Acke
 use Rattle.recovery_events.specs.declared.event.Answer.{Answer}
 use Rattle.recovery_paths.specs.declared.live_paths.PathName.TheVariants.{Current, Previous}
 use Rattle.recovery_paths.specs.PathStates.{PathState}
-use Rattle.quic_recovery.specs.Entries.{logs_of, known_by}
+use Rattle.quic_recovery.specs.Told.{logs_of, known_by, first_path, settings_of, Told}
 use Rattle.quic_recovery.specs.History.{Beginning, History, Reply}
-use Rattle.quic_recovery.specs.Known.{Known, first_path, settings_of}
-use Rattle.quic_recovery.specs.Told.{Told, MtuProbeReply}
+use Rattle.quic_recovery.specs.Known.{Known}
+use Rattle.quic_recovery.specs.PartReplies.{MtuProbeReply}
 use Rattle.quic_recovery.proofs.EntryKinds.{PathKind, departing, limiting, searching, resetting, moving, elsewhere, path_kind, paths_kept}
 use Rattle.quic_recovery.proofs.SearchSaid.{EntersAsTold, entries_on}
 use Rattle.quic_recovery.proofs.Runs.{AllAlong, throughout_kept}

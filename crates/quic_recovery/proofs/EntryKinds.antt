@@ -16,7 +16,8 @@ use Rattle.recovery_paths.specs.PathStates.{is_path_probe}
 use Rattle.recovery_events.specs.declared.event.Event.{Event}
 use Rattle.recovery_events.specs.declared.event.Event.TheVariants.{Received, Send, Acked, Lost, AckFrequencyIn, AcksSent, AckDelayTimeout, DiscardSpace, DatagramIn, Validated, Sample, Transmit, PacerCheck, Congestion, EndAcks, PollMtu, PeerLimit, LossesDone, Ecn, QueueProbe, TakePending, NewPath, ResetPath, DropPrevious}
 use Rattle.recovery_events.specs.declared.event.Answer.TheVariants.{New, Flag, Transmitted, Delayed, Probe}
-use Rattle.quic_recovery.specs.Entries.{entries_of, acked_entry, acked_search, lost_search, searched}
+use Rattle.quic_recovery.specs.Table.{entries_of}
+use Rattle.quic_recovery.specs.Entries.{acked_entry, acked_search, lost_search, searched}
 use Rattle.quic_recovery.specs.History.{QueueMeaning, Reply}
 use Rattle.quic_recovery.specs.Known.{Known, tracked_known}
 

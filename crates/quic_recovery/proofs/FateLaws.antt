@@ -13,9 +13,11 @@ use Rattle.recovery_paths.specs.PathStates.{is_path_probe, loss_call}
 use Rattle.recovery_paths.proofs.FateLaws.{fate, fates, told_in, told-append, fates_by}
 use Rattle.recovery_events.specs.declared.event.Event.{Event}
 use Rattle.recovery_events.specs.declared.event.Event.TheVariants.{Acked, Lost}
-use Rattle.quic_recovery.specs.Entries.{Entries, entries_of, acked_entry, acked_search, lost_search, searched, logs_of, pasts_of, known_by}
+use Rattle.quic_recovery.specs.Entries.{Entries, acked_entry, acked_search, lost_search, searched}
+use Rattle.quic_recovery.specs.Table.{entries_of}
+use Rattle.quic_recovery.specs.Told.{logs_of, pasts_of, known_by, first_path, settings_of}
 use Rattle.quic_recovery.specs.History.{Beginning, History, QueueMeaning, Reply}
-use Rattle.quic_recovery.specs.Known.{Known, first_path, settings_of, tracked_known}
+use Rattle.quic_recovery.specs.Known.{Known, tracked_known}
 use Rattle.quic_recovery.specs.Promises.Once.{departures_of}
 use Rattle.quic_recovery.proofs.EntryKinds.{PathKind, departing, elsewhere, call_kind, path_kind, paths_kept}
 

@@ -23,9 +23,10 @@ use Rattle.recovery_paths.proofs.PathLogLaws.{paths_law}
 use Rattle.recovery_skips.specs.Filters.{Skipping, skipping_at}
 use Rattle.recovery_skips.proofs.SkipLaws.{allocated, number_at, last_at}
 use Rattle.recovery_events.specs.declared.event.Event.{Event}
-use Rattle.quic_recovery.specs.Entries.{entries_of, known_by, logs_of}
+use Rattle.quic_recovery.specs.Table.{entries_of}
+use Rattle.quic_recovery.specs.Told.{known_by, logs_of, first_ids, first_path, settings_of}
 use Rattle.quic_recovery.specs.History.{Beginning, History, Reply}
-use Rattle.quic_recovery.specs.Known.{first_ids, first_path, settings_of, tracked_known}
+use Rattle.quic_recovery.specs.Known.{tracked_known}
 use Rattle.quic_recovery.specs.Logs.{onto}
 use Rattle.quic_recovery.specs.Parts.{Parts}
 use Rattle.quic_recovery.specs.Plain.{plain_of}

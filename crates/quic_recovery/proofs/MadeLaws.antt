@@ -6,10 +6,9 @@ use Rattle.recovery_paths.specs.PathLog.{OfPaths, PathPast, receives}
 use Rattle.recovery_paths.specs.declared.live_paths.PathName.TheVariants.{Current, Previous}
 use Rattle.recovery_events.specs.declared.event.Event.{Event}
 use Rattle.recovery_events.specs.declared.event.Event.TheVariants.{NewPath, DropPrevious}
-use Rattle.quic_recovery.specs.Entries.{pasts_of}
-use Rattle.quic_recovery.specs.Plain.{limit}
+use Rattle.quic_recovery.specs.Told.{pasts_of, settings_of}
+use Rattle.quic_recovery.specs.Table.{limit}
 use Rattle.quic_recovery.specs.History.{Beginning, History, Reply}
-use Rattle.quic_recovery.specs.Known.{settings_of}
 use Rattle.quic_recovery.proofs.SeenLaws.{IsStill, IsStillOn, stays_seen}
 
 module _ {F K Q S M P : Type 0} (beginning : Beginning F K Q S M P) where

@@ -14,10 +14,9 @@ use Rattle.recovery_paths.specs.PathLog.{OfPaths, PathKnown, PathPast, is_valida
 use Rattle.recovery_events.specs.declared.event.Event.{Event}
 use Rattle.recovery_events.specs.declared.event.Event.TheVariants.{PollMtu, Acked, Lost, LossesDone, PeerLimit, ResetPath, NewPath, DropPrevious}
 use Rattle.recovery_events.specs.declared.event.Answer.TheVariants as answer
-use Rattle.quic_recovery.specs.Entries.{pasts_of}
-use Rattle.quic_recovery.specs.Plain.{limit}
+use Rattle.quic_recovery.specs.Told.{pasts_of, settings_of}
+use Rattle.quic_recovery.specs.Table.{limit}
 use Rattle.quic_recovery.specs.History.{Beginning, History, Reply}
-use Rattle.quic_recovery.specs.Known.{settings_of}
 use Rattle.quic_recovery.specs.Promises.Mtu.{UsesMtu, before_move, mtu, mtu_in_use}
 use Rattle.quic_recovery.specs.Search.{discovery_settings}
 use Rattle.quic_recovery.proofs.HolesLaws as holes

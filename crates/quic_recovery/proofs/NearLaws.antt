@@ -15,9 +15,9 @@ use Rattle.recovery_mtud.specs.SearchRuns.{AreLimitsOutside, EndsNearBest, start
 use Rattle.recovery_events.specs.declared.event.Event.{Event}
 use Rattle.recovery_events.specs.declared.event.Event.TheVariants.{PollMtu, Acked, Lost, LossesDone, PeerLimit, ResetPath, NewPath}
 use Rattle.recovery_events.specs.declared.event.Answer.TheVariants as answer
-use Rattle.quic_recovery.specs.Plain.{limit}
+use Rattle.quic_recovery.specs.Table.{limit}
 use Rattle.quic_recovery.specs.History.{Beginning, History, Reply}
-use Rattle.quic_recovery.specs.Known.{settings_of}
+use Rattle.quic_recovery.specs.Told.{settings_of}
 use Rattle.quic_recovery.specs.Search.{discovery_settings}
 use Rattle.quic_recovery.specs.Promises.Few.{is_in_flight}
 use Rattle.quic_recovery.specs.Promises.Mtu.{mtu}

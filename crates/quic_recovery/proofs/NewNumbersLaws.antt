@@ -12,11 +12,11 @@ use Rattle.recovery_events.specs.declared.event.Event.{Event}
 use Rattle.recovery_events.specs.declared.event.Event.TheVariants.{Received}
 use Rattle.recovery_events.specs.declared.event.Answer.TheVariants.{New}
 use Rattle.recovery_events.specs.declared.event.Refusal.TheVariants.{SpaceDiscarded}
-use Rattle.quic_recovery.specs.Entries.{logs_of, known_by}
+use Rattle.quic_recovery.specs.Told.{logs_of, known_by, Told}
 use Rattle.quic_recovery.specs.History.{Beginning, History, Reply}
 use Rattle.quic_recovery.specs.Known.{SpaceKnown}
 use Rattle.quic_recovery.specs.Logs.{onto}
-use Rattle.quic_recovery.specs.Told.{Told, ReceivedReply}
+use Rattle.quic_recovery.specs.PartReplies.{ReceivedReply}
 use Rattle.recovery_ledger.specs.Acks.{Heard, heard_by}
 use Rattle.quic_recovery.specs.Promises.NewNumbers.{is_new, came_in, IsVerdict, CallsNew}
 use Rattle.quic_recovery.proofs.EntryKinds.{SpaceKind, hearing, space_kind, space_kept}

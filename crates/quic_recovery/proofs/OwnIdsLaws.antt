@@ -14,9 +14,8 @@ use Rattle.recovery_events.specs.declared.event.Answer.TheVariants.{Flag}
 use Rattle.recovery_events.specs.declared.event.Refusal.TheVariants.{NoMemory, NumberTooLarge, BadRange, CidsNotInUse, UnissuedCid}
 use Rattle.quic_recovery.specs.History.{Beginning, History, Reply}
 use Rattle.quic_recovery.specs.IdReplies.{IssueReply, RetirementReply}
-use Rattle.quic_recovery.specs.Known.{first_ids}
-use Rattle.quic_recovery.specs.Plain.{own_ids}
-use Rattle.quic_recovery.specs.Told.{Told}
+use Rattle.quic_recovery.specs.Told.{first_ids, Told}
+use Rattle.quic_recovery.specs.Table.{own_ids}
 use Rattle.quic_recovery.specs.Promises.OwnIds.{go_on, IsIssue, issued, is_retired, IssuesIds}
 use Rattle.quic_recovery.proofs.Runs.{AllAlong, throughout_kept}
 

@@ -9,9 +9,11 @@ use Rattle.recovery_paths.specs.PathMaking.{PathSettings}
 use Rattle.recovery_paths.specs.PathStates.{PathState}
 use Rattle.recovery_events.specs.declared.event.Event.{Event}
 use Rattle.recovery_events.specs.declared.event.Event.TheVariants.{NewPath, DropPrevious}
-use Rattle.quic_recovery.specs.Entries.{entries_of, following, logs_of, pasts_of, known_by}
+use Rattle.quic_recovery.specs.Table.{entries_of}
+use Rattle.quic_recovery.specs.Entries.{following}
+use Rattle.quic_recovery.specs.Told.{logs_of, pasts_of, known_by, first_path, settings_of}
 use Rattle.quic_recovery.specs.History.{Beginning, History, QueueMeaning, Reply}
-use Rattle.quic_recovery.specs.Known.{Known, first_path, settings_of}
+use Rattle.quic_recovery.specs.Known.{Known}
 use Rattle.quic_recovery.specs.Promises.Paths.{paths_made, generation_of}
 use Rattle.quic_recovery.proofs.EntryKinds.{PathKind, moving, dropping, path_kind, paths_kept}
 

@@ -31,7 +31,7 @@ use Rattle.quic_recovery.specs.Known.{Known, current_in_flight, number_in, packe
 use Rattle.quic_recovery.specs.Parts.{Parts}
 use Rattle.quic_recovery.specs.Replies.{Answers, Refuses, same_refusal}
 use Rattle.quic_recovery.specs.State.{Changes, Steps, known_to}
-use Rattle.quic_recovery.specs.Told.{InSpace, SendReply, MtuProbeReply}
+use Rattle.quic_recovery.specs.PartReplies.{InSpace, SendReply, MtuProbeReply}
 use Rattle.quic_recovery.proofs.AboveLaws.{both_marks}
 use Rattle.quic_recovery.proofs.DriverLaws.{spaces_step, skips_nothing}
 

@@ -17,12 +17,13 @@ use Rattle.recovery_events.specs.declared.event.Refusal.TheVariants.{DelayTooSma
 use Rattle.quic_recovery.specs.History.{Beginning, History, QueueMeaning, Reply}
 use Rattle.quic_recovery.specs.IdReplies.{FrameReply}
 use Rattle.quic_recovery.specs.Known.{Known}
-use Rattle.quic_recovery.specs.Plain.{Plain, PlainStep, frequency_by, limit, own_ids}
+use Rattle.quic_recovery.specs.Plain.{Plain}
+use Rattle.quic_recovery.specs.Table.{PlainStep, frequency_by, limit, own_ids, ToldBy}
 use Rattle.quic_recovery.specs.Promises.GivenIds.{AreHeld, id_under, retired_below}
 use Rattle.quic_recovery.specs.Promises.NewNumbers.{is_discarded as was_discarded}
 use Rattle.quic_recovery.specs.Promises.Timeouts.{TellsTimers, moment_of}
 use Rattle.quic_recovery.specs.Replies.{AlwaysAnswers}
-use Rattle.quic_recovery.specs.Told.{Told, ToldBy}
+use Rattle.quic_recovery.specs.Told.{Told}
 use Rattle.quic_recovery.proofs.PeerIdsLaws.{frame_step, next_step, initial_step}
 
 module _ {K Q S M P : Type 0} (q : QueueMeaning Q S M P) (words : ControllerWords K) (heard : SpaceId → Heard)

@@ -23,9 +23,10 @@ use Rattle.recovery_events.specs.declared.event.Refusal.{Refusal}
 use Rattle.quic_recovery.specs.History.{QueueMeaning}
 use Rattle.quic_recovery.specs.Known.{Known}
 use Rattle.quic_recovery.specs.Parts.{Parts}
-use Rattle.quic_recovery.specs.Plain.{PlainStep, plain_of}
+use Rattle.quic_recovery.specs.Table.{PlainStep, ToldBy}
+use Rattle.quic_recovery.specs.Plain.{plain_of}
 use Rattle.quic_recovery.specs.State.{Changes, heard_to, known_to}
-use Rattle.quic_recovery.specs.Told.{ToldBy, skipped_in}
+use Rattle.quic_recovery.specs.PartReplies.{skipped_in}
 use Rattle.quic_recovery.proofs.AboveLaws.{marks_refused}
 use Rattle.quic_recovery.proofs.DriverLaws.{nothing_changes, with_same_space}
 

@@ -15,11 +15,11 @@ use Rattle.recovery_events.specs.declared.event.Refusal.{Refusal}
 use Rattle.recovery_events.specs.declared.event.Refusal.TheVariants as refusal
 use Rattle.recovery_events.specs.declared.event.Refusal.TheVariants.{NumberTooLarge, NumbersExhausted, Overflow, DelayTooSmall, BadRange, SkippedAcked, SpaceDiscarded, NotTracked, NoSuchPath, NotInitialId, NoMemory}
 use Rattle.recovery_events.specs.Refusals.{refusal_number}
-use Rattle.quic_recovery.specs.Entries.{known_by}
+use Rattle.quic_recovery.specs.Told.{known_by, Told}
 use Rattle.quic_recovery.specs.History.{Beginning, History, Reply}
 use Rattle.quic_recovery.specs.Known.{SpaceKnown, Known}
 use Rattle.quic_recovery.specs.Replies.{same_refusal, Refuses, Answers}
-use Rattle.quic_recovery.specs.Told.{Told, EcnAnswer, InSpace, Is, LeaveReply, OnPath, MtuProbeReply}
+use Rattle.quic_recovery.specs.PartReplies.{EcnAnswer, InSpace, Is, LeaveReply, OnPath, MtuProbeReply}
 use Rattle.quic_recovery.specs.Promises.Paths.{generation_of}
 use Rattle.quic_recovery.specs.Promises.Refused.{unless, in_space, RefusesRightly, first_cause}
 use Rattle.quic_recovery.specs.Promises.Tracked.{is_tracked}

@@ -27,11 +27,12 @@ use Rattle.recovery_events.specs.declared.event.Event.TheVariants.{Acked, Lost, 
 use Rattle.recovery_events.specs.declared.event.Answer.TheVariants.{Probe, NoProbe}
 use Rattle.recovery_events.specs.declared.event.Answer.TheVariants as answer
 use Rattle.recovery_events.specs.declared.event.Refusal.TheVariants.{Searching}
-use Rattle.quic_recovery.specs.Entries.{entries_of, logs_of, pasts_of, known_by}
+use Rattle.quic_recovery.specs.Table.{entries_of}
+use Rattle.quic_recovery.specs.Told.{logs_of, pasts_of, known_by, first_path, settings_of, Told}
 use Rattle.quic_recovery.specs.History.{Beginning, History, QueueMeaning, Reply}
-use Rattle.quic_recovery.specs.Known.{Known, first_path, settings_of}
+use Rattle.quic_recovery.specs.Known.{Known}
 use Rattle.quic_recovery.specs.Search.{WhereSearched, discovery_settings}
-use Rattle.quic_recovery.specs.Told.{Told, MtuProbeReply}
+use Rattle.quic_recovery.specs.PartReplies.{MtuProbeReply}
 use Rattle.quic_recovery.proofs.SearchSaid.{EndsNear, LimitsOutside, ProbesInTurn, TellsProbes, entered_so_far, entries_on, is_in_flight}
 use Rattle.quic_recovery.proofs.AmplificationLaws.{is_allowed}
 

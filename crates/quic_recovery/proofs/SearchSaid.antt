@@ -15,9 +15,9 @@ use Rattle.recovery_events.specs.declared.event.Answer.{Answer}
 use Rattle.recovery_events.specs.declared.event.Answer.TheVariants as answer
 use Rattle.recovery_events.specs.declared.event.Answer.TheVariants.{Probe, NoProbe, BlackHole}
 use Rattle.recovery_events.specs.declared.event.Refusal.TheVariants.{Searching}
-use Rattle.quic_recovery.specs.Entries.{pasts_of, known_by}
+use Rattle.quic_recovery.specs.Told.{pasts_of, known_by, settings_of}
 use Rattle.quic_recovery.specs.History.{Beginning, History, Reply}
-use Rattle.quic_recovery.specs.Known.{settings_of, tracked_known}
+use Rattle.quic_recovery.specs.Known.{tracked_known}
 use Rattle.quic_recovery.specs.Search.{WhereSearched, discovery_settings}
 
 -- what the discovery of a path was told and answered since it was made

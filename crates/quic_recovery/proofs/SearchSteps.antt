@@ -9,10 +9,8 @@ use Rattle.recovery_mtud.specs.SearchRuns.{search_runs}
 use Rattle.recovery_events.specs.declared.event.Event.{Event}
 use Rattle.recovery_events.specs.declared.event.Event.TheVariants.{PollMtu, Acked, Lost, LossesDone, PeerLimit, ResetPath, NewPath}
 use Rattle.recovery_events.specs.declared.event.Answer.TheVariants as answer
-use Rattle.quic_recovery.specs.Entries.{known_by}
+use Rattle.quic_recovery.specs.Told.{known_by, settings_of, Told}
 use Rattle.quic_recovery.specs.History.{AtEach, Beginning, History, Reply}
-use Rattle.quic_recovery.specs.Known.{settings_of}
-use Rattle.quic_recovery.specs.Told.{Told}
 use Rattle.quic_recovery.proofs.Runs.{AllAlong, throughout_by}
 use Rattle.quic_recovery.proofs.SearchSaid.{EntersAsTold, LimitsOutside, TellsProbes, data_packet, entered_so_far}
 use Rattle.quic_recovery.proofs.EnteredLaws.{entries_told}

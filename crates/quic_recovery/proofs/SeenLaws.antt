@@ -8,9 +8,9 @@ use Rattle.recovery_paths.specs.declared.live_paths.PathName.TheVariants.{Curren
 use Rattle.recovery_paths.specs.PathStates.{PathState}
 use Rattle.recovery_events.specs.declared.event.Event.{Event}
 use Rattle.recovery_events.specs.declared.event.Event.TheVariants.{NewPath, DropPrevious}
-use Rattle.quic_recovery.specs.Entries.{logs_of, pasts_of, known_by}
+use Rattle.quic_recovery.specs.Told.{logs_of, pasts_of, known_by, first_path, settings_of}
 use Rattle.quic_recovery.specs.History.{Beginning, History, Reply}
-use Rattle.quic_recovery.specs.Known.{Known, first_path, settings_of}
+use Rattle.quic_recovery.specs.Known.{Known}
 use Rattle.quic_recovery.proofs.EntryKinds.{PathKind, moving, dropping, elsewhere, path_kind, paths_kept}
 
 -- what happens on the path in use is not seen

@@ -12,12 +12,13 @@ use Rattle.recovery_events.specs.declared.event.Event.{Event}
 use Rattle.recovery_events.specs.declared.event.Event.TheVariants.{Send, PollMtu}
 use Rattle.recovery_events.specs.declared.event.Answer.TheVariants.{Probe}
 use Rattle.recovery_mtud.specs.Discovery.{poll_of}
-use Rattle.quic_recovery.specs.Entries.{entries_of, logs_of, known_by}
+use Rattle.quic_recovery.specs.Table.{entries_of}
+use Rattle.quic_recovery.specs.Told.{logs_of, known_by, Told}
 use Rattle.quic_recovery.specs.History.{Beginning, History, Reply}
 use Rattle.quic_recovery.specs.Known.{Known, packet_now}
 use Rattle.quic_recovery.specs.Logs.{onto}
 use Rattle.quic_recovery.specs.Promises.Bursts.{size_of}
-use Rattle.quic_recovery.specs.Told.{Told, MtuProbeReply}
+use Rattle.quic_recovery.specs.PartReplies.{MtuProbeReply}
 use Rattle.quic_recovery.proofs.EntryKinds.{sends_none, space_kept}
 use Rattle.quic_recovery.proofs.FieldLaws.{AreSaid, IsSaid, said_after, said_sent}
 use Rattle.quic_recovery.proofs.AnswerLaws.{past_four}

@@ -11,9 +11,9 @@ use Rattle.recovery_mtud.specs.SearchRuns.{ProbesInSearch, start_upper}
 use Rattle.recovery_events.specs.declared.event.Event.{Event}
 use Rattle.recovery_events.specs.declared.event.Event.TheVariants.{PollMtu}
 use Rattle.recovery_events.specs.declared.event.Answer.TheVariants as answer
-use Rattle.quic_recovery.specs.Entries.{pasts_of}
+use Rattle.quic_recovery.specs.Told.{pasts_of}
 use Rattle.quic_recovery.specs.History.{Beginning, History, Reply}
-use Rattle.quic_recovery.specs.Plain.{limit}
+use Rattle.quic_recovery.specs.Table.{limit}
 use Rattle.quic_recovery.specs.Promises.Mtu.{mtu_in_use}
 use Rattle.quic_recovery.specs.Promises.Near.{start}
 use Rattle.quic_recovery.specs.Promises.Sizes.{ProbesWithin}

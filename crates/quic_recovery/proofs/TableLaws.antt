@@ -27,7 +27,8 @@ use Rattle.recovery_paths.specs.declared.live_paths.PathName.{PathName}
 use Rattle.recovery_paths.specs.declared.live_paths.PathName.TheVariants.{Previous}
 use Rattle.recovery_events.specs.declared.event.Event.{Event}
 use Rattle.recovery_events.specs.declared.event.Event.TheVariants.{Received, Send, Acked, Lost, NewId, NextId, InitialId, IssueIds, PeerRetired, AckFrequencyIn, AcksSent, AckDelayTimeout, DiscardSpace, InFlight, DatagramIn, Validated, Transmit, PollMtu, PeerLimit, Ecn, CheckAck, QueueProbe, TakePending, NewPath, DropPrevious}
-use Rattle.quic_recovery.specs.Entries.{found_in, logs_of, known_by}
+use Rattle.quic_recovery.specs.Entries.{found_in}
+use Rattle.quic_recovery.specs.Told.{logs_of, known_by, Told}
 use Rattle.quic_recovery.specs.History.{Beginning, History, QueueMeaning, Reply}
 use Rattle.quic_recovery.specs.IdReplies.{IsFrameAnswer, IsNextAnswer}
 use Rattle.quic_recovery.specs.Parts.{Parts}
@@ -38,7 +39,8 @@ use Rattle.quic_recovery.specs.Same.{AcksAlike, LooksAlike, SameRefusal, SameAns
 use Rattle.quic_recovery.specs.State.{InFlightLeft, Left}
 use Rattle.quic_recovery.proofs.PeerIdsLaws.{held_same}
 use Rattle.quic_recovery.proofs.ReplyLaws.{only_refusal}
-use Rattle.quic_recovery.specs.Told.{EcnAnswer, InSpace, Is, IsPending, IsQueueProbeAnswer, OnPath, MtuProbeReply, ReceivedAnswer, Told, ToldBy}
+use Rattle.quic_recovery.specs.PartReplies.{EcnAnswer, InSpace, Is, IsPending, IsQueueProbeAnswer, OnPath, MtuProbeReply, ReceivedAnswer}
+use Rattle.quic_recovery.specs.Table.{ToldBy}
 
 -- ---- refusals, by their numbers
 

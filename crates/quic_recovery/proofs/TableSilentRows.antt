@@ -21,9 +21,8 @@ use Rattle.recovery_skips.specs.declared.filter.Skips.TheVariants.{Disabled}
 use Rattle.recovery_events.specs.declared.event.Event.TheVariants as event
 use Rattle.recovery_events.specs.declared.event.Answer.{Answer}
 use Rattle.recovery_events.specs.declared.event.Answer.TheVariants as answer
-use Rattle.quic_recovery.specs.Entries.{logs_of, known_by}
-use Rattle.quic_recovery.specs.Known.{Known, Logs, current_in_flight}
-use Rattle.quic_recovery.specs.Told.{Told}
+use Rattle.quic_recovery.specs.Told.{logs_of, known_by, Logs, Told}
+use Rattle.quic_recovery.specs.Known.{Known, current_in_flight}
 use Rattle.quic_recovery.proofs.RowStart.{RowEvent, RowReply, RowHistory, item_words, row_start}
 use Rattle.quic_recovery.proofs.RowLaws.{unrefused, some_is_none, said}
 

@@ -1,25 +1,14 @@
 -- What the layer above keeps with each path and each space (RFC 9000, 8.2, 13.4 and 19.6; RFC 9002, 6.1.2 and 7.6).
-use Rattle.std.specs.Prelude.{◌≡◌, ℕ, true, false, Option, option_map, None, Ok}
+use Rattle.std.specs.Prelude.{◌≡◌, ℕ, Option, option_map, None}
 use Rattle.recovery_base.specs.declared.below.frames.EcnCounts.{EcnCounts}
 use Rattle.recovery_ledger.specs.Spaces.{Space}
 use Rattle.recovery_paths.specs.declared.live_paths.PathName.{PathName}
-use Rattle.recovery_paths.specs.PathLog.{OfPaths, OnEachPath, moved_to, on_path_of, path_of}
+use Rattle.recovery_paths.specs.PathLog.{OfPaths, OnEachPath, on_path_of, path_of}
 use Rattle.recovery_paths.specs.PathMaking.{marks_made}
 use Rattle.recovery_paths.specs.PathStates.{PathMarks, with_marks}
-use Rattle.recovery_events.specs.declared.event.Event.{Event}
-use Rattle.recovery_events.specs.declared.event.Event.TheVariants.{NewPath, DropPrevious}
-use Rattle.quic_recovery.specs.History.{Reply}
 use Rattle.quic_recovery.specs.Parts.{Parts}
 
 -- ---- paths
-
--- a path that is made has fresh marks, but that one that goes on keeps the first packet after a sample of the RTT; the
--- marks of a path go with it, and no event changes them
-abbrev pub marks_after : {Q S M P : Type 0} → Event Q S M P → Reply Q → OfPaths PathMarks → OfPaths PathMarks
-marks_after (NewPath now remote true) (Ok given) old = moved_to (marks_made None) old
-marks_after (NewPath now remote false) (Ok given) old = moved_to (marks_made old.current.first_after_sample) old
-marks_after DropPrevious (Ok given) old = record old { previous = None }
-marks_after event reply old = old
 
 -- nothing was challenged on any path, and packets are marked on each
 abbrev pub AreFresh : OfPaths PathMarks → Type 0

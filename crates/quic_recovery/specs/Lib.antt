@@ -6,6 +6,7 @@ pub mod Known
 pub mod Logs
 pub mod Numbers
 pub mod Pacing
+pub mod PartReplies
 pub mod Parts
 pub mod Past
 pub mod Plain
@@ -14,4 +15,5 @@ pub mod Replies
 pub mod Same
 pub mod Search
 pub mod State
+pub mod Table
 pub mod Told

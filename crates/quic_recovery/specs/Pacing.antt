@@ -12,7 +12,7 @@ use Rattle.recovery_events.specs.declared.event.Event.{Event}
 use Rattle.recovery_events.specs.declared.event.Event.TheVariants.{Transmit, PacerCheck}
 use Rattle.recovery_events.specs.declared.event.Answer.{Answer}
 use Rattle.recovery_events.specs.declared.event.Answer.TheVariants.{Delayed, Blocked}
-use Rattle.quic_recovery.specs.Entries.{pasts_of}
+use Rattle.quic_recovery.specs.Told.{pasts_of}
 use Rattle.quic_recovery.specs.History.{Beginning, History, Reply}
 
 -- a call of a path's pacer is answered by the balance: it is delayed until this moment, or it is not

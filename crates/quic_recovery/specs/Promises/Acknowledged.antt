@@ -9,7 +9,7 @@ use Rattle.recovery_base.specs.Spaces.{same_space}
 use Rattle.recovery_ledger.specs.Acks.{ToAcknowledge}
 use Rattle.recovery_events.specs.declared.event.Event.TheVariants.{Received, Send, Acked, PollMtu}
 use Rattle.recovery_events.specs.declared.event.Answer.TheVariants.{New, Sent, Probe}
-use Rattle.quic_recovery.specs.Entries.{logs_of}
+use Rattle.quic_recovery.specs.Told.{logs_of}
 use Rattle.quic_recovery.specs.History.{Beginning, History}
 
 -- more than 64 ranges of a set end at a number or above it

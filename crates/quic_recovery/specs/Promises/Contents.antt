@@ -6,7 +6,7 @@ use Rattle.recovery_base.specs.Spaces.{same_space}
 use Rattle.recovery_ledger.specs.Packets.{contents_or, packet_at}
 use Rattle.recovery_events.specs.declared.event.Event.TheVariants.{Send, Acked, TakePending, DiscardSpace}
 use Rattle.recovery_events.specs.declared.event.Answer.TheVariants.{Sent, Queue}
-use Rattle.quic_recovery.specs.Entries.{known_by}
+use Rattle.quic_recovery.specs.Told.{known_by}
 use Rattle.quic_recovery.specs.History.{Beginning, History}
 use Rattle.quic_recovery.specs.Known.{SpaceKnown}
 use Rattle.quic_recovery.specs.Promises.Measures.{AddsUp}

@@ -7,7 +7,7 @@ use Rattle.recovery_ledger.specs.Acks.{IsRequired}
 use Rattle.recovery_events.specs.declared.event.Event.{Event}
 use Rattle.recovery_events.specs.declared.event.Event.TheVariants.{Received, AcksSent, AckDelayTimeout}
 use Rattle.recovery_events.specs.declared.event.Answer.TheVariants.{New}
-use Rattle.quic_recovery.specs.Entries.{logs_of}
+use Rattle.quic_recovery.specs.Told.{logs_of}
 use Rattle.quic_recovery.specs.History.{Beginning, History, Reply}
 
 module _ {Q S M P : Type 0} (space : SpaceId) where

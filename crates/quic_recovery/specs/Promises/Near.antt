@@ -9,7 +9,7 @@ use Rattle.recovery_events.specs.declared.event.Event.TheVariants.{PollMtu, Loss
 use Rattle.recovery_events.specs.declared.event.Answer.TheVariants as answer
 use Rattle.quic_recovery.specs.History.{Beginning, History, Reply}
 use Rattle.quic_recovery.specs.Promises.Few.{begins_anew, is_in_flight}
-use Rattle.quic_recovery.specs.Plain.{limit}
+use Rattle.quic_recovery.specs.Table.{limit}
 use Rattle.quic_recovery.specs.Promises.Mtu.{mtu}
 use Rattle.quic_recovery.specs.Promises.Probes.{acked_probes, lost_probes, runs}
 use Rattle.quic_recovery.specs.Search.{WhereSearched}
