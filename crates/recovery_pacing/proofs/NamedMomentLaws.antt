@@ -190,7 +190,9 @@ passes_at_moment made entries later between call earlier until is alike delays l
     lacking = first.capacity - first.tokens
 
     moment : until ≡ min (first.last + wait_of call.rtt call.window lacking) (2 ^ 64 - 1)
-    moment = let most : max call.bytes first.capacity - first.tokens ≡ lacking = omega (arith, fits call first (length between) room) in
+    moment =
+        let bytes = fits call first (length between) room in
+        let most : max call.bytes first.capacity - first.tokens ≡ lacking = omega (arith, bytes) in
         short.1 ∙ ap (λ (n : ℕ). min (first.last + wait_of call.rtt call.window n) (2 ^ 64 - 1)) most
 
     waited : first.last + wait_of call.rtt call.window lacking ≤ later.now
