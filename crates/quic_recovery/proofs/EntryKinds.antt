@@ -133,20 +133,10 @@ module _ {K Q S M P : Type 0} (q : QueueMeaning Q S M P) (known : Known K P M) (
   pub space_kept : (event : Event Q S M P) (reply : Reply Q) → is_idle (kind_of event) ≡ true
       → IsKept ((entries_of q known event reply).spaces space)
   space_kept (Received there now number eliciting) (Ok (New arm)) idle = pick there _ idle
-  space_kept (Received there now number eliciting) (Ok answer) idle = pick there _ idle
-  space_kept (Send there now size eliciting largest queue frames) (Ok answer) idle = pick there _ idle
-  space_kept (Acked there now number app_limited) (Ok answer) idle = pick there _ idle
-  space_kept (Lost there number) (Ok answer) idle = pick there _ idle
   space_kept (AckFrequencyIn frame) (Ok (Flag true)) idle = pick Data _ idle
-  space_kept (AcksSent there) (Ok answer) idle = pick there _ idle
-  space_kept (AckDelayTimeout there) (Ok answer) idle = pick there _ idle
-  space_kept (DiscardSpace there) (Ok answer) idle = pick there _ idle
   space_kept (PollMtu now) (Ok (Probe number size)) idle = pick Data _ idle
-  space_kept (Ecn there newly counts) (Ok answer) idle = pick there _ idle
-  space_kept (QueueProbe there immediate streams) (Ok answer) idle = pick there _ idle
-  space_kept (TakePending there) (Ok answer) idle = pick there _ idle
   space_kept (Transmit now bytes true) (Ok Transmitted) idle = none
-  space_kept event (Ok answer) idle = none
+  space_kept event (Ok answer) idle = search (pick, none)
   space_kept event (Err refusal) idle = none
 
 -- ---- on the paths
@@ -198,34 +188,23 @@ module _ {K Q S M P : Type 0} (q : QueueMeaning Q S M P) (known : Known K P M) (
   -- what holds of none, and of one more that is of some kinds, holds of what an event of those kinds makes
   pub paths_kept : (event : Event Q S M P) (reply : Reply Q) → is_by is event ≡ true
       → IsKept (entries_of q known event reply).paths
-  paths_kept (Send space now size eliciting largest queue frames) (Ok answer) quiet = one _ quiet
   paths_kept (Acked space now number app_limited) (Ok answer) quiet =
       acked_kept space now number app_limited (packet_at (tracked_known known space) number) (grind (arith, quiet))
       (grind (arith, quiet))
   paths_kept (Lost space number) (Ok answer) quiet =
       lost_kept space number (packet_at (tracked_known known space) number) quiet
-  paths_kept (DatagramIn path bytes) (Ok answer) quiet = one _ quiet
-  paths_kept (Validated path) (Ok answer) quiet = one _ quiet
-  paths_kept (Sample delay rtt) (Ok answer) quiet = one _ quiet
   paths_kept (Transmit now bytes true) (Ok Transmitted) quiet =
       one (on_current (passes now bytes)) (grind (arith, quiet))
   paths_kept (Transmit now bytes true) (Ok (Delayed until)) quiet =
       one (on_current (asks now bytes)) (grind (arith, quiet))
   paths_kept (Transmit now bytes false) (Ok answer) quiet = one (on_current (transmits bytes)) (grind (arith, quiet))
-  paths_kept (PacerCheck now bytes) (Ok answer) quiet = one _ quiet
-  paths_kept (Congestion now sent persistent bytes) (Ok answer) quiet = one _ quiet
-  paths_kept (EndAcks now app_limited largest) (Ok answer) quiet = one _ quiet
   paths_kept (PollMtu now) (Ok (Probe number size)) quiet =
       let both = and_parts (is telling) (is searching) quiet in each _ _ both.1 (one _ both.0)
   paths_kept (PollMtu now) (Ok answer) quiet = one _ (and_parts (is telling) (is searching) quiet).1
-  paths_kept (PeerLimit size) (Ok answer) quiet = one _ quiet
   paths_kept (LossesDone now) (Ok answer) quiet =
       let both = and_parts (is telling) (is searching) quiet in
       changed (reports known.paths.current.state.discovery) (losses_end now) both.0 both.1
-  paths_kept (NewPath now remote is_fresh) (Ok answer) quiet = one _ quiet
-  paths_kept (ResetPath now) (Ok answer) quiet = one _ quiet
-  paths_kept DropPrevious (Ok answer) quiet = one _ quiet
   paths_kept (Received space now number eliciting) (Ok (New arm)) quiet = none
   paths_kept (AckFrequencyIn frame) (Ok (Flag true)) quiet = none
-  paths_kept event (Ok answer) quiet = none
+  paths_kept event (Ok answer) quiet = search (one, none)
   paths_kept event (Err refusal) quiet = none

@@ -38,16 +38,10 @@ module _ {Q S M P : Type 0} where
           reply
       step_tied (PollMtu now) (Ok (answer.Probe number size)) =
           (refl, ap (λ sizes. size ∷ sizes) tied.1, (refl, refl))
-      step_tied (PollMtu now) (Ok answer.NoProbe) = grind (arith, idle_search entries)
-      step_tied (PeerLimit size) (Ok given) = grind (arith, idle_search entries)
-      step_tied (Acked space.Data now number app_limited) (Ok given) =
-          grind (arith, idle_search entries)
+      step_tied (Acked space.Data now number app_limited) (Ok given) = grind (arith, idle_search entries)
       step_tied (Lost space.Data number) (Ok given) = grind (arith, idle_search entries)
-      step_tied (LossesDone now) (Ok given) = grind (arith, idle_search entries)
-      step_tied (ResetPath now) (Ok given) = (refl, refl, tt)
-      step_tied (NewPath now remote true) (Ok given) = (refl, refl, tt)
-      step_tied (NewPath now remote true) (Err refusal) = tied
-      step_tied event (Ok given) = tied
+      step_tied (NewPath now remote true) reply = grind (arith, tied)
+      step_tied event (Ok given) = grind (arith, tied, idle_search entries)
       step_tied event (Err refusal) = tied
 
 module _ {F K Q S M P : Type 0} (beginning : Beginning F K Q S M P) where

@@ -53,18 +53,13 @@ module _ {Q S M P : Type 0} (least : ℕ) where
     step_tied : (event : Event Q S M P) (reply : Reply Q)
         → Step first least entries (λ number bytes. bytes ≡ size_of history number)
         (λ r after. TiedTo ((event, r) ∷ history) after) event reply
-    step_tied (PollMtu now) (Ok (answer.Probe number size)) = tied
-    step_tied (PollMtu now) (Ok answer.NoProbe) = tied
-    step_tied (PeerLimit size) (Ok given) = λ outside. tied
-    step_tied (Acked space.Data now number app_limited) (Ok given) = grind arith
-    step_tied (Lost space.Data number) (Ok given) = grind arith
-    step_tied (LossesDone now) (Ok given) = grind arith
     step_tied (ResetPath now) (Ok given) = (refl, refl, refl, tied.3, (refl, tied.4))
     step_tied (NewPath now remote true) (Ok given) = (refl, refl, refl, refl, tt)
     step_tied (NewPath now remote true) (Err refusal) = tied
+    step_tied (PollMtu now) (Ok (answer.Probe number size)) = tied
     step_tied (Acked space.Data now number app_limited) (Err refusal) = tied
     step_tied (Lost space.Data number) (Err refusal) = tied
-    step_tied event (Ok given) = tied
+    step_tied event (Ok given) = grind (arith, tied)
     step_tied event (Err refusal) = tied
 
 module _ {F K Q S M P : Type 0} (beginning : Beginning F K Q S M P) where

@@ -101,19 +101,19 @@ module _ {Q S M P : Type 0} (initial : List ℕ) where
     least_held_found : (low next : ℕ) → retired_below history ≤ low → IsLeastHeld ids.held low next
         → least_from low history ≡ Some next
     least_held_found low next above is =
-        least_found low history (Some next) (grind (arith, same.held, is.bound, is.is_held, is.least, above))
+        least_found low history (Some next) (grind (arith, same.0, is.bound, is.is_held, is.least, above))
 
     pub active_same : active_id history ≡ ids.active
     active_same =
         ap (λ (least : Option ℕ). unwrap_or least 0) (least_held_found (retired_below history) ids.active (omega arith)
-        (grind (arith, same.retired, same.window.active_held, same.window.within)))
+        (grind (arith, same.1, same.2.active_held, same.2.within)))
 
     -- so the history says which are held
     pub held_same : ids ≡ ids_held initial history
     held_same = grind (arith, active_same, fun_ext below)
       where
         below : (n : ℕ) → ids.held n ≡ (if nat_lt n (active_id history) then None else id_under initial n history)
-        below n = grind (arith, nat_tests, active_same, same.held n, same.retired, same.window.within n)
+        below n = grind (arith, nat_tests, active_same, same.0 n, same.1, same.2.within n)
 
 -- ---- what an event makes of them
 
@@ -138,9 +138,9 @@ module _ {Q S M P : Type 0} (initial : List ℕ) (history : History Q S M P) (id
           nat_tests,
           is.is_held,
           is.least,
-          same.held,
-          same.retired,
-          same.window.within,
+          same.0,
+          same.1,
+          same.2.within,
           fine.ordered,
           fine.ahead,
           fine.near,
@@ -148,7 +148,7 @@ module _ {Q S M P : Type 0} (initial : List ℕ) (history : History Q S M P) (id
 
     -- where the frame does not retire the active id, that stays
     stays_least : frame.retire_prior_to ≤ ids.active → IsLeastHeld (with_frame frame ids.held) 0 ids.active
-    stays_least kept = grind (arith, nat_tests, same.window.active_held, same.window.within, kept, fine.ahead)
+    stays_least kept = grind (arith, nat_tests, same.2.active_held, same.2.within, kept, fine.ahead)
 
   pub frame_step : (frame : NewConnectionId) (answer : Answer Q) → FrameReply ids frame (Ok answer)
       → AreHeld initial ((NewId frame, Ok answer) ∷ history) (remote_ids_with (given frame) ids)
@@ -165,22 +165,22 @@ module _ {Q S M P : Type 0} (initial : List ℕ) (history : History Q S M P) (id
       go (Retire None) kept =
           let least = stays_least frame fine kept in
           rw (← gives ids (made frame fine ids.active) frame None (omega (arith, ordered))
-          (grind (arith, nat_tests, again, least.bound, least.is_held, least.least, ahead, near, kept)) same.window)
+          (grind (arith, nat_tests, again, least.bound, least.is_held, least.least, ahead, near, kept)) same.2)
           (made_same frame fine ids.active (Retire None) least)
       go (Retire (Some told)) (less, starts, next, least, ends, token) =
           let held = least.is_held in
           rw (← gives ids (made frame fine next) frame (Some told) (omega (arith, ordered))
-          (grind (arith, nat_tests, again, held, least.least, ahead, near, less, starts, ends, token.1)) same.window)
+          (grind (arith, nat_tests, again, held, least.least, ahead, near, less, starts, ends, token.1)) same.2)
           (made_same frame fine next (Retire (Some told)) least)
       go other is = absurd is
 
   pub next_step : (answer : Answer Q) → IsNextAnswer ids answer
       → AreHeld initial ((NextId, Ok answer) ∷ history) (remote_ids_with used ids)
   next_step (Retire None) none =
-      rw (← uses_none ids ids none refl) record { held = same.held; retired = same.retired; window = same.window }
+      rw (← uses_none ids ids none refl) same
   next_step (Retire (Some told)) (starts, least, (id, token)) =
       let new : RemoteIds = record { active = told.0.end; held = without_id ids.active ids.held } in
-      let inside = same.window.within told.0.end least.is_held in
+      let inside = same.2.within told.0.end least.is_held in
       rw (← uses ids new told.1 told.0
       (record {
         active = least;
@@ -191,12 +191,12 @@ module _ {Q S M P : Type 0} (initial : List ℕ) (history : History Q S M P) (id
           token_held = (id, grind (arith, nat_tests, least.bound, token));
         };
         whole = refl;
-      }) same.window) (grind (
+      }) same.2) (grind (
         arith,
         nat_tests,
-        same.held,
-        same.retired,
-        same.window.within,
+        same.0,
+        same.1,
+        same.2.within,
         least.least,
         least.bound,
         least.is_held,
@@ -209,7 +209,7 @@ module _ {Q S M P : Type 0} (initial : List ℕ) (history : History Q S M P) (id
       let new : RemoteIds = record { active = ids.active; held = with_id 0 (id, None) ids.held } in
       let first : ids.active ≡ 0 = grind (arith, nat_tests, told.0) in
       rw (← replaces ids new id first first (λ n. refl))
-      (grind (arith, nat_tests, same.held, same.retired, same.window.within, first))
+      (grind (arith, nat_tests, same.0, same.1, same.2.within, first))
 
   -- ---- the replies
 
@@ -222,10 +222,10 @@ module _ {Q S M P : Type 0} (initial : List ℕ) (history : History Q S M P) (id
   frame_accepted frame fine (Ok (Retire (Some told))) (less, starts, next, is_least, ends, token) =
       let after : History Q S M P = (NewId frame, Ok (Retire None)) ∷ history in
       let new = made_same frame fine next (Retire None) is_least in
-      let above = new.retired in
+      let above = new.1 in
       let found = least_held_found initial after (made frame fine next) new frame.retire_prior_to next
-      (omega (arith, less, same.retired)) (grind (arith, above, is_least.is_held, is_least.least)) in
-      grind (arith, nat_tests, less, starts, ends, found, new.held next above, token.1)
+      (omega (arith, less, same.1)) (grind (arith, above, is_least.is_held, is_least.least)) in
+      grind (arith, nat_tests, less, starts, ends, found, new.0 next above, token.1)
   frame_accepted frame fine reply is = grind (arith, is)
 
   -- a refusal that comes first, where a test decides its cause
@@ -255,9 +255,9 @@ module _ {Q S M P : Type 0} (initial : List ℕ) (history : History Q S M P) (id
       conflicts frame ahead =
           grind (
             arith,
-            same.held frame.sequence,
+            same.0 frame.sequence,
             ahead,
-            same.retired,
+            same.1,
             repeats_decides frame (ids.held frame.sequence),
           )
 
@@ -265,13 +265,13 @@ module _ {Q S M P : Type 0} (initial : List ℕ) (history : History Q S M P) (id
       → reply ≡ moved initial ids.active (least_from (ids.active + 1) history) history
   next_told (Ok (Retire None)) none =
       let nothing : least_from (ids.active + 1) history ≡ None = least_found initial (ids.active + 1) history None
-      (λ n above. grind (arith, same.held n, same.retired, none n)) in
+      (λ n above. grind (arith, same.0 n, same.1, none n)) in
       grind (arith, nothing)
   next_told (Ok (Retire (Some told))) (starts, least, (id, token)) =
       let next = told.0.end in
-      let found = least_held_found initial history ids same (ids.active + 1) next (omega (arith, same.retired)) least in
-      let inside = same.window.within next least.is_held in
-      grind (arith, nat_tests, starts, found, inside, same.held next, least.bound, same.retired, token)
+      let found = least_held_found initial history ids same (ids.active + 1) next (omega (arith, same.1)) least in
+      let inside = same.2.within next least.is_held in
+      grind (arith, nat_tests, starts, found, inside, same.0 next, least.bound, same.1, token)
   next_told reply is = grind (arith, is)
 
   initial_told : (reply : Reply Q) → InitialReply ids reply
@@ -300,15 +300,15 @@ module _ {F K Q S M P : Type 0} (beginning : Beginning F K Q S M P) where
         → AreHeld initial_id ((event, reply) ∷ before) new
         → HoldsIds ((event, reply) ∷ before)
     follows event reply new held =
-        subst (AreHeld initial_id ((event, reply) ∷ before)) (held_same initial_id _ new held) held
+        subst (AreHeld initial_id ((event, reply) ∷ before)) (held_same initial_id ((event, reply) ∷ before) new held) held
 
     -- an event that was told keeps that
     pub keeps_ids : (event : Event Q S M P) (reply : Reply Q) → Told beginning before event reply
         → HoldsIds ((event, reply) ∷ before)
-    keeps_ids (NewId frame) (Ok answer) told = follows _ _ _ (frame_step initial_id before ids same frame answer told)
-    keeps_ids NextId (Ok answer) told = follows _ _ _ (next_step initial_id before ids same answer told)
-    keeps_ids (InitialId id) (Ok answer) told = follows _ _ _ (initial_step initial_id before ids same id answer told)
-    keeps_ids event reply told = record { held = same.held; retired = same.retired; window = same.window }
+    keeps_ids (NewId frame) (Ok answer) told = follows (NewId frame) (Ok answer) _ (frame_step initial_id before ids same frame answer told)
+    keeps_ids NextId (Ok answer) told = follows NextId (Ok answer) _ (next_step initial_id before ids same answer told)
+    keeps_ids (InitialId id) (Ok answer) told = follows (InitialId id) (Ok answer) _ (initial_step initial_id before ids same id answer told)
+    keeps_ids event reply told = same
 
     -- what an event is told, it is told of the ids of the peer
     pub accepts_told : (event : Event Q S M P) (reply : Reply Q) → Told beginning before event reply

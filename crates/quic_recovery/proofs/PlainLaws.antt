@@ -37,64 +37,9 @@ module _ {K Q S M P : Type 0} (q : QueueMeaning Q S M P) (words : ControllerWord
       × AreHeld initial history plain.remote_ids
       × (plain.local_ids ≡ own_ids own history)
 
-  -- the ids of the peer, after an event that is nothing to them
-  stays_held : (history after : History Q S M P) (ids : RemoteIds) → retired_below after ≡ retired_below history
-      → ((n : ℕ) → id_under initial n after ≡ id_under initial n history) → AreHeld initial history ids
-      → AreHeld initial after ids
-  stays_held history after ids retired under held = record {
-    held = λ n above. grind (arith, retired, above, held.held n, under n);
-    retired = grind (arith, retired, held.retired);
-    window = held.window;
-  }
-
   pub plain_after : (history : History Q S M P) (event : Event Q S M P) (reply : Reply Q) (old new : Plain)
       → PlainLeft history old → known.remote_ids ≡ old.remote_ids → ToldBy q words heard known event reply
       → PlainStep event reply old new → PlainLeft ((event, reply) ∷ history) new
-  plain_after history (SetTimer timer time) (Ok answer) old new left is told step =
-      rw step.1 (
-        left.0,
-        left.1,
-        (λ kind. grind (arith, step.0 kind, left.2 kind)),
-        left.3,
-        stays_held _ _ _ refl (λ n. refl) left.4,
-        left.5,
-      )
-  plain_after history (StopTimer timer) (Ok answer) old new left is told step =
-      rw step.1 (
-        left.0,
-        left.1,
-        (λ kind. grind (arith, step.0 kind, left.2 kind)),
-        left.3,
-        stays_held _ _ _ refl (λ n. refl) left.4,
-        left.5,
-      )
-  plain_after history (DiscardSpace there) (Ok answer) old new left is told step =
-      rw step.1 (
-        (λ space. grind (arith, step.0 space, left.0 space)),
-        left.1,
-        left.2,
-        left.3,
-        stays_held _ _ _ refl (λ n. refl) left.4,
-        left.5,
-      )
-  plain_after history (AckFrequencyIn frame) (Ok (Flag true)) old new left is told step =
-      rw step (
-        left.0,
-        grind (arith, left.1),
-        left.2,
-        left.3,
-        stays_held _ _ _ refl (λ n. refl) left.4,
-        left.5,
-      )
-  plain_after history (AckFrequencyIn frame) (Err DelayTooSmall) old new left is told step =
-      rw step (
-        left.0,
-        grind (arith, left.1),
-        left.2,
-        left.3,
-        stays_held _ _ _ refl (λ n. refl) left.4,
-        left.5,
-      )
   plain_after history (NewId frame) (Ok answer) old new left is told step =
       let reply : Type 0 = FrameReply old.remote_ids frame (Ok answer) in
       let here : reply = rw is at told in
@@ -106,44 +51,9 @@ module _ {K Q S M P : Type 0} (q : QueueMeaning Q S M P) (words : ControllerWord
   plain_after history (InitialId id) (Ok answer) old new left is told step =
       let held = initial_step initial history old.remote_ids left.4 id answer (rw is at told) in
       rw step.1 (left.0, left.1, left.2, left.3, rw step.0.same held, left.5)
-  plain_after history (IssueIds now ids) (Ok answer) old new left is told step =
-      rw (step, left.5) (
-        left.0,
-        left.1,
-        left.2,
-        left.3,
-        stays_held _ _ _ refl (λ n. refl) left.4,
-        refl,
-      )
-  plain_after history IdTimeout (Ok answer) old new left is told step =
-      rw (step, left.5) (
-        left.0,
-        left.1,
-        left.2,
-        left.3,
-        stays_held _ _ _ refl (λ n. refl) left.4,
-        refl,
-      )
-  plain_after history (PeerRetired sequence limit) (Ok answer) old new left is told step =
-      rw (step, left.5) (
-        left.0,
-        left.1,
-        left.2,
-        left.3,
-        stays_held _ _ _ refl (λ n. refl) left.4,
-        refl,
-      )
-  plain_after history (PeerLimit size) (Ok answer) old new left is told step =
-      rw step (left.0, left.1, left.2, refl, stays_held _ _ _ refl (λ n. refl) left.4, left.5)
-  plain_after history event reply old new left is told step =
-      rw step (
-        left.0,
-        left.1,
-        left.2,
-        left.3,
-        stays_held _ _ _ refl (λ n. refl) left.4,
-        left.5,
-      )
+  plain_after history (AckFrequencyIn frame) (Ok (Flag true)) old new left is told step = grind (arith, left, step)
+  plain_after history (AckFrequencyIn frame) (Err DelayTooSmall) old new left is told step = grind (arith, left, step)
+  plain_after history event reply old new left is told step = grind (arith, left, step)
 
 -- ---- what is told of timers: the clause `timers` of `run`
 

@@ -47,12 +47,6 @@ module _ {Q : Type 0} where
   answers Grows IsAnswer (Err NoMemory) told = refl
   answers Grows IsAnswer (Err refusal) told = absurd told
 
-  -- none of them is allowed
-  none_named : (Holds : Reply Q → Type 0) → ¬ Holds (Err SpaceDiscarded) → ¬ Holds (Err NotTracked)
-      → ¬ Holds (Err NoSuchPath) → ¬ Holds (Err NotInitialId) → Names None Holds
-  none_named Holds space tracked path initial (Err SpaceDiscarded) told = absurd (space told)
-  none_named Holds space tracked path initial reply told = grind (arith, tracked, path, initial, told)
-
   -- another cause is none of them
   passes : (other : Refusal) (Cause : Type 0) (Otherwise : Reply Q → Type 0)
       → (let reply : Reply Q = Err other in named reply ≡ None) → Names None Otherwise
@@ -134,37 +128,11 @@ module _ {F K Q S M P : Type 0} (beginning : Beginning F K Q S M P) where
     probe_names now (Some size) = passes Overflow _ _ refl (answers _ _)
 
     names : (event : Event Q S M P) → Names (first_cause history event) (Told beginning history event)
-    names (Received space now number eliciting) =
-        in_one space _ None (passes NumberTooLarge _ _ refl (answers _ _))
-    names (Send space now size eliciting largest queue frames) =
-        in_one space _ None (passes NumberTooLarge _ _ refl (passes NumbersExhausted _ _ refl
-        (passes Overflow _ _ refl (answers _ _))))
-    names (Acked space now number app_limited) = leave_names space ⊥ number _
-    names (Lost space number) = leave_names space (Unit {0}) number _
     names (InitialId id) =
         cause_names NotInitialId refl refl _ _ None _ (λ late. grind (arith, nat_tests, late))
         (λ first. grind (arith, nat_tests, first)) (answers _ _)
-    names (AckFrequencyIn frame) =
-        in_one Data _ None (passes DelayTooSmall _ _ refl (answers _ _))
-    names (AcksSent space) = in_one space _ None (answers _ _)
-    names (AckDelayTimeout space) = in_one space _ None (answers _ _)
-    names (DiscardSpace space) = in_one space _ None (answers _ _)
-    names (InFlight path) = on_path path _ (λ there. answers _ _)
-    names (DatagramIn path bytes) =
-        on_path path _ (λ there. passes Overflow _ _ refl (answers _ _))
-    names (Validated path) = on_path path _ (λ there. answers _ _)
-    names (PollMtu now) =
-        in_one Data _ None (passes NumbersExhausted _ _ refl (probe_names now _))
-    names (Ecn space newly counts) = in_one space _ None (ecn_names (known.spaces space) newly counts)
-    names (CheckAck space low high) =
-        in_one space _ None (passes NumberTooLarge _ _ refl (passes BadRange _ _ refl
-        (passes SkippedAcked _ _ refl (answers _ _))))
-    names (QueueProbe space immediate streams) = in_one space _ None (answers _ _)
-    names (TakePending space) = in_one space _ None (answers _ _)
     names DropPrevious = on_path Previous _ (λ there. answers _ _)
-    names event =
-        none_named _ (λ told. grind (arith, told)) (λ told. grind (arith, told)) (λ told. grind (arith, told))
-        (λ told. grind (arith, told))
+    names event = search (in_one, leave_names, on_path, passes, answers, ecn_names, probe_names) depth 12
 
   -- throughout a run
   pub refuses_rightly : AllAlong beginning RefusesRightly

@@ -157,10 +157,6 @@ module _ {Q S M P : Type 0} (q : QueueMeaning Q S M P) where
   -- ---- the table
 
   module _ {K : Type 0} (words : ControllerWords K) (heard : SpaceId → Heard) (known : Known K P M) where
-    in_space : (space : SpaceId) (Replies : Reply Q → Type 0) → Decides Replies
-        → Decides (InSpace (known.spaces space) Replies)
-    in_space space Replies = refuses SpaceDiscarded _ Replies refl
-
     on_path : (path : PathName) (Replies : PathKnown K → Reply Q → Type 0)
         → ((there : PathKnown K) → Decides (Replies there)) → Decides (OnPath (path_of path known.paths) Replies)
     on_path path Replies decides = go (path_of path known.paths)
@@ -173,49 +169,12 @@ module _ {Q S M P : Type 0} (q : QueueMeaning Q S M P) where
     probe_out now None = is_decided _
     probe_out now (Some size) = refuses Overflow _ _ refl (answers (Unit {0}) _ (is_agree _))
 
+    -- by the causes and the answer of each line
     decides : (event : Event Q S M P) → Decides (ToldBy q words heard known event)
-    decides (Received space now number eliciting) =
-        in_space space _ (refuses NumberTooLarge _ _ refl
-        (answers _ _ (received_agree (heard space) (known.spaces space).counts number eliciting)))
-    decides (Send space now size eliciting largest queue frames) =
-        in_space space _ (refuses NumberTooLarge _ _ refl (refuses NumbersExhausted _ _ refl
-        (refuses Overflow _ _ refl (answers (Unit {0}) _ (is_agree _)))))
-    decides (Acked space now number app_limited) =
-        in_space space _ (refuses NotTracked _ _ refl (answers _ _ (is_agree _)))
-    decides (Lost space number) = in_space space _ (refuses NotTracked _ _ refl (answers _ _ (is_agree _)))
-    decides (NewId frame) =
-        refuses NumberTooLarge _ _ refl (refuses BadRetirePriorTo _ _ refl (refuses Retired _ _ refl
-        (refuses ExceedsLimit _ _ refl (refuses Conflict _ _ refl (answers ⊥ _ (frame_agree known.remote_ids frame))))))
-    decides NextId = answers ⊥ _ (next_agree known.remote_ids)
-    decides (InitialId id) = refuses NotInitialId _ _ refl (is_decided _)
-    decides (IssueIds now ids) =
-        refuses NumberTooLarge _ _ refl (refuses BadRange _ _ refl (answers _ _ (is_agree _)))
-    decides (PeerRetired sequence limit) =
-        refuses CidsNotInUse _ _ refl (refuses UnissuedCid _ _ refl
-        (answers ⊥ _ (flag_agree _)))
-    decides (AckFrequencyIn frame) = in_space Data _ (refuses DelayTooSmall _ _ refl (answers ⊥ _ (flag_agree _)))
-    decides (AcksSent space) = in_space space _ (is_decided _)
-    decides (AckDelayTimeout space) = in_space space _ (is_decided _)
-    decides (DiscardSpace space) = in_space space _ (is_decided _)
-    decides (InFlight path) = on_path path _ (λ there. is_decided _)
-    decides (DatagramIn path bytes) = on_path path _ (λ there. refuses Overflow _ _ refl (is_decided _))
-    decides (Validated path) = on_path path _ (λ there. is_decided _)
-    decides (Transmit now bytes checked) = refuses Overflow _ _ refl (is_decided _)
-    decides (PollMtu now) =
-        in_space Data _ (refuses NumbersExhausted _ _ refl
-        (probe_out now (poll_of now known.paths.current.state.discovery)))
-    decides (PeerLimit size) = refuses ZeroMtu _ _ refl (refuses Searching _ _ refl (is_decided _))
-    decides (Ecn space newly counts) = in_space space _ (ecn_decides (known.spaces space) newly counts)
-    decides (CheckAck space low high) =
-        in_space space _ (refuses NumberTooLarge _ _ refl (refuses BadRange _ _ refl
-        (refuses SkippedAcked _ _ refl (is_decided _))))
-    decides (QueueProbe space immediate streams) =
-        in_space space _ (answers _ _ (probe_agree (known.spaces space) streams (heard space) immediate
-        (found_in known q.words streams space)))
-    decides (TakePending space) = in_space space _ (answers ⊥ _ (pending_agree (known.spaces space)))
-    decides (NewPath now remote is_fresh) = refuses Overflow _ _ refl (answers _ _ (is_agree _))
     decides DropPrevious = on_path Previous _ (λ there. is_decided _)
-    decides event = is_decided _
+    decides event =
+        search (refuses, answers, is_agree, on_path, received_agree, frame_agree, next_agree, flag_agree, ecn_decides,
+        probe_agree, pending_agree, probe_out) depth 12
 
 -- ---- what a history decides
 
