@@ -1,14 +1,30 @@
--- What each tracked packet says of itself, as its size, goes with its number: so it stays as packets come and go.
--- `SizeLaws` and `CarriedLaws` rest on it.
+-- What each tracked packet says of itself, as its size, goes with its number: so it stays as packets come and go, and by
+-- each event. `SizeLaws` and `CarriedLaws` rest on it.
 use Rattle.std.proofs.lemmas.Bool.Decides.{nat_tests}
-use Rattle.std.proofs.Common.{ℕ, ◌≡◌, ◌+◌, ◌<◌, ◌≤◌, true, List, [], ◌∷◌, ◌++◌, Option, None, Some, refl, ◌∙◌, arith}
+use Rattle.std.proofs.Math.Path.{fun_ext}
+use Rattle.std.proofs.Common.{ℕ, ◌≡◌, ◌+◌, ◌<◌, ◌≤◌, true, List, [], ◌∷◌, ◌++◌, Option, None, Some, refl, ◌∙◌, arith, ◌==◌, ◌&&◌, Bool, false, cond, Ok, Err, sym, ap, subst}
 use Rattle.std.specs.Prelude.{option_map}
-use Rattle.recovery_ledger.specs.Packets.{Packet, Packets, packet_at, without, without_some, replaced, carrying, with_contents, forgotten_number, sent_onto}
-use Rattle.recovery_ledger.specs.SpaceLog.{SpaceEntry, acknowledged, loses, probes}
+use Rattle.recovery_ledger.specs.Packets.{Packet, Packets, packet_at, without, without_some, replaced, carrying, with_contents, forgotten_number, sent_onto, largest_acked_by}
+use Rattle.recovery_ledger.specs.SpaceLog.{SpaceEntry, acknowledged, loses, probes, sends}
 use Rattle.recovery_ledger.specs.Tracked.{Sent, sent_by}
 use Rattle.recovery_ledger.proofs.PacketLaws.{number_at, none_found}
 use Rattle.recovery_queue.specs.Queues.{QueueWords}
-use Rattle.quic_recovery.proofs.EntryKinds.{space_kind, sends_none}
+use Rattle.quic_recovery.proofs.EntryKinds.{space_kind, sends_none, space_kept}
+use Rattle.recovery_base.specs.declared.below.SpaceId.{SpaceId}
+use Rattle.recovery_base.specs.declared.below.SpaceId.TheVariants.{Data}
+use Rattle.recovery_base.specs.Spaces.{same_space}
+use Rattle.recovery_events.specs.declared.event.Event.{Event}
+use Rattle.recovery_events.specs.declared.event.Event.TheVariants.{Send, PollMtu}
+use Rattle.recovery_events.specs.declared.event.Answer.TheVariants as answers
+use Rattle.recovery_events.specs.declared.event.Answer.TheVariants.{Probe}
+use Rattle.quic_recovery.specs.Table.{entries_of}
+use Rattle.quic_recovery.specs.Told.{logs_of, known_by, Told}
+use Rattle.quic_recovery.specs.History.{Beginning, History, Reply}
+use Rattle.quic_recovery.specs.Known.{Known, number_in, packet_now}
+use Rattle.quic_recovery.specs.Logs.{onto}
+use Rattle.quic_recovery.proofs.AnswerLaws.{past_four}
+use Rattle.quic_recovery.proofs.SearchSteps.{found_packet as is_there}
+use Rattle.quic_recovery.proofs.TrackedLaws.{is_new, one_space, probe_number, sent_in}
 
 module _ {P M A : Type 0} (says : Packet P M → A) where
   -- packets say what goes with their numbers, which are below another
@@ -97,3 +113,72 @@ module _ {P M A : Type 0} (says : Packet P M → A) where
               words.empty said,
         )
     said_after entry none = grind (arith, none, said)
+
+-- ---- throughout a history
+
+module _ {F K Q S M P A : Type 0} (beginning : Beginning F K Q S M P) (space : SpaceId) (says : Packet P M → A)
+    (kept : (contents : P) (packet : Packet P M) → says (with_contents contents packet) ≡ says packet)
+    (before : History Q S M P) (by : ℕ → A) (said : IsSaid says by (sent_in beginning before space)) where
+  abbrev log : List (SpaceEntry P M)
+  log = (logs_of beginning before).spaces space
+
+  abbrev known : Known K P M
+  known = known_by beginning before
+
+  abbrev Says : Option (SpaceEntry P M) → (ℕ → A) → Type 0
+  Says entry then_by = IsSaid says then_by (sent_by beginning.queue.words (onto entry log))
+
+  -- what goes with numbers once a packet went out under one, in this space or in another one
+  abbrev with_one : Bool → ℕ → Packet P M → ℕ → A
+  with_one b k packet n = cond (b && k == n) (says packet) (by n)
+
+  -- a packet goes out under the next number
+  goes_out : (there : SpaceId) (packet : Packet P M) (number : ℕ) → number ≡ number_in known there
+      → Says (cond (same_space there space) (Some (sends (number_in known there) packet)) None)
+      (with_one (same_space there space) number packet)
+  goes_out there packet number is = rw is (go (same_space there space) refl)
+    where
+      go : (b : Bool) → same_space there space ≡ b
+          → let k = number_in known there in Says (cond b (Some (sends k packet)) None) (with_one b k packet)
+      go false at = said
+      go true at =
+          let k = number_in known there in
+          let IsNext : SpaceId → Type 0 = λ s. (sent_in beginning before s).next ≤ k in
+          let sent = sent_in beginning before space in
+          let new : sent.next ≤ k = subst IsNext (one_space there space at) (is_new beginning before there) in
+          said_sent says by sent.next k new (with_one true k packet)
+          (λ n below. grind (arith, nat_tests, new, below)) sent.last sent.tracked packet (grind (arith, nat_tests))
+          said
+
+  -- what goes with them once an event was told
+  abbrev pub said_then : Event Q S M P → Reply Q → ℕ → A
+  said_then (Send there now size eliciting largest queue frames) (Ok (answers.Sent number forgotten)) =
+      with_one (same_space there space) number
+      (packet_now known now size eliciting largest (beginning.queue.contents queue) frames)
+  said_then (PollMtu now) (Ok (Probe number size)) =
+      with_one (same_space Data space) number
+      (packet_now known now size true None beginning.queue.words.empty beginning.queue.blank)
+  said_then event reply = by
+
+  reply_says : (event : Event Q S M P) (reply : Reply Q) → Told beginning before event reply
+      → Says ((entries_of beginning.queue known event reply).spaces space) (said_then event reply)
+  reply_says (Send there now size eliciting largest queue frames) (Ok (answers.Sent number forgotten)) told =
+      let is = past_four told in
+      goes_out there (packet_now known now size eliciting largest (beginning.queue.contents queue) frames) number cc
+  reply_says (Send there now size eliciting largest queue frames) (Ok answer) told = let is = past_four told in cc
+  reply_says (PollMtu now) (Ok (Probe number size)) told =
+      goes_out Data (packet_now known now size true None beginning.queue.words.empty beginning.queue.blank) number
+      (probe_number beginning.queue known now _ number size told.1.1)
+  reply_says (PollMtu now) reply told = said
+  reply_says event (Ok answer) told =
+      space_kept beginning.queue known space (λ entry. Says entry by) sends_none said
+      (said_after says kept beginning.queue.words by log said) event (Ok answer) refl
+  reply_says event (Err refusal) told = said
+
+  -- so the history says it, where that is its word
+  pub said_told : (event : Event Q S M P) (reply : Reply Q) (then_by : ℕ → A) → Told beginning before event reply
+      → ((n : ℕ) → said_then event reply n ≡ then_by n)
+      → IsSaid says then_by (sent_in beginning ((event, reply) ∷ before) space)
+  said_told event reply then_by told same =
+      subst (λ b. IsSaid says b (sent_in beginning ((event, reply) ∷ before) space)) (fun_ext same)
+      (reply_says event reply told)
