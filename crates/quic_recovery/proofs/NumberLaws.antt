@@ -1,4 +1,5 @@
 -- Numbers that are given out, and the skips behind them. `SendLaws` and the call `send` rest on it.
+use Rattle.std.proofs.lemmas.Bool.Decides.{nat_tests}
 use Rattle.std.proofs.Common.{◌≡◌, ℕ, ◌+◌, ◌≤◌, Bool, true, false, cond, refl, arith}
 use Rattle.recovery_base.specs.declared.below.SpaceId.{SpaceId}
 use Rattle.recovery_base.specs.declared.below.SpaceId.TheVariants.{Initial, Handshake, Data}
@@ -15,21 +16,15 @@ use Rattle.quic_recovery.specs.State.{SkippingStep, known_to}
 
 -- no number is given out twice
 pub number_above : (filter : Filter) (space : SpaceId) (n : ℕ) → n ≤ number_behind filter space n
-number_above filter Initial n = omega arith
-number_above filter Handshake n = omega arith
-number_above filter Data n = go (is_at n filter.skip)
-  where
-    go : (skipped : Bool) → n ≤ cond skipped (n + 1) n
-    go true = omega arith
-    go false = omega arith
+number_above filter Data n = grind (arith, nat_tests)
+number_above filter space n = omega arith
 
 -- the number behind the last one is the one that is known
 pub number_known : {K P M : Type 0} (state : Parts K P M) (space : SpaceId)
     → number_behind state.skipping.filter space (next_number_of (space_of space state.spaces))
     ≡ number_in (known_to state) space
-number_known state Initial = refl
-number_known state Handshake = refl
 number_known state Data = refl
+number_known state space = refl
 
 -- a number is given out: of 1-RTT packets, the skips go on behind it
 pub number_skips : {P M : Type 0} (spaces : Spaces P M) (space : SpaceId) (number : ℕ) (packet : Packet P M)
@@ -37,6 +32,5 @@ pub number_skips : {P M : Type 0} (spaces : Spaces P M) (space : SpaceId) (numbe
     → number ≡ number_behind old.filter space (next_number_of (space_of space spaces))
     → new ≡ skipping_behind space (next_number_of (space_of space spaces)) old
     → SkippingStep (here space Data (sends number packet)) (next_number_of (space_of Data spaces)) old new
-number_skips spaces Initial number packet old new is then = then
-number_skips spaces Handshake number packet old new is then = then
 number_skips spaces Data number packet old new is then = (is, then)
+number_skips spaces space number packet old new is then = then

@@ -18,13 +18,9 @@ pub refuses_alike : {Q : Type 0} (refusal : Refusal) (Cause Reason : Type 0) (Ot
     → Cause ↔ Reason → ((reply : Reply Q) → Otherwise reply → Else reply)
     → (reply : Reply Q) → Refuses refusal Cause Otherwise reply → Refuses refusal Reason Else reply
 refuses_alike refusal Cause Reason Otherwise Else same others (Ok answer) told =
-    (λ reason. told.0 (same.1 reason), others (Ok answer) told.1)
-refuses_alike refusal Cause Reason Otherwise Else same others (Err given) told = go (same_refusal given refusal) told
-  where
-    go : (b : Bool) → MatchBool b Cause ((¬ Cause) × Otherwise (Err given))
-        → MatchBool b Reason ((¬ Reason) × Else (Err given))
-    go true cause = same.0 cause
-    go false other = (λ reason. other.0 (same.1 reason), others (Err given) other.1)
+    grind (arith, same, others (Ok answer), told)
+refuses_alike refusal Cause Reason Otherwise Else same others (Err given) told =
+    grind (arith, same, others (Err given), told)
 
 pub answers_alike : {Q : Type 0} (Grows Takes : Type 0) (IsAnswer IsOther : Answer Q → Type 0) → (Grows → Takes)
     → ((answer : Answer Q) → IsAnswer answer → IsOther answer)
@@ -39,18 +35,7 @@ pub refused_by : {Q : Type 0} (refusal : Refusal)
     → (cause : Bool) (Cause : Type 0) (Otherwise : Reply Q → Type 0) (rest : Reply Q) → Decides cause Cause
     → ((reply : Reply Q) → ¬ Cause → Otherwise reply → reply ≡ rest)
     → (reply : Reply Q) → Refuses refusal Cause Otherwise reply → reply ≡ (if cause then Err refusal else rest)
-refused_by refusal only true Cause Otherwise rest decides others (Ok answer) told = absurd (told.0 (decides.0 refl))
-refused_by refusal only false Cause Otherwise rest decides others (Ok answer) told = others (Ok answer) told.0 told.1
-refused_by {Q} refusal only true Cause Otherwise rest decides others (Err given) told =
-    go (same_refusal given refusal) refl told
-  where
-    go : (b : Bool) → same_refusal given refusal ≡ b → MatchBool b Cause ((¬ Cause) × Otherwise (Err given))
-        → (let reply : Reply Q = Err given in reply) ≡ Err refusal
-    go true same cause = ap (λ (r : Refusal). Err r) (only given same)
-    go false same other = absurd (other.0 (decides.0 refl))
-refused_by refusal only false Cause Otherwise rest decides others (Err given) told =
-    go (same_refusal given refusal) told
-  where
-    go : (b : Bool) → MatchBool b Cause ((¬ Cause) × Otherwise (Err given)) → Err given ≡ rest
-    go true cause = (let is = decides.1 cause in cc)
-    go false other = others (Err given) other.0 other.1
+refused_by refusal only cause Cause Otherwise rest decides others (Ok answer) told =
+    grind (arith, decides, others (Ok answer), told)
+refused_by refusal only cause Cause Otherwise rest decides others (Err given) told =
+    grind (arith, decides, only given, others (Err given), told)

@@ -206,8 +206,7 @@ module _ {K P M : Type 0} (known : Known K P M) where
       → paths_known one ≡ paths_known other
       → each_path (λ path. counters_of path.ledger) one ≡ each_path (λ path. counters_of path.ledger) other
   in_flight_alike one other left too same =
-      in_flight_known one left ∙ ap (λ (all : OfPaths (PathKnown K)). each_path (in_flight_on known) all) same
-      ∙ sym (in_flight_known other too)
+      grind (arith, in_flight_known one left, in_flight_known other too, same)
 
 module _ {F K Q S M P : Type 0} (beginning : Beginning F K Q S M P) (history : History Q S M P) where
   pub one_reply_to : (event : Event Q S M P) (one other : Reply Q) → Told beginning history event one

@@ -18,13 +18,13 @@ IsLeast ms None = (y : ℕ) → ¬ In (Some y) ms
 IsLeast ms (Some x) = In (Some x) ms × ((y : ℕ) → In (Some y) ms → x ≤ y)
 
 skips : (ms : List (Option ℕ)) (m : Option ℕ) → IsLeast ms m → IsLeast (None ∷ ms) m
-skips ms None none = λ y there. grind (arith, none y, there)
-skips ms (Some x) is = (inr is.0, λ y there. grind (arith, is.1 y, there))
+skips ms None is = grind (arith, is)
+skips ms (Some x) is = grind (arith, is)
 
 takes : (ms : List (Option ℕ)) (n : ℕ) (m : Option ℕ) → IsLeast ms m
     → IsLeast (Some n ∷ ms) (Some (unwrap_or (option_map (min n) m) n))
-takes ms n None none = (inl refl, λ y there. grind (arith, none y, there))
-takes ms n (Some x) is = let in_it = is.0 in (grind (arith, in_it), λ y there. grind (arith, is.1 y, there))
+takes ms n None is = grind (arith, is)
+takes ms n (Some x) is = grind (arith, is)
 
 least_is : (ms : List (Option ℕ)) → IsLeast ms (least ms)
 least_is [] = λ y there. absurd there
