@@ -1,7 +1,7 @@
 -- What is to be acknowledged is by the table what the history says: new numbers, but those dropped since they came. The
 -- clause `to_acknowledge` of `run` rests on it.
 use Rattle.std.proofs.lemmas.Bool.Decides.{nat_tests}
-use Rattle.std.proofs.Common.{◌≡◌, ◌≤◌, ℕ, ◌==◌, ◌&&◌, Bool, true, false, cond, List, [], ◌∷◌, length, Option, None, Some, Ok, Err, ◌⊎◌, inl, inr, ◌↔◌, IsTrue, IsSomeAnd, refl, arith}
+use Rattle.std.proofs.Common.{◌≡◌, ◌≤◌, ℕ, ◌==◌, ◌&&◌, Bool, true, false, cond, List, ◌∷◌, length, Option, None, Some, Ok, Err, ◌⊎◌, inl, inr, ◌↔◌, IsTrue, IsSomeAnd, refl, arith}
 use Rattle.std.proofs.lemmas.Bool.{cases_lt}
 use Rattle.recovery_acks.specs.Runs.{AtMost, EndsRun, IsInHighest}
 use Rattle.recovery_base.proofs.WindowLaws.{iff_trans}

@@ -1,5 +1,5 @@
 -- A datagram is blocked exactly where the events and answers before it say so: the clause `blocked` of `run`.
-use Rattle.std.proofs.Common.{arith, ℕ, ◌≡◌, ◌≤◌, ◌+◌, ◌^◌, nat_le, Bool, true, false, cond, [], None, Some, Option, Ok, Err, refl}
+use Rattle.std.proofs.Common.{arith, ℕ, ◌≡◌, ◌≤◌, ◌+◌, ◌^◌, nat_le, Bool, true, false, cond, None, Some, Option, Ok, Err, refl}
 use Rattle.std.proofs.lemmas.Bool.{leb-true, le-leb}
 use Rattle.recovery_congestion.specs.Controllers.{ControllerWords}
 use Rattle.recovery_paths.specs.PathLog.{state_of}

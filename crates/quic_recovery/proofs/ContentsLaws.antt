@@ -20,7 +20,7 @@ use Rattle.recovery_events.specs.declared.event.Event.TheVariants.{Send, PollMtu
 use Rattle.recovery_events.specs.declared.event.Answer.TheVariants as answers
 use Rattle.recovery_events.specs.declared.event.Answer.TheVariants.{Probe}
 use Rattle.quic_recovery.specs.Entries.{logs_of, known_by}
-use Rattle.quic_recovery.specs.History.{AtEach, Beginning, History, Reply, history}
+use Rattle.quic_recovery.specs.History.{AtEach, Beginning, History, Reply}
 use Rattle.quic_recovery.specs.Known.{Known, number_in, packet_now}
 use Rattle.quic_recovery.specs.Logs.{onto}
 use Rattle.quic_recovery.specs.Promises.Contents.{LosesNothing, outgoing, held, gone, carried}

@@ -1,5 +1,5 @@
 -- By the history alone a search takes few probes, as its entries say: the clause `few` of `run`.
-use Rattle.std.proofs.Common.{ℕ, ◌≡◌, ◌<◌, ◌^◌, true, List, [], ◌∷◌, Option, Ok, Err, refl, ap, is_some, arith}
+use Rattle.std.proofs.Common.{ℕ, ◌≡◌, ◌<◌, ◌^◌, true, List, ◌∷◌, Option, Ok, Err, refl, ap, is_some, arith}
 use Rattle.std.specs.Option.{IfSome, ForSome}
 use Rattle.recovery_base.specs.declared.below.SpaceId.TheVariants as space
 use Rattle.recovery_mtud.specs.MtuEntries.{MtuEntry, MtuProbe, probe_in_flight}

@@ -1,6 +1,6 @@
 -- Each pacer delays by its balance and keeps its rate, throughout a run: the clauses `delayed`, `rate`, `soon` and
 -- `named` of `run`.
-use Rattle.std.proofs.Common.{arith, ℕ, true, false, [], ◌∷◌, Option, Ok, Err, refl}
+use Rattle.std.proofs.Common.{arith, ℕ, true, false, ◌∷◌, Option, Ok, Err, refl}
 use Rattle.recovery_pacing.specs.PacerLog.{AreChecked, KeepsRate}
 use Rattle.recovery_pacing.specs.Pacing.{PacerCall}
 use Rattle.recovery_pacing.specs.NamedMoment.{PassesAtMoment}

@@ -1,6 +1,6 @@
 -- By the history alone the size of a probe lies within the bounds of its search, as its entries say: the clause `sizes`
 -- of `run`.
-use Rattle.std.proofs.Common.{ℕ, ◌≡◌, ◌<◌, ◌≤◌, ◌^◌, min, max, [], ◌∷◌, Option, None, Some, Ok, arith, refl, ◌∙◌}
+use Rattle.std.proofs.Common.{ℕ, ◌≡◌, ◌<◌, ◌≤◌, ◌^◌, min, max, ◌∷◌, Option, None, Some, Ok, arith, refl, ◌∙◌}
 use Rattle.std.specs.Prelude.{IsSomeAnd}
 use Rattle.std.specs.Option.{ForSome}
 use Rattle.recovery_config.specs.Settings.{initial_mtu_of}

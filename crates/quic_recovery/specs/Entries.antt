@@ -11,7 +11,7 @@ use Rattle.recovery_events.specs.declared.event.Answer.TheVariants.{New, Flag, T
 use Rattle.quic_recovery.specs.History.{Beginning, History, Reply, QueueMeaning}
 use Rattle.quic_recovery.specs.Known.{Known, Logs, no_logs, known_with, number_in, packet_now, tracked_known, current_in_flight, first_path, settings_of}
 use Rattle.quic_recovery.specs.Logs.{onto}
-use Rattle.recovery_congestion.specs.Calls.{ControllerCall, sends as sends_bytes, acks, ends_acks, congests, takes_mtu}
+use Rattle.recovery_congestion.specs.Calls.{sends as sends_bytes, acks, ends_acks, congests, takes_mtu}
 use Rattle.recovery_ledger.specs.Packets.{Packet, packet_at}
 use Rattle.recovery_ledger.specs.Probes.{ProbeFound, probe_found}
 use Rattle.recovery_mtud.specs.Discovery.{reports}

@@ -9,7 +9,6 @@ use Rattle.recovery_base.specs.Times.{longest_span}
 use Rattle.recovery_pacing.specs.NamedMoment.{HasRoom, PassesAtMoment}
 use Rattle.recovery_pacing.specs.PacerLog.{PacerEntry, asked, bucket_by}
 use Rattle.recovery_pacing.specs.Pacing.{Bucket, PacerCall, credit_of, wait_of, resized, refilled, may_send, paced, next_moment, delay_of}
-use Rattle.recovery_pacing.specs.Progress.{IsInReach}
 use Rattle.recovery_pacing.proofs.ProgressLaws.{Knows, paced-knows, short_of, wait_comes}
 
 -- a credit is rounded down by less than one byte
@@ -112,12 +111,19 @@ module _ (call : PacerCall) (first : Bucket) where
       fills_asked other (length between) (bucket_by made (map asked between ++ asked call ∷ earlier)) some alike.0
       (fills_by made earlier between some is sound alike.1)
 
+  -- where there is room a full bucket has the bytes
+  fits : (questions : ℕ) → HasRoom call questions first → call.bytes ≤ first.capacity
+  fits questions room = elim (cases_lt first.capacity call.bytes) [
+    | inl low ↦ absurd (omega (arith, mul-le-mul_left call.rtt low, room.0, room.2))
+    | inr enough ↦ enough
+  ]
+
   -- the bucket fills enough by the moment that was named
   covers : (questions : ℕ) (bucket : Bucket) → 0 < call.rtt → Fills questions bucket → (now : ℕ)
-      → IsInReach call first → HasRoom call questions first
+      → HasRoom call questions first
       → first.last + wait_of call.rtt call.window (first.capacity - first.tokens) ≤ now → first.tokens ≤ first.capacity
       → call.bytes ≤ (refilled call.rtt call.window now bucket).tokens
-  covers questions bucket some fills now reach room late sound = elim (cases_lt tokens call.bytes) [
+  covers questions bucket some fills now room late sound = elim (cases_lt tokens call.bytes) [
     | inl below ↦ contradicts below
     | inr enough ↦ enough
   ]
@@ -134,7 +140,7 @@ module _ (call : PacerCall) (first : Bucket) where
       within : call.rtt * lacking ≤ longest_span
       within =
           let less : lacking ≤ first.capacity = omega arith in
-          omega (arith, reach.uncut, mul-le-mul_left call.rtt less)
+          omega (arith, room.1, mul-le-mul_left call.rtt less)
 
       waits : wait_of call.rtt call.window lacking ≤ after.elapsed
       waits = omega (arith, after.last, late)
@@ -144,9 +150,9 @@ module _ (call : PacerCall) (first : Bucket) where
           let all : first.tokens + lacking ≡ first.capacity = omega (arith, sound) in
           absurd (no_room call.rtt call.window call.bytes questions first.capacity first.tokens lacking after.elapsed
           tokens
-          (wait_of call.rtt call.window lacking) (after.filled (omega (arith, below, reach.fits)))
-          (wait_comes call.rtt call.window lacking reach.window within) (mul-le-mul_left (5 * call.window) waits)
-          (omega (arith, mul-le-mul_left (4 * call.rtt) below)) (ap (λ (n : ℕ). call.rtt * n) all) room)
+          (wait_of call.rtt call.window lacking) (after.filled (omega (arith, below, fits questions room)))
+          (wait_comes call.rtt call.window lacking room.0 within) (mul-le-mul_left (5 * call.window) waits)
+          (omega (arith, mul-le-mul_left (4 * call.rtt) below)) (ap (λ (n : ℕ). call.rtt * n) all) room.2)
 
 -- a moment that is not the last one was not cut
 late_by : (moment until now : ℕ) → until ≡ min moment (2 ^ 64 - 1) → until < 2 ^ 64 - 1 → until ≤ now → moment ≤ now
@@ -159,7 +165,7 @@ refilled_sound call old until delays = grind (arith, nat_tests, delays)
 
 pub passes_at_moment : (made : Bucket) (entries : List PacerEntry) (later : PacerCall)
     → PassesAtMoment made entries later (delay_of later (paced later (bucket_by made entries)))
-passes_at_moment made entries later between call earlier until is alike delays like reach room before_end late =
+passes_at_moment made entries later between call earlier until is alike delays like room before_end late =
     rw is goes
   where
     first : Bucket
@@ -184,14 +190,14 @@ passes_at_moment made entries later between call earlier until is alike delays l
     lacking = first.capacity - first.tokens
 
     moment : until ≡ min (first.last + wait_of call.rtt call.window lacking) (2 ^ 64 - 1)
-    moment = let most : max call.bytes first.capacity - first.tokens ≡ lacking = omega (arith, reach.fits) in
+    moment = let most : max call.bytes first.capacity - first.tokens ≡ lacking = omega (arith, fits call first (length between) room) in
         short.1 ∙ ap (λ (n : ℕ). min (first.last + wait_of call.rtt call.window n) (2 ^ 64 - 1)) most
 
     waited : first.last + wait_of call.rtt call.window lacking ≤ later.now
     waited = late_by (first.last + wait_of call.rtt call.window lacking) until later.now moment before_end late
 
     enough : call.bytes ≤ (refilled call.rtt call.window later.now bucket).tokens
-    enough = covers call first (length between) bucket some_rtt fills later.now reach room waited sound
+    enough = covers call first (length between) bucket some_rtt fills later.now room waited sound
 
     goes : delay_of later (paced later bucket) ≡ None
     goes = grind (arith, nat_tests, fills.knows, like, enough)

@@ -1,7 +1,6 @@
 -- Worked rows: the room that the named moment wants, met and missed by one byte, computed. Nothing rests on them.
 use Rattle.std.proofs.Common.{◌≡◌, ℕ, true, List, [], ◌∷◌, None, Some, refl, arith}
 use Rattle.recovery_pacing.specs.NamedMoment.{HasRoom}
-use Rattle.recovery_pacing.specs.Progress.{IsInReach}
 use Rattle.recovery_pacing.specs.PacerLog.{PacerEntry, asked, took, bucket_by}
 use Rattle.recovery_pacing.specs.Pacing.{Bucket, PacerCall, bucket_made, paced, delay_of}
 
@@ -16,11 +15,8 @@ abbrev took_191 : List PacerEntry
 took_191 = took 191 true ∷ asked (asks 191 0) ∷ []
 
 -- 252 bytes and the 15 / 4 that come in four nanoseconds fit, and pass at the moment that was named
-in_reach : IsInReach (asks 252 0) (paced (asks 252 0) (after took_191))
-in_reach = record { fits = omega arith; uncut = omega arith; window = omega arith }
-
 has_room : HasRoom (asks 252 0) 0 (paced (asks 252 0) (after took_191))
-has_room = omega arith
+has_room = (omega arith, omega arith, omega arith)
 
 until : delay_of (asks 252 0) (paced (asks 252 0) (after took_191)) ≡ Some 200
 until = refl
@@ -30,7 +26,7 @@ passes = refl
 
 -- 253 bytes do not fit beside them, and are delayed again
 no_room : ¬ HasRoom (asks 253 0) 0 (paced (asks 253 0) (after took_191))
-no_room room = omega (arith, room)
+no_room room = omega (arith, room.2)
 
 until_too : delay_of (asks 253 0) (paced (asks 253 0) (after took_191)) ≡ Some 200
 until_too = refl
@@ -46,7 +42,7 @@ abbrev asked_thrice : List PacerEntry
 asked_thrice = asked (asks 251 2) ∷ asked (asks 251 1) ∷ asked (asks 251 0) ∷ sent_less
 
 no_room_behind_two : ¬ HasRoom (asks 251 0) 2 (paced (asks 251 0) (after sent_less))
-no_room_behind_two room = omega (arith, room)
+no_room_behind_two room = omega (arith, room.2)
 
 until_there : delay_of (asks 251 0) (paced (asks 251 0) (after sent_less)) ≡ Some 264
 until_there = refl
