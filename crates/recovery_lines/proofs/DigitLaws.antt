@@ -1,6 +1,5 @@
 -- What is read of the digits that bytes begin with, eight at a time. `leading_digits` rests on it.
-use Rattle.std.proofs.Common.{◌≡◌, ℕ, ◌+◌, ◌-◌, ◌*◌, ◌%◌, ◌^◌, ◌<◌, ◌≤◌, List, length, take, drop, get_or, ap, ◌∙◌, refl, subst, arith}
-use Rattle.std.specs.Prelude.{slice_range}
+use Rattle.std.proofs.Common.{◌≡◌, ℕ, ◌+◌, ◌-◌, ◌*◌, ◌%◌, ◌^◌, ◌<◌, ◌≤◌, List, length, take, drop, get_or, ◌∙◌, refl, arith}
 use Rattle.std.specs.Char.{is_ascii_digit}
 use Rattle.std.specs.Str.Parse.{digits_value}
 use Rattle.std.proofs.lemmas.List.Sums.{prefix_len_passes}
@@ -24,11 +23,7 @@ are_digits bs at value r =
 pub value_read : (bs : List ℕ) (at value : ℕ) → HasRead bs 0 0 at value → at ≤ 19
     → value ≡ digits_value 10 (take at bs)
 value_read bs at value r few =
-    let small : digits_value 10 (take at bs) < 2 ^ 64 = few_fit bs at (are_digits bs at value r) r.within few in
-    let whole : at - 0 ≡ at = omega arith in
-    let same : digits_value 10 (slice_range bs 0 at) ≡ digits_value 10 (take at bs) =
-    ap (λ (k : ℕ). digits_value 10 (take k bs)) whole in
-    omega (arith, r.value_is, same, small)
+    grind (arith, r.value_is, few_fit bs at (are_digits bs at value r) r.within few)
 
 pub none_read : (bs : List ℕ) → HasRead bs 0 0 0 0
 none_read bs = record { after = omega arith; within = omega arith; digits = omega arith; value_is = refl }
@@ -47,13 +42,11 @@ module _ (bs : List ℕ) (typed : (k : ℕ) → Fits w8 (get_or bs k 0)) where
       let more = rw (← u.0, drop-drop) at (digits_len-take (drop at bs) 8) in
       HasRead_more bs 0 0 at value count next r (omega arith) more (rw (take-take _ 8 _ most) at u.1)
 
-  pub eight_first : (word count first : ℕ) → 8 ≤ length bs → word ≡ little_endian bs 0 → count ≤ 8 → first < 2 ^ 64
-      → Counts word count first → HasRead bs 0 0 count first
-  eight_first word count first room is most fits counts =
+  pub eight_first : (word count at first : ℕ) → at ≡ count → 8 ≤ length bs → word ≡ little_endian bs 0 → count ≤ 8
+      → first < 2 ^ 64 → Counts word count first → HasRead bs 0 0 at first
+  eight_first word count at first same room is most fits counts =
       let r = eight_more 0 0 word count first (none_read bs) room is most counts in
-      let same : (0 * 10 ^ count % 2 ^ 64 + first) % 2 ^ 64 ≡ first = omega arith in
-      let here : 0 + count ≡ count = omega arith in
-      subst (λ (k : ℕ). HasRead bs 0 0 k first) here (subst (HasRead bs 0 0 (0 + count)) same r)
+      grind (arith, r)
 
   pub one_more : (at value : ℕ) → HasRead bs 0 0 at value → at < length bs
       → (get_or bs at 0 + (2 ^ 64 - 48)) % 2 ^ 64 ≤ 9
