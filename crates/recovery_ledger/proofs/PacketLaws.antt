@@ -1,6 +1,6 @@
 -- Tracked packets: what sums over them and look-ups among them do when one is sent or taken. All that is said of
 -- tracked packets rests on it.
-use Rattle.std.proofs.Common.{◌≡◌, ◌≢◌, ◌↔◌, ℕ, ◌+◌, ◌≤◌, Bool, true, false, [], ◌∷◌, ◌++◌, length, filter, Option, None, Some, refl, sym, ap, arith}
+use Rattle.std.proofs.Common.{◌≡◌, ◌≢◌, ◌↔◌, ℕ, ◌+◌, ◌≤◌, Bool, true, [], ◌∷◌, ◌++◌, length, filter, Option, None, Some, refl, sym, ap, arith}
 use Rattle.std.specs.Prelude.{sum_by}
 use Rattle.std.specs.Ordering.{nat_cmp, is_eq}
 use Rattle.std.specs.Cmp.{nat_cmp_total, Equal-is, tied_itself}
@@ -35,17 +35,11 @@ module _ {P M : Type 0} where
   are_below (entry ∷ packets) limit below number packet found =
       grind (arith, number_at number entry.0, are_below packets limit below.1 number packet)
 
-  pub without-append : (packets more : Packets P M) (number : ℕ) (packet : Packet P M)
-      → packet_at packets number ≡ Some packet → without (packets ++ more) number ≡ without packets number ++ more
-  without-append [] more number packet found = none_found packet found
-  without-append (entry ∷ packets) more number packet found =
-      grind (arith, without-append packets more number packet)
-
-  pub packet_at-append : (packets more : Packets P M) (number : ℕ) (packet : Packet P M)
-      → packet_at packets number ≡ Some packet → packet_at (packets ++ more) number ≡ Some packet
-  packet_at-append [] more number packet found = none_found packet found
-  packet_at-append (entry ∷ packets) more number packet found =
-      grind (arith, packet_at-append packets more number packet)
+  pub found-append : (packets more : Packets P M) (number : ℕ) (packet : Packet P M)
+      → packet_at packets number ≡ Some packet → (packet_at (packets ++ more) number ≡ Some packet)
+      × (without (packets ++ more) number ≡ without packets number ++ more)
+  found-append [] more number packet found = none_found packet found
+  found-append (entry ∷ packets) more number packet found = grind (arith, found-append packets more number packet)
 
   -- ---- numbers below another
 
@@ -91,10 +85,6 @@ module _ {P M : Type 0} where
   sum-replaced f [] number packet other found alike = none_found packet found
   sum-replaced f (entry ∷ packets) number packet other found alike =
       grind (arith, sum_by-cons f, alike entry.0, sum-replaced f packets number packet other)
-
-  pub found-le-sum : (f : ℕ × Packet P M → ℕ) (packets : Packets P M) (number : ℕ) (packet : Packet P M)
-      → packet_at packets number ≡ Some packet → f (number, packet) ≤ sum_by f packets
-  found-le-sum f packets number packet found = omega (arith, sum-without f packets number packet found)
 
   pub sizes-le-length : (packets : Packets P M) → sum_by (λ entry. size_count entry.1) packets ≤ length packets
   sizes-le-length [] = omega arith
@@ -149,13 +139,6 @@ module _ {P M : Type 0} where
           → (packet : Packet P M) × (packet_at packets number ≡ Some packet) × (is_above last number ≡ true)
       go None is = absurd (first_found (λ entry. is_above last entry.0) packets number e is)
       go (Some packet) is = (packet, is, first_passes last packets number e)
-
-  -- a packet above the last eliciting number elicits none itself
-  pub silent_found : (last : Option ℕ) (packets : Packets P M) (number : ℕ) (packet : Packet P M)
-      → sum_by (eliciting_count last) packets ≡ 0 → packet_at packets number ≡ Some packet → is_above last number ≡ true
-      → packet.ack_eliciting ≡ false
-  silent_found last packets number packet none found above =
-      grind (arith, found-le-sum (eliciting_count last) packets number packet found)
 
   pub AllBelow-more : (packets : Packets P M) (limit more : ℕ) → limit ≤ more → AllBelow packets limit
       → AllBelow packets more
