@@ -5,7 +5,7 @@ use Rattle.std.specs.Prelude.{sum_by}
 use Rattle.std.proofs.lemmas.List.Sums.{sum_by_push, sum_by-cons}
 use Rattle.recovery_ledger.specs.Packets.{Packet, Packets, Tracking, IsAboveLast, packet_at, without, with_contents, replaced, is_above, silent_above, least_number, forgotten_number}
 use Rattle.recovery_ledger.specs.Counts.{silent_count, eliciting_count, size_count, AreCounted}
-use Rattle.recovery_ledger.proofs.PacketLaws.{AllBelow-push, found-append, AllBelow, sum-without, sum-replaced, silent_count-length, all_silent, first_above_found}
+use Rattle.recovery_ledger.proofs.PacketLaws.{AllBelow-push, found-append, AllBelow, sum-without, sum-replaced, silent_count-length, all_silent, some_of, first_found, first_passes}
 
 module _ {P M : Type 0} where
   -- a packet is forgotten where another is sent: it was tracked before, above the last eliciting number, and counted
@@ -15,7 +15,7 @@ module _ {P M : Type 0} where
       × (without mid least ≡ without packets least ++ (number, sent) ∷ [])
 
   -- nothing up to a number is counted above it
-  none_above : (last : ℕ) (packets : Packets P M) → AllBelow packets (last + 1)
+  pub none_above : (last : ℕ) (packets : Packets P M) → AllBelow packets (last + 1)
       → (sum_by (silent_count (Some last)) packets ≡ 0) × (sum_by (eliciting_count (Some last)) packets ≡ 0)
   none_above last [] below = (refl, refl)
   none_above last (entry ∷ packets) below =
@@ -27,63 +27,18 @@ module _ {P M : Type 0} where
         none_above last packets,
       )
 
-  -- one more packet that elicits an ACK
-  pub counted_eliciting : {packets : Packets P M} {last : Option ℕ} {silent sized : ℕ}
-      → AreCounted packets last silent sized → (number : ℕ) (packet : Packet P M) → AllBelow packets number
-      → AreCounted (packets ++ (number, packet) ∷ []) (Some number) 0 (sized + size_count packet)
-  counted_eliciting {packets} counted number packet below = grind (
-    arith,
-    counted,
-    sum_by_push (λ (entry : ℕ × Packet P M). size_count entry.1) packets (number, packet),
-    none_above number (packets ++ (number, packet) ∷ []) (AllBelow-push packets number packet below),
-  )
-
   module _ {packets : Packets P M} {last : Option ℕ} {silent sized : ℕ} (counted : AreCounted packets last silent sized)
     where
-      -- one more silent packet
-      pub counted_silent : (number : ℕ) {inside packet : Packet P M} → inside ≡ packet → inside.ack_eliciting ≡ false
-          → IsAboveLast last number → silent ≤ 1000
-          → AreCounted (packets ++ (number, packet) ∷ []) last (silent + 1) (sized + size_count packet)
-      counted_silent number view is_silent above room = grind (arith, nat_tests, view, sum_by_push, above)
-
-      module _ (number : ℕ) (packet : Packet P M) (found : packet_at packets number ≡ Some packet) where
-        -- a packet that is taken: there is something to take from the counts
-        pub counted_taken : AreCounted (without packets number) last (silent - silent_count last (number, packet))
-            (sized - size_count packet) × (silent_count last (number, packet) ≤ silent) × (size_count packet ≤ sized)
-        counted_taken = grind (
-          arith,
-          sum-without (silent_count last) packets number packet found,
-          sum-without (eliciting_count last) packets number packet found,
-          sum-without (λ entry. size_count entry.1) packets number packet found,
-        )
-
-        -- a packet with other contents
-        pub counted_carrying : (contents : P)
-            → AreCounted (replaced number (Some (with_contents contents packet)) packets) last silent sized
-        counted_carrying contents =
-            let other = with_contents contents packet in
-            grind (
-              arith,
-              sum-replaced (silent_count last) packets number packet other found (λ n. refl),
-              sum-replaced (eliciting_count last) packets number packet other found (λ n. refl),
-              sum-replaced (λ (e : ℕ × Packet P M). size_count e.1) packets number packet other found (λ n. refl),
-            )
-
-        -- one more silent packet, for one that is forgotten: that one was counted
-        pub counted_forgetting : is_above last number ≡ true → (next : ℕ) {inside more : Packet P M} → inside ≡ more
-            → inside.ack_eliciting ≡ false → IsAboveLast last next
-            → AreCounted (without packets number ++ (next, more) ∷ []) last silent
-            (sized + size_count more - size_count packet)
-        counted_forgetting up next view is_silent above =
-            grind (
-              arith,
-              nat_tests,
-              sum_by_push,
-              above,
-              view,
-              counted_taken,
-              sum-without (eliciting_count last) packets number packet found,
-            )
+      -- a packet that is taken: there is something to take from the counts
+      pub counted_taken : (number : ℕ) (packet : Packet P M) → packet_at packets number ≡ Some packet
+          → AreCounted (without packets number) last (silent - silent_count last (number, packet))
+          (sized - size_count packet) × (silent_count last (number, packet) ≤ silent) × (size_count packet ≤ sized)
+      counted_taken number packet found = grind (
+        arith,
+        sum-without (silent_count last) packets number packet found,
+        sum-without (eliciting_count last) packets number packet found,
+        sum-without (λ entry. size_count entry.1) packets number packet found,
+      )
 
       -- ---- limits
 
@@ -133,13 +88,9 @@ module _ {P M : Type 0} where
               → MatchOption taken ⊥ (IsForgotten packets last sized number packet least mid)
           forgotten_found number {least} some more found =
               let its : Some least ≡ forgotten_number last packet packets = rw (← is) at some in
-              let first = first_above_found last packets least (grind (
-                arith,
-                nat_tests,
-                its,
-                view,
-                is_silent,
-                all_silent last packets counted.others,
-              )) in
-              let kept = found-append packets ((number, packet) ∷ []) least first.0 first.1 in
-              rw (found, more, kept.0) (first.1, first.2, (counted_taken least first.0 first.1).2, kept.1)
+              let above : least_number (filter (λ entry. is_above last entry.0) packets) ≡ Some least =
+              grind (arith, nat_tests, its, view, is_silent, all_silent last packets counted.others) in
+              let gone = some_of _ (first_found (λ entry. is_above last entry.0) packets least above) in
+              let kept = found-append packets ((number, packet) ∷ []) least gone.0 gone.1 in
+              rw (found, more, kept.0)
+              (gone.1, first_passes last packets least above, (counted_taken least gone.0 gone.1).2, kept.1)

@@ -12,7 +12,7 @@ use Rattle.recovery_ledger.specs.Ledger.{tracked_by, IsBalancedOn}
 use Rattle.recovery_ledger.specs.Packets.{Packet, Packets, packet_at, without, with_contents, carrying, without_some, forgotten_number, sent_onto, entry_at, IsAmong}
 use Rattle.recovery_ledger.specs.Paths.{generation_of, counters_of, after_leaving, after_forgetting, path_after_sending, IsCountedOn}
 use Rattle.recovery_ledger.specs.Spaces.{Space, Spaces, with_space, packets_of}
-use Rattle.recovery_ledger.proofs.CarryLaws.{sum-carrying, lost_holds}
+use Rattle.recovery_ledger.proofs.CarryLaws.{sum-carrying}
 use Rattle.recovery_ledger.proofs.PacketLaws.{sum-without, without-absent}
 
 -- what a packet that is forgotten takes from a sum
@@ -73,14 +73,19 @@ module _ {P M : Type 0} (path : PathLedger) where
       pub lost_follows : (number : ℕ) (contents : P) (packet : Packet P M)
           → option_map (with_contents contents) (packet_at packets number) ≡ Some packet
           → IsCountedOn path packet × Follows packets (without packets number) (after_leaving path packet)
-      lost_follows number contents packet is =
-          lost_holds (λ (p : Packet P M). IsCountedOn path p × Follows packets (without packets number)
-          (after_leaving path p)) (packet_at packets number) contents packet is (λ old found. grind (
+      lost_follows number contents packet is = go (packet_at packets number) refl is
+        where
+          go : (there : Option (Packet P M)) → packet_at packets number ≡ there
+              → option_map (with_contents contents) there ≡ Some packet
+              → IsCountedOn path packet × Follows packets (without packets number) (after_leaving path packet)
+          go None found is = absurd (cc (is))
+          go (Some old) found is = grind (
             arith,
             nat_tests,
+            is,
             sum-without size packets number old found,
             sum-without eliciting packets number old found,
-          ))
+          )
 
       module _ (last : Option ℕ) (packet : Packet P M) where
         abbrev forgotten : Option (ℕ × Packet P M)

@@ -8,6 +8,7 @@ use Rattle.std.specs.BTreeMap.{is_at}
 use Rattle.std.proofs.lemmas.List.Sums.{sum_by-cons}
 use Rattle.std.proofs.lemmas.Bool.Decides.{nat_tests}
 use Rattle.std.proofs.lemmas.Map.Lookups.{exact_unsigned}
+use Rattle.recovery_slots.proofs.SlotLaws.{at_itself}
 pub use Rattle.recovery_slots.proofs.EntryLaws.{AllBelow, all_below}
 use Rattle.recovery_ledger.specs.Packets.{Packet, Packets, packet_at, without, without_some, replaced, carrying, AreBelow, HasSize, is_above, is_silent_above, silent_above, least_number, forgotten_number, entry_at, entry_number}
 use Rattle.recovery_ledger.specs.Counts.{silent_count, eliciting_count, size_count}
@@ -15,17 +16,12 @@ use Rattle.recovery_ledger.specs.Counts.{silent_count, eliciting_count, size_cou
 pub number_at : (number other : ℕ) → is_at (nat_cmp number) other ≡ true → other ≡ number
 number_at number other e = sym (exact_unsigned number other ((Equal-is (nat_cmp number other)).0 e))
 
-at_itself : (number : ℕ) → is_at (nat_cmp number) number ≡ true
-at_itself number = ap is_eq (tied_itself nat_cmp_total number)
-
-no_number : {A : Type 0} (number : ℕ) → None ≡ Some number → A
-no_number number e = cc
+pub some_of : {A : Type 0} (there : Option A) → there ≢ None → (a : A) × (there ≡ Some a)
+some_of None some = absurd (some refl)
+some_of (Some a) some = (a, refl)
 
 module _ {P M : Type 0} where
   -- ---- look-ups
-
-  pub some_packet : (first second : Packet P M) → Some first ≡ Some second → first ≡ second
-  some_packet first second e = cc
 
   pub none_found : {A : Type 0} (packet : Packet P M) → None ≡ Some packet → A
   none_found packet e = cc
@@ -122,23 +118,13 @@ module _ {P M : Type 0} where
   -- the first number that passes a test is that of a packet
   pub first_found : (test : ℕ × Packet P M → Bool) (packets : Packets P M) (number : ℕ)
       → least_number (filter test packets) ≡ Some number → packet_at packets number ≢ None
-  first_found test [] number e = no_number number e
+  first_found test [] number e = absurd (cc)
   first_found test (entry ∷ packets) number e = grind (arith, at_itself number, first_found test packets number)
 
-  first_passes : (last : Option ℕ) (packets : Packets P M) (number : ℕ)
+  pub first_passes : (last : Option ℕ) (packets : Packets P M) (number : ℕ)
       → least_number (filter (λ entry. is_above last entry.0) packets) ≡ Some number → is_above last number ≡ true
-  first_passes last [] number e = no_number number e
+  first_passes last [] number e = absurd (cc)
   first_passes last (entry ∷ packets) number e = grind (arith, first_passes last packets number)
-
-  pub first_above_found : (last : Option ℕ) (packets : Packets P M) (number : ℕ)
-      → least_number (filter (λ entry. is_above last entry.0) packets) ≡ Some number
-      → (packet : Packet P M) × (packet_at packets number ≡ Some packet) × (is_above last number ≡ true)
-  first_above_found last packets number e = go (packet_at packets number) refl
-    where
-      go : (found : Option (Packet P M)) → packet_at packets number ≡ found
-          → (packet : Packet P M) × (packet_at packets number ≡ Some packet) × (is_above last number ≡ true)
-      go None is = absurd (first_found (λ entry. is_above last entry.0) packets number e is)
-      go (Some packet) is = (packet, is, first_passes last packets number e)
 
   pub AllBelow-more : (packets : Packets P M) (limit more : ℕ) → limit ≤ more → AllBelow packets limit
       → AllBelow packets more

@@ -1,6 +1,7 @@
 -- The paths stay tied to what the spaces track, whatever comes to a packet, a space or a path. The invariant of
 -- `Recovery`, and so each of its calls, rests on it.
 use Rattle.std.proofs.Common.{◌≡◌, ℕ, ◌+◌, ◌<◌, ◌≤◌, Bool, [], ◌∷◌, Option, None, Some, option_map, refl, ap, subst, arith}
+use Rattle.std.proofs.lemmas.Iterator.Adapters.{option_map_id}
 use Rattle.std.proofs.lemmas.Option.{none-some}
 use Rattle.recovery_base.specs.declared.below.SpaceId.{SpaceId}
 use Rattle.recovery_congestion.specs.Controllers.{ControllerWords}
@@ -33,44 +34,19 @@ emptied_follows ledger (entry ∷ packets) counted =
     let first = first_leaves ledger entry packets counted in
     grind (arith, first, emptied_follows (after_leaving ledger entry.1) packets first.1)
 
-option-same : {A : Type 0} (a : Option A) → option_map (λ b. b) a ≡ a
-option-same a = grind arith
-
 module _ {K P M : Type 0} (spaces : Spaces P M) (paths : OfPaths (Path K)) (balanced : AreBalanced spaces paths) where
   abbrev ledger : PathLedger
   ledger = paths.current.ledger
-
-  -- the paths change, and the spaces
-  changed_to : (new : Spaces P M) (now : Path K) (change : Path K → Path K) → IsBalancedOn new now.ledger
-      → generation_of now.ledger ≡ generation_of ledger
-      → ((path : Path K) → paths.previous ≡ Some path → IsBalancedOn new (change path).ledger
-      × (generation_of (change path).ledger ≡ generation_of path.ledger))
-      → AreUpTo (generation_of ledger) new → AreCoherent new
-      → AreBalanced new (let all : OfPaths (Path K) = record {
-        current = now;
-        previous = option_map change paths.previous;
-      } in all)
-  changed_to new now change current same earlier up_to coherent =
-      let each = for_changed (λ path. IsBalancedOn new path.ledger
-      × (generation_of path.ledger < generation_of now.ledger)) change paths.previous (λ path is. (
-        (earlier path is).0,
-        omega (arith, balanced.older path is, (earlier path is).1, same),
-      )) in
-      record {
-        current = current;
-        previous = λ path is. (each path is).0;
-        older = λ path is. (each path is).1;
-        up_to = rw same up_to;
-        coherent = coherent;
-      }
 
   -- what is kept beside a path's ledger changes
   pub on_state_kept : (name : PathName) (change : PathState K → PathState K)
       → AreBalanced spaces (on_path_of name (on_state change) paths)
   on_state_kept Current change = grind (arith, balanced)
   on_state_kept Previous change =
-      changed_to spaces paths.current (on_state change) balanced.current refl
-      (λ path is. (balanced.previous path is, refl)) balanced.up_to balanced.coherent
+      let each = for_changed (λ path. IsBalancedOn spaces path.ledger
+      × (generation_of path.ledger < generation_of ledger)) (on_state change) paths.previous
+      (λ path is. (balanced.previous path is, balanced.older path is)) in
+      grind (arith, balanced, each)
 
   -- another path is used, of a new generation
   pub moved : (path : Path K) → path.ledger ≡ fresh_ledger (generation_of ledger + 1)
@@ -98,10 +74,6 @@ module _ {K P M : Type 0} (spaces : Spaces P M) (paths : OfPaths (Path K)) (bala
     abbrev Is : Packet P M → Type 0
     Is packet = packet.path_generation ≤ generation_of ledger
 
-    up_to_with : (here : Space P M) → OfAll Is (packets_of here)
-        → AreUpTo (generation_of ledger) (with_space spaces space here)
-    up_to_with here = each_with (λ (s : Space P M). OfAll Is (packets_of s)) spaces space here balanced.up_to
-
     -- the packets of a space change, and the counters of each path by as much
     changed : (here : Space P M) (now : Path K) (change : Path K → Path K)
         → Follows ledger all (packets_of here) now.ledger
@@ -113,17 +85,25 @@ module _ {K P M : Type 0} (spaces : Spaces P M) (paths : OfPaths (Path K)) (bala
           previous = option_map change paths.previous;
         } in both)
     changed here now change follows earlier up_to coherent =
-        changed_to (with_space spaces space here) now change
-        (balanced_by spaces ledger balanced.current space here now.ledger follows) follows.generation (λ path is. (
+        let each = for_changed (λ path. IsBalancedOn (with_space spaces space here) path.ledger
+        × (generation_of path.ledger < generation_of now.ledger)) change paths.previous (λ path is. (
           balanced_by spaces path.ledger (balanced.previous path is) space here _ (earlier path is),
-          (earlier path is).generation,
-        )) (up_to_with here up_to) (each_with IsCoherent spaces space here balanced.coherent coherent)
+          omega (arith, balanced.older path is, (earlier path is).generation, follows.generation),
+        )) in
+        record {
+          current = balanced_by spaces ledger balanced.current space here now.ledger follows;
+          previous = λ path is. (each path is).0;
+          older = λ path is. (each path is).1;
+          up_to = rw follows.generation (each_with (λ (s : Space P M). OfAll Is (packets_of s)) spaces space here
+              balanced.up_to up_to);
+          coherent = each_with IsCoherent spaces space here balanced.coherent coherent;
+        }
 
     -- nothing that is counted changes
     staying : (here : Space P M) → ((path : PathLedger) → Follows path all (packets_of here) path)
         → OfAll Is (packets_of here) → IsCoherent here → AreBalanced (with_space spaces space here) paths
     staying here follows up_to coherent =
-        rw (← option-same paths.previous)
+        rw (← option_map_id paths.previous)
         (changed here paths.current (λ path. path) (follows ledger) (λ path is. follows path.ledger) up_to coherent)
 
     -- other parts of a space change

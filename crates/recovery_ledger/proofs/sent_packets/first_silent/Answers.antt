@@ -1,13 +1,13 @@
 use Rattle.std.proofs.Common.{None, Some, ◌∙◌}
 use Rattle.recovery_slots.specs.Slots.{entries_of}
 use Rattle.recovery_ledger.proofs.PacketLaws.{all_below}
-use Rattle.recovery_ledger.proofs.TrackedLaws.{none_above, first_above, least_above}
+use Rattle.recovery_ledger.proofs.TrackedLaws.{all_above, first_above, least_above}
 use Rattle.recovery_ledger.proofs.sent_packets.first_silent.Goals as goal
 
 pub returns-in_err-checked_add-in-Some-clause-first : goal.returns-in_err-checked_add-in-Some-clause-first
 returns-in_err-checked_add-in-Some-clause-first g c =
     rw (c.in-Some.is, c.from_residual.ensures)
-    (none_above c.in-Some.last c.in_err-checked_add-in-Some.ensures _ (all_below _ _ c.requires.small))
+    (all_above c.in-Some.last c.in_err-checked_add-in-Some.ensures _ (all_below _ _ c.requires.small))
 
 pub returns-in_ok-checked_add-in-Some-clause-first : goal.returns-in_ok-checked_add-in-Some-clause-first
 returns-in_ok-checked_add-in-Some-clause-first g c =
@@ -27,4 +27,5 @@ returns-in-None-clause-first g c = rw c.in-None.is (c.first_from-in-None.ensures
 
 pub returns-in-None-clause-least : goal.returns-in-None-clause-least
 returns-in-None-clause-least g c = rw c.in-None.is (least_above None c.args.from
-    c.first_from-in-None.result (entries_of c.args.packets.now) (rw c.in-None.is at c.requires.found) c.first_from-in-None.ensures.lowest)
+    c.first_from-in-None.result (entries_of c.args.packets.now) (rw c.in-None.is at c.requires.found)
+    c.first_from-in-None.ensures.lowest)

@@ -21,7 +21,7 @@ overflow_add-self g c =
 pub invariant_of-self-then-is_eliciting : goal.invariant_of-self-then-is_eliciting
 invariant_of-self-then-is_eliciting g c =
     rw (c.size_count-count.ensures, c.min-self-inside.ensures)
-    (tracked_eliciting c.self.invariant c.push.new.self c.args.number c.args.packet c.ranges.number.fits
+    (tracked_eliciting c.self.invariant _ _ _ c.ranges.number.fits
     (rw (← c.self.view_is) at c.requires.above) c.in_ok-push.ensures.ok c.in_ok-push.ensures.one_more)
 
 pub returns-then-is_eliciting-clause-ok : goal.returns-then-is_eliciting-clause-ok
@@ -37,7 +37,7 @@ returns-then-is_eliciting-clause-bound g c = silent_bound (invariant_of-self-the
 pub invariant_of-self-in_default : goal.invariant_of-self-in_default
 invariant_of-self-in_default g c =
     rw (c.size_count-count.ensures, c.min-self-inside.ensures, c.min-self-inside-in_default.ensures)
-    (tracked_silent c.self.invariant c.push.new.self c.args.number c.args.packet c.ranges.number.fits
+    (tracked_silent c.self.invariant _ _ _ c.ranges.number.fits
     (rw (← c.self.view_is) at c.requires.above) c.in_ok-push.ensures.ok c.in_ok-push.ensures.one_more
     c.packet.view_is c.if-is_eliciting.false (rw (← c.self.view_is) at c.requires.above_last)
     (silent_few c.self.invariant.counted c.self.view_is c.packet.view_is c.if-is_eliciting.false
@@ -65,27 +65,27 @@ returns-in_default-clause-bound g c = silent_bound (invariant_of-self-in_default
 
 pub unreachable-requires : goal.unreachable-requires
 unreachable-requires g c =
-    rw c.in_default-take.is at (forgotten_found c.self.invariant.counted c.self.view_is c.packet.view_is c.if-is_eliciting.false c.args.number
-    c.in-Some.ensures.number c.in_ok-push.ensures.ok c.take.ensures.value)
+    rw c.in_default-take.is at (forgotten_found c.self.invariant.counted c.self.view_is c.packet.view_is
+    c.if-is_eliciting.false c.args.number c.in-Some.ensures.number c.in_ok-push.ensures.ok c.take.ensures.value)
 
 pub overflow_sub-self : goal.overflow_sub-self
 overflow_sub-self g c =
-    let gone = rw c.in-Some-take.is at (forgotten_found c.self.invariant.counted c.self.view_is c.packet.view_is c.if-is_eliciting.false c.args.number
-    c.in-Some.ensures.number c.in_ok-push.ensures.ok c.take.ensures.value) in
+    let gone = rw c.in-Some-take.is at (forgotten_found c.self.invariant.counted c.self.view_is c.packet.view_is
+    c.if-is_eliciting.false c.args.number c.in-Some.ensures.number c.in_ok-push.ensures.ok c.take.ensures.value) in
     omega (arith, gone.2, c.size_count.ensures)
 
 found : (g : _) (c : goal.After-self-4-1 g) → IsForgotten (entries_of c.self.inside.packets)
     c.self.inside.last_eliciting c.self.inside.sized c.args.number c.args.packet c.in-Some.least
     (entries_of c.push.new.self) c.in-Some-take.gone
 found g c =
-    rw c.in-Some-take.is at (forgotten_found c.self.invariant.counted c.self.view_is c.packet.view_is c.if-is_eliciting.false c.args.number
-    c.in-Some.ensures.number c.in_ok-push.ensures.ok c.take.ensures.value)
+    rw c.in-Some-take.is at (forgotten_found c.self.invariant.counted c.self.view_is c.packet.view_is
+    c.if-is_eliciting.false c.args.number c.in-Some.ensures.number c.in_ok-push.ensures.ok c.take.ensures.value)
 
 pub invariant_of-self-2 : goal.invariant_of-self-2
 invariant_of-self-2 g c =
     let gone = found g c in
     rw (c.size_count-count.ensures, c.min-self-inside.ensures, c.size_count.ensures)
-    (tracked_forgetting c.self.invariant c.push.new.self c.args.number c.args.packet c.ranges.number.fits
+    (tracked_forgetting c.self.invariant c.push.new.self _ _ c.ranges.number.fits
     (rw (← c.self.view_is) at c.requires.above) c.in_ok-push.ensures.ok c.in-Some.least c.in-Some-take.gone
     c.packet.view_is c.if-is_eliciting.false (rw (← c.self.view_is) at c.requires.above_last) gone.0 gone.1
     (rw (← c.self.view_is) at c.in-Some.ensures.least) c.take.ensures.entries c.in-Some-take.ensures.bound)
