@@ -1,6 +1,6 @@
--- The packets among those that are tracked, when one is sent, taken or has other contents. `CoherentLaws` and
--- `GenerationLaws` rest on it.
-use Rattle.std.proofs.Common.{arith, ◌≡◌, ℕ, ◌⊎◌, inl, inr, [], ◌∷◌, ◌++◌, Option, None, Some}
+-- The packets among those that are tracked, when one is sent, taken or has other contents. `CoherentLaws` and the
+-- balance of the paths rest on it.
+use Rattle.std.proofs.Common.{arith, ◌≡◌, ℕ, ◌⊎◌, [], ◌∷◌, ◌++◌, Option, Some}
 use Rattle.recovery_ledger.specs.Packets.{Packet, Packets, packet_at, without, without_some, with_contents, replaced, carrying, sent_onto, forgotten_number, IsAmong, AreAcknowledging, IsTooLarge}
 
 module _ {P M : Type 0} where
@@ -38,12 +38,13 @@ module _ {P M : Type 0} (Holds : Packet P M → Type 0) where
   pub all_sent : (last : Option ℕ) (number : ℕ) (sent : Packet P M) (packets : Packets P M) → OfAll packets → Holds sent
       → OfAll (sent_onto last number sent packets)
   all_sent last number sent packets all one packet among =
-      go (forgotten_number last sent packets) (among_push _ number sent packet among)
-    where
-      go : (forgotten : Option ℕ) → IsAmong (without_some packets forgotten) packet ⊎ (sent ≡ packet) → Holds packet
-      go None (inl there) = all packet there
-      go (Some least) (inl there) = all_without packets least all packet there
-      go forgotten (inr same) = rw (← same) one
+      grind (
+        arith,
+        all,
+        one,
+        among_push (without_some packets (forgotten_number last sent packets)) number sent packet among,
+        among_without packets,
+      )
 
   pub all_carrying : (packets : Packets P M) (number : ℕ) (contents : P)
       → ((packet : Packet P M) → Holds packet → Holds (with_contents contents packet)) → OfAll packets

@@ -1,24 +1,17 @@
 -- The parts of a space go together, whatever happens in it. The balance of the paths, and so each call of the driver on
 -- a space, rests on it.
-use Rattle.recovery_ledger.proofs.SpaceLaws.{each_with}
-use Rattle.std.proofs.Common.{◌≡◌, ℕ, ◌+◌, ◌≤◌, Bool, [], refl, sym, ◌∙◌, arith, Option, None, Some}
+use Rattle.std.proofs.Common.{◌≡◌, ℕ, ◌+◌, ◌≤◌, Bool, [], refl, arith, Option, None, Some}
 use Rattle.recovery_base.specs.declared.below.SpaceId.{SpaceId}
 use Rattle.recovery_acks.specs.Acks.{new_acks}
 use Rattle.recovery_queue.specs.Queues.{QueueWords}
 use Rattle.recovery_ledger.specs.Ledger.{AreCoherent}
-use Rattle.recovery_ledger.specs.Packets.{Packet, no_packets, forgotten_number, IsTooLarge, AreAcknowledging, after_sending, after_taking, after_carrying}
+use Rattle.recovery_ledger.specs.Packets.{Packet, Packets, no_packets, forgotten_number, IsTooLarge, AreAcknowledging, after_sending, after_taking}
 use Rattle.recovery_ledger.specs.Probes.{ProbeFound}
-use Rattle.recovery_ledger.specs.Spaces.{Space, Spaces, space_of, with_space, tracking_of, packets_of, acks_of, next_number_of, HasGreatestCome, IsCoherent, one_probe_more, space_probes, space_loses}
+use Rattle.recovery_ledger.specs.Spaces.{Space, Spaces, space_of, tracking_of, packets_of, acks_of, next_number_of, HasGreatestCome, IsCoherent, one_probe_more, space_probes, space_loses}
 use Rattle.recovery_ledger.proofs.AmongLaws.{Acknowledges, all_without, all_sent, all_carrying}
 use Rattle.recovery_ledger.proofs.PacketLaws.{AllBelow, all_below, are_below, AllBelow-without, AllBelow-push, AllBelow-more, AllBelow-carrying, AllBelow-without_some}
 
 module _ {P M : Type 0} where
-  -- ---- one space among three
-
-  pub coherent_with : (spaces : Spaces P M) (space : SpaceId) (here : Space P M) → AreCoherent spaces → IsCoherent here
-      → AreCoherent (with_space spaces space here)
-  coherent_with spaces space here all one = each_with IsCoherent spaces space here all one
-
   -- what was received and asks for an ACK stays
   pub come_kept : (old here : Space P M) → HasGreatestCome old → acks_of here ≡ acks_of old → here.dedup ≡ old.dedup
       → HasGreatestCome here
@@ -31,41 +24,31 @@ module _ {P M : Type 0} where
     own = all_below _ _ coherent.packets
 
     -- the packets have numbers below the next one, and acknowledge numbers of packets
-    coherent_by : next_number_of old ≤ next_number_of here
-        → (tracking_of here).last_eliciting ≡ (tracking_of old).last_eliciting
-        → AllBelow (packets_of here) (next_number_of old) → AreAcknowledging (packets_of here) → IsCoherent here
-    coherent_by next last below acknowledging = record {
-      packets = are_below _ _ (AllBelow-more (packets_of here) (next_number_of old) (next_number_of here) next below);
-      last = λ m is. omega (arith, coherent.last m (sym last ∙ is), next);
-      acknowledging = acknowledging;
+    coherent_by : {packets : Packets P M} → tracking_of here ≡ record (tracking_of old) { packets = packets }
+        → next_number_of here ≡ next_number_of old → AllBelow packets (next_number_of old) → AreAcknowledging packets
+        → IsCoherent here
+    coherent_by same next below acknowledging = record {
+      packets = rw (same, next) (are_below _ _ below);
+      last = rw (same, next) coherent.last;
+      acknowledging = rw same acknowledging;
       received = received;
     }
 
     -- nothing that is tracked changes
     pub coherent_kept : tracking_of here ≡ tracking_of old → next_number_of here ≡ next_number_of old → IsCoherent here
-    coherent_kept same next = coherent_by (omega arith) (rw same refl) (rw same own) (rw same coherent.acknowledging)
+    coherent_kept same next = coherent_by {packets = packets_of old} same next own coherent.acknowledging
 
     -- a tracked packet leaves
     pub coherent_taken : (number : ℕ) → tracking_of here ≡ after_taking number (tracking_of old)
         → next_number_of here ≡ next_number_of old → IsCoherent here
     coherent_taken number same next =
-        coherent_by (omega arith) (rw same refl) (rw same (AllBelow-without _ number _ own))
-        (rw same (all_without Acknowledges _ number coherent.acknowledging))
-
-    -- a tracked packet has other contents
-    pub coherent_carrying : (number : ℕ) (contents : P)
-        → tracking_of here ≡ after_carrying number contents (tracking_of old) → next_number_of here ≡ next_number_of old
-        → IsCoherent here
-    coherent_carrying number contents same next =
-        coherent_by (omega arith) (rw same refl) (rw same (AllBelow-carrying (packets_of old) number contents _ own))
-        (rw same (all_carrying Acknowledges (packets_of old) number contents (λ packet holds. holds)
-        coherent.acknowledging))
+        coherent_by same next (AllBelow-without _ number _ own)
+        (all_without Acknowledges _ number coherent.acknowledging)
 
     -- nothing is tracked any more
     pub coherent_emptied : tracking_of here ≡ record (tracking_of old) { packets = [] }
         → next_number_of here ≡ next_number_of old → IsCoherent here
-    coherent_emptied same next =
-        coherent_by (omega arith) (rw same refl) (rw same tt) (rw same (λ packet among. absurd among))
+    coherent_emptied same next = coherent_by same next tt (λ packet among. absurd among)
 
     -- a packet is sent under the next number, or one above it
     pub coherent_sent : (number : ℕ) (packet : Packet P M) → next_number_of old ≤ number
@@ -89,22 +72,16 @@ module _ {P M : Type 0} where
         → (let found : ProbeFound = record { moved = moved; nothing = nothing } in
         IsCoherent (space_probes words immediate found (one_probe_more old)))
     coherent_probed immediate nothing (Some number) =
-        coherent_carrying old _ coherent coherent.received number words.empty refl refl
+        coherent_by old _ coherent coherent.received refl refl
+        (AllBelow-carrying (packets_of old) number words.empty _ (own old old coherent coherent.received))
+        (all_carrying Acknowledges (packets_of old) number words.empty (λ packet holds. holds) coherent.acknowledging)
     coherent_probed immediate nothing None = coherent_kept old _ coherent coherent.received refl refl
 
     pub coherent_lost : (number : ℕ) → IsCoherent (space_loses words number old)
-    coherent_lost number = coherent_taken old (space_loses words number old) coherent coherent.received number refl refl
+    coherent_lost number = coherent_taken old _ coherent coherent.received number refl refl
 
   -- ---- a fresh start
 
-  one_fresh : (space : Space P M) → tracking_of space ≡ no_packets → acks_of space ≡ new_acks [] → IsCoherent space
-  one_fresh space none no_acks = record {
-    packets = rw none (λ number packet found. absurd (cc));
-    last = rw none (λ m is. absurd (cc));
-    acknowledging = rw none (λ packet among. absurd among);
-    received = rw no_acks (λ m is. absurd (cc));
-  }
-
   pub fresh_coherent : (spaces : Spaces P M) → ((space : SpaceId) → tracking_of (space_of space spaces) ≡ no_packets)
       → ((space : SpaceId) → acks_of (space_of space spaces) ≡ new_acks []) → AreCoherent spaces
-  fresh_coherent spaces none no_acks space = one_fresh (space_of space spaces) (none space) (no_acks space)
+  fresh_coherent spaces none no_acks space = grind (arith, none space, no_acks space)

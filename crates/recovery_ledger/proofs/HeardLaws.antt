@@ -1,5 +1,5 @@
 -- What one entry more says of the ACKs of a space. `SpaceLaws` and the driver's `ToldLaws` rest on it.
-use Rattle.std.proofs.Common.{◌≡◌, ℕ, ◌⊎◌, ◌↔◌, Bool, nat_lt, IsTrue, Option, None, Some, List, ◌∷◌, ◌∙◌, arith}
+use Rattle.std.proofs.Common.{◌≡◌, ℕ, ◌⊎◌, ◌↔◌, Bool, nat_lt, IsTrue, Option, None, Some, List, ◌∷◌, arith}
 use Rattle.std.proofs.lemmas.Bool.Decides.{nat_tests}
 use Rattle.recovery_base.specs.declared.below.frames.AckFrequency.{AckFrequency}
 use Rattle.recovery_base.specs.Numbers.{Recent, With}

@@ -1,193 +1,158 @@
 -- The counters of each path stay the sums over the tracked packets of its generation. `BalanceLaws` of the paths rest
 -- on it.
 use Rattle.std.proofs.lemmas.Bool.Decides.{nat_tests}
-use Rattle.std.proofs.Common.{◌≡◌, ◌≢◌, ℕ, ◌+◌, ◌≤◌, inl, inr, [], ◌∷◌, Option, None, Some, refl, arith}
+use Rattle.std.proofs.Common.{◌≡◌, ◌≢◌, ℕ, ◌+◌, inl, inr, [], ◌∷◌, Option, None, Some, refl, arith}
 use Rattle.std.specs.Prelude.{sum_by, option_map}
 use Rattle.std.proofs.lemmas.List.Sums.{sum_by_push, sum_by-cons}
 use Rattle.recovery_base.specs.declared.below.SpaceId.{SpaceId}
 use Rattle.recovery_base.specs.declared.below.SpaceId.TheVariants.{Initial, Handshake, Data}
 use Rattle.recovery_ledger.specs.declared.paths.PathLedger.{PathLedger}
-use Rattle.recovery_ledger.specs.InFlight.{size_in, eliciting_in, with_packet, IsCountedIn}
+use Rattle.recovery_ledger.specs.InFlight.{size_in, eliciting_in, IsCountedIn}
 use Rattle.recovery_ledger.specs.Ledger.{tracked_by, IsBalancedOn}
 use Rattle.recovery_ledger.specs.Packets.{Packet, Packets, packet_at, without, with_contents, carrying, without_some, forgotten_number, sent_onto, entry_at, IsAmong}
-use Rattle.recovery_ledger.specs.Paths.{generation_of, counters_of, with_counters, counters_left, after_leaving, after_forgetting, path_after_sending, IsCountedOn}
+use Rattle.recovery_ledger.specs.Paths.{generation_of, counters_of, after_leaving, after_forgetting, path_after_sending, IsCountedOn}
 use Rattle.recovery_ledger.specs.Spaces.{Space, Spaces, with_space, packets_of}
-use Rattle.recovery_ledger.proofs.CarryLaws.{sum-carrying, lost_holds}
+use Rattle.recovery_ledger.proofs.CarryLaws.{sum-carrying}
 use Rattle.recovery_ledger.proofs.PacketLaws.{sum-without, without-absent}
 
-module _ {P M : Type 0} where
-  -- ---- one packet
+-- what a packet that is forgotten takes from a sum
+abbrev pub gone : {P M : Type 0} → (ℕ × Packet P M → ℕ) → Option (ℕ × Packet P M) → ℕ
+gone f None = 0
+gone f (Some entry) = f entry
 
-  -- a packet that leaves takes its part from the counters
-  leaves : (path : PathLedger) (entry : ℕ × Packet P M) → size_in (generation_of path) entry ≤ (counters_of path).bytes
-      → eliciting_in (generation_of path) entry ≤ (counters_of path).ack_eliciting
-      → IsCountedOn path entry.1
-      × ((counters_left path entry.1).bytes + size_in (generation_of path) entry ≡ (counters_of path).bytes)
-      × ((counters_left path entry.1).ack_eliciting + eliciting_in (generation_of path) entry
-      ≡ (counters_of path).ack_eliciting)
-  leaves path entry size eliciting = grind (arith, nat_tests)
+pub sum-sent_onto : {P M : Type 0} (f : ℕ × Packet P M → ℕ) (last : Option ℕ) (number : ℕ) (packet : Packet P M)
+    (packets : Packets P M)
+    → sum_by f (sent_onto last number packet packets) + gone f
+    (entry_at packets (forgotten_number last packet packets)) ≡ sum_by f packets + f (number, packet)
+sum-sent_onto {P} {M} f last number packet packets =
+    omega (arith, sum_by_push f (without_some packets forgotten) (number, packet), left forgotten)
+  where
+    forgotten : Option ℕ
+    forgotten = forgotten_number last packet packets
 
-  -- ---- the packets of a space change, and the counters by as much
+    left : (number : Option ℕ) → sum_by f (without_some packets number) + gone f (entry_at packets number)
+        ≡ sum_by f packets
+    left number = grind (arith, sum-without f packets, without-absent packets)
 
-  pub record Follows (path : PathLedger) (old new : Packets P M) (after : PathLedger) : Type 0 where
+module _ {P M : Type 0} (path : PathLedger) where
+  abbrev size : ℕ × Packet P M → ℕ
+  size = size_in (generation_of path)
+
+  abbrev eliciting : ℕ × Packet P M → ℕ
+  eliciting = eliciting_in (generation_of path)
+
+  abbrev AreCounted : Packets P M → Type 0
+  AreCounted = IsCountedIn (counters_of path) (generation_of path)
+
+  -- the packets of a space change, and the counters by as much
+  pub record Follows (old new : Packets P M) (after : PathLedger) : Type 0 where
     pub generation : generation_of after ≡ generation_of path
-    pub bytes : (counters_of after).bytes + sum_by (size_in (generation_of path)) old
-        ≡ (counters_of path).bytes + sum_by (size_in (generation_of path)) new
-    pub count : (counters_of after).ack_eliciting + sum_by (eliciting_in (generation_of path)) old
-        ≡ (counters_of path).ack_eliciting + sum_by (eliciting_in (generation_of path)) new
+    pub bytes : (counters_of after).bytes + sum_by size old ≡ (counters_of path).bytes + sum_by size new
+    pub count : (counters_of after).ack_eliciting + sum_by eliciting old
+        ≡ (counters_of path).ack_eliciting + sum_by eliciting new
 
   -- a space that is emptied packet by packet: the first leaves the counters, and the rest is counted still
-  pub first_leaves : (path : PathLedger) (entry : ℕ × Packet P M) (rest : Packets P M)
-      → IsCountedIn (counters_of path) (generation_of path) (entry ∷ rest)
+  pub first_leaves : (entry : ℕ × Packet P M) (rest : Packets P M) → AreCounted (entry ∷ rest)
       → IsCountedOn path entry.1 × IsCountedIn (counters_of (after_leaving path entry.1)) (generation_of path) rest
-      × Follows path (entry ∷ rest) rest (after_leaving path entry.1)
-  first_leaves path entry rest counted =
-      grind (
-        arith,
-        sum_by-cons (size_in (generation_of path)) entry rest,
-        sum_by-cons (eliciting_in (generation_of path)) entry rest,
-        leaves path entry,
-      )
+      × Follows (entry ∷ rest) rest (after_leaving path entry.1)
+  first_leaves entry rest counted =
+      grind (arith, nat_tests, sum_by-cons size entry rest, sum_by-cons eliciting entry rest)
 
-  -- what a packet that is forgotten takes from a sum
-  abbrev pub gone : (ℕ × Packet P M → ℕ) → Option (ℕ × Packet P M) → ℕ
-  gone f None = 0
-  gone f (Some entry) = f entry
-
-  pub sum-sent_onto : (f : ℕ × Packet P M → ℕ) (last : Option ℕ) (number : ℕ) (packet : Packet P M)
-      (packets : Packets P M)
-      → sum_by f (sent_onto last number packet packets) + gone f
-      (entry_at packets (forgotten_number last packet packets)) ≡ sum_by f packets + f (number, packet)
-  sum-sent_onto f last number packet packets =
-      omega (arith, sum_by_push f (without_some packets forgotten) (number, packet), left forgotten)
-    where
-      forgotten : Option ℕ
-      forgotten = forgotten_number last packet packets
-
-      left : (number : Option ℕ) → sum_by f (without_some packets number) + gone f (entry_at packets number)
-          ≡ sum_by f packets
-      left number = grind (arith, sum-without f packets, without-absent packets)
-
-  forgotten_leaves : (path : PathLedger) (forgotten : Option (ℕ × Packet P M))
-      → gone (size_in (generation_of path)) forgotten ≤ (counters_of path).bytes
-      → gone (eliciting_in (generation_of path)) forgotten ≤ (counters_of path).ack_eliciting
-      → (let after = after_forgetting path forgotten in
-      (generation_of after ≡ generation_of path)
-      × ((counters_of after).bytes + gone (size_in (generation_of path)) forgotten ≡ (counters_of path).bytes)
-      × ((counters_of after).ack_eliciting + gone (eliciting_in (generation_of path)) forgotten
-      ≡ (counters_of path).ack_eliciting))
-  forgotten_leaves path forgotten size eliciting = grind (arith, leaves path)
-
-  module _ (path : PathLedger) (packets : Packets P M) where
+  module _ (packets : Packets P M) where
     -- a tracked packet has other contents
-    pub carrying_follows : (number : ℕ) (contents : P) → Follows path packets (carrying number contents packets) path
+    pub carrying_follows : (number : ℕ) (contents : P) → Follows packets (carrying number contents packets) path
     carrying_follows number contents =
         grind (
           arith,
-          sum-carrying packets number (size_in (generation_of path)) contents (λ n packet. refl),
-          sum-carrying packets number (eliciting_in (generation_of path)) contents (λ n packet. refl),
+          sum-carrying packets number size contents (λ n packet. refl),
+          sum-carrying packets number eliciting contents (λ n packet. refl),
         )
 
-    module _ (counted : IsCountedIn (counters_of path) (generation_of path) packets) where
-      -- a tracked packet leaves: it is among those counted, where it is the path's
-      pub taken_follows : (number : ℕ) (packet : Packet P M) → packet_at packets number ≡ Some packet
-          → IsCountedOn path packet × Follows path packets (without packets number) (after_leaving path packet)
-      taken_follows number packet found =
-          grind (
-            arith,
-            sum-without (size_in (generation_of path)) packets number packet found,
-            sum-without (eliciting_in (generation_of path)) packets number packet found,
-            leaves path (number, packet),
-          )
-
-      -- so does one that is lost, as it is handed back
+    module _ (counted : AreCounted packets) where
+      -- a tracked packet leaves, whatever its contents: it is among those counted, where it is the path's
       pub lost_follows : (number : ℕ) (contents : P) (packet : Packet P M)
           → option_map (with_contents contents) (packet_at packets number) ≡ Some packet
-          → IsCountedOn path packet × Follows path packets (without packets number) (after_leaving path packet)
-      lost_follows number contents packet is =
-          lost_holds (λ (p : Packet P M). IsCountedOn path p
-          × Follows path packets (without packets number) (after_leaving path p)) (packet_at packets number) contents
-          packet is (taken_follows number)
+          → IsCountedOn path packet × Follows packets (without packets number) (after_leaving path packet)
+      lost_follows number contents packet is = go (packet_at packets number) refl is
+        where
+          go : (there : Option (Packet P M)) → packet_at packets number ≡ there
+              → option_map (with_contents contents) there ≡ Some packet
+              → IsCountedOn path packet × Follows packets (without packets number) (after_leaving path packet)
+          go None found is = absurd (cc (is))
+          go (Some old) found is = grind (
+            arith,
+            nat_tests,
+            is,
+            sum-without size packets number old found,
+            sum-without eliciting packets number old found,
+          )
 
       module _ (last : Option ℕ) (packet : Packet P M) where
+        abbrev forgotten : Option (ℕ × Packet P M)
+        forgotten = entry_at packets (forgotten_number last packet packets)
+
         -- a packet that is forgotten is among those counted, where it is the path's
-        pub forgotten_counted : (entry : ℕ × Packet P M)
-            → entry_at packets (forgotten_number last packet packets) ≡ Some entry → IsCountedOn path entry.1
-        forgotten_counted entry is =
-            grind (
-              arith,
-              sum-sent_onto (size_in (generation_of path)) last 0 packet packets,
-              sum-sent_onto (eliciting_in (generation_of path)) last 0 packet packets,
-              sum_by_push,
-              leaves path entry,
-            )
+        pub forgotten_counted : (entry : ℕ × Packet P M) → forgotten ≡ Some entry → IsCountedOn path entry.1
+        forgotten_counted entry is = grind (
+          arith,
+          nat_tests,
+          sum-sent_onto size last 0 packet packets,
+          sum-sent_onto eliciting last 0 packet packets,
+          sum_by_push,
+        )
 
         -- a packet is sent on the path, or on another
-        pub sent_follows : (number : ℕ) → packet.path_generation ≡ generation_of path
-            → Follows path packets (sent_onto last number packet packets)
-            (path_after_sending path packet (entry_at packets (forgotten_number last packet packets)))
-        sent_follows number own =
-            let forgotten = entry_at packets (forgotten_number last packet packets) in
-            grind (
-              arith,
-              nat_tests,
-              sum-sent_onto (size_in (generation_of path)) last number packet packets,
-              sum-sent_onto (eliciting_in (generation_of path)) last number packet packets,
-              forgotten_leaves (with_counters (with_packet (counters_of path) packet) path) forgotten,
-            )
-
-        pub sent_elsewhere_follows : (number : ℕ) → packet.path_generation ≢ generation_of path
-            → Follows path packets (sent_onto last number packet packets)
-            (after_forgetting path (entry_at packets (forgotten_number last packet packets)))
-        sent_elsewhere_follows number other =
-            grind (
-              arith,
-              nat_tests,
-              sum-sent_onto (size_in (generation_of path)) last number packet packets,
-              sum-sent_onto (eliciting_in (generation_of path)) last number packet packets,
-              forgotten_leaves path (entry_at packets (forgotten_number last packet packets)),
-            )
-
-  -- ---- one space among three
-
-  module _ (spaces : Spaces P M) (path : PathLedger) (balanced : IsBalancedOn spaces path) where
-    -- the packets of a space are among those counted
-    pub space_counted : (space : SpaceId)
-        → IsCountedIn (counters_of path) (generation_of path) (tracked_by spaces space)
-    space_counted Initial = grind (arith, balanced)
-    space_counted Handshake = grind (arith, balanced)
-    space_counted Data = grind (arith, balanced)
-
-    pub balanced_by : (space : SpaceId) (here : Space P M) (after : PathLedger)
-        → Follows path (tracked_by spaces space) (packets_of here) after
-        → IsBalancedOn (with_space spaces space here) after
-    balanced_by Initial here after follows = grind (arith, balanced, follows)
-    balanced_by Handshake here after follows = grind (arith, balanced, follows)
-    balanced_by Data here after follows = grind (arith, balanced, follows)
+        pub sent_follows : (number : ℕ)
+            → (packet.path_generation ≡ generation_of path
+            → Follows packets (sent_onto last number packet packets) (path_after_sending path packet forgotten))
+            × (packet.path_generation ≢ generation_of path
+            → Follows packets (sent_onto last number packet packets) (after_forgetting path forgotten))
+        sent_follows number = grind (
+          arith,
+          nat_tests,
+          sum-sent_onto size last number packet packets,
+          sum-sent_onto eliciting last number packet packets,
+        )
 
   -- ---- a path on which nothing is in flight
 
-  none_in : (generation : ℕ) (packets : Packets P M)
-      → ((packet : Packet P M) → IsAmong packets packet → packet.path_generation ≢ generation)
-      → (sum_by (size_in generation) packets ≡ 0) × (sum_by (eliciting_in generation) packets ≡ 0)
-  none_in generation [] none = (refl, refl)
-  none_in generation (entry ∷ packets) none =
+  abbrev IsNone : Packets P M → Type 0
+  IsNone packets = (sum_by size packets ≡ 0) × (sum_by eliciting packets ≡ 0)
+
+  abbrev IsElsewhere : Packets P M → Type 0
+  IsElsewhere packets = (packet : Packet P M) → IsAmong packets packet → packet.path_generation ≢ generation_of path
+
+  none_in : (packets : Packets P M) → IsElsewhere packets → IsNone packets
+  none_in [] none = (refl, refl)
+  none_in (entry ∷ packets) none =
       grind (
         arith,
         nat_tests,
-        sum_by-cons (size_in generation) entry packets,
-        sum_by-cons (eliciting_in generation) entry packets,
+        sum_by-cons size entry packets,
+        sum_by-cons eliciting entry packets,
         none entry.1 (inl refl),
-        none_in generation packets (λ packet among. none packet (inr among)),
+        none_in packets (λ packet among. none packet (inr among)),
       )
 
   -- no packet of its generation is tracked yet
-  pub none_balanced : (spaces : Spaces P M) (path : PathLedger)
-      → ((space : SpaceId) (packet : Packet P M) → IsAmong (tracked_by spaces space) packet
-      → packet.path_generation ≢ generation_of path)
+  pub none_balanced : (spaces : Spaces P M) → ((space : SpaceId) → IsElsewhere (tracked_by spaces space))
       → counters_of path ≡ record { bytes = 0; ack_eliciting = 0 } → IsBalancedOn spaces path
-  none_balanced spaces path none zero =
-      let none_of : (space : SpaceId) → (sum_by (size_in (generation_of path)) (tracked_by spaces space) ≡ 0)
-      × (sum_by (eliciting_in (generation_of path)) (tracked_by spaces space) ≡ 0) =
-      λ space. none_in (generation_of path) (tracked_by spaces space) (none space) in
+  none_balanced spaces none zero =
+      let none_of : (space : SpaceId) → IsNone (tracked_by spaces space) = λ space. none_in _ (none space) in
       grind (arith, zero, none_of Initial, none_of Handshake, none_of Data)
+
+-- ---- one space among three
+
+module _ {P M : Type 0} (spaces : Spaces P M) (path : PathLedger) (balanced : IsBalancedOn spaces path) where
+  -- the packets of a space are among those counted
+  pub space_counted : (space : SpaceId) → AreCounted path (tracked_by spaces space)
+  space_counted Initial = grind (arith, balanced)
+  space_counted Handshake = grind (arith, balanced)
+  space_counted Data = grind (arith, balanced)
+
+  pub balanced_by : (space : SpaceId) (here : Space P M) (after : PathLedger)
+      → Follows path (tracked_by spaces space) (packets_of here) after
+      → IsBalancedOn (with_space spaces space here) after
+  balanced_by Initial here after follows = grind (arith, balanced, follows)
+  balanced_by Handshake here after follows = grind (arith, balanced, follows)
+  balanced_by Data here after follows = grind (arith, balanced, follows)

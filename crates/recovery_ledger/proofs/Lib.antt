@@ -3,7 +3,6 @@ pub mod AmongLaws
 pub mod CarryLaws
 pub mod CoherentLaws
 pub mod CountLaws
-pub mod GenerationLaws
 pub mod HeardLaws
 pub mod LedgerLaws
 mod LogRows

@@ -1,7 +1,7 @@
 -- Worked rows of what happened in a space, each computed: the newest entry comes first. Nothing rests on them.
 use Rattle.std.proofs.Common.{◌≡◌, ℕ, Bool, true, false, List, [], ◌∷◌, ◌++◌, None, Some, refl}
 use Rattle.recovery_base.specs.declared.below.SpaceId.{SpaceId}
-use Rattle.recovery_base.specs.declared.below.SpaceId.TheVariants.{Initial, Data}
+use Rattle.recovery_base.specs.declared.below.SpaceId.TheVariants.{Data}
 use Rattle.recovery_queue.specs.Queues.{QueueWords}
 use Rattle.recovery_ledger.specs.Acks.{counts_by}
 use Rattle.recovery_ledger.specs.InFlight.{in_flight}

@@ -1,6 +1,6 @@
 -- Tracked packets: what sums over them and look-ups among them do when one is sent or taken. All that is said of
 -- tracked packets rests on it.
-use Rattle.std.proofs.Common.{◌≡◌, ◌≢◌, ◌↔◌, ℕ, ◌+◌, ◌≤◌, Bool, true, false, [], ◌∷◌, ◌++◌, length, filter, Option, None, Some, refl, sym, ap, arith}
+use Rattle.std.proofs.Common.{◌≡◌, ◌≢◌, ◌↔◌, ℕ, ◌+◌, ◌≤◌, Bool, true, [], ◌∷◌, ◌++◌, length, filter, Option, None, Some, refl, sym, ap, arith}
 use Rattle.std.specs.Prelude.{sum_by}
 use Rattle.std.specs.Ordering.{nat_cmp, is_eq}
 use Rattle.std.specs.Cmp.{nat_cmp_total, Equal-is, tied_itself}
@@ -8,6 +8,7 @@ use Rattle.std.specs.BTreeMap.{is_at}
 use Rattle.std.proofs.lemmas.List.Sums.{sum_by-cons}
 use Rattle.std.proofs.lemmas.Bool.Decides.{nat_tests}
 use Rattle.std.proofs.lemmas.Map.Lookups.{exact_unsigned}
+use Rattle.recovery_slots.proofs.SlotLaws.{at_itself}
 pub use Rattle.recovery_slots.proofs.EntryLaws.{AllBelow, all_below}
 use Rattle.recovery_ledger.specs.Packets.{Packet, Packets, packet_at, without, without_some, replaced, carrying, AreBelow, HasSize, is_above, is_silent_above, silent_above, least_number, forgotten_number, entry_at, entry_number}
 use Rattle.recovery_ledger.specs.Counts.{silent_count, eliciting_count, size_count}
@@ -15,17 +16,12 @@ use Rattle.recovery_ledger.specs.Counts.{silent_count, eliciting_count, size_cou
 pub number_at : (number other : ℕ) → is_at (nat_cmp number) other ≡ true → other ≡ number
 number_at number other e = sym (exact_unsigned number other ((Equal-is (nat_cmp number other)).0 e))
 
-at_itself : (number : ℕ) → is_at (nat_cmp number) number ≡ true
-at_itself number = ap is_eq (tied_itself nat_cmp_total number)
-
-no_number : {A : Type 0} (number : ℕ) → None ≡ Some number → A
-no_number number e = cc
+pub some_of : {A : Type 0} (there : Option A) → there ≢ None → (a : A) × (there ≡ Some a)
+some_of None some = absurd (some refl)
+some_of (Some a) some = (a, refl)
 
 module _ {P M : Type 0} where
   -- ---- look-ups
-
-  pub some_packet : (first second : Packet P M) → Some first ≡ Some second → first ≡ second
-  some_packet first second e = cc
 
   pub none_found : {A : Type 0} (packet : Packet P M) → None ≡ Some packet → A
   none_found packet e = cc
@@ -35,17 +31,11 @@ module _ {P M : Type 0} where
   are_below (entry ∷ packets) limit below number packet found =
       grind (arith, number_at number entry.0, are_below packets limit below.1 number packet)
 
-  pub without-append : (packets more : Packets P M) (number : ℕ) (packet : Packet P M)
-      → packet_at packets number ≡ Some packet → without (packets ++ more) number ≡ without packets number ++ more
-  without-append [] more number packet found = none_found packet found
-  without-append (entry ∷ packets) more number packet found =
-      grind (arith, without-append packets more number packet)
-
-  pub packet_at-append : (packets more : Packets P M) (number : ℕ) (packet : Packet P M)
-      → packet_at packets number ≡ Some packet → packet_at (packets ++ more) number ≡ Some packet
-  packet_at-append [] more number packet found = none_found packet found
-  packet_at-append (entry ∷ packets) more number packet found =
-      grind (arith, packet_at-append packets more number packet)
+  pub found-append : (packets more : Packets P M) (number : ℕ) (packet : Packet P M)
+      → packet_at packets number ≡ Some packet → (packet_at (packets ++ more) number ≡ Some packet)
+      × (without (packets ++ more) number ≡ without packets number ++ more)
+  found-append [] more number packet found = none_found packet found
+  found-append (entry ∷ packets) more number packet found = grind (arith, found-append packets more number packet)
 
   -- ---- numbers below another
 
@@ -92,10 +82,6 @@ module _ {P M : Type 0} where
   sum-replaced f (entry ∷ packets) number packet other found alike =
       grind (arith, sum_by-cons f, alike entry.0, sum-replaced f packets number packet other)
 
-  pub found-le-sum : (f : ℕ × Packet P M → ℕ) (packets : Packets P M) (number : ℕ) (packet : Packet P M)
-      → packet_at packets number ≡ Some packet → f (number, packet) ≤ sum_by f packets
-  found-le-sum f packets number packet found = omega (arith, sum-without f packets number packet found)
-
   pub sizes-le-length : (packets : Packets P M) → sum_by (λ entry. size_count entry.1) packets ≤ length packets
   sizes-le-length [] = omega arith
   sizes-le-length (entry ∷ packets) =
@@ -132,30 +118,13 @@ module _ {P M : Type 0} where
   -- the first number that passes a test is that of a packet
   pub first_found : (test : ℕ × Packet P M → Bool) (packets : Packets P M) (number : ℕ)
       → least_number (filter test packets) ≡ Some number → packet_at packets number ≢ None
-  first_found test [] number e = no_number number e
+  first_found test [] number e = absurd (cc)
   first_found test (entry ∷ packets) number e = grind (arith, at_itself number, first_found test packets number)
 
-  first_passes : (last : Option ℕ) (packets : Packets P M) (number : ℕ)
+  pub first_passes : (last : Option ℕ) (packets : Packets P M) (number : ℕ)
       → least_number (filter (λ entry. is_above last entry.0) packets) ≡ Some number → is_above last number ≡ true
-  first_passes last [] number e = no_number number e
+  first_passes last [] number e = absurd (cc)
   first_passes last (entry ∷ packets) number e = grind (arith, first_passes last packets number)
-
-  pub first_above_found : (last : Option ℕ) (packets : Packets P M) (number : ℕ)
-      → least_number (filter (λ entry. is_above last entry.0) packets) ≡ Some number
-      → (packet : Packet P M) × (packet_at packets number ≡ Some packet) × (is_above last number ≡ true)
-  first_above_found last packets number e = go (packet_at packets number) refl
-    where
-      go : (found : Option (Packet P M)) → packet_at packets number ≡ found
-          → (packet : Packet P M) × (packet_at packets number ≡ Some packet) × (is_above last number ≡ true)
-      go None is = absurd (first_found (λ entry. is_above last entry.0) packets number e is)
-      go (Some packet) is = (packet, is, first_passes last packets number e)
-
-  -- a packet above the last eliciting number elicits none itself
-  pub silent_found : (last : Option ℕ) (packets : Packets P M) (number : ℕ) (packet : Packet P M)
-      → sum_by (eliciting_count last) packets ≡ 0 → packet_at packets number ≡ Some packet → is_above last number ≡ true
-      → packet.ack_eliciting ≡ false
-  silent_found last packets number packet none found above =
-      grind (arith, found-le-sum (eliciting_count last) packets number packet found)
 
   pub AllBelow-more : (packets : Packets P M) (limit more : ℕ) → limit ≤ more → AllBelow packets limit
       → AllBelow packets more

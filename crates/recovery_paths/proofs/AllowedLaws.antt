@@ -1,6 +1,6 @@
 -- What checked transmissions keep on one path holds of each path that lives, whatever happens. `PassedLaws` and
 -- `SearchedLaws` rest on it.
-use Rattle.std.proofs.Common.{◌≡◌, List, [], ◌∷◌, ◌++◌, None}
+use Rattle.std.proofs.Common.{arith, ◌≡◌, List, [], ◌∷◌, ◌++◌, None}
 use Rattle.std.proofs.lemmas.Option.{none-some}
 use Rattle.recovery_congestion.specs.Controllers.{ControllerWords}
 use Rattle.recovery_mtud.proofs.SearchRunLaws.{IsInTurn}
@@ -48,9 +48,7 @@ module _ {K : Type 0} (settings : PathSettings K) where
   -- where nothing passes and no search sees anything, all is allowed
   allowed_anywhere : (entry : PathEntry) (state : PathState K) → PassesNothing entry
       → IsAllowed settings.words state entry
-  allowed_anywhere (passes now bytes) state nothing = absurd nothing
-  allowed_anywhere (searches call) state nothing = absurd nothing
-  allowed_anywhere entry state nothing = tt
+  allowed_anywhere entry state nothing = grind arith
 
   module _ (Holds : PathPast K → Type 0) (kept : IsKept Holds) where
     -- an entry keeps it

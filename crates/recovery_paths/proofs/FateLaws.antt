@@ -88,22 +88,8 @@ module _ {K : Type 0} (settings : PathSettings K) (number : ℕ) where
   abbrev fates_on : PathPast K → ℕ
   fates_on past = fates number past.searched
 
-  -- an entry adds its own
-  fates_with : (entry : PathEntry) (past : PathPast K)
-      → fates_on (past_with settings entry past) ≤ fates_on past + told_on_path number entry
-  fates_with entry past = grind arith
-
-  -- a path that follows begins with none, or with those of the path before it
-  fates_following : (following : Following) (past : PathPast K)
-      → fates_on (past_following settings following past) ≤ fates_on past
-  fates_following following past = grind arith
-
   -- on the path in use a number has at most the fates that were told
   pub fates_by : (first : PathState K) (log : List PathsEntry)
       → fates_on (pasts_by settings first log).current ≤ told_in number log
   fates_by first [] = omega arith
-  fates_by first (on Current entry ∷ log) =
-      omega (arith, fates_by first log, fates_with entry (pasts_by settings first log).current)
-  fates_by first (moves following ∷ log) =
-      omega (arith, fates_by first log, fates_following following (pasts_by settings first log).current)
   fates_by first (entry ∷ log) = grind (arith, fates_by first log)

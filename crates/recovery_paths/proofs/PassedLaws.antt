@@ -1,5 +1,5 @@
 -- What was transmitted checked had passed the pacer right before. The driver's `PacingLaws` rest on it.
-use Rattle.std.proofs.Common.{◌≡◌, List, [], ◌++◌, refl}
+use Rattle.std.proofs.Common.{arith, ◌≡◌, List, [], ◌++◌, refl}
 use Rattle.std.proofs.lemmas.Bool.{false≢true}
 use Rattle.std.proofs.lemmas.Option.{none-some}
 use Rattle.recovery_pacing.proofs.PacerLogLaws.{HavePassed}
@@ -25,8 +25,7 @@ module _ {K : Type 0} (settings : PathSettings K) where
   -- a path that follows has a new pacer
   follows_passed : (following : Following) (past : PathPast K) → HavePassedOn past
       → HavePassedOn (past_following settings following past)
-  follows_passed (fresh remote limit now) past passed = (refl, tt)
-  follows_passed (goes_on remote now) past passed = (refl, tt)
+  follows_passed following past passed = grind arith
 
   -- an event's entries keep it
   pub passed_after : (first : PathState K) (entries log : List PathsEntry) → let pasts = pasts_by settings first log in

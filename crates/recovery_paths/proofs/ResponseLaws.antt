@@ -51,30 +51,22 @@ any_remote : (remote : SocketAddr) (responses : List PathResponse)
 any_remote remote [] = refl
 any_remote remote (response ∷ others) = grind (arith, any_remote remote others)
 
--- one more response, to an address that none goes to
-push_sound : (new : PathResponse) (responses : List PathResponse) → AreSound responses
-    → list_any (goes_to new.remote) responses ≡ false → length responses < 16 → AreSound (responses ++ new ∷ [])
-push_sound new responses sound unknown room = record {
-  few = omega (arith, length-append responses (new ∷ []), room);
-  apart = rw (map-append (λ (response : PathResponse). response.remote) responses (new ∷ []))
-      (distinct_push same_address (remotes responses) new.remote sound.apart
-      (any_remote new.remote responses ∙ unknown));
-}
-
 -- responses keep their addresses
 remotes_renewed : (new : PathResponse) (responses : List PathResponse)
     → remotes (map (renewed new) responses) ≡ remotes responses
 remotes_renewed new [] = refl
 remotes_renewed new (kept ∷ others) = grind (arith, remotes_renewed new others)
 
-renewed_sound : (new : PathResponse) (responses : List PathResponse) → AreSound responses
-    → AreSound (map (renewed new) responses)
-renewed_sound new responses sound = record {
-  few = omega (arith, length-map responses (renewed new), sound.few);
-  apart = rw (remotes_renewed new responses) sound.apart;
-}
-
 pub with_response_sound : (new : PathResponse) (responses : List PathResponse) → AreSound responses
     → AreSound (with_response new responses)
-with_response_sound new responses sound =
-    grind (arith, nat_tests, renewed_sound new responses sound, push_sound new responses sound)
+with_response_sound new responses sound = grind (
+  arith,
+  nat_tests,
+  sound,
+  length-map responses (renewed new),
+  remotes_renewed new responses,
+  length-append responses (new ∷ []),
+  map-append (λ (response : PathResponse). response.remote) responses (new ∷ []),
+  any_remote new.remote responses,
+  distinct_push same_address (remotes responses) new.remote sound.apart,
+)

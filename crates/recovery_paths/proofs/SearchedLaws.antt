@@ -1,6 +1,6 @@
 -- How each path is searched: all of them by the same settings, each from a discovery to which nothing was told, and
 -- with each limit in turn. The driver's `SearchLaws` rest on it.
-use Rattle.std.proofs.Common.{ℕ, ◌≡◌, Bool, List, [], ◌∷◌, ◌++◌, Option, None, if◌then◌else◌}
+use Rattle.std.proofs.Common.{arith, ℕ, ◌≡◌, Bool, List, [], ◌∷◌, ◌++◌, Option, None, if◌then◌else◌}
 use Rattle.std.proofs.lemmas.Option.{none-some}
 use Rattle.recovery_config.specs.declared.config.TransportConfig.{TransportConfig}
 use Rattle.recovery_config.specs.Settings.{initial_mtu_of}
@@ -59,8 +59,7 @@ module _ {K : Type 0} (settings : PathSettings K) (by : Option MtuDiscoveryConfi
   -- a fresh path is searched from its making on, and one that goes on as the path before it
   follows_searched : (following : Following) (past : PathPast K) → IsPathSearchedBy by past
       → IsPathSearchedBy by (past_following settings following past)
-  follows_searched (fresh remote limit now) past searched = fresh_is limit
-  follows_searched (goes_on remote now) past searched = searched
+  follows_searched following past searched = grind (arith, fresh_is, searched)
 
   -- an event's entries keep that
   pub searched_over : (first : PathState K) (entries log : List PathsEntry) → let pasts =

@@ -17,19 +17,10 @@ module _ {K : Type 0} (settings : PathSettings K) (made : (limit : Option ℕ) �
     untold_law (receives bytes) past untold = untold
     untold_law entry past untold = untold
 
-    -- a path that follows has a new one, or goes on with that of the path before it
-    follows_untold : (following : Following) (past : PathPast K) → WasUntold past
-        → WasUntold (past_following settings following past)
-    follows_untold (fresh remote limit now) past untold = made limit
-    follows_untold (goes_on remote now) past untold = untold
-
     -- whatever happens, the path in use has one that was made so
     pub untold_by : (first : PathState K) → IsUntold first.discovery → (log : List PathsEntry)
         → WasUntold (pasts_by settings first log).current
     untold_by first untold [] = untold
-    untold_by first untold (on Current entry ∷ log) =
-        untold_law entry (pasts_by settings first log).current (untold_by first untold log)
-    untold_by first untold (on Previous entry ∷ log) = untold_by first untold log
-    untold_by first untold (moves following ∷ log) =
-        follows_untold following (pasts_by settings first log).current (untold_by first untold log)
-    untold_by first untold (drops_previous ∷ log) = untold_by first untold log
+    untold_by first untold (on Current entry ∷ log) = untold_law entry _ (untold_by first untold log)
+    untold_by first untold (moves (fresh remote limit now) ∷ log) = made limit
+    untold_by first untold (entry ∷ log) = untold_by first untold log

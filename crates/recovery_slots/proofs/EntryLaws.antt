@@ -1,6 +1,6 @@
 -- What is filed, as slots are replaced, dropped and closed up, and from a number on. The calls of `SlotQueue` rest on
 -- it, and the tracked packets above it.
-use Rattle.std.proofs.Common.{◌≡◌, ℕ, zero, suc, ◌+◌, ◌<◌, ◌≤◌, Bool, true, false, List, [], ◌∷◌, ◌++◌, length, set, drop, filter, Option, None, Some, MatchOption, IfNone, refl, sym, ap, subst, ◌∙◌, arith, append-nil}
+use Rattle.std.proofs.Common.{◌≡◌, ℕ, zero, suc, ◌+◌, ◌<◌, ◌≤◌, Bool, true, false, List, [], ◌∷◌, ◌++◌, length, set, drop, filter, Option, None, Some, MatchOption, IfNone, refl, sym, ap, subst, ◌∙◌, arith, append-nil, length-append}
 use Rattle.std.specs.Option.{is_some, option_to_list}
 use Rattle.std.specs.Ordering.{nat_cmp}
 use Rattle.std.specs.BTreeMap.{is_at}
@@ -10,7 +10,7 @@ use Rattle.std.proofs.lemmas.List.{length-set, length-drop, same_from_push}
 use Rattle.std.proofs.lemmas.List.Filters.{length-filter_both}
 use Rattle.recovery_slots.specs.declared.slots.Slot.{Slot}
 use Rattle.recovery_slots.specs.Slots.{entries_of, item_at, AreRising, IsSlotAt, Divides, IsHeldAt, IsAboveAll, IsFrontEmpty, IsBackFrom, Replaces, Finds, is_filled, is_below, is_from, first_number, AreFrom, StaysRising}
-use Rattle.recovery_slots.proofs.SlotLaws.{at_itself}
+use Rattle.recovery_slots.proofs.SlotLaws.{Slots, at_itself}
 
 pub not_both : {b : Bool} → b ≡ true → b ≡ false → ⊥
 not_both {b} e f = cc
@@ -23,19 +23,19 @@ module _ {T : Type 0} where
   abbrev slot_of : ℕ → Option T → Slot T
   slot_of number item = record { number = number; item = item }
 
-  pub entries-append : (before after : List (Slot T))
+  pub entries-append : (before after : Slots T)
       → entries_of (before ++ after) ≡ entries_of before ++ entries_of after
   entries-append [] after = refl
   entries-append (slot ∷ before) after = grind (arith, entries-append before after)
 
   -- no more is filed than there are slots
-  pub entries_fit : (slots : List (Slot T)) → length (entries_of slots) ≤ length slots
+  pub entries_fit : (slots : Slots T) → length (entries_of slots) ≤ length slots
   entries_fit [] = omega arith
   entries_fit (slot ∷ slots) = grind (arith, entries_fit slots)
 
   -- ---- one slot replaced
 
-  pub replaced_sound : (slots : List (Slot T)) (first end place : ℕ) (slot : Slot T) (item : Option T)
+  pub replaced_sound : (slots : Slots T) (first end place : ℕ) (slot : Slot T) (item : Option T)
       → AreRising first slots end → IsSlotAt slots place slot
       → (let new = set slots place (slot_of slot.number item) in
       (length (entries_of new) + one_if (is_some slot.item) ≡ length (entries_of slots) + one_if (is_some item))
@@ -45,92 +45,75 @@ module _ {T : Type 0} where
   replaced_sound (head ∷ slots) first end (suc place) slot item rising at =
       grind (arith, replaced_sound slots (head.number + 1) end place slot item rising.2 at)
 
-  pub replaced_length : (old new : List (Slot T)) (place : ℕ) (item found : Option T)
-      → Replaces old place item found new → length new ≡ length old
-  replaced_length old new place item found replaces =
-      ap (λ (ss : List (Slot T)). length ss) replaces.left ∙ length-set old place (slot_of replaces.slot.number item)
-
   -- ---- what is held at a place
 
-  slot_behind : (before after : List (Slot T)) (slot : Slot T) → IsSlotAt (before ++ slot ∷ after) (length before) slot
-  slot_behind [] after slot = refl
-  slot_behind (first ∷ before) after slot = slot_behind before after slot
-
   -- another item, or none, in the place of one
-  replaced_between : (before after : List (Slot T)) (number : ℕ) (item other : Option T) (slot : Slot T)
-      → (let slots = before ++ slot_of number item ∷ after in
-      IsSlotAt slots (length before) slot
-      → (slot.item ≡ item)
-      × (set slots (length before) (slot_of slot.number other) ≡ before ++ slot_of number other ∷ after))
+  replaced_between : (before after : Slots T) (number : ℕ) (item other : Option T) (slot : Slot T)
+      → IsSlotAt (before ++ slot_of number item ∷ after) (length before) slot
+      → (slot.item ≡ item) × (set (before ++ slot_of number item ∷ after) (length before) (slot_of slot.number other)
+      ≡ before ++ slot_of number other ∷ after)
   replaced_between [] after number item other slot at = grind (arith, at)
   replaced_between (first ∷ before) after number item other slot at =
       grind (arith, replaced_between before after number item other slot at)
 
-  replaced : (slots new before after : List (Slot T)) (number place : ℕ) (item other found : Option T)
-      → slots ≡ before ++ slot_of number item ∷ after → length before ≡ place → Replaces slots place other found new
-      → (found ≡ item) × (new ≡ before ++ slot_of number other ∷ after)
-  replaced slots new before after number place item other found is there replaces =
+  replaced : {slots new : Slots T} {place : ℕ} {item other found : Option T} (before after : Slots T)
+      (number : ℕ) → slots ≡ before ++ slot_of number item ∷ after → length before ≡ place
+      → Replaces slots place other found new → (found ≡ item) × (new ≡ before ++ slot_of number other ∷ after)
+  replaced {item = item} {other} before after number is there replaces =
       let at : IsSlotAt (before ++ slot_of number item ∷ after) (length before) replaces.slot =
       rw (there, ← is) replaces.at in
-      let h = replaced_between before after number item other replaces.slot at in
-      (replaces.found_is ∙ h.0, cc (is, there, h.1, replaces.left))
+      grind (arith, is, there, replaces, replaced_between before after number item other replaces.slot at)
 
-  -- what is filed under a number that no entry before it has
-  behind : (before after : List (ℕ × T)) (number : ℕ) (item other : T) → lookup (is_at (nat_cmp number)) before ≡ None
-      → (let entries = before ++ (number, item) ∷ after in
-      (lookup (is_at (nat_cmp number)) entries ≡ Some item)
-      × (remove_entry (is_at (nat_cmp number)) entries ≡ before ++ after)
-      × (set_value (is_at (nat_cmp number)) entries other ≡ before ++ (number, other) ∷ after))
-  behind [] after number item other none = grind (arith, at_itself number)
-  behind (entry ∷ before) after number item other none = grind (arith, behind before after number item other)
+  module _ (number : ℕ) (item other : T) (after : Slots T) where
+    abbrev holding : Slots T → Option T → Slots T
+    holding before held = before ++ slot_of number held ∷ after
 
-  module _ (slots : List (Slot T)) (number place : ℕ) (item : T) (held : IsHeldAt slots number place item) where
-    pub item_held : item_at slots number ≡ Some item
-    item_held = cc (
-      held.is,
-      entries-append held.before (slot_of number (Some item) ∷ held.after),
-      (behind (entries_of held.before) (entries_of held.after) number item item held.none).0,
-    )
+    -- what is filed under a number that no slot before it has
+    here : (before : Slots T) → item_at before number ≡ None
+        → (let entries = entries_of (holding before (Some item)) in
+        (item_at (holding before (Some item)) number ≡ Some item)
+        × (entries_of (holding before None) ≡ remove_entry (is_at (nat_cmp number)) entries)
+        × (entries_of (holding before (Some other)) ≡ set_value (is_at (nat_cmp number)) entries other)
+        × IsSlotAt (holding before (Some item)) (length before) (slot_of number (Some item)))
+    here [] none = grind (arith, at_itself number)
+    here (slot ∷ before) none = grind (arith, here before)
 
-    pub slot_held : IsSlotAt slots place (record { number = number; item = Some item })
-    slot_held = rw (held.is, ← held.place_is) (slot_behind held.before held.after (slot_of number (Some item)))
+  pub item_held : {slots : Slots T} {number place : ℕ} {item : T} → IsHeldAt slots number place item
+      → (item_at slots number ≡ Some item) × IsSlotAt slots place (record { number = number; item = Some item })
+  item_held {number = number} {item = item} held =
+      let its = here number item item held.after held.before held.none in
+      rw (held.is, ← held.place_is) (its.0, its.3)
 
-  pub taken_some : (old new : List (Slot T)) (number place : ℕ) (item : T) (found : Option T)
-      → IsHeldAt old number place item → Replaces old place None found new → found ≡ Some item
-  taken_some old new number place item found held taken =
-      (replaced old new _ _ number place (Some item) None found held.is held.place_is taken).0
+  module _ {old mid : Slots T} {number place : ℕ} {at : Option ℕ × ℕ} {found : Option T}
+      (finds : Finds old number at) (is : at.0 ≡ Some place) (first : Replaces old place None found mid) where
+    held : (item : T) × IsHeldAt old number place item
+    held = grind (arith, finds.place, is)
 
-  -- an item that is put in the place of another
-  pub changed_entries : (old mid new : List (Slot T)) (number place : ℕ) (item other : T) (found left : Option T)
-      → IsHeldAt old number place item → Replaces old place None found mid → Replaces mid place (Some other) left new
-      → entries_of new ≡ set_value (is_at (nat_cmp number)) (entries_of old) other
-  changed_entries old mid new number place item other found left held first second =
-      let empty = replaced old mid _ _ number place (Some item) None found held.is held.place_is first in
-      let full = replaced mid new _ _ number place None (Some other) left empty.1 held.place_is second in
-      let rest = behind (entries_of held.before) (entries_of held.after) number item other held.none in
-      cc (
-        full.1,
-        held.is,
-        entries-append held.before (slot_of number (Some other) ∷ held.after),
-        entries-append held.before (slot_of number (Some item) ∷ held.after),
-        rest.2,
-      )
+    -- what is found and taken is filed no more
+    pub taken : (found ≡ item_at old number) × (entries_of mid ≡ remove_entry (is_at (nat_cmp number)) (entries_of old))
+        × IfNone found ⊥
+    taken =
+        let its = held.1 in
+        grind (
+          arith,
+          its.is,
+          replaced its.before its.after number its.is its.place_is first,
+          here number held.0 held.0 its.after its.before its.none,
+        )
 
-  pub finds_some : (slots : List (Slot T)) (number place : ℕ) (found : Option ℕ × ℕ) → Finds slots number found
-      → found.0 ≡ Some place → (item : T) × IsHeldAt slots number place item
-  finds_some slots number place found finds is = grind (arith, finds.place)
-
-  -- what is found and taken is filed no more
-  pub taken : {old new : List (Slot T)} {number place : ℕ} {at : Option ℕ × ℕ} {found : Option T}
-      → Finds old number at → at.0 ≡ Some place → Replaces old place None found new
-      → (found ≡ item_at old number) × (entries_of new ≡ remove_entry (is_at (nat_cmp number)) (entries_of old))
-      × IfNone found ⊥
-  taken {old} {new} {number} {place} finds is replaces =
-      let its = finds_some old number place _ finds is in
-      let held = its.1 in
-      let empty = replaced old new _ _ number place (Some its.0) None _ held.is held.place_is replaces in
-      let rest = behind (entries_of held.before) (entries_of held.after) number its.0 its.0 held.none in
-      grind (arith, empty, rest, held.is, entries-append)
+    -- another is put in its place
+    pub put_back : {left : Option T} {new : Slots T} (other : T) → Replaces mid place (Some other) left new
+        → (entries_of new ≡ set_value (is_at (nat_cmp number)) (entries_of old) other) × (length new ≡ length old)
+    put_back other second =
+        let its = held.1 in
+        let empty = replaced its.before its.after number its.is its.place_is first in
+        grind (
+          arith,
+          its.is,
+          replaced its.before its.after number empty.1 its.place_is second,
+          here number held.0 other its.after its.before its.none,
+          length-append {A = Slot T},
+        )
 
   -- where nothing is filed under a number, nothing is removed
   pub absent_removed : (entries : List (ℕ × T)) (number : ℕ) → lookup (is_at (nat_cmp number)) entries ≡ None
@@ -140,30 +123,30 @@ module _ {T : Type 0} where
 
   -- ---- slots closed up
 
-  pub rises_within : (slots : List (Slot T)) (first lower end upper : ℕ) → lower ≤ first → end ≤ upper
+  pub rises_within : (slots : Slots T) (first lower end upper : ℕ) → lower ≤ first → end ≤ upper
       → AreRising first slots end → AreRising lower slots upper
   rises_within [] first lower end upper low high rising = tt
   rises_within (slot ∷ slots) first lower end upper low high rising =
       grind (arith, rises_within slots (slot.number + 1) (slot.number + 1) end upper)
 
-  pub kept : (slots : List (Slot T)) → (entries_of (filter is_filled slots) ≡ entries_of slots)
+  pub kept : (slots : Slots T) → (entries_of (filter is_filled slots) ≡ entries_of slots)
       × (length (filter is_filled slots) ≡ length (entries_of slots))
   kept [] = (refl, refl)
   kept (slot ∷ slots) = grind (arith, kept slots)
 
-  pub kept_rises : (slots : List (Slot T)) (first end : ℕ) → AreRising first slots end
+  pub kept_rises : (slots : Slots T) (first end : ℕ) → AreRising first slots end
       → AreRising first (filter is_filled slots) end
   kept_rises [] first end rising = tt
   kept_rises (slot ∷ slots) first end rising =
       grind (arith, kept_rises slots (slot.number + 1) end, rises_within)
 
   -- slots are dropped of which none was filled
-  pub record Keeps (start slots : List (Slot T)) : Type 0 where
+  pub record Keeps (start slots : Slots T) : Type 0 where
     pub entries : entries_of slots ≡ entries_of start
     pub rising : StaysRising start slots
 
   -- the first, which is empty
-  pub tail_kept : {start old new : List (Slot T)} (popped : Option (Slot T)) → Keeps start old
+  pub tail_kept : {start old new : Slots T} (popped : Option (Slot T)) → Keeps start old
       → old ≡ option_to_list popped ++ new → IsFrontEmpty old → Keeps start new
   tail_kept None kept is empty = subst (Keeps _) is kept
   tail_kept (Some slot) kept is empty = record {
@@ -184,19 +167,19 @@ module _ {T : Type 0} where
     all_below entries limit (λ number item found. grind (arith, nat_tests, above number, above entry.0 entry.1)),
   )
 
-  rises_before : (before after : List (Slot T)) (first end : ℕ) → AreRising first (before ++ after) end
+  rises_before : (before after : Slots T) (first end : ℕ) → AreRising first (before ++ after) end
       → AreRising first before end
   rises_before [] after first end rising = tt
   rises_before (slot ∷ before) after first end rising = grind (arith, rises_before before after (slot.number + 1) end)
 
   -- a slot at the end with too high a number is empty
-  entries_before : (before : List (Slot T)) (slot : Slot T) (number : ℕ)
+  entries_before : (before : Slots T) (slot : Slot T) (number : ℕ)
       → AllBelow (entries_of (before ++ slot ∷ [])) number → number ≤ slot.number
       → entries_of before ≡ entries_of (before ++ slot ∷ [])
   entries_before [] slot number under high = grind arith
   entries_before (first ∷ before) slot number under high = grind (arith, entries_before before slot number)
 
-  pub cut_kept : {start old new : List (Slot T)} (popped : Option (Slot T)) (number : ℕ) → Keeps start old
+  pub cut_kept : {start old new : Slots T} (popped : Option (Slot T)) (number : ℕ) → Keeps start old
       → old ≡ new ++ option_to_list popped → IsAboveAll (entries_of start) number → IsBackFrom number old
       → Keeps start new
   cut_kept {new = new} None number kept is above back = subst (Keeps _) (is ∙ append-nil new) kept
@@ -209,7 +192,7 @@ module _ {T : Type 0} where
       }
 
   -- where the last number is below another, all are
-  pub rises_to : (slots : List (Slot T)) (first end number : ℕ) → AreRising first slots end
+  pub rises_to : (slots : Slots T) (first end number : ℕ) → AreRising first slots end
       → ¬ IsBackFrom number slots → AreRising first slots number
   rises_to [] first end number rising below = tt
   rises_to (slot ∷ []) first end number rising below =
@@ -218,10 +201,10 @@ module _ {T : Type 0} where
       grind (
         arith,
         rises_to (next ∷ slots) (slot.number + 1) end number rising.2
-            (λ back. below (slot ∷ back.0, back.1, ap (λ (ss : List (Slot T)). slot ∷ ss) back.2, back.3)),
+            (λ back. below (slot ∷ back.0, back.1, ap (λ (ss : Slots T). slot ∷ ss) back.2, back.3)),
       )
 
-  pub rises_pushed : (slots : List (Slot T)) (first number : ℕ) (item : Option T) → first ≤ number
+  pub rises_pushed : (slots : Slots T) (first number : ℕ) (item : Option T) → first ≤ number
       → AreRising first slots number → AreRising first (slots ++ slot_of number item ∷ []) (number + 1)
   rises_pushed [] first number item low rising = (low, omega arith, tt)
   rises_pushed (slot ∷ slots) first number item low rising =
@@ -229,41 +212,42 @@ module _ {T : Type 0} where
 
   -- ---- from a number on
 
-  pub divided : (slots : List (Slot T)) (number place : ℕ) → Divides slots number place
+  -- what divides slots divides those behind the first
+  behind_first : {slot : Slot T} {slots : Slots T} {number place : ℕ} → Divides (slot ∷ slots) number place
+      → (next : ℕ) → (0 < next → next < place) → place ≤ next + 1 → Divides slots number next
+  behind_first divides next less more = record {
+    below = λ p s at under. divides.below (suc p) s at (omega arith);
+    above = λ p s at over. divides.above (suc p) s at (omega arith);
+  }
+
+  pub divided : (slots : Slots T) (number place : ℕ) → Divides slots number place
       → entries_of (drop place slots) ≡ filter (is_from number) (entries_of slots)
-  divided slots number place divides = go slots place divides.below divides.above
-    where
-      go : (slots : List (Slot T)) (place : ℕ)
-          → ((p : ℕ) (slot : Slot T) → IsSlotAt slots p slot → p < place → slot.number < number)
-          → ((p : ℕ) (slot : Slot T) → IsSlotAt slots p slot → place ≤ p → number ≤ slot.number)
-          → entries_of (drop place slots) ≡ filter (is_from number) (entries_of slots)
-      go [] zero below above = refl
-      go [] (suc place) below above = refl
-      go (slot ∷ slots) zero below above = grind (
-        arith,
-        nat_tests,
-        above zero slot refl,
-        go slots zero (λ p s at under. absurd (omega arith)) (λ p s at over. above (suc p) s at (omega arith)),
-      )
-      go (slot ∷ slots) (suc place) below above = grind (
-        arith,
-        nat_tests,
-        below zero slot refl,
-        go slots place
-            (λ p s at under. below (suc p) s at (omega arith)) (λ p s at over. above (suc p) s at (omega arith)),
-      )
+  divided [] number zero divides = refl
+  divided [] number (suc place) divides = refl
+  divided (slot ∷ slots) number zero divides = grind (
+    arith,
+    nat_tests,
+    divides.above zero slot refl,
+    divided slots number zero (behind_first divides 0 (omega arith) (omega arith)),
+  )
+  divided (slot ∷ slots) number (suc place) divides = grind (
+    arith,
+    nat_tests,
+    divides.below zero slot refl,
+    divided slots number place (behind_first divides place (omega arith) (omega arith)),
+  )
 
   pub all_from : (entries : List (ℕ × T)) (number : ℕ) → AreFrom number (filter (is_from number) entries)
   all_from [] number = tt
   all_from (entry ∷ entries) number = grind (arith, nat_tests, all_from entries number)
 
-  pub drop_slot : (slots : List (Slot T)) (place : ℕ) (slot : Slot T) → IsSlotAt slots place slot
+  pub drop_slot : (slots : Slots T) (place : ℕ) (slot : Slot T) → IsSlotAt slots place slot
       → drop place slots ≡ slot ∷ drop (place + 1) slots
   drop_slot [] place slot at = absurd at
   drop_slot (first ∷ slots) zero slot at = ap (λ (s : Slot T). s ∷ slots) at
   drop_slot (first ∷ slots) (suc place) slot at = grind (arith, drop_slot slots place slot at)
 
-  pub entries_dropped : (slots : List (Slot T)) (place : ℕ) (slot : Slot T) → IsSlotAt slots place slot
+  pub entries_dropped : (slots : Slots T) (place : ℕ) (slot : Slot T) → IsSlotAt slots place slot
       → slot.item ≡ None → entries_of (drop place slots) ≡ entries_of (drop (place + 1) slots)
   entries_dropped slots place slot at empty = grind (arith, drop_slot slots place slot at)
 
@@ -281,21 +265,20 @@ module _ {T : Type 0} where
   -- ---- how many are filed before a number's place, and from it on
 
   -- no more are filed before a place than there are slots
-  entries_to : (slots : List (Slot T)) (place : ℕ)
+  entries_to : (slots : Slots T) (place : ℕ)
       → length (entries_of slots) ≤ place + length (entries_of (drop place slots))
   entries_to slots zero = omega arith
   entries_to [] (suc place) = omega arith
   entries_to (slot ∷ slots) (suc place) = grind (arith, entries_to slots place)
 
-  module _ (slots : List (Slot T)) (number place : ℕ) (divides : Divides slots number place) where
-    from_place : length (entries_of (drop place slots)) ≡ length (filter (is_from number) (entries_of slots))
-    from_place = ap (λ (es : List (ℕ × T)). length es) (divided slots number place divides)
-
-    pub filed_before : length (filter (is_below number) (entries_of slots)) ≤ place
-    filed_before =
-        let both = length-filter_both (is_below number) (is_from number) (λ _. refl) (entries_of slots) in
-        omega (arith, both, entries_to slots place, from_place)
-
-    pub filed_behind : place ≤ length slots
-        → place + length (filter (is_from number) (entries_of slots)) ≤ length slots
-    filed_behind within = omega (arith, entries_fit (drop place slots), length-drop place slots, from_place)
+  pub filed : {slots : Slots T} {number place : ℕ} → Divides slots number place → place ≤ length slots
+      → (length (filter (is_below number) (entries_of slots)) ≤ place)
+      × (place + length (filter (is_from number) (entries_of slots)) ≤ length slots)
+  filed {slots} {number} {place} divides within = grind (
+    arith,
+    divided slots number place divides,
+    length-filter_both (is_below number) (is_from number) (λ _. refl) (entries_of slots),
+    entries_to slots place,
+    entries_fit (drop place slots),
+    length-drop place slots,
+  )

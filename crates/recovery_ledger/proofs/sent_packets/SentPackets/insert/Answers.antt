@@ -1,26 +1,33 @@
-use Rattle.std.proofs.Common.{None, Some, ap, ◌∙◌, arith}
+use Rattle.recovery_slots.specs.Slots.{entries_of}
+use Rattle.std.proofs.Common.{ap, arith}
 use Rattle.recovery_ledger.specs.Packets.{entry_at}
-use Rattle.recovery_ledger.proofs.CountLaws.{flag_of, silent_bound, silent_few, sized_fits, forgotten_found, entry_forgotten, sent_eliciting, sent_silent}
+use Rattle.recovery_ledger.proofs.CountLaws.{IsForgotten, silent_bound, silent_few, forgotten_found}
+use Rattle.recovery_ledger.proofs.PacketLaws.{sizes-le-length}
 use Rattle.recovery_ledger.proofs.TrackedLaws.{tracked_eliciting, tracked_silent, tracked_forgetting}
 use Rattle.recovery_ledger.proofs.sent_packets.SentPackets.insert.Goals as goal
 
 pub overflow_add-self : goal.overflow_add-self
 overflow_add-self g c =
-    let fits = sized_fits c.self.invariant.counted c.args.packet c.filled-filled.ensures.few in
-    omega (arith, fits, c.size_count-count.ensures)
+    grind (
+      arith,
+      c.self.invariant.counted.sized_is,
+      sizes-le-length (entries_of c.self.inside.packets),
+      c.filled-filled.ensures.few,
+      c.size_count-count.ensures,
+    )
 
 -- ---- a packet that elicits an ACK
 
 pub invariant_of-self-then-is_eliciting : goal.invariant_of-self-then-is_eliciting
 invariant_of-self-then-is_eliciting g c =
     rw (c.size_count-count.ensures, c.min-self-inside.ensures)
-    (tracked_eliciting c.self.invariant c.push.new.self c.args.number c.args.packet c.ranges.number.fits
+    (tracked_eliciting c.self.invariant _ _ _ c.ranges.number.fits
     (rw (← c.self.view_is) at c.requires.above) c.in_ok-push.ensures.ok c.in_ok-push.ensures.one_more)
 
 pub returns-then-is_eliciting-clause-ok : goal.returns-then-is_eliciting-clause-ok
 returns-then-is_eliciting-clause-ok g c =
-    sent_eliciting c.self.invariant.counted c.self.view_is c.args.packet
-    (flag_of c.packet.view_is c.if-is_eliciting.true) c.args.number _ c.in_ok-push.ensures.ok
+    rw (← c.self.view_is, ← c.packet.view_is)
+    (grind (arith, c.packet.view_is, c.if-is_eliciting.true, c.in_ok-push.ensures.ok))
 
 pub returns-then-is_eliciting-clause-bound : goal.returns-then-is_eliciting-clause-bound
 returns-then-is_eliciting-clause-bound g c = silent_bound (invariant_of-self-then-is_eliciting g c).counted
@@ -29,18 +36,24 @@ returns-then-is_eliciting-clause-bound g c = silent_bound (invariant_of-self-the
 
 pub invariant_of-self-in_default : goal.invariant_of-self-in_default
 invariant_of-self-in_default g c =
-    let is_silent = flag_of c.packet.view_is c.if-is_eliciting.false in
     rw (c.size_count-count.ensures, c.min-self-inside.ensures, c.min-self-inside-in_default.ensures)
-    (tracked_silent c.self.invariant c.push.new.self c.args.number c.args.packet c.ranges.number.fits
+    (tracked_silent c.self.invariant _ _ _ c.ranges.number.fits
     (rw (← c.self.view_is) at c.requires.above) c.in_ok-push.ensures.ok c.in_ok-push.ensures.one_more
-    (rw (← c.self.view_is) at c.requires.above_last) is_silent
-    (silent_few c.self.invariant.counted c.self.view_is c.args.packet is_silent c.in_default.ensures.number))
+    c.packet.view_is c.if-is_eliciting.false (rw (← c.self.view_is) at c.requires.above_last)
+    (silent_few c.self.invariant.counted c.self.view_is c.packet.view_is c.if-is_eliciting.false
+    c.in_default.ensures.number))
 
 pub returns-in_default-clause-ok : goal.returns-in_default-clause-ok
 returns-in_default-clause-ok g c =
-    sent_silent c.self.invariant.counted c.self.view_is c.args.packet
-    (flag_of c.packet.view_is c.if-is_eliciting.false) None c.args.number _ c.in_default.ensures.number
-    c.in_ok-push.ensures.ok
+    rw (← c.self.view_is, ← c.packet.view_is)
+    (grind (
+      arith,
+      c.self.view_is,
+      c.packet.view_is,
+      c.if-is_eliciting.false,
+      c.in_ok-push.ensures.ok,
+      c.in_default.ensures.number,
+    ))
 
 pub returns-in_default-clause-forgotten : goal.returns-in_default-clause-forgotten
 returns-in_default-clause-forgotten g c = ap (entry_at c.args.self.now.packets) c.in_default.ensures.number
@@ -52,44 +65,49 @@ returns-in_default-clause-bound g c = silent_bound (invariant_of-self-in_default
 
 pub unreachable-requires : goal.unreachable-requires
 unreachable-requires g c =
-    rw c.in_default-take.is at (forgotten_found c.self.invariant.counted c.self.view_is c.args.packet
-    (flag_of c.packet.view_is c.if-is_eliciting.false) c.args.number c.in-Some.ensures.number c.in_ok-push.ensures.ok
-    c.take.ensures.value)
+    rw c.in_default-take.is at (forgotten_found c.self.invariant.counted c.self.view_is c.packet.view_is
+    c.if-is_eliciting.false c.args.number c.in-Some.ensures.number c.in_ok-push.ensures.ok c.take.ensures.value)
 
 pub overflow_sub-self : goal.overflow_sub-self
 overflow_sub-self g c =
-    let gone = rw c.in-Some-take.is at (forgotten_found c.self.invariant.counted c.self.view_is c.args.packet
-    (flag_of c.packet.view_is c.if-is_eliciting.false) c.args.number c.in-Some.ensures.number c.in_ok-push.ensures.ok
-    c.take.ensures.value) in
+    let gone = rw c.in-Some-take.is at (forgotten_found c.self.invariant.counted c.self.view_is c.packet.view_is
+    c.if-is_eliciting.false c.args.number c.in-Some.ensures.number c.in_ok-push.ensures.ok c.take.ensures.value) in
     omega (arith, gone.2, c.size_count.ensures)
+
+found : (g : _) (c : goal.After-self-4-1 g) → IsForgotten (entries_of c.self.inside.packets)
+    c.self.inside.last_eliciting c.self.inside.sized c.args.number c.args.packet c.in-Some.least
+    (entries_of c.push.new.self) c.in-Some-take.gone
+found g c =
+    rw c.in-Some-take.is at (forgotten_found c.self.invariant.counted c.self.view_is c.packet.view_is
+    c.if-is_eliciting.false c.args.number c.in-Some.ensures.number c.in_ok-push.ensures.ok c.take.ensures.value)
 
 pub invariant_of-self-2 : goal.invariant_of-self-2
 invariant_of-self-2 g c =
-    let gone = rw c.in-Some-take.is at (forgotten_found c.self.invariant.counted c.self.view_is c.args.packet
-    (flag_of c.packet.view_is c.if-is_eliciting.false) c.args.number c.in-Some.ensures.number c.in_ok-push.ensures.ok
-    c.take.ensures.value) in
+    let gone = found g c in
     rw (c.size_count-count.ensures, c.min-self-inside.ensures, c.size_count.ensures)
-    (tracked_forgetting c.self.invariant c.push.new.self c.args.number c.args.packet c.ranges.number.fits
+    (tracked_forgetting c.self.invariant c.push.new.self _ _ c.ranges.number.fits
     (rw (← c.self.view_is) at c.requires.above) c.in_ok-push.ensures.ok c.in-Some.least c.in-Some-take.gone
-    (rw (← c.self.view_is) at c.requires.above_last) (flag_of c.packet.view_is c.if-is_eliciting.false) gone.0 gone.1
+    c.packet.view_is c.if-is_eliciting.false (rw (← c.self.view_is) at c.requires.above_last) gone.0 gone.1
     (rw (← c.self.view_is) at c.in-Some.ensures.least) c.take.ensures.entries c.in-Some-take.ensures.bound)
 
 pub returns-clause-ok : goal.returns-clause-ok
 returns-clause-ok g c =
-    let gone = rw c.in-Some-take.is at (forgotten_found c.self.invariant.counted c.self.view_is c.args.packet
-    (flag_of c.packet.view_is c.if-is_eliciting.false) c.args.number c.in-Some.ensures.number c.in_ok-push.ensures.ok
-    c.take.ensures.value) in
-    sent_silent c.self.invariant.counted c.self.view_is c.args.packet
-    (flag_of c.packet.view_is c.if-is_eliciting.false) (Some c.in-Some.least) c.args.number _
-    c.in-Some.ensures.number (c.take.ensures.entries ∙ gone.3)
+    let gone = found g c in
+    rw (← c.self.view_is, ← c.packet.view_is)
+    (grind (
+      arith,
+      gone,
+      c.self.view_is,
+      c.packet.view_is,
+      c.if-is_eliciting.false,
+      c.take.ensures.entries,
+      c.in-Some.ensures.number,
+    ))
 
 pub returns-clause-forgotten : goal.returns-clause-forgotten
 returns-clause-forgotten g c =
-    let gone = rw c.in-Some-take.is at (forgotten_found c.self.invariant.counted c.self.view_is c.args.packet
-    (flag_of c.packet.view_is c.if-is_eliciting.false) c.args.number c.in-Some.ensures.number c.in_ok-push.ensures.ok
-    c.take.ensures.value) in
-    entry_forgotten c.self.invariant.counted c.self.view_is c.args.packet c.in-Some.least c.in-Some-take.gone
-    c.in-Some.ensures.number gone.0
+    let gone = found g c in
+    rw (← c.self.view_is) (grind (arith, gone, c.self.view_is, c.in-Some.ensures.number))
 
 pub returns-clause-bound : goal.returns-clause-bound
 returns-clause-bound g c = silent_bound (invariant_of-self-2 g c).counted

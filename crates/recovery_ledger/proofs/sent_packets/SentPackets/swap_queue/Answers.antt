@@ -1,7 +1,7 @@
-use Rattle.std.proofs.Common.{ap, ◌∙◌}
-use Rattle.recovery_slots.proofs.EntryLaws.{taken}
+use Rattle.std.proofs.Common.{sym, ap, ◌∙◌, arith}
+use Rattle.recovery_slots.proofs.EntryLaws.{taken, put_back}
 use Rattle.recovery_ledger.specs.Packets.{Packet, with_contents}
-use Rattle.recovery_ledger.proofs.TrackedLaws.{Exchanges, exchanged, tracked_carrying, carried}
+use Rattle.recovery_ledger.proofs.TrackedLaws.{Exchanges, tracked_carrying}
 use Rattle.recovery_ledger.proofs.sent_packets.SentPackets.swap_queue.Goals as goal
 
 -- what both replacements leave
@@ -10,10 +10,14 @@ done : (g : _) (c : goal.Joined-replace-2 g)
     (g.Q.RetransmitQueue.contents c.args.queue.now) c.replace-2.new.self
 done g c =
     let contents = g.Q.RetransmitQueue.contents in
-    exchanged c.in-Some-replace.packet (contents c.args.queue.now) c.find.ensures c.in-Some.is c.replace.ensures
-    c.in-Some-replace.is c.replace-2.ensures
-    (ap (with_contents (contents c.swap.new.x)) c.packet.view_is
-    ∙ ap (λ (q : g.row.Q.Denot). with_contents (contents q) c.in-Some-replace.packet) c.swap.ensures.x_after)
+    let back = put_back c.find.ensures c.in-Some.is c.replace.ensures _ c.replace-2.ensures in
+    record {
+      found = sym (taken c.find.ensures c.in-Some.is c.replace.ensures).0 ∙ c.in-Some-replace.is;
+      entries = rw (← (ap (with_contents (contents c.swap.new.x)) c.packet.view_is
+          ∙ ap (λ (q : g.row.Q.Denot). with_contents (contents q) c.in-Some-replace.packet) c.swap.ensures.x_after))
+          back.0;
+      kept = back.1;
+    }
 
 pub unreachable-requires : goal.unreachable-requires
 unreachable-requires g c =
@@ -27,13 +31,12 @@ invariant_of-self g c =
     c.filled_with-self-inside.ensures.below c.filled_with-self-inside.ensures.void
 
 pub returns-clause-found : goal.returns-clause-found
-returns-clause-found g c = (carried (done g c) c.self.view_is).1
+returns-clause-found g c = rw (← c.self.view_is) (grind (arith, done g c))
 
 pub returns-clause-after : goal.returns-clause-after
-returns-clause-after g c = (carried (done g c) c.self.view_is).0
+returns-clause-after g c = rw (← c.self.view_is) (grind (arith, done g c))
 
 pub returns-clause-queue : goal.returns-clause-queue
 returns-clause-queue g c =
-    let contents = g.Q.RetransmitQueue.contents in
-    ap contents c.swap.ensures.y_after ∙ ap (λ (p : Packet _ _). p.retransmits) c.packet.view_is
-    ∙ (carried (done g c) c.self.view_is).2 (contents c.args.queue.now)
+    ap g.Q.RetransmitQueue.contents c.swap.ensures.y_after ∙ ap (λ (p : Packet _ _). p.retransmits) c.packet.view_is
+    ∙ rw (← c.self.view_is) (grind (arith, done g c))

@@ -1,11 +1,14 @@
-use Rattle.recovery_ledger.proofs.CarryLaws.{carrying_found, moved_taken, lost_none}
+use Rattle.std.proofs.Common.{arith}
+use Rattle.recovery_ledger.proofs.CarryLaws.{carried, moved_taken}
+use Rattle.recovery_ledger.proofs.PacketLaws.{without-absent}
 use Rattle.recovery_ledger.specs.Spaces.{packets_of}
 use Rattle.recovery_ledger.proofs.spaces.PacketSpace.lose.Goals as goal
 
 pub returns-clause-packet : goal.returns-clause-packet
 returns-clause-packet g c =
     rw (c.take.ensures.packet, c.in_ok-queue_lost.ensures.after)
-    (carrying_found (packets_of c.args.self.now) c.args.number g.Q.RetransmitQueue.words.empty)
+    (carried (packets_of c.args.self.now) c.args.number g.Q.RetransmitQueue.words.empty
+    g.Q.RetransmitQueue.words.empty).0
 
 pub returns-clause-step : goal.returns-clause-step
 returns-clause-step g c =
@@ -14,5 +17,9 @@ returns-clause-step g c =
 
 pub returns-clause-none : goal.returns-clause-none
 returns-clause-none g c =
-    lost_none g.Q.RetransmitQueue.words c.args.number c.args.self.now _ _ (returns-clause-packet g c)
-    (returns-clause-step g c)
+    grind (
+      arith,
+      returns-clause-packet g c,
+      returns-clause-step g c,
+      without-absent (packets_of c.args.self.now) c.args.number,
+    )
