@@ -40,10 +40,6 @@ pub returns-clause-answer : goal.returns-clause-answer
 returns-clause-answer c = rw (← c.self.view_is) (c.is_any_below-2.ensures ∙ moves_answer c.self.invariant
     (sym c.is_any_below.ensures ∙ c.if-is_any_below.false) c.pop_mark-next.result)
 
-pub returns-clause-never_falls : goal.returns-clause-never_falls
-returns-clause-never_falls c =
-    rw (c.pop_mark-next.ensures.mark, ← c.self.view_is) (mark_rises _ _ _ c.self.invariant.deadlines).0
-
 pub returns-clause-sound : goal.returns-clause-sound
 returns-clause-sound c = rw (c.pop_mark-next.ensures.items, c.pop_mark-next.ensures.mark) (moves_sound
     c.self.invariant (sym c.is_any_below.ensures ∙ c.if-is_any_below.false))
