@@ -12,10 +12,6 @@ use Rattle.recovery_mtud.proofs.BurstTies.{Needy, Coming, needy_acked, needy_pro
 
 -- ---- fates that are apart
 
-never_both : (entries : List MtuEntry) → AreFatesApart entries → (number : ℕ)
-    → has number (acked_numbers entries) ≡ true → has number (lost_numbers entries) ≡ true → ⊥
-never_both _ apart number good bad = grind arith
-
 -- they were apart before
 apart_before : (entry : MtuEntry) (entries : List MtuEntry) → AreFatesApart (entry ∷ entries) → AreFatesApart entries
 apart_before _ _ apart number good = grind arith
@@ -37,24 +33,13 @@ module _ (made : Discovery) (entries : List MtuEntry) (old : Discovery) (holds :
   at_ack : (number bytes : ℕ) (G : Bool → LossBursts → Type 0) → G false (bursts_acked number bytes old.bursts)
       → G true (record old.bursts { kept = []; acked = bytes; newest = number })
       → G (is_some (size_at number (probe_in_flight entries))) (discovery_after (acks number bytes) old).bursts
-  at_ack number bytes G other probe =
-      go (size_at number (probe_in_flight entries)) (size_in_held _ old.search ∙ ap (size_at number) holds.probe)
-    where
-      go : (taken : Option ℕ) → size_of_probe number old ≡ taken
-          → G (is_some taken) (discovery_after (acks number bytes) old).bursts
-      go None is = rw is other
-      go (Some mtu) is = rw is probe
+  at_ack number bytes G other probe = grind (arith, size_in_held number old.search, holds.probe)
 
   -- the same of the end of losses, with a report and without one
   at_end : (now : ℕ) (G : MtuEntry → LossBursts → Type 0) → G losses_over (bursts_closed old.bursts)
       → G (reported now) (record (bursts_closed old.bursts) { kept = [] })
       → G (entry_of (losses_end now) old) (discovery_after (losses_end now) old).bursts
-  at_end now G none hole = go (reports old) refl
-    where
-      go : (is_hole : Bool) → reports old ≡ is_hole
-          → G (if is_hole then reported now else losses_over) (discovery_after (losses_end now) old).bursts
-      go true is = rw is hole
-      go false is = rw is none
+  at_end now G none hole = grind arith
 
   needy_after : (call : MtuCall) → AreFatesApart entries → NeedyAt made entries old.bursts
       → NeedyAt made (entry_of call old ∷ entries) (discovery_after call old).bursts
@@ -64,12 +49,11 @@ module _ (made : Discovery) (entries : List MtuEntry) (old : Discovery) (holds :
       (lost_numbers entries))
       (needy_acked _ _ _ _ _ old.bursts tie number bytes) (needy_probed _ _ _ _ _ old.bursts tie number bytes)
   needy_after (loses number bytes) apart tie =
-      needy_lost _ _ _ _ _ old.bursts tie (never_both entries apart) number bytes
+      needy_lost _ _ _ _ _ old.bursts tie apart number bytes
   needy_after (losses_end now) apart tie =
-      let ended = needy_ended _ _ _ _ _ old.bursts tie (never_both entries apart) in
+      let ended = needy_ended _ _ _ _ _ old.bursts tie apart in
       at_end now (λ entry. NeedyAt made (entry ∷ entries)) ended.0 ended.1
-  needy_after (polls now next) _ tie = polled
-      (λ entry. NeedyAt made (entry ∷ entries) old.bursts) now next _ tie (λ size. tie)
+  needy_after (polls now next) _ tie = grind arith
   needy_after _ _ tie = grind arith
 
   abbrev size : ℕ
@@ -117,7 +101,7 @@ coming_by made new (call ∷ earlier) =
 pub four_stand : (made : Discovery) → IsUntold made → (calls : List MtuCall) → AreFatesApart (entries_by made calls)
     → reports (discovery_by made calls) ≡ true → AreFourStanding made (entries_by made calls)
 four_stand made new calls apart =
-    needy_report _ _ _ _ _ _ (needy_by _ new calls apart) (never_both (entries_by made calls) apart)
+    needy_report _ _ _ _ _ _ (needy_by _ new calls apart) apart
 
 -- where four have closed unanswered, the end of losses reports a black hole
 pub four_report : (made : Discovery) → IsUntold made → (calls : List MtuCall)

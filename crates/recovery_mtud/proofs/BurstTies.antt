@@ -34,7 +34,7 @@ IsLast lost [] = Unit {0}
 IsLast lost (loss ∷ losses) = has loss.number lost ≡ true
 
 abbrev AreApart : List ℕ → List ℕ → Type 0
-AreApart acked lost = (number : ℕ) → has number acked ≡ true → has number lost ≡ true → ⊥
+AreApart acked lost = (number : ℕ) → has number acked ≡ true → has number lost ≡ false
 
 abbrev pub both : ℕ → ℕ → List Loss → Bool
 both min_mtu low burst = is_above min_mtu burst && is_above low burst

@@ -226,8 +226,7 @@ IsInTurn call old = ⊤
 pub limits_outside_after : (made : Discovery) → IsUntold made → (call : MtuCall) (earlier : List MtuCall)
     → IsInTurn call (discovery_by made earlier)
     → AreLimitsOutside (entries_by made earlier) → AreLimitsOutside (entries_by made (call ∷ earlier))
-limits_outside_after made _ (polls now next) earlier _ outside =
-    polled (λ entry. AreLimitsOutside (entry ∷ entries_by made earlier)) now next _ outside (λ size. outside)
+limits_outside_after made _ (polls now next) earlier _ outside = grind arith
 limits_outside_after made new _ earlier turn outside =
     let runs = (holds_by _ new earlier).runs in grind arith
 
