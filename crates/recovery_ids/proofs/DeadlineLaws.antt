@@ -1,7 +1,7 @@
 -- Deadlines with equal moments. `StateLaws` rest on it.
-use Rattle.std.proofs.Common.{◌≡◌, ℕ, zero, suc, ◌+◌, ◌<◌, nat_eq, cond, List, [], ◌∷◌, length, map, take, get_or, Option, None, Some, refl, arith}
+use Rattle.std.proofs.Common.{◌≡◌, ℕ, zero, suc, ◌+◌, nat_eq, cond, List, [], ◌∷◌, length, map, take, get_or, Option, None, Some, refl, arith}
 use Rattle.std.proofs.lemmas.Bool.Decides.{nat_tests}
-use Rattle.recovery_ids.specs.LocalIds.{without_last_at, with_deadline, deadlines_with, deadlines_with_last, Rise}
+use Rattle.recovery_ids.specs.LocalIds.{without_last_at, with_deadline, deadlines_with, Rise}
 use Rattle.recovery_ids.specs.declared.state.CidTimestamp.{CidTimestamp}
 use Rattle.recovery_ids.proofs.RiseLaws.{Rise-wider}
 

@@ -1,9 +1,9 @@
 -- What becomes of the ids that this end issued. The calls of `CidState` rest on it.
-use Rattle.std.proofs.Common.{◌≡◌, ◌≢◌, ℕ, zero, suc, ◌+◌, ◌-◌, ◌^◌, ◌≤◌, ◌==◌, nat_lt, not, Bool, true, false, List, [], ◌∷◌, ◌++◌, map, drop, Option, refl, sym, arith}
-use Rattle.std.specs.List.{list_any, range_with_len}
+use Rattle.std.proofs.Common.{◌≡◌, ℕ, zero, suc, ◌+◌, ◌^◌, ◌≤◌, ◌==◌, nat_lt, not, Bool, false, List, [], ◌∷◌, map, drop, Option, refl, sym, arith}
+use Rattle.std.specs.List.{list_any}
 use Rattle.recovery_ids.specs.declared.state.CidTimestamp.{CidTimestamp}
-use Rattle.recovery_ids.specs.LocalIds.{LocalIds, no_ids, AreSound, Rise, timed_out, next_mark, holds_unretired, with_issued, without_number, deadlines_with_last}
-use Rattle.recovery_ids.proofs.RiseLaws.{Rise-bound, Rise-wider, Rise-from, Rise-filter, Rise-append, list_any-between, list_any-nowhere}
+use Rattle.recovery_ids.specs.LocalIds.{LocalIds, no_ids, AreSound, Rise, timed_out, next_mark, holds_unretired, with_issued, without_number}
+use Rattle.recovery_ids.proofs.RiseLaws.{Rise-bound, Rise-wider, Rise-from, Rise-filter, Rise-append, list_any-between}
 use Rattle.recovery_ids.proofs.DeadlineLaws.{deadlines_with-rise}
 
 abbrev pub any_below : ℕ → LocalIds → Bool
@@ -12,7 +12,7 @@ any_below end ids = list_any (λ n. nat_lt n end) ids.unretired
 -- ---- timeouts
 
 -- the oldest deadline goes, and the mark may move behind its number
-pub mark_rises : (mark issued : ℕ) (deadlines : List CidTimestamp)
+mark_rises : (mark issued : ℕ) (deadlines : List CidTimestamp)
     → Rise mark issued (map (λ deadline. deadline.sequence) deadlines) →
     (mark ≤ next_mark mark deadlines)
     × Rise mark issued (map (λ deadline. deadline.sequence) (drop 1 deadlines))
@@ -25,48 +25,19 @@ mark_rises mark issued (oldest ∷ later) rise = grind (
 )
 
 module _ {ids : LocalIds} (sound : AreSound ids) where
-  asked : holds_unretired ids.retired_below ids.retire_prior_to ids ≡ any_below ids.retire_prior_to ids
+  pub asked : holds_unretired ids.retired_below ids.retire_prior_to ids ≡ any_below ids.retire_prior_to ids
   asked = list_any-between _ _ _ _ ids.unretired sound.unretired (omega arith)
 
-  abbrev timely : LocalIds
-  timely = record ids { deadlines = drop 1 ids.deadlines }
+  -- where no number below the mark is unretired, all rise from there
+  rises : any_below ids.retire_prior_to ids ≡ false → Rise ids.retire_prior_to ids.issued ids.unretired
+  rises none = Rise-from _ _ _ ids.unretired sound.unretired none (Rise-bound _ _ _ sound.deadlines)
 
-  abbrev moved : LocalIds
-  moved = record timely {
-    retired_below = ids.retire_prior_to;
-    retire_prior_to = next_mark ids.retire_prior_to ids.deadlines;
-  }
+  pub timed_sound : AreSound (timed_out ids)
+  timed_sound = let marks = mark_rises _ _ ids.deadlines sound.deadlines in grind (arith, asked, rises)
 
-  -- where a number below the mark is not retired, the deadline alone goes
-  pub waits : any_below ids.retire_prior_to ids ≡ true → timely ≡ timed_out ids
-  waits here = rw (asked, here) refl
-
-  pub waits_sound : AreSound timely
-  waits_sound =
-      record {
-        small = sound.small;
-        marks = sound.marks;
-        unretired = sound.unretired;
-        deadlines =
-            (mark_rises _ _ ids.deadlines sound.deadlines).1;
-      }
-
-  pub waits_answer : holds_unretired ids.retire_prior_to ids.retire_prior_to ids ≡ false
-  waits_answer = list_any-nowhere ids.retire_prior_to ids.unretired
-
-  module _ (none : any_below ids.retire_prior_to ids ≡ false) where
-    pub moves : moved ≡ timed_out ids
-    moves = rw (asked, none) refl
-
-    rises : Rise ids.retire_prior_to ids.issued ids.unretired
-    rises = Rise-from _ _ _ ids.unretired sound.unretired none (Rise-bound _ _ _ sound.deadlines)
-
-    pub moves_sound : AreSound moved
-    moves_sound = let mark = mark_rises _ _ ids.deadlines sound.deadlines in
-        record { small = sound.small; marks = mark.0; unretired = rises; deadlines = mark.2 }
-
-    pub moves_answer : (next : ℕ) → any_below next ids ≡ holds_unretired ids.retire_prior_to next ids
-    moves_answer next = sym (list_any-between _ _ _ next ids.unretired rises (omega arith))
+  pub moves_answer : any_below ids.retire_prior_to ids ≡ false → (next : ℕ)
+      → any_below next ids ≡ holds_unretired ids.retire_prior_to next ids
+  moves_answer none next = sym (list_any-between _ _ _ next ids.unretired (rises none) (omega arith))
 
   -- ---- numbers issued and retired
 

@@ -1,5 +1,4 @@
 use Rattle.std.proofs.Common.{length, arith}
-use Rattle.std.proofs.lemmas.Bool.Decides.{nat_tests}
 use Rattle.recovery_ids.proofs.RiseLaws.{Rise-wider}
 use Rattle.std.proofs.lemmas.Grind.{common_steps}
 use Rattle.recovery_ids.proofs.StateLaws.{issued_sound}
