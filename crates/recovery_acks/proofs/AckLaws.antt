@@ -12,10 +12,10 @@ use Rattle.recovery_acks.specs.Acks.{Acks, HasReached, IsOutOfOrder, Receives, R
 -- the greatest number has been reached where both have
 pub reaches : (Known : ℕ → Type 0) (before : Option ℕ) (number : ℕ) → HasReached Known number
     → IfSome before (HasReached Known) → HasReached Known (max (unwrap_or before 0) number)
-reaches Known None number reached earlier = (reached.0, reached.1, omega (arith, reached.2))
+reaches Known None number reached earlier = (reached.0, reached.1, omega arith)
 reaches Known (Some k) number reached earlier = elim (cases_lt k number) [
-  | inl below ↦ (reached.0, reached.1, omega (arith, reached.2))
-  | inr above ↦ (earlier.0, earlier.1, omega (arith, earlier.2))
+  | inl below ↦ (reached.0, reached.1, omega arith)
+  | inr above ↦ (earlier.0, earlier.1, omega arith)
 ]
 
 pub eliciting_receives : (Known : ℕ → Type 0) (old new : Acks) (now number : ℕ) (ack_eliciting arm : Bool)
@@ -28,12 +28,11 @@ eliciting_receives Known old new now number false arm is received = absurd (fals
 required_by : (Out : Type 0) (threshold count : ℕ) (required out req : Bool) → Decides out Out
     → Decides req (IsTrue required ⊎ (IsTrue (nat_lt threshold count) ⊎ IsTrue out))
     → IsTrue req ↔ (IsTrue required ⊎ ((threshold < count) ⊎ Out))
-required_by Out threshold count required out req out_is req_is = grind (arith, nat_tests, out_is, req_is)
+required_by Out threshold count required out req out_is req_is = grind (arith, nat_tests)
 
 armed_by : (Free Sends : Type 0) (can noticed arm : Bool) → Decides can Sends → arm ≡ not noticed
     → MatchBool noticed ((¬ Free) ⊎ IsTrue can) (Free × ¬ IsTrue can) → IsTrue arm ↔ (Free × ¬ Sends)
-armed_by Free Sends can true arm can_is is told = grind (arith, can_is, is, told)
-armed_by Free Sends can false arm can_is is told = grind (arith, can_is, is, told)
+armed_by Free Sends can noticed arm can_is is told = grind arith
 
 module _ {Known : ℕ → Type 0} {old : Acks} {now number greatest count : ℕ} {out req can : Bool} (noticed : Bool)
     (greatest_is : greatest ≡ max (unwrap_or old.counts.greatest 0) number)
@@ -44,7 +43,7 @@ module _ {Known : ℕ → Type 0} {old : Acks} {now number greatest count : ℕ}
     (can_is : Decides can (IsTrue req × ((n : ℕ) × InRanges old.ranges n)))
     (noticed_is : MatchBool noticed ((old.base ≢ None) ⊎ IsTrue can) ((old.base ≡ None) × ¬ IsTrue can)) where
   -- whether the base moves is what was noticed
-  received : (arm : Bool) → arm ≡ not noticed → ReceivesEliciting Known old now number arm
+  pub received : (arm : Bool) → arm ≡ not noticed → ReceivesEliciting Known old now number arm
       (record old {
         required = req;
         base = cond arm (Some now) old.base;
@@ -57,18 +56,6 @@ module _ {Known : ℕ → Type 0} {old : Acks} {now number greatest count : ℕ}
     base = refl;
     ranges = refl;
   }
-
-  pub unarmed : noticed ≡ true → ReceivesEliciting Known old now number false
-      (record old { required = req; counts = record old.counts { eliciting = count; greatest = Some greatest } })
-  unarmed is = received false (ap not (sym is))
-
-  pub armed_now : noticed ≡ false → ReceivesEliciting Known old now number true
-      (record old {
-        required = req;
-        base = Some now;
-        counts = record old.counts { eliciting = count; greatest = Some greatest };
-      })
-  armed_now is = received true (ap not (sym is))
 
 -- what is out of order by one set is so by another, from which the same numbers are missing
 out_of_order_by : {A B : ℕ → Type 0} → ((m : ℕ) → IsMissing A m ↔ IsMissing B m) → (threshold : ℕ)

@@ -1,5 +1,5 @@
 -- ACK_FREQUENCY frames leave the greatest ack-eliciting number. The driver's `ack_frequency_in` rests on it.
-use Rattle.std.proofs.Common.{Bool, true, false, ◌≡◌, Result, Ok, Err, ap}
+use Rattle.std.proofs.Common.{Bool, true, false, ◌≡◌, Result, Ok, Err, arith}
 use Rattle.recovery_base.specs.declared.below.frames.AckFrequency.{AckFrequency}
 use Rattle.recovery_base.specs.declared.below.frames.TransportError.{TransportError}
 use Rattle.recovery_acks.specs.declared.frequency.AckFrequencyState.{AckFrequencyState}
@@ -10,6 +10,5 @@ pub asked_greatest : (old : AckFrequencyState) (acks : Acks) (frame : AckFrequen
     (result : Result Bool TransportError) (new : AckFrequencyState) (after : Acks)
     → FrequencyReceived old acks frame result new after
     → after.counts.greatest ≡ acks.counts.greatest
-asked_greatest old acks frame (Ok true) new after received = ap (λ (a : Acks). a.counts.greatest) received.3
-asked_greatest old acks frame (Ok false) new after received = ap (λ (a : Acks). a.counts.greatest) received.2
-asked_greatest old acks frame (Err error) new after received = ap (λ (a : Acks). a.counts.greatest) received.4
+asked_greatest old acks frame (Ok taken) new after received = grind arith
+asked_greatest old acks frame (Err error) new after received = grind arith

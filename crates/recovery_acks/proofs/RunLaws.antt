@@ -10,15 +10,11 @@ use Rattle.recovery_base.proofs.WindowLaws.{iff_trans}
 use Rattle.recovery_base.proofs.RangeLaws.{Ranges, in_above, apart_rest}
 use Rattle.recovery_acks.specs.Runs.{EndsRun, Ascend, AtMost, IsInHighest}
 
-ascend_as : {P Q : ℕ → Type 0} (low other : ℕ) (numbers : List ℕ) → other ≤ low → ((n : ℕ) → low ≤ n → P n → Q n)
-    → Ascend P low numbers → Ascend Q other numbers
+ascend_as : {P Q : ℕ → Type 0} (low : ℕ) (numbers : List ℕ) → ((n : ℕ) → P n → Q n) → Ascend P low numbers
+    → Ascend Q low numbers
 unfolding Ascend
-ascend_as low other [] less step up = tt
-ascend_as low other (n ∷ others) less step up = (
-  omega (arith, up.0),
-  step n up.0 up.1,
-  ascend_as (n + 1) (n + 1) others (omega arith) (λ m above. step m (omega (arith, up.0))) up.2,
-)
+ascend_as low [] step up = tt
+ascend_as low (n ∷ others) step up = (up.0, step n up.1, ascend_as (n + 1) others step up.2)
 
 -- the end of a run above the first range is one in the others, and the other way
 end_behind : (range : Range ℕ) (others : Ranges) (n : ℕ) → range.end ≤ n
@@ -27,96 +23,83 @@ unfolding InRanges
 end_behind range others n above = grind (arith, above)
 
 -- there are at most as many ends as ranges
-few_ends : (low from : ℕ) (ranges : Ranges) → AreApart low ranges → (numbers : List ℕ)
-    → Ascend (EndsRun (InRanges ranges)) from numbers → length numbers ≤ length ranges
+few_ends : {P : ℕ → Type 0} (low from : ℕ) (ranges : Ranges) → AreApart low ranges
+    → ((n : ℕ) → from ≤ n → P n → EndsRun (InRanges ranges) n) → (numbers : List ℕ) → Ascend P from numbers
+    → length numbers ≤ length ranges
 unfolding Ascend InRanges AreApart
-few_ends low from ranges apart [] up = omega arith
-few_ends low from [] apart (n ∷ numbers) up = absurd up.1.0
-few_ends low from (range ∷ others) apart (n ∷ numbers) up = elim (cases_lt n range.end) [
-  | inl below ↦
-      let reached : range.end ≤ n + 1 = grind (arith, below, up.1, in_above (range.end + 1) others n apart.2) in
-      omega (
+few_ends low from ranges apart ends [] up = omega arith
+few_ends low from [] apart ends (n ∷ numbers) up = absurd (ends n up.0 up.1).0
+few_ends low from (range ∷ others) apart ends (n ∷ numbers) up =
+    let last = ends n up.0 up.1 in
+    let behind = λ (m : ℕ) (past : range.end ≤ m). (end_behind range others m past).0 in
+    elim (cases_lt n range.end) [
+      | inl below ↦
+          let reached : range.end ≤ n + 1 = grind (arith, last, in_above (range.end + 1) others n apart.2) in
+          omega (
+            arith,
+            few_ends (range.end + 1) (n + 1) others apart.2
+                (λ m above p. behind m (omega (arith, reached)) (ends m (omega (arith, up.0)) p)) numbers up.2,
+          )
+      | inr past ↦ omega (
         arith,
-        few_ends (range.end + 1) (n + 1) others apart.2 numbers (ascend_as (n + 1) (n + 1) numbers
-            (omega arith) (λ m above. (end_behind range others m (omega (arith, reached))).0) up.2),
+        few_ends (range.end + 1) n others apart.2
+            (λ m above p. behind m (omega arith) (ends m (omega (arith, up.0)) p)) (n ∷ numbers) (omega arith, up.1, up.2),
       )
-  | inr past ↦ omega (
-    arith,
-    few_ends (range.end + 1) n others apart.2 (n ∷ numbers) (ascend_as n n (n ∷ numbers)
-        (omega arith) (λ m above. (end_behind range others m (omega arith)).0) (omega arith, up.1, up.2)),
-  )
-]
+    ]
 
--- the ends of the runs
-ends : Ranges → List ℕ
-ends [] = []
-ends (range ∷ others) = (range.end - 1) ∷ ends others
+-- and as many
+all_ends : {Q : ℕ → Type 0} (low from : ℕ) (ranges : Ranges) → from ≤ low → AreApart low ranges
+    → ((n : ℕ) → from ≤ n → EndsRun (InRanges ranges) n → Q n)
+    → (numbers : List ℕ) × Ascend Q from numbers × (length numbers ≡ length ranges)
+unfolding Ascend AreApart InRanges
+all_ends low from [] less apart step = ([], tt, refl)
+all_ends low from (range ∷ others) less apart step =
+    let last = range.end - 1 in
+    let alone = in_above (range.end + 1) others (last + 1) apart.2 in
+    let rest = all_ends (range.end + 1) (last + 1) others (omega arith) apart.2
+    (λ m above end. step m (omega (arith, apart)) ((end_behind range others m (omega arith)).1 end)) in (
+      last ∷ rest.0,
+      (omega (arith, apart), step last (omega (arith, apart)) (grind (arith, apart, alone)), rest.1),
+      omega (arith, rest.2),
+    )
 
-length-ends : (ranges : Ranges) → length (ends ranges) ≡ length ranges
-unfolding ends
-length-ends [] = refl
-length-ends (range ∷ others) = ap suc (length-ends others)
-
-ends_ascend : (low : ℕ) (ranges : Ranges) → AreApart low ranges → Ascend (EndsRun (InRanges ranges)) low (ends ranges)
-unfolding Ascend AreApart InRanges ends
-ends_ascend low [] apart = tt
-ends_ascend low (range ∷ others) apart = (
-  omega (arith, apart.0, apart.1),
-  grind (arith, apart, in_above (range.end + 1) others (range.end - 1 + 1) apart.2),
-  ascend_as (range.end + 1) (range.end - 1 + 1) (ends others) (omega arith)
-      (λ m above. (end_behind range others m (omega arith)).1) (ends_ascend (range.end + 1) others apart.2),
-)
-
-pub highest_all : (ranges : Ranges) → AreApart 0 ranges → length ranges ≤ 64 → (n : ℕ)
+highest_all : (ranges : Ranges) → AreApart 0 ranges → length ranges ≤ 64 → (n : ℕ)
     → InRanges ranges n ↔ IsInHighest 64 (InRanges ranges) n
 highest_all ranges apart few n = (
-  λ here. (
-    here,
-    λ numbers up. omega (
-      arith,
-      few_ends 0 0 ranges apart numbers (ascend_as 0 0 numbers (omega arith)
-          (λ m above both. both.1) up),
-    ),
-  ),
+  λ here. (here, λ numbers up. omega (arith, few_ends 0 0 ranges apart (λ m above both. both.1) numbers up)),
   λ both. both.0,
 )
 
-pub highest_rest : (range : Range ℕ) (others : Ranges) → AreApart 0 (range ∷ others) → length others ≡ 64 → (n : ℕ)
+highest_rest : (range : Range ℕ) (others : Ranges) → AreApart 0 (range ∷ others) → length others ≡ 64 → (n : ℕ)
     → InRanges others n ↔ IsInHighest 64 (InRanges (range ∷ others)) n
-unfolding InRanges AreApart Ascend ends
+unfolding InRanges AreApart Ascend
 highest_rest range others apart size n = (to, λ both. from both.0 both.1)
   where
     to : InRanges others n → IsInHighest 64 (InRanges (range ∷ others)) n
-    to here = (
-      inr here,
-      λ numbers up.
-          let past : range.end + 1 ≤ n = in_above (range.end + 1) others n apart.2 here in
-          omega (
+    to here =
+        let past = in_above (range.end + 1) others n apart.2 here in (
+          inr here,
+          λ numbers up. omega (
             arith,
-            few_ends (range.end + 1) 0 others apart.2 numbers (ascend_as 0 0 numbers (omega arith)
-                (λ m above both. (end_behind range others m (omega (arith, past, both.0))).0 both.1) up),
+            few_ends (range.end + 1) 0 others apart.2
+                (λ m above both. (end_behind range others m (omega (arith, past, both.0))).0 both.1) numbers up,
           ),
-    )
+        )
 
     from : InRanges (range ∷ others) n → AtMost 64 (λ m. (n ≤ m) × EndsRun (InRanges (range ∷ others)) m)
         → InRanges others n
     from (inr here) few = here
     from (inl here) few =
-        let all = ends_ascend 0 (range ∷ others) apart in
-        absurd (omega (
-          arith,
-          length-ends others,
-          few (ends (range ∷ others)) (ascend_as (range.end - 1) 0
-              (ends (range ∷ others)) (omega arith) (λ m above last. (omega (arith, here.1), last))
-              (omega arith, all.1, all.2)),
-        ))
+        let all = all_ends {Q = λ m. (n ≤ m) × EndsRun (InRanges (range ∷ others)) m} 0 0 (range ∷ others) (omega arith)
+        apart (λ m above end. (grind (arith, here, end, in_above (range.end + 1) others m apart.2), end)) in
+        absurd (omega (arith, all.2, few all.0 all.1))
 
 -- the highest runs of sets with the same numbers
 highest_to : {A B : ℕ → Type 0} → ((n : ℕ) → A n ↔ B n) → (count n : ℕ) → IsInHighest count A n → IsInHighest count B n
 highest_to alike count n high = (
   (alike n).0 high.0,
-  λ numbers up. high.1 numbers (ascend_as 0 0 numbers (omega arith)
-      (λ m above both. (both.0, ((alike m).1 both.1.0, λ next. both.1.1 ((alike (m + 1)).0 next)))) up),
+  λ numbers up. high.1 numbers (ascend_as 0 numbers
+      (λ m both. (both.0, ((alike m).1 both.1.0, λ next. both.1.1 ((alike (m + 1)).0 next)))) up),
 )
 
 pub highest_alike : {A B : ℕ → Type 0} → ((n : ℕ) → A n ↔ B n) → (count n : ℕ)
@@ -148,6 +131,5 @@ module _ {old mid : Ranges} {number : ℕ} {is_new : Bool} (inserted : InsertsOn
 pub some_after_cut : (mid new : Ranges) (popped : Option (Range ℕ)) → 64 < length mid
     → mid ≡ option_to_list popped ++ new → AreApart 0 new → (n : ℕ) × InRanges new n
 unfolding InRanges AreApart
-some_after_cut mid [] None many is apart = absurd (let h : length mid ≡ 0 = ap length is in omega arith)
-some_after_cut mid [] (Some range) many is apart = absurd (let h : length mid ≡ 1 = ap length is in omega arith)
+some_after_cut mid [] popped many is apart = absurd (grind (arith, many, is))
 some_after_cut mid (range ∷ others) popped many is apart = (range.start, inl (omega arith, apart.1))

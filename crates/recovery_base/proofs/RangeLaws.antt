@@ -79,133 +79,129 @@ module _ (n bound more : ℕ) (Comes Goes : Type 0) (arrives : Comes → bound �
       ))
 
 -- what is left of the ranges from one of them on
-pub drop_at : {seen ranges : Ranges} (at : ℕ) (range : Range ℕ) → seen ≡ ranges → at ≤ length seen
-    → ¬ (at ≡ length seen) → range ≡ get_or ranges at range → drop at ranges ≡ range ∷ drop (suc at) ranges
-drop_at {seen} {ranges} at range same bound inside is =
-    let e : length seen ≡ length ranges = ap length same in
-    drop-cons ranges at range (omega arith) ∙ ap (λ (r : Range ℕ). r ∷ drop (suc at) ranges) (sym is)
+pub drop_at : (ranges : Ranges) (at : ℕ) (range : Range ℕ) → at < length ranges → range ≡ get_or ranges at range
+    → drop at ranges ≡ range ∷ drop (suc at) ranges
+drop_at ranges at range inside is =
+    drop-cons ranges at range inside ∙ ap (λ (r : Range ℕ). r ∷ drop (suc at) ranges) (sym is)
 
 -- two reads at one place
-pub same_read : {seen ranges : Ranges} {at : ℕ} {first second : Range ℕ} → seen ≡ ranges → at ≤ length seen
-    → ¬ (at ≡ length seen) → first ≡ get_or ranges at first → second ≡ get_or ranges at second → first ≡ second
-same_read {seen} {ranges} {at} {first} {second} same bound inside is also =
-    let e : length seen ≡ length ranges = ap length same in
-    is ∙ get_or_default ranges at first second (omega arith) ∙ sym also
+pub same_read : (ranges : Ranges) (at : ℕ) {first second : Range ℕ} → at < length ranges
+    → first ≡ get_or ranges at first → second ≡ get_or ranges at second → first ≡ second
+same_read ranges at inside is also = is ∙ get_or_default ranges at _ _ inside ∙ sym also
 
 -- ---- one number more
 
-module _ {seen ranges : Ranges} {x at : ℕ} (apart : AreApart 0 ranges) (same : seen ≡ ranges)
-    (place : IsPlace seen x at)
-  where
-    here : IsPlace ranges x at
-    here = rw same at place
+module _ {ranges : Ranges} {x at : ℕ} (apart : AreApart 0 ranges) (place : IsPlace ranges x at) where
+  low : ℕ
+  low = floor_above 0 (take at ranges)
 
-    low : ℕ
-    low = floor_above 0 (take at ranges)
+  -- what an insertion has to do from the place on
+  abbrev Local : ℕ → ℕ → Ranges → Ranges → Type 0
+  Local n = Changes n x 1 (n ≡ x) ⊥ (λ same. omega (arith, same)) (λ goes. absurd goes)
 
-    -- what an insertion has to do from the place on
-    abbrev Local : ℕ → ℕ → Ranges → Ranges → Type 0
-    Local n = Changes n x 1 (n ≡ x) ⊥ (λ same. omega (arith, same)) (λ goes. absurd goes)
+  inserted : (edit : ℕ → Ranges → Ranges) → ((at : ℕ) (range : Range ℕ) (others : Ranges)
+      → edit (suc at) (range ∷ others) ≡ range ∷ edit at others) → (old : Ranges) → drop at ranges ≡ old
+      → (low ≤ x → AreApart low old → (n : ℕ) → Local n low old (edit 0 old))
+      → InsertsOne ranges x true (edit at ranges)
+  unfolding low
+  inserted edit passes old is local =
+      record { answer = (all x).1 refl; numbers = λ n. grind (arith, all n); apart = (all 0).2; count = (all 0).3 }
+    where
+      all : (n : ℕ) → Local n 0 ranges (edit at ranges)
+      all n = changed n x 1 (n ≡ x) ⊥ (λ same. omega (arith, same)) (λ goes. absurd goes) edit
+          (λ i range others _ _. passes i range others) 0 at
+          ranges apart place.below place.bound
+          (rw is (local place.below (rw is at (from_there 0 at ranges apart).1) n))
 
-    inserted : (edit : ℕ → Ranges → Ranges) → ((at : ℕ) (range : Range ℕ) (others : Ranges)
-        → edit (suc at) (range ∷ others) ≡ range ∷ edit at others) → (old : Ranges) → drop at ranges ≡ old
-        → (low ≤ x → AreApart low old → EndsFrom x old → (n : ℕ) → Local n low old (edit 0 old))
-        → InsertsOne ranges x true (edit at ranges)
-    unfolding low
-    inserted edit passes old is local =
-        record { answer = (all x).1 refl; numbers = λ n. grind (arith, all n); apart = (all 0).2; count = (all 0).3 }
-      where
-        all : (n : ℕ) → Local n 0 ranges (edit at ranges)
-        all n = changed n x 1 (n ≡ x) ⊥ (λ same. omega (arith, same)) (λ goes. absurd goes) edit
-            (λ i range others _ _. passes i range others) 0 at
-            ranges apart here.below here.bound (rw is (local here.below (rw is at (from_there 0 at ranges apart).1)
-            (rw is at here.above) n))
+  pub inserts_last : at ≡ length ranges → InsertsOne ranges x true (ranges ++ span x (x + 1) ∷ [])
+  unfolding InRanges AreApart
+  inserts_last last = inserted (λ i rs. rs ++ span x (x + 1) ∷ []) (λ i range others. refl) []
+      (drop_all at ranges (omega arith)) (λ below apart n. grind (arith, below))
 
-    pub inserts_last : at ≡ length seen → InsertsOne ranges x true (ranges ++ span x (x + 1) ∷ [])
+  -- `range` and `other` are two reads of the range at the place
+  module _ {range other : Range ℕ} (differs : ¬ (at ≡ length ranges)) (is : range ≡ get_or ranges at range)
+      (also : other ≡ get_or ranges at other) where
+    inside : at < length ranges
+    inside = omega (arith, place.bound, differs)
+
+    after : Ranges
+    after = drop (suc at) ranges
+
+    rest : drop at ranges ≡ range ∷ after
+    unfolding after
+    rest = drop_at ranges at range inside is
+
+    as_other : range ≡ other
+    as_other = same_read ranges at inside is also
+
+    pub inserts_known : range.start ≤ x → x < other.end → InsertsOne ranges x false ranges
     unfolding InRanges AreApart
-    inserts_last last = inserted (λ i rs. rs ++ span x (x + 1) ∷ []) (λ i range others. refl) []
-        (drop_all at ranges (let e : length seen ≡ length ranges = ap length same in omega arith))
-        (λ below apart ends n. grind (arith, below))
+    inserts_known from to =
+        let known : InRanges ranges x = (from_place x x 0 at ranges apart place.below (omega arith)).1
+        (rw rest (inl (from, rw as_other to))) in
+        record { answer = known; numbers = λ n. grind (arith, known); apart = apart; count = omega arith }
 
-    -- `range` and `other` are two reads of the range at the place
-    module _ {range other : Range ℕ} (inside : ¬ (at ≡ length seen)) (is : range ≡ get_or ranges at range)
-        (also : other ≡ get_or ranges at other) where
-      after : Ranges
-      after = drop (suc at) ranges
+    pub inserts_between : x + 1 < range.start → InsertsOne ranges x true (insert ranges at (span x (x + 1)))
+    unfolding InRanges AreApart
+    inserts_between above = inserted (λ i rs. insert rs i (span x (x + 1))) (λ i range others. refl)
+        (range ∷ after) rest (λ below apart n. grind (arith, below, apart, above, in_above (range.end + 1) after x))
 
-      rest : drop at ranges ≡ range ∷ after
+    pub inserts_below : x + 1 ≡ other.start → InsertsOne ranges x true (set ranges at (span x range.end))
+    unfolding InRanges AreApart
+    inserts_below touches = inserted (λ i rs. set rs i (span x range.end)) (λ i range others. refl)
+        (range ∷ after) rest
+        (λ below apart n. grind (arith, below, apart, touches, as_other, in_above (range.end + 1) after x))
+
+    module _ (past : other.end ≤ x) where
+      ends_there : x ≤ range.end
+      ends_there = rw rest at place.above
+
+      rest_two : (next : Range ℕ) → at + 1 < length ranges → next ≡ get_or ranges (at + 1) next
+          → drop at ranges ≡ range ∷ next ∷ drop (suc (suc at)) ranges
       unfolding after
-      rest = drop_at at range same place.bound inside is
+      rest_two next within is' = rest ∙ ap (λ (rs : Ranges). range ∷ rs)
+          (drop_at ranges (suc at) next (omega arith) (is' ∙ ap (λ i. get_or ranges i next) (add-one at)))
 
-      as_other : range ≡ other
-      as_other = same_read same place.bound inside is also
+      -- no range joins it from above
+      pub inserts_above : (length ranges ≤ at + 1) ⊎ ((next : Range ℕ) × (at + 1 < length ranges)
+          × (next ≡ get_or ranges (at + 1) next) × (¬ (next.start ≡ x + 1)))
+          → InsertsOne ranges x true (set ranges at (span range.start (x + 1)))
+      unfolding InRanges AreApart after
+      inserts_above (inl last) = inserted (λ i rs. set rs i (span range.start (x + 1))) (λ i range others. refl)
+          (range ∷ []) (rest ∙ ap (λ (rs : Ranges). range ∷ rs) (drop_all (suc at) ranges (omega arith)))
+          (λ below apart n. grind (arith, below, apart, past, as_other, ends_there))
+      inserts_above (inr next) = let alone = next.3 in
+          inserted (λ i rs. set rs i (span range.start (x + 1))) (λ i range others. refl)
+          (range ∷ next.0 ∷ drop (suc (suc at)) ranges) (rest_two next.0 next.1 next.2)
+          (λ below apart n. grind (
+            arith,
+            below,
+            apart,
+            past,
+            as_other,
+            ends_there,
+            alone,
+            in_above (next.0.end + 1) (drop (suc (suc at)) ranges) x,
+          ))
 
-      pub inserts_known : range.start ≤ x → x < other.end → InsertsOne ranges x false ranges
+      pub inserts_joining : (next : Range ℕ) → at + 1 < length ranges → next ≡ get_or ranges (at + 1) next
+          → next.start ≡ x + 1 → InsertsOne ranges x true (set (remove ranges (at + 1)) at
+          (span range.start next.end))
       unfolding InRanges AreApart
-      inserts_known from to =
-          let known : InRanges ranges x = (from_place x x 0 at ranges apart here.below (omega arith)).1
-          (rw rest (inl (from, rw as_other to))) in
-          record { answer = known; numbers = λ n. grind (arith, known); apart = apart; count = omega arith }
-
-      pub inserts_between : x + 1 < range.start → InsertsOne ranges x true (insert ranges at (span x (x + 1)))
-      unfolding InRanges AreApart
-      inserts_between above = inserted (λ i rs. insert rs i (span x (x + 1))) (λ i range others. refl)
-          (range ∷ after) rest
-          (λ below apart ends n. grind (arith, below, apart, above, in_above (range.end + 1) after x))
-
-      pub inserts_below : x + 1 ≡ other.start → InsertsOne ranges x true (set ranges at (span x range.end))
-      unfolding InRanges AreApart
-      inserts_below touches = inserted (λ i rs. set rs i (span x range.end)) (λ i range others. refl)
-          (range ∷ after) rest
-          (λ below apart ends n. grind (arith, below, apart, touches, as_other, in_above (range.end + 1) after x))
-
-      module _ (past : other.end ≤ x) where
-        rest_two : (next : Range ℕ) → at + 1 < length seen → next ≡ get_or ranges (at + 1) next
-            → drop at ranges ≡ range ∷ next ∷ drop (suc (suc at)) ranges
-        unfolding after
-        rest_two next within is' = let e : length seen ≡ length ranges = ap length same in
-            rest ∙ ap (λ (rs : Ranges). range ∷ rs) (drop_at (suc at) next same (omega arith) (omega arith)
-            (is' ∙ ap (λ i. get_or ranges i next) (add-one at)))
-
-        -- no range joins it from above
-        pub inserts_above : (length seen ≤ at + 1) ⊎ ((next : Range ℕ) × (at + 1 < length seen)
-            × (next ≡ get_or ranges (at + 1) next) × (¬ (next.start ≡ x + 1)))
-            → InsertsOne ranges x true (set ranges at (span range.start (x + 1)))
-        unfolding InRanges AreApart after
-        inserts_above (inl last) = let e : length seen ≡ length ranges = ap length same in
-            inserted (λ i rs. set rs i (span range.start (x + 1))) (λ i range others. refl) (range ∷ [])
-            (rest ∙ ap (λ (rs : Ranges). range ∷ rs) (drop_all (suc at) ranges (omega arith)))
-            (λ below apart ends n. grind (arith, below, apart, past, as_other))
-        inserts_above (inr next) = let alone = next.3 in
-            inserted (λ i rs. set rs i (span range.start (x + 1))) (λ i range others. refl)
-            (range ∷ next.0 ∷ drop (suc (suc at)) ranges) (rest_two next.0 next.1 next.2)
-            (λ below apart ends n. grind (
-              arith,
-              below,
-              apart,
-              past,
-              as_other,
-              alone,
-              in_above (next.0.end + 1) (drop (suc (suc at)) ranges) x,
-            ))
-
-        pub inserts_joining : (next : Range ℕ) → at + 1 < length seen → next ≡ get_or ranges (at + 1) next
-            → next.start ≡ x + 1 → InsertsOne ranges x true (set (remove ranges (at + 1)) at
-            (span range.start next.end))
-        unfolding InRanges AreApart
-        inserts_joining next within is' follows =
-            inserted (λ i rs. set (remove rs (i + 1)) i (span range.start next.end))
-            (λ i range others. let e : suc i + 1 ≡ suc (i + 1) = omega arith in rw e refl)
-            (range ∷ next ∷ drop (suc (suc at)) ranges) (rest_two next within is')
-            (λ below apart ends n. grind (
-              arith,
-              below,
-              apart,
-              past,
-              as_other,
-              follows,
-              in_above (next.end + 1) (drop (suc (suc at)) ranges) x,
-            ))
+      inserts_joining next within is' follows =
+          inserted (λ i rs. set (remove rs (i + 1)) i (span range.start next.end))
+          (λ i range others. let e : suc i + 1 ≡ suc (i + 1) = omega arith in rw e refl)
+          (range ∷ next ∷ drop (suc (suc at)) ranges) (rest_two next within is')
+          (λ below apart n. grind (
+            arith,
+            below,
+            apart,
+            past,
+            as_other,
+            ends_there,
+            follows,
+            in_above (next.end + 1) (drop (suc (suc at)) ranges) x,
+          ))
 
 -- ---- the place of a number
 

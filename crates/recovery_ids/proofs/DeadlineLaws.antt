@@ -1,7 +1,7 @@
 -- Deadlines with equal moments. `StateLaws` rest on it.
-use Rattle.std.proofs.Common.{◌≡◌, ℕ, zero, suc, ◌+◌, ◌<◌, nat_eq, cond, List, [], ◌∷◌, length, map, take, get_or, Option, None, Some, refl, arith}
+use Rattle.std.proofs.Common.{◌≡◌, ℕ, zero, suc, ◌+◌, nat_eq, cond, List, [], ◌∷◌, length, map, take, get_or, Option, None, Some, refl, arith}
 use Rattle.std.proofs.lemmas.Bool.Decides.{nat_tests}
-use Rattle.recovery_ids.specs.LocalIds.{without_last_at, with_deadline, deadlines_with, deadlines_with_last, Rise}
+use Rattle.recovery_ids.specs.LocalIds.{without_last_at, with_deadline, deadlines_with, Rise}
 use Rattle.recovery_ids.specs.declared.state.CidTimestamp.{CidTimestamp}
 use Rattle.recovery_ids.proofs.RiseLaws.{Rise-wider}
 
@@ -21,7 +21,7 @@ with_deadline-rise low number moment (first ∷ next ∷ later) rise =
     (rise.0, with_deadline-rise (first.sequence + 1) number moment (next ∷ later) rise.1)
 
 -- a number above all others keeps the numbers rising
-deadlines_with-rise : (lifetime : Option ℕ) (now low number : ℕ) (deadlines : List CidTimestamp)
+pub deadlines_with-rise : (lifetime : Option ℕ) (now low number : ℕ) (deadlines : List CidTimestamp)
     → Rise low number (numbers_of deadlines)
     → Rise low (number + 1) (numbers_of (deadlines_with lifetime now number deadlines))
 deadlines_with-rise None now low number deadlines rise =
@@ -32,23 +32,6 @@ deadlines_with-rise (Some lifetime) now low number deadlines rise = grind (
   Rise-wider low number low (number + 1) (numbers_of deadlines) rise,
   with_deadline-rise low number (now + lifetime) deadlines rise,
 )
-
--- a deadline for the last number issued, which lies above all others
-pub deadlines_with_last-rise : (lifetime : Option ℕ) (now low bound issued : ℕ) (deadlines : List CidTimestamp)
-    → Rise low bound (numbers_of deadlines) → bound < issued →
-    Rise low issued (numbers_of (deadlines_with_last lifetime now issued deadlines))
-deadlines_with_last-rise lifetime now low bound zero deadlines rise below = absurd (omega arith)
-deadlines_with_last-rise lifetime now low bound (suc number) deadlines rise below =
-    let next : suc number ≡ number + 1 = omega arith in
-    rw next (deadlines_with-rise lifetime now low number deadlines
-    (Rise-wider _ _ _ _ _ rise (omega arith) (omega arith)))
-
-pub deadlines_with_last-rise_first : (lifetime : Option ℕ) (now issued : ℕ)
-    → Rise 0 issued (numbers_of (deadlines_with_last lifetime now issued []))
-deadlines_with_last-rise_first lifetime now zero = omega arith
-deadlines_with_last-rise_first lifetime now (suc number) =
-    let next : suc number ≡ number + 1 = omega arith in rw next (deadlines_with-rise lifetime now 0 number []
-    (omega arith))
 
 -- ---- the last deadline by its place
 

@@ -65,16 +65,18 @@ module _ (old lower mid new : Window) (frame : NewConnectionId) (token : List �
     };
   }
 
-  pub retires_move : (range : Range ℕ) → range.start ≡ old.start → range.end ≡ min new.start (old.start + LEN) →
-      IsRetirement (remote_ids old) range (remote_ids new)
-  retires_move range begins ends =
-      let ahead : low ≤ new.start = moves.least.bound in
-      record {
-        begins = begins;
-        not_empty = omega arith;
-        ends = omega arith;
-        cut = omega arith;
-        dropped = λ n here gone.
-            let lower : n < new.start = grind (arith, nat_tests, (after n).0, gone, here, low_is) in
-            omega (arith, lower, entry_within old n here);
-      }
+-- a move that a frame is answered with retires numbers
+pub retires : (old new : Window) (frame : NewConnectionId) (range : Range ℕ) (token : List ℕ)
+    → AcceptsFrame (remote_ids old) frame (Some (range, token)) (remote_ids new) → old.start < frame.retire_prior_to
+    → frame.retire_prior_to ≤ frame.sequence → IsRetirement (remote_ids old) range (remote_ids new)
+retires old new frame range token accepts ahead ordered =
+    let told = accepts.moves ahead in
+    let reached : frame.retire_prior_to ≤ new.start =
+    grind (arith, nat_tests, accepts.held new.start, accepts.active.is_held, ordered) in
+    record {
+      begins = told.begins;
+      not_empty = omega (arith, told.begins, told.ends, reached, ahead);
+      ends = omega (arith, told.ends);
+      cut = omega (arith, told.ends);
+      dropped = λ n here gone. grind (arith, nat_tests, accepts.held n, gone, here, reached, told, entry_within old n here);
+    }

@@ -23,58 +23,58 @@ AllAbove low [] = Unit {0}
 AllAbove low (size ∷ sizes) = (low < size) × AllAbove low sizes
 
 pub length-filter : {X : Type 0} (test : X → Bool) (xs : List X) → length (filter test xs) ≡ tally test xs
-length-filter test [] = refl
+length-filter _ [] = refl
 length-filter test (x ∷ xs) = grind (arith, length-filter test xs)
 
 pub tally-append : {X : Type 0} (test : X → Bool) (xs ys : List X)
     → tally test (xs ++ ys) ≡ tally test xs + tally test ys
-tally-append test [] ys = omega arith
+tally-append _ [] ys = omega arith
 tally-append test (x ∷ xs) ys = omega (arith, tally-append test xs ys)
 
 tally-in_place : (low this that : ℕ) (sizes : List ℕ)
     → tally (λ size. nat_lt low size) (in_place this that sizes) ≤ tally (λ size. nat_lt low size) sizes + one
     (nat_lt low this)
-tally-in_place low this that [] = omega arith
-tally-in_place low this that (size ∷ sizes) = grind (arith, tally-in_place low this that sizes)
+tally-in_place _ _ _ [] = omega arith
+tally-in_place low this that (_ ∷ sizes) = grind (arith, tally-in_place low this that sizes)
 
 pub length-in_place : (this that : ℕ) (sizes : List ℕ) → length (in_place this that sizes) ≡ length sizes
-length-in_place this that [] = refl
-length-in_place this that (size ∷ sizes) = grind (arith, length-in_place this that sizes)
+length-in_place _ _ [] = refl
+length-in_place this that (_ ∷ sizes) = grind (arith, length-in_place this that sizes)
 
 all-in_place : (low this that : ℕ) (sizes : List ℕ) → low < this → AllAbove low sizes
     → AllAbove low (in_place this that sizes)
-all-in_place low this that [] above all = tt
-all-in_place low this that (size ∷ sizes) above all = grind (arith, all-in_place low this that sizes above all.1)
+all-in_place _ _ _ [] _ _ = tt
+all-in_place low this that (_ ∷ sizes) above all = grind (arith, all-in_place low this that sizes above all.1)
 
 all-push : (low size : ℕ) (sizes : List ℕ) → low < size → AllAbove low sizes → AllAbove low (sizes ++ size ∷ [])
-all-push low size [] above all = (above, tt)
-all-push low size (other ∷ sizes) above all = (all.0, all-push low size sizes above all.1)
+all-push _ _ [] above _ = (above, tt)
+all-push low size (_ ∷ sizes) above all = (all.0, all-push low _ sizes above all.1)
 
 pub all-filter : (low : ℕ) (keeps : ℕ → Bool) (sizes : List ℕ) → AllAbove low sizes → AllAbove low (filter keeps sizes)
-all-filter low keeps [] all = tt
-all-filter low keeps (size ∷ sizes) all = grind (arith, all-filter low keeps sizes all.1)
+all-filter _ _ [] _ = tt
+all-filter low keeps (_ ∷ sizes) all = grind (arith, all-filter low keeps sizes all.1)
 
 pub all-kept : (low : ℕ) (sizes : List ℕ) → AllAbove low (filter (λ size. nat_lt low size) sizes)
-all-kept low [] = tt
-all-kept low (size ∷ sizes) = grind (arith, nat_tests, all-kept low sizes)
+all-kept _ [] = tt
+all-kept low (_ ∷ sizes) = grind (arith, all-kept low sizes)
 
 -- all pass
 pub tally-all : (low least : ℕ) (sizes : List ℕ) → low ≤ least → AllAbove least sizes
     → tally (λ size. nat_lt low size) sizes ≡ length sizes
-tally-all low least [] below all = refl
-tally-all low least (size ∷ sizes) below all = grind (arith, nat_tests, tally-all low least sizes below all.1)
+tally-all _ _ [] _ _ = refl
+tally-all low least (_ ∷ sizes) below all = grind (arith, tally-all low least sizes below all.1)
 
 -- a size below all of them adds nothing to the test
 pub tally-raise : (low bytes least : ℕ) (sizes : List ℕ) → bytes ≤ least → AllAbove least sizes
     → tally (λ size. nat_lt low size) sizes ≡ tally (λ size. nat_lt (max low bytes) size) sizes
-tally-raise low bytes least [] below all = refl
-tally-raise low bytes least (size ∷ sizes) below all =
-    grind (arith, nat_tests, tally-raise low bytes least sizes below all.1)
+tally-raise _ _ _ [] _ _ = refl
+tally-raise low bytes least (_ ∷ sizes) below all =
+    grind (arith, tally-raise low bytes least sizes below all.1)
 
 -- ---- one more size
 
 pub length-with_burst : (size : ℕ) (sizes : List ℕ) → min 4 (suc (length sizes)) ≤ length (with_burst size sizes)
-length-with_burst size sizes = grind (arith, nat_tests, length-append {A = ℕ}, length-in_place)
+length-with_burst _ _ = grind (arith, length-append {A = ℕ}, length-in_place)
 
 pub tally-with_burst : (low size : ℕ) (sizes : List ℕ)
     → tally (λ other. nat_lt low other) (with_burst size sizes) ≤ tally (λ other. nat_lt low other) sizes + one
@@ -96,5 +96,5 @@ has number numbers = is_member nat_eq numbers number
 
 pub past_has : (last : ℕ) (numbers : List ℕ) (number : ℕ) → list_all (λ other. nat_lt other last) numbers ≡ true
     → has number numbers ≡ true → number < last
-past_has last [] number past is = absurd (cc)
-past_has last (other ∷ numbers) number past is = grind (arith, nat_tests, past_has last numbers number)
+past_has _ [] _ _ is = absurd (cc)
+past_has last (_ ∷ numbers) number past is = grind (arith, past_has last numbers number)

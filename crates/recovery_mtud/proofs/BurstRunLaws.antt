@@ -12,13 +12,9 @@ use Rattle.recovery_mtud.proofs.BurstTies.{Needy, Coming, needy_acked, needy_pro
 
 -- ---- fates that are apart
 
-never_both : (entries : List MtuEntry) → AreFatesApart entries → (number : ℕ)
-    → has number (acked_numbers entries) ≡ true → has number (lost_numbers entries) ≡ true → ⊥
-never_both entries apart number good bad = grind (arith, apart number)
-
 -- they were apart before
 apart_before : (entry : MtuEntry) (entries : List MtuEntry) → AreFatesApart (entry ∷ entries) → AreFatesApart entries
-apart_before entry entries apart number good = grind (arith, apart number)
+apart_before _ _ apart number good = grind arith
 
 -- ---- one call
 
@@ -37,40 +33,28 @@ module _ (made : Discovery) (entries : List MtuEntry) (old : Discovery) (holds :
   at_ack : (number bytes : ℕ) (G : Bool → LossBursts → Type 0) → G false (bursts_acked number bytes old.bursts)
       → G true (record old.bursts { kept = []; acked = bytes; newest = number })
       → G (is_some (size_at number (probe_in_flight entries))) (discovery_after (acks number bytes) old).bursts
-  at_ack number bytes G other probe =
-      go (size_at number (probe_in_flight entries)) (size_in_held number old.search ∙ ap (size_at number) holds.probe)
-    where
-      go : (taken : Option ℕ) → size_of_probe number old ≡ taken
-          → G (is_some taken) (discovery_after (acks number bytes) old).bursts
-      go None is = rw is other
-      go (Some mtu) is = rw is probe
+  at_ack number bytes G other probe = grind (arith, size_in_held number old.search, holds.probe)
 
   -- the same of the end of losses, with a report and without one
   at_end : (now : ℕ) (G : MtuEntry → LossBursts → Type 0) → G losses_over (bursts_closed old.bursts)
       → G (reported now) (record (bursts_closed old.bursts) { kept = [] })
       → G (entry_of (losses_end now) old) (discovery_after (losses_end now) old).bursts
-  at_end now G none hole = go (reports old) refl
-    where
-      go : (is_hole : Bool) → reports old ≡ is_hole
-          → G (if is_hole then reported now else losses_over) (discovery_after (losses_end now) old).bursts
-      go true is = rw is hole
-      go false is = rw is none
+  at_end now G none hole = grind arith
 
   needy_after : (call : MtuCall) → AreFatesApart entries → NeedyAt made entries old.bursts
       → NeedyAt made (entry_of call old ∷ entries) (discovery_after call old).bursts
-  needy_after (acks number bytes) apart tie =
-      at_ack number bytes (λ probe. Needy (min_mtu_in_use made entries) (open_run entries)
+  needy_after (acks number bytes) _ tie =
+      at_ack _ _ (λ probe. Needy (min_mtu_in_use made entries) (open_run entries)
       (if probe then [] else filter (is_above bytes) (standing entries)) (number ∷ acked_numbers entries)
       (lost_numbers entries))
       (needy_acked _ _ _ _ _ old.bursts tie number bytes) (needy_probed _ _ _ _ _ old.bursts tie number bytes)
   needy_after (loses number bytes) apart tie =
-      needy_lost _ _ _ _ _ old.bursts tie (never_both entries apart) number bytes
+      needy_lost _ _ _ _ _ old.bursts tie apart number bytes
   needy_after (losses_end now) apart tie =
-      let ended = needy_ended _ _ _ _ _ old.bursts tie (never_both entries apart) in
+      let ended = needy_ended _ _ _ _ _ old.bursts tie apart in
       at_end now (λ entry. NeedyAt made (entry ∷ entries)) ended.0 ended.1
-  needy_after (polls now next) apart tie = polled
-      (λ entry. NeedyAt made (entry ∷ entries) old.bursts) now next _ tie (λ size. tie)
-  needy_after call apart tie = grind (arith, needy_made)
+  needy_after (polls now next) _ tie = grind arith
+  needy_after _ _ tie = grind arith
 
   abbrev size : ℕ
   size = min_mtu_in_use made entries
@@ -84,40 +68,40 @@ module _ (made : Discovery) (entries : List MtuEntry) (old : Discovery) (holds :
   coming_after : (call : MtuCall) → ComingAt made entries old.bursts
       → ComingAt made (entry_of call old ∷ entries) (discovery_after call old).bursts
   coming_after (acks number bytes) tie =
-      at_ack number bytes (λ probe. let larger = probe || nat_lt size bytes in
+      at_ack _ _ (λ probe. let larger = probe || nat_lt size bytes in
       Coming size (open_run entries) (if larger then [] else bursts) (if larger then number ∷ numbers else numbers))
-      (coming_acked size _ bursts numbers old.bursts tie number bytes)
-      (coming_probed size _ bursts numbers old.bursts tie number bytes)
-  coming_after (loses number bytes) tie = coming_lost size _ bursts numbers old.bursts tie number bytes
+      (coming_acked _ _ bursts numbers old.bursts tie number bytes)
+      (coming_probed _ _ bursts numbers old.bursts tie number bytes)
+  coming_after (loses number bytes) tie = coming_lost _ _ bursts numbers old.bursts tie number bytes
   coming_after (losses_end now) tie =
-      let ended = coming_ended size _ bursts numbers old.bursts tie in
+      let ended = coming_ended _ _ bursts numbers old.bursts tie in
       at_end now (λ entry. ComingAt made (entry ∷ entries)) ended.0 ended.1
   coming_after (polls now next) tie = polled
       (λ entry. ComingAt made (entry ∷ entries) old.bursts) now next _ tie (λ size. tie)
-  coming_after call tie = grind (arith, coming_made)
+  coming_after _ tie = grind arith
 
 -- ---- all calls
 
 needy_by : (made : Discovery) → IsUntold made → (calls : List MtuCall) → AreFatesApart (entries_by made calls)
     → NeedyAt made (entries_by made calls) (discovery_by made calls).bursts
-needy_by made new [] apart =
-    rw new.bursts (needy_made made.bursts.min_mtu [] [])
+needy_by made new [] _ =
+    rw new.bursts (needy_made _ [] [])
 needy_by made new (call ∷ earlier) apart =
-    let before = apart_before (entry_of call (discovery_by made earlier)) (entries_by made earlier) apart in
-    needy_after made _ _ (holds_by made new earlier) call before (needy_by made new earlier before)
+    let before = apart_before _ (entries_by made earlier) apart in
+    needy_after made _ _ (holds_by _ new earlier) call before (needy_by _ new earlier before)
 
 coming_by : (made : Discovery) → IsUntold made → (calls : List MtuCall)
     → ComingAt made (entries_by made calls) (discovery_by made calls).bursts
 coming_by made new [] =
-    rw new.bursts (coming_made made.bursts.min_mtu [])
+    rw new.bursts (coming_made _ [])
 coming_by made new (call ∷ earlier) =
-    coming_after made _ _ (holds_by made new earlier) call (coming_by made new earlier)
+    coming_after made _ _ (holds_by _ new earlier) call (coming_by _ new earlier)
 
 -- where a black hole is reported, four bursts stand
 pub four_stand : (made : Discovery) → IsUntold made → (calls : List MtuCall) → AreFatesApart (entries_by made calls)
     → reports (discovery_by made calls) ≡ true → AreFourStanding made (entries_by made calls)
 four_stand made new calls apart =
-    needy_report _ _ _ _ _ _ (needy_by made new calls apart) (never_both (entries_by made calls) apart)
+    needy_report _ _ _ _ _ _ (needy_by _ new calls apart) apart
 
 -- where four have closed unanswered, the end of losses reports a black hole
 pub four_report : (made : Discovery) → IsUntold made → (calls : List MtuCall)
@@ -125,7 +109,7 @@ pub four_report : (made : Discovery) → IsUntold made → (calls : List MtuCall
 four_report made new calls =
     let entries = entries_by made calls in
     let least = min_mtu_in_use made entries in
-    coming_report least _ (unanswered least entries) (larger_acked least entries) _ (coming_by made new calls)
+    coming_report least _ (unanswered least entries) (larger_acked least entries) _ (coming_by _ new calls)
 
 -- ---- numbers by the calls
 
@@ -145,12 +129,12 @@ HaveNumbers entries calls = (acked_numbers entries ≡ acked_in_calls calls)
 
 -- the numbers of the entries are those of the calls
 pub numbers_by : (made : Discovery) (calls : List MtuCall) → HaveNumbers (entries_by made calls) calls
-numbers_by made [] = (refl, refl)
-numbers_by made (call ∷ earlier) = grind (arith, numbers_by made earlier)
+numbers_by _ [] = (refl, refl)
+numbers_by made (_ ∷ earlier) = grind (arith, numbers_by made earlier)
 
 -- fates that are apart in the calls are apart in the entries
 pub fates_apart_by : (made : Discovery) (calls : List MtuCall)
     → ((number : ℕ) → has number (acked_in_calls calls) ≡ true → has number (lost_in_calls calls) ≡ false)
     → AreFatesApart (entries_by made calls)
 fates_apart_by made calls apart number good =
-    grind (arith, numbers_by made calls, apart number, good)
+    grind (arith, numbers_by made calls)

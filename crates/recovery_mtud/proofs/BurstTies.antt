@@ -17,9 +17,9 @@ least_size (loss ∷ other ∷ losses) = min loss.bytes (least_size (other ∷ l
 
 -- all are larger where the least is
 above_least : (size : ℕ) (burst : List Loss) → is_above size burst ≡ nat_lt size (least_size burst)
-above_least size [] = grind (arith, nat_tests)
-above_least size (loss ∷ []) = grind (arith, nat_tests)
-above_least size (loss ∷ other ∷ losses) = grind (arith, nat_tests, above_least size (other ∷ losses))
+above_least _ [] = grind arith
+above_least _ (_ ∷ []) = grind arith
+above_least size (_ ∷ other ∷ losses) = grind (arith, nat_tests, above_least size (other ∷ losses))
 
 -- its least size and its last number
 abbrev pub summary : List Loss → Option Burst
@@ -34,7 +34,7 @@ IsLast lost [] = Unit {0}
 IsLast lost (loss ∷ losses) = has loss.number lost ≡ true
 
 abbrev AreApart : List ℕ → List ℕ → Type 0
-AreApart acked lost = (number : ℕ) → has number acked ≡ true → has number lost ≡ true → ⊥
+AreApart acked lost = (number : ℕ) → has number acked ≡ true → has number lost ≡ false
 
 abbrev pub both : ℕ → ℕ → List Loss → Bool
 both min_mtu low burst = is_above min_mtu burst && is_above low burst
@@ -51,42 +51,42 @@ Needy min_mtu run standing acked lost s = (s.open_burst ≡ summary run) × (s.m
 
 filter_both : (min_mtu low bytes : ℕ) (bursts : List (List Loss))
     → tally (both min_mtu low) (filter (is_above bytes) bursts) ≡ tally (both min_mtu (max low bytes)) bursts
-filter_both min_mtu low bytes [] = refl
+filter_both _ _ _ [] = refl
 filter_both min_mtu low bytes (burst ∷ bursts) =
     grind (arith, nat_tests, filter_both min_mtu low bytes bursts, λ (size : ℕ). above_least size burst)
 
 filtered : (low bytes : ℕ) (sizes : List ℕ)
     → tally (λ size. nat_lt low size) (filter (λ size. nat_lt bytes size) sizes)
     ≡ tally (λ size. nat_lt (max low bytes) size) sizes
-filtered low bytes [] = refl
-filtered low bytes (size ∷ sizes) = grind (arith, nat_tests, filtered low bytes sizes)
+filtered _ _ [] = refl
+filtered low bytes (_ ∷ sizes) = grind (arith, filtered low bytes sizes)
 
 above_both : (min_mtu : ℕ) (bursts : List (List Loss))
     → tally (both min_mtu min_mtu) bursts ≡ length (filter (is_above min_mtu) bursts)
-above_both min_mtu [] = refl
-above_both min_mtu (burst ∷ bursts) = grind (arith, nat_tests, above_both min_mtu bursts)
+above_both _ [] = refl
+above_both min_mtu (_ ∷ bursts) = grind (arith, above_both min_mtu bursts)
 
 module _ (min_mtu : ℕ) (acked lost : List ℕ) (s : LossBursts) where
   -- the open burst closes
   pub close_needs : (run : List Loss) (bursts : List (List Loss)) → Needy min_mtu run bursts acked lost s
       → AreApart acked lost → Needy min_mtu [] (run ∷ bursts) acked lost (bursts_closed s)
-  close_needs [] bursts tie apart = grind arith
-  close_needs (loss ∷ losses) bursts tie apart =
+  close_needs [] _ tie _ = grind arith
+  close_needs (loss ∷ losses) _ tie apart =
       let above = λ (size : ℕ). above_least size (loss ∷ losses) in
-      grind (arith, nat_tests, apart loss.number, above, all-with_burst, tally-with_burst)
+      grind (arith, nat_tests, all-with_burst, tally-with_burst)
 
 module _ (min_mtu : ℕ) (run : List Loss) (bursts : List (List Loss)) (acked lost : List ℕ) (s : LossBursts)
     (tie : Needy min_mtu run bursts acked lost s) where
   pub needy_acked : (number bytes : ℕ)
       → Needy min_mtu run (filter (is_above bytes) bursts) (number ∷ acked) lost (bursts_acked number bytes s)
-  needy_acked number bytes =
+  needy_acked _ bytes =
       let raise = λ (low : ℕ). tally-raise low bytes s.acked s.kept in
       let both_above = λ (low : ℕ). filter_both min_mtu low bytes bursts in
-      grind (arith, nat_tests, both_above, filtered, raise, all-kept, all-filter)
+      grind (arith, both_above, filtered, all-kept, all-filter)
 
   pub needy_probed : (number bytes : ℕ)
       → Needy min_mtu run [] (number ∷ acked) lost (record s { kept = []; acked = bytes; newest = number })
-  needy_probed number bytes = grind (arith, nat_tests)
+  needy_probed _ _ = grind arith
 
   module _ (apart : AreApart acked lost) where
     pub needy_lost : (number bytes : ℕ)
@@ -94,22 +94,22 @@ module _ (min_mtu : ℕ) (run : List Loss) (bursts : List (List Loss)) (acked lo
         let joined = follows number run in
         Needy min_mtu (this ∷ (if joined then run else [])) ((if joined then [] else run ∷ []) ++ bursts) acked
         (number ∷ lost) (bursts_lost number bytes s))
-    needy_lost number bytes = grind (arith, nat_tests, close_needs min_mtu acked lost s run bursts tie apart)
+    needy_lost _ _ = grind (arith, close_needs min_mtu acked lost s run bursts tie apart)
 
     pub needy_ended : Needy min_mtu [] (run ∷ bursts) acked lost (bursts_closed s)
         × Needy min_mtu [] [] acked lost (record (bursts_closed s) { kept = [] })
     needy_ended =
-        let closed = close_needs min_mtu acked lost s run bursts tie apart in (closed, grind (arith, closed))
+        let closed = close_needs _ _ _ s run _ tie apart in (closed, grind arith)
 
     pub needy_report : nat_le 4 (length (bursts_closed s).kept) ≡ true
         → 4 ≤ length (filter (is_above min_mtu) (run ∷ bursts))
     needy_report is =
-        let closed = close_needs min_mtu acked lost s run bursts tie apart in
+        let closed = close_needs _ _ _ s run _ tie apart in
         let kept = tally-all min_mtu min_mtu (bursts_closed s).kept in
-        grind (arith, nat_tests, closed, kept, above_both min_mtu (run ∷ bursts))
+        grind (arith, nat_tests, above_both min_mtu (run ∷ bursts))
 
 pub needy_made : (min_mtu : ℕ) (acked lost : List ℕ) → Needy min_mtu [] [] acked lost (bursts_made min_mtu)
-needy_made min_mtu acked lost = grind arith
+needy_made _ acked lost = grind arith
 
 -- ---- the same for what must come
 
@@ -132,24 +132,24 @@ Coming min_mtu run unanswered numbers s = (s.open_burst ≡ summary run) × (s.m
 -- some count where one is past the numbers
 some_counted : (test : List Loss → Bool) (bursts : List (List Loss)) → list_any test bursts ≡ true
     → 0 < length (from_first test bursts)
-some_counted test [] any = absurd (cc)
-some_counted test (burst ∷ bursts) any = grind arith
+some_counted _ [] any = absurd (cc)
+some_counted _ (_ ∷ _) any = grind arith
 
 -- and more, where so many have closed since
 behind : (test : List Loss → Bool) (count : ℕ) (bursts : List (List Loss)) → list_any test (drop count bursts) ≡ true
     → (list_any test bursts ≡ true) × (count < length (from_first test bursts))
 behind test zero bursts any = grind (arith, some_counted test bursts any)
-behind test (suc count) [] any = absurd (cc)
-behind test (suc count) (burst ∷ bursts) any = grind (arith, behind test count bursts any)
+behind _ (suc _) [] any = absurd (cc)
+behind test (suc count) (_ ∷ bursts) any = grind (arith, behind test count bursts any)
 
 module _ (min_mtu : ℕ) (numbers : List ℕ) (s : LossBursts) where
   close_comes : (run : List Loss) (bursts : List (List Loss)) → Coming min_mtu run bursts numbers s
       → Coming min_mtu [] (run ∷ bursts) numbers (bursts_closed s)
-  close_comes [] bursts tie = grind arith
+  close_comes [] _ tie = grind arith
   close_comes (loss ∷ losses) bursts tie =
       let some = some_counted (is_past numbers) (filter (is_above min_mtu) bursts) in
       let above = above_least min_mtu (loss ∷ losses) in
-      grind (arith, nat_tests, above, some, past_has loss.number numbers s.newest, all-with_burst, length-with_burst)
+      grind (arith, nat_tests, past_has loss.number numbers s.newest, all-with_burst, length-with_burst)
 
 module _ (min_mtu : ℕ) (run : List Loss) (bursts : List (List Loss)) (numbers : List ℕ) (s : LossBursts)
     (tie : Coming min_mtu run bursts numbers s) where
@@ -161,29 +161,29 @@ module _ (min_mtu : ℕ) (run : List Loss) (bursts : List (List Loss)) (numbers 
     where
       go : (larger : Bool) → nat_lt min_mtu bytes ≡ larger → Coming min_mtu run (if larger then [] else bursts)
           (if larger then number ∷ numbers else numbers) (bursts_acked number bytes s)
-      go true is = grind (arith, nat_tests, is, all-filter)
-      go false is = grind (arith, nat_tests, is, all-filter, length-filter, tally-all bytes min_mtu s.kept)
+      go true is = grind (arith, all-filter)
+      go false is = grind (arith, all-filter, length-filter, tally-all bytes min_mtu s.kept)
 
   pub coming_probed : (number bytes : ℕ)
       → Coming min_mtu run [] (number ∷ numbers) (record s { kept = []; acked = bytes; newest = number })
-  coming_probed number bytes = grind (arith, nat_tests)
+  coming_probed _ _ = grind arith
 
   pub coming_lost : (number bytes : ℕ) → (let this : Loss = record { number = number; bytes = bytes } in
       let joined = follows number run in
       Coming min_mtu (this ∷ (if joined then run else [])) ((if joined then [] else run ∷ []) ++ bursts) numbers
       (bursts_lost number bytes s))
-  coming_lost number bytes = grind (arith, nat_tests, close_comes min_mtu numbers s run bursts tie)
+  coming_lost _ _ = grind (arith, close_comes min_mtu numbers s run bursts tie)
 
   pub coming_ended : Coming min_mtu [] (run ∷ bursts) numbers (bursts_closed s)
       × Coming min_mtu [] [] numbers (record (bursts_closed s) { kept = [] })
-  coming_ended = let closed = close_comes min_mtu numbers s run bursts tie in (closed, grind (arith, closed))
+  coming_ended = let closed = close_comes _ _ s run bursts tie in (closed, grind arith)
 
   -- a report comes at four
   pub coming_report : list_any (is_past numbers) (drop 3 (filter (is_above min_mtu) (run ∷ bursts))) ≡ true
       → nat_le 4 (length (bursts_closed s).kept) ≡ true
   coming_report many =
       let four = behind (is_past numbers) 3 (filter (is_above min_mtu) (run ∷ bursts)) many in
-      grind (arith, nat_tests, close_comes min_mtu numbers s run bursts tie, four)
+      grind (arith, close_comes min_mtu numbers s run bursts tie)
 
 pub coming_made : (min_mtu : ℕ) (numbers : List ℕ) → Coming min_mtu [] [] numbers (bursts_made min_mtu)
-coming_made min_mtu numbers = grind arith
+coming_made _ _ = grind arith

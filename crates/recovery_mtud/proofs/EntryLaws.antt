@@ -26,44 +26,44 @@ pub record Holds (made : Discovery) (entries : List MtuEntry) (discovery : Disco
 -- the size that the state gives at a number is the one of the probe held
 pub size_in_held : (number : ℕ) (search : Option MtuSearch)
     → option_and_then (probed_size number) search ≡ size_at number (held search)
-size_in_held number own = grind arith
+size_in_held _ _ = grind arith
 
 -- what holds of a poll's entry without a probe, and with one
 pub polled : (P : MtuEntry → Type 0) (now next : ℕ) (answer : Option ℕ) → P (unprobed now)
     → ((size : ℕ) → P (probed now next size)) → P (poll_entry now next answer)
-polled P now next None none some = none
-polled P now next (Some size) none some = some size
+polled P _ _ None none _ = none
+polled P _ _ (Some size) _ some = some size
 
 -- what a call leaves is what its entry says: the last line is a proof for each call
 pub holds_after : (made : Discovery) (entries : List MtuEntry) (call : MtuCall) (old : Discovery)
     → Holds made entries old → Holds made (entry_of call old ∷ entries) (discovery_after call old)
-holds_after made entries (polls now next) old holds = grind arith
-holds_after made entries call old holds = grind arith
+holds_after _ _ (polls _ _) _ holds = grind arith
+holds_after _ _ _ _ holds = grind arith
 
 -- ---- all calls
 
 holds_made : (made : Discovery) → IsUntold made → Holds made [] made
-holds_made made new = grind arith
+holds_made _ new = grind arith
 
 -- whatever is told, a discovery holds what the entries say: the MTU in use is theirs, and so are the probe in flight
 -- and whether a search runs
 pub holds_by : (made : Discovery) → IsUntold made → (calls : List MtuCall)
     → Holds made (entries_by made calls) (discovery_by made calls)
-holds_by made new [] = holds_made made new
+holds_by made new [] = holds_made _ new
 holds_by made new (call ∷ earlier) =
-    holds_after made (entries_by made earlier) call (discovery_by made earlier) (holds_by made new earlier)
+    holds_after _ _ _ _ (holds_by _ new earlier)
 
 -- a number is that of the probe in flight exactly where the entries say so
 pub is_probe_by : (made : Discovery) → IsUntold made → (calls : List MtuCall) (number : ℕ)
     → is_probe number (discovery_by made calls) ≡ is_some (size_at number (probe_in_flight (entries_by made calls)))
-is_probe_by made new calls number = grind (arith, sym (holds_by made new calls).probe)
+is_probe_by made new calls _ = grind (arith, sym (holds_by made new calls).probe)
 
 -- a discovery that was made, enabled or not, was told nothing
 pub discovery_made_untold : (mtu min_mtu : ℕ) (limit : Option ℕ) (searched : Option MtuDiscoveryConfig)
     → IsUntold (discovery_made mtu min_mtu limit searched)
-discovery_made_untold mtu min_mtu limit None = record { search = tt; bursts = refl }
-discovery_made_untold mtu min_mtu limit (Some settings) = record { search = (refl, refl); bursts = refl }
+discovery_made_untold _ _ _ None = record { search = tt; bursts = refl }
+discovery_made_untold _ _ _ (Some _) = record { search = (refl, refl); bursts = refl }
 
 pub made_settings : (mtu min_mtu : ℕ) (limit : Option ℕ) (searched : Option MtuDiscoveryConfig)
     → search_settings (discovery_made mtu min_mtu limit searched) ≡ searched
-made_settings mtu min_mtu limit searched = grind arith
+made_settings _ _ _ _ = grind arith

@@ -21,18 +21,18 @@ use Rattle.recovery_mtud.proofs.SearchTies.{Narrows, narrows_begun, left, narrow
 
 -- where none runs, there are none
 pub idle_before : (entries : List MtuEntry) → search_runs entries ≡ false → before_search entries ≡ entries
-idle_before [] idle = refl
-idle_before (entry ∷ earlier) idle = grind (arith, idle)
+idle_before [] _ = refl
+idle_before (_ ∷ _) idle = grind arith
 
 pub idle_search : (entries : List MtuEntry) → search_runs entries ≡ false → search_of entries ≡ []
-idle_search [] idle = refl
-idle_search (entry ∷ earlier) idle = grind (arith, idle)
+idle_search [] _ = refl
+idle_search (_ ∷ _) idle = grind arith
 
 -- they have the probe in flight
 search_probe : (entries : List MtuEntry) → search_runs entries ≡ true
     → probe_in_flight (search_of entries) ≡ probe_in_flight entries
-search_probe [] runs = refl
-search_probe (entry ∷ earlier) runs = grind (arith, search_probe earlier)
+search_probe [] _ = refl
+search_probe (_ ∷ earlier) runs = grind (arith, search_probe earlier)
 
 -- ---- what a phase keeps
 
@@ -102,7 +102,7 @@ module _ (made : Discovery) (link : ℕ) (settings : MtuDiscoveryConfig) (entrie
       let fair = tie.1 outside honest.start (recursion_from_All (λ size. size ≤ link) _ honest.acked)
       (recursion_from_All (λ size. link < size) _ honest.lost) in
       let near = fair_end _ _ _ _ further _ p wide.0 empty is tie.0 fair in
-      record { carried = omega (arith, fair.0, same); near = omega (arith, near, same) }
+      record { carried = omega arith; near = omega arith }
 
   -- a poll that goes on with one
   goes_on : (further now next : ℕ) (probing : Option Probing) (p : Probing) → p.in_flight ≡ None
@@ -111,9 +111,9 @@ module _ (made : Discovery) (link : ℕ) (settings : MtuDiscoveryConfig) (entrie
       → (answer : Option ℕ) → size_to_probe settings.minimum_change p ≡ answer
       → Told made link settings (left further p) (poll_entry now next answer) entries mtu
       (Some (probing_on now next (search_in probing) p answer))
-  goes_on further now next probing p empty kept same quiet searched None is =
-      let ends = ends_near further p empty kept same is in grind (arith, ends)
-  goes_on further now next probing p empty kept same quiet searched (Some size) is = (
+  goes_on further _ _ _ p empty kept same quiet searched None is =
+      let ends = ends_near further p empty kept same is in grind arith
+  goes_on _ _ next _ p empty kept _ quiet searched (Some size) is = (
     (
       refl,
       (
@@ -135,8 +135,8 @@ module _ (made : Discovery) (link : ℕ) (settings : MtuDiscoveryConfig) (entrie
       let within = within_begun mtu (search_in None) in
       let bound = ap₂ (λ (m : ℕ) (l : Option ℕ). upper_from m (limit_or_greatest l) settings.upper_bound)
       holds.mtu holds.limit ∙ ap (upper_behind made link settings) (sym (idle_before entries idle)) in (
-        grind (arith, bound, within),
-        grind (arith, idle_before entries idle, idle_search entries idle, narrows_begun, holds.mtu, holds.limit),
+        grind arith,
+        grind (arith, idle_before entries idle, idle_search entries idle),
       )
 
   searching : (further : ℕ) (call : MtuCall) (p : Probing) (flight : Option ℕ)
@@ -172,7 +172,7 @@ module _ (made : Discovery) (link : ℕ) (settings : MtuDiscoveryConfig) (new : 
     (is : search_settings made ≡ Some settings) where
   kept_first : (search : Option MtuSearch) → IfSome search (λ own. (own.probing ≡ None) × (own.activation ≡ 0))
       → option_map (λ own. own.settings) search ≡ Some settings → KeptIn made link settings 0 [] made.mtu search
-  kept_first None initial is = absurd (cc)
+  kept_first None _ is = absurd (cc)
   kept_first (Some search) initial is = grind arith
 
   told_next : (further : ℕ) (call : MtuCall) (entries : List MtuEntry) (old : Discovery) (search : Option MtuSearch)
@@ -205,29 +205,15 @@ few_in : (made : Discovery) (settings : MtuDiscoveryConfig) → IsWide settings 
     (mtu : ℕ) (search : Option MtuSearch)
     → is_some (option_and_then (λ own. own.probing) search) ≡ search_runs entries
     → KeptIn made 0 settings further entries mtu search → TakesFew entries
-few_in made settings wide further entries mtu None runs kept = absurd kept
-few_in made settings wide further entries mtu (Some own) runs kept = go own.probing runs kept.1 (rw kept.0 wide)
-  where
-    go : (probing : Option Probing) → is_some probing ≡ search_runs entries
-        → Kept made 0 own.settings further entries mtu own.activation probing → IsWide own.settings → TakesFew entries
-    go (Some p) runs kept wide = let narrows = (kept.1 wide).0 in
-        record { sizes = omega (arith, narrows); probes = omega (arith, narrows) }
-    go None runs kept wide = grind (arith, idle_search entries)
+few_in made settings wide further entries mtu search runs kept =
+    grind (arith, idle_search entries)
 
 near_all : (made : Discovery) (settings : MtuDiscoveryConfig) (entry : MtuEntry) (entries : List MtuEntry)
     → AreLimitsOutside (entry ∷ entries)
     → ((link : ℕ) → AreLimitsOutside entries → EndsNear made link settings entry entries)
     → EndsNearBest made settings (entry ∷ entries)
-near_all made settings (unprobed now) entries outside near = λ quiet searched link. near link outside quiet searched
-near_all made settings entry entries outside near = tt
-
--- at every moment the search that runs has taken at most 16 sizes and 48 probes
-pub search_takes_few : (made : Discovery) (settings : MtuDiscoveryConfig) → IsUntold made
-    → search_settings made ≡ Some settings → 3 ≤ settings.minimum_change → settings.upper_bound < 2 ^ 16
-    → (calls : List MtuCall) → TakesFew (entries_by made calls)
-search_takes_few made settings new is change bound calls =
-    let kept = kept_by made 0 settings new is calls in
-    few_in made settings (change, bound) kept.0 (entries_by made calls) _ _ (holds_by made new calls).runs kept.1
+near_all _ _ (unprobed _) _ outside near = λ quiet searched link. near link outside quiet searched
+near_all _ _ _ _ _ _ = tt
 
 -- ---- limits that are told in turn
 
@@ -240,41 +226,9 @@ IsInTurn call old = ⊤
 pub limits_outside_after : (made : Discovery) → IsUntold made → (call : MtuCall) (earlier : List MtuCall)
     → IsInTurn call (discovery_by made earlier)
     → AreLimitsOutside (entries_by made earlier) → AreLimitsOutside (entries_by made (call ∷ earlier))
-limits_outside_after made new (polls now next) earlier turn outside =
-    polled (λ entry. AreLimitsOutside (entry ∷ entries_by made earlier)) now next _ outside (λ size. outside)
-limits_outside_after made new call earlier turn outside =
-    let runs = (holds_by made new earlier).runs in grind (arith, sym runs)
-
--- ---- what whole runs promise
-
--- a search that ends by a poll ends near the best size of an honest link
-pub search_ends_near : (made : Discovery) (settings : MtuDiscoveryConfig) → IsUntold made
-    → search_settings made ≡ Some settings → 3 ≤ settings.minimum_change → settings.upper_bound < 2 ^ 16
-    → (calls : List MtuCall) → AreLimitsOutside (entries_by made calls)
-    → EndsNearBest made settings (entries_by made calls)
-search_ends_near made settings new is change bound [] outside = tt
-search_ends_near made settings new is change bound (call ∷ earlier) outside =
-    near_all made settings (entry_of call (discovery_by made earlier)) (entries_by made earlier) outside
-    (λ link. (told_by made link settings new is call earlier (kept_by made link settings new is earlier)).1.2
-    (change, bound))
-
--- a probe comes in a search alone, while none is in flight
-pub probes_in_search : (made : Discovery) (settings : MtuDiscoveryConfig) → IsUntold made
-    → search_settings made ≡ Some settings
-    → (calls : List MtuCall) → ProbesInSearch settings (entries_by made calls)
-probes_in_search made settings new is [] = tt
-probes_in_search made settings new is (call ∷ earlier) =
-    (told_by made 0 settings new is call earlier (kept_by made 0 settings new is earlier)).1.1
-
--- the MTU in use is the one that the entries say
-pub mtu_by : (made : Discovery) → IsUntold made → (calls : List MtuCall)
-    → (discovery_by made calls).mtu ≡ mtu_in_use made (entries_by made calls)
-mtu_by made new calls = (holds_by made new calls).mtu
-
--- a search runs exactly where the entries say so
-pub search_runs_by : (made : Discovery) → IsUntold made → (calls : List MtuCall)
-    → is_searching_of (discovery_by made calls) ≡ search_runs (entries_by made calls)
-search_runs_by made new calls = (holds_by made new calls).runs
+limits_outside_after made _ (polls now next) earlier _ outside = grind arith
+limits_outside_after made new _ earlier turn outside =
+    let runs = (holds_by _ new earlier).runs in grind arith
 
 -- ---- the probe in flight
 
@@ -288,17 +242,51 @@ between : (made : Discovery) (settings : MtuDiscoveryConfig) (further : ℕ) (en
     → KeptIn made 0 settings further entries mtu search → IsBetween made settings entries mtu probe.size
 between made settings further entries mtu probe search flies kept = grind arith
 
--- it lies within the bounds of its search, and above the MTU in use
-pub flight_within : (made : Discovery) (settings : MtuDiscoveryConfig) → IsUntold made
-    → search_settings made ≡ Some settings → (calls : List MtuCall) (probe : MtuProbe)
-    → probe_in_flight (entries_by made calls) ≡ Some probe
-    → IsBetween made settings (entries_by made calls) (mtu_in_use made (entries_by made calls)) probe.size
-flight_within made settings new is calls probe flies =
-    let holds = holds_by made new calls in
-    let kept = kept_by made 0 settings new is calls in
-    let now = discovery_by made calls in
-    grind (
-      arith,
-      holds.mtu,
-      between made settings kept.0 (entries_by made calls) now.mtu probe now.search (holds.probe ∙ flies) kept.1,
-    )
+-- ---- what whole runs promise
+
+-- the MTU in use is the one that the entries say
+pub mtu_by : (made : Discovery) → IsUntold made → (calls : List MtuCall)
+    → (discovery_by made calls).mtu ≡ mtu_in_use made (entries_by made calls)
+mtu_by made new calls = (holds_by _ new calls).mtu
+
+-- a search runs exactly where the entries say so
+pub search_runs_by : (made : Discovery) → IsUntold made → (calls : List MtuCall)
+    → is_searching_of (discovery_by made calls) ≡ search_runs (entries_by made calls)
+search_runs_by made new calls = (holds_by _ new calls).runs
+
+module _ (made : Discovery) (settings : MtuDiscoveryConfig) (new : IsUntold made)
+    (is : search_settings made ≡ Some settings) where
+  -- at every moment the search that runs has taken at most 16 sizes and 48 probes
+  pub search_takes_few : 3 ≤ settings.minimum_change → settings.upper_bound < 2 ^ 16 → (calls : List MtuCall)
+      → TakesFew (entries_by made calls)
+  search_takes_few change bound calls =
+      let kept = kept_by made 0 settings new is calls in
+      few_in made settings (change, bound) kept.0 (entries_by made calls) _ _ (holds_by made new calls).runs kept.1
+
+  -- a search that ends by a poll ends near the best size of an honest link
+  pub search_ends_near : 3 ≤ settings.minimum_change → settings.upper_bound < 2 ^ 16 → (calls : List MtuCall)
+      → AreLimitsOutside (entries_by made calls) → EndsNearBest made settings (entries_by made calls)
+  search_ends_near change bound [] outside = tt
+  search_ends_near change bound (call ∷ earlier) outside =
+      near_all made settings (entry_of call (discovery_by made earlier)) (entries_by made earlier) outside
+      (λ link. (told_by made link settings new is call earlier (kept_by made link settings new is earlier)).1.2
+      (change, bound))
+
+  -- a probe comes in a search alone, while none is in flight
+  pub probes_in_search : (calls : List MtuCall) → ProbesInSearch settings (entries_by made calls)
+  probes_in_search [] = tt
+  probes_in_search (call ∷ earlier) =
+      (told_by made 0 settings new is call earlier (kept_by made 0 settings new is earlier)).1.1
+
+  -- the probe in flight lies within the bounds of its search, and above the MTU in use
+  pub flight_within : (calls : List MtuCall) (probe : MtuProbe) → probe_in_flight (entries_by made calls) ≡ Some probe
+      → IsBetween made settings (entries_by made calls) (mtu_in_use made (entries_by made calls)) probe.size
+  flight_within calls probe flies =
+      let holds = holds_by made new calls in
+      let kept = kept_by made 0 settings new is calls in
+      let now = discovery_by made calls in
+      grind (
+        arith,
+        holds.mtu,
+        between made settings kept.0 (entries_by made calls) now.mtu probe now.search (holds.probe ∙ flies) kept.1,
+      )

@@ -29,7 +29,7 @@ Narrows further change probed p =
 -- a search begins with all 16 to come
 pub narrows_begun : (mtu : ℕ) (search : MtuSearch) → search.settings.upper_bound < 2 ^ 16
     → Narrows 16 search.settings.minimum_change [] (begun mtu search)
-narrows_begun mtu search bound = grind arith
+narrows_begun _ _ bound = grind arith
 
 one_more : (k : ℕ) → (1 ≤ k) ⊎ (2 ^ k ≡ 1)
 one_more zero = inr refl
@@ -45,15 +45,15 @@ next number size p = record (narrowed p) { in_flight = Some number; last = size 
 by_test : (further change number size : ℕ) (probed : List ℕ) (p : Probing) (again : Bool) → repeats p ≡ again
     → 3 ≤ change → p.in_flight ≡ None → size_to_probe change p ≡ Some size → Narrows further change probed p
     → Narrows (if again then further else further - 1) change (size ∷ probed) (next number size p)
-by_test further change number size probed p true same wide empty is narrows = grind (arith, nat_tests)
-by_test zero change number size probed p false same wide empty is narrows = absurd (grind (arith, nat_tests))
-by_test (suc k) change number size probed p false same wide empty is narrows =
+by_test _ _ _ _ probed p true same _ empty is narrows = grind (arith, nat_tests)
+by_test zero _ _ _ probed p false same wide _ is narrows = absurd (grind (arith, nat_tests))
+by_test (suc k) _ _ _ probed p false same wide empty is narrows =
     grind (arith, nat_tests, pow-suc 2 k, one_more k)
 
 pub narrows_next : (further change number size : ℕ) (probed : List ℕ) (p : Probing)
     → 3 ≤ change → p.in_flight ≡ None → size_to_probe change p ≡ Some size → Narrows further change probed p
     → Narrows (left further p) change (size ∷ probed) (next number size p)
-narrows_next further change number size probed p = by_test further change number size probed p (repeats p) refl
+narrows_next further change number size probed p = by_test _ _ number size probed p (repeats p) refl
 
 -- to a link that carries just the sizes up to this one: the MTU in use gets through, and the best size is within reach
 abbrev pub Fair : ℕ → ℕ → ℕ → Probing → Type 0
@@ -62,12 +62,12 @@ Fair link upper mtu p = (mtu ≤ link) × (min link upper ≤ p.upper) × (p.low
 
 pub fair_next : (link upper mtu change number size : ℕ) (p : Probing) → p.in_flight ≡ None
     → size_to_probe change p ≡ Some size → Fair link upper mtu p → Fair link upper mtu (next number size p)
-fair_next link upper mtu change number size p empty is fair = grind (arith, nat_tests)
+fair_next _ _ _ _ _ _ p empty is fair = grind arith
 
 pub fair_end : (link upper mtu change further : ℕ) (probed : List ℕ) (p : Probing) → 3 ≤ change → p.in_flight ≡ None
     → size_to_probe change p ≡ None → Narrows further change probed p → Fair link upper mtu p
     → min link upper < mtu + 2 * change
-fair_end link upper mtu change further probed p wide empty is narrows fair = grind (arith, nat_tests)
+fair_end _ _ _ _ _ probed p wide empty is _ fair = grind arith
 
 -- all sizes are within the bound; the last one got through, or is tried: above the MTU in use, and within the upper
 -- bound of the settings
@@ -80,9 +80,9 @@ Within settings bound mtu p = (p.lower ≤ bound) × (p.upper ≤ bound) × (p.l
 
 pub within_begun : (mtu : ℕ) (search : MtuSearch)
     → (let fresh = begun mtu search in Within search.settings fresh.upper mtu fresh)
-within_begun mtu search = grind arith
+within_begun _ _ = grind arith
 
 pub within_next : (settings : MtuDiscoveryConfig) (bound mtu number size : ℕ) (p : Probing)
     → Within settings bound mtu p → size_to_probe settings.minimum_change p ≡ Some size
     → Within settings bound mtu (next number size p)
-within_next settings bound mtu number size p within is = grind (arith, nat_tests)
+within_next _ _ _ _ _ p within is = grind (arith, nat_tests)

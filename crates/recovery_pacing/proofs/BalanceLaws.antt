@@ -47,26 +47,17 @@ module _ (made : Bucket) where
   AreEarned (mark ∷ past) = AreEarned past
 
   -- credits and bytes that come after a history without debt move its balance by as much
-  pub no_debt_more : (credits bytes more : ℕ) (past : List PacerMark) → NoDebt credits bytes past
+  pub credits_more : (credits bytes more : ℕ) (past : List PacerMark) → NoDebt credits bytes past
       → NoDebt (credits + more) bytes past
-  no_debt_more credits bytes more [] h = omega arith
-  no_debt_more credits bytes more (mark ∷ past) h = grind (arith, h, λ (c b : ℕ). no_debt_more c b more past)
+      × (balance_from made (credits + more) bytes past ≡ balance_from made credits bytes past + more)
+  credits_more credits bytes more [] h = grind arith
+  credits_more credits bytes more (mark ∷ past) h = grind (arith, λ (c b : ℕ). credits_more c b more past)
 
-  pub balance_more : (credits bytes more : ℕ) (past : List PacerMark) → NoDebt credits bytes past
-      → balance_from made (credits + more) bytes past ≡ balance_from made credits bytes past + more
-  balance_more credits bytes more [] h = omega arith
-  balance_more credits bytes more (mark ∷ past) h = grind (arith, h, λ (c b : ℕ). balance_more c b more past)
-
-  pub balance_less : (credits bytes taken : ℕ) (past : List PacerMark)
-      → balance_from made credits (bytes + taken) past ≡ balance_from made credits bytes past - taken
-  balance_less credits bytes taken [] = omega arith
-  balance_less credits bytes taken (mark ∷ past) = grind (arith, λ (c b : ℕ). balance_less c b taken past)
-
-  pub no_debt_less : (credits bytes taken : ℕ) (past : List PacerMark) → NoDebt credits bytes past
-      → taken ≤ balance_from made credits bytes past → NoDebt credits (bytes + taken) past
-  no_debt_less credits bytes taken [] h low = omega arith
-  no_debt_less credits bytes taken (mark ∷ past) h low =
-      grind (arith, h, low, λ (c b : ℕ). no_debt_less c b taken past)
+  pub bytes_more : (credits bytes more : ℕ) (past : List PacerMark) → NoDebt credits bytes past
+      → more ≤ balance_from made credits bytes past → NoDebt credits (bytes + more) past
+      × (balance_from made credits (bytes + more) past ≡ balance_from made credits bytes past - more)
+  bytes_more credits bytes more [] h low = grind arith
+  bytes_more credits bytes more (mark ∷ past) h low = grind (arith, λ (c b : ℕ). bytes_more c b more past)
 
   -- what was transmitted after a cap point is within its capacity and the credits after it, by the balance at least
   below_each : (credits bytes : ℕ) (later past : List PacerMark) → IsCapPoint past

@@ -6,7 +6,7 @@ use Rattle.std.specs.Prelude.{◌&&◌, ◌==◌, if◌then◌else◌}
 use Rattle.std.proofs.Math.Nat.{mul-div-le}
 use Rattle.recovery_pacing.specs.Pacing.{Bucket, PacerCall, credit_of, resized, refilled, is_unpaced, paced, delay_of, less_tokens}
 use Rattle.recovery_pacing.specs.PacerLog.{PacerEntry, asked, took, bucket_by, AreChecked, PacerMark, credited, transmitted, changed, capacity_in, greatest_moment, balance_in, is_as_before, marks_by, marks_asking, DelaysBy, KeepsRate}
-use Rattle.recovery_pacing.proofs.BalanceLaws.{NoDebt, AreEarned, no_debt_more, no_debt_less, balance_more, balance_less, balance_is, rate_bound}
+use Rattle.recovery_pacing.proofs.BalanceLaws.{NoDebt, AreEarned, credits_more, bytes_more, balance_is, rate_bound}
 
 -- the window is within 32 bits, and the RTT above zero
 abbrev IsPaced : PacerCall → Type 0
@@ -67,8 +67,7 @@ module _ (made : Bucket) where
       grind (
         arith,
         t,
-        balance_more made 0 0 credit past,
-        no_debt_more made 0 0 credit past,
+        credits_more made 0 0 credit past,
         mul-div-le (5 * call.window * (call.now - greatest_moment made past)) (4 * call.rtt),
       )
 
@@ -77,7 +76,7 @@ module _ (made : Bucket) where
       → Tied (transmitted bytes ∷ past) (less_tokens bytes bucket)
   unfolding balance_in
   tied_took bytes past bucket low t =
-      grind (arith, low, t, balance_less made 0 0 bytes past, no_debt_less made 0 0 bytes past)
+      grind (arith, low, t, bytes_more made 0 0 bytes past)
 
 -- a call within the bounds is paced
 is_bounded : (call : PacerCall) → IsPaced call → is_unpaced call ≡ false

@@ -1,8 +1,9 @@
--- What was delayed passes in time. The clause `soon` of `run` and `NamedMomentLaws` rest on it.
+-- What was delayed passes in time, and a bucket that is only asked fills up as it was said. The clause `soon` of `run`
+-- and `NamedMomentLaws` rest on it.
 use Rattle.std.proofs.lemmas.Bool.Decides.{nat_tests}
-use Rattle.std.proofs.Common.{◌≡◌, ℕ, ◌+◌, ◌-◌, ◌*◌, ◌/◌, ◌%◌, ◌^◌, ◌<◌, ◌≤◌, min, max, false, List, ◌∷◌, None, Some, ap, ◌∙◌, arith}
+use Rattle.std.proofs.Common.{◌≡◌, ℕ, suc, ◌+◌, ◌-◌, ◌*◌, ◌/◌, ◌%◌, ◌^◌, ◌<◌, ◌≤◌, min, max, false, List, [], ◌∷◌, None, Some, ap, refl, ◌∙◌, arith, inl, inr}
 use Rattle.std.proofs.Math.Nat.{div-add-mod, mod-lt, mul-le-mul_left, mul-le-mul_right}
-use Rattle.std.proofs.lemmas.Nat.{le-div}
+use Rattle.std.proofs.lemmas.Bool.{cases_lt}
 use Rattle.recovery_base.specs.Times.{longest_span}
 use Rattle.recovery_pacing.specs.PacerLog.{PacerEntry, asked, bucket_by}
 use Rattle.recovery_pacing.specs.Pacing.{Bucket, PacerCall, credit_of, wait_of, resized, refilled, may_send, paced, next_moment, delay_of}
@@ -18,77 +19,106 @@ paced-knows call old =
     let sized : Knows call (resized call.rtt call.window call.mtu old) = grind (arith, nat_tests) in
     grind (arith, nat_tests, sized)
 
+-- a credit is rounded down by less than one byte
+credit_comes : (rtt window elapsed : ℕ) → 0 < rtt
+    → 5 * window * elapsed + 1 ≤ 4 * rtt * (credit_of rtt window elapsed + 1)
+credit_comes rtt window elapsed some =
+    let lt : 5 * window * elapsed % (4 * rtt) < 4 * rtt = mod-lt (5 * window * elapsed) (omega (arith, some)) in
+    omega (arith, div-add-mod (5 * window * elapsed) (4 * rtt), lt)
+
 -- a wait is rounded down by less than four nanoseconds
-pub wait_comes : (rtt window short : ℕ) → 0 < window → rtt * short ≤ longest_span
+wait_comes : (rtt window short : ℕ) → 0 < window → rtt * short ≤ longest_span
     → 4 * (rtt * short) + 4 ≤ 5 * window * wait_of rtt window short + 20 * window
-wait_comes rtt window short some_window uncut =
-    omega (arith, whole, mul-le-mul_right window fifth, same)
+wait_comes rtt window short some uncut =
+    let q = rtt * short / window in
+    let least : min (rtt * short) longest_span ≡ rtt * short = omega (arith, uncut) in
+    let fifth : q + 1 ≤ 5 * (q / 5 + 1) = omega arith in
+    rw least (omega (arith, div-add-mod (rtt * short) window, mod-lt (rtt * short) some, mul-le-mul_right window fifth))
+
+-- where tokens are wanting in spite of the time that passed, there was no room
+no_room : (r w bytes questions capacity before lacking first last wait slack tokens : ℕ)
+    → 4 * r * before + 5 * w * last ≤ 4 * r * (tokens + suc questions) + 5 * w * first
+    → 4 * (r * lacking) + 4 ≤ 5 * w * wait + 20 * w → 5 * w * (first + wait + slack) ≤ 5 * w * last
+    → 4 * r * (tokens + 1) ≤ 4 * r * bytes → r * (before + lacking) ≡ r * capacity
+    → 4 * (r * (bytes + questions)) + 20 * w ≤ 4 * (r * capacity) + 5 * w * slack → ⊥
+no_room r w bytes questions capacity before lacking first last wait slack tokens filled waits passed wants all room =
+    omega (arith, filled, waits, passed, wants, all, room)
+
+module _ (call : PacerCall) (first : Bucket) where
+  -- so many questions behind a delayed call: where the bucket is not full, no more than a byte each was lost
+  abbrev pub Fills : ℕ → Bucket → Type 0
+  Fills questions bucket = (bucket.capacity ≡ first.capacity) × Knows call bucket
+      × (bucket.tokens < first.capacity → 4 * call.rtt * first.tokens + 5 * call.window * bucket.last
+      ≤ 4 * call.rtt * (bucket.tokens + questions) + 5 * call.window * first.last)
+
+  -- one question more refills
+  pub fills_refilled : (now questions : ℕ) (bucket : Bucket) → 0 < call.rtt → Fills questions bucket
+      → Fills (suc questions) (refilled call.rtt call.window now bucket)
+  fills_refilled now questions bucket some fills =
+      let elapsed = now - bucket.last in
+      let credit = credit_of call.rtt call.window elapsed in
+      let later : max bucket.last now ≡ bucket.last + elapsed = omega arith in (
+        fills.0,
+        fills.1,
+        λ below.
+            let least : min (bucket.tokens + credit) bucket.capacity ≡ bucket.tokens + credit =
+            omega (arith, below, fills.0) in
+            let before = fills.2 (omega (arith, below, fills.0)) in
+            rw (least, later) (omega (arith, before, credit_comes call.rtt call.window elapsed some)),
+      )
+
+  -- the bucket fills enough by the moment that was named
+  covers : (questions slack now : ℕ) (bucket : Bucket) → 0 < call.rtt → Fills questions bucket → IsInReach call first
+      → first.tokens ≤ first.capacity
+      → first.last + wait_of call.rtt call.window (first.capacity - first.tokens) + slack ≤ now
+      → 4 * (call.rtt * (call.bytes + questions)) + 20 * call.window
+      ≤ 4 * (call.rtt * first.capacity) + 5 * call.window * slack
+      → call.bytes ≤ (refilled call.rtt call.window now bucket).tokens
+  covers questions slack now bucket some fills reach sound late room =
+      let after = refilled call.rtt call.window now bucket in
+      let lacking = first.capacity - first.tokens in
+      let all : first.tokens + lacking ≡ first.capacity = omega (arith, sound) in
+      let less : lacking ≤ first.capacity = omega arith in
+      let passed : first.last + wait_of call.rtt call.window lacking + slack ≤ after.last = omega (arith, late) in
+      elim (cases_lt after.tokens call.bytes) [
+        | inl below ↦ absurd (no_room call.rtt call.window call.bytes questions first.capacity first.tokens lacking
+            first.last after.last (wait_of call.rtt call.window lacking) slack after.tokens
+            ((fills_refilled now questions bucket some fills).2 (omega (arith, below, reach.fits)))
+            (wait_comes call.rtt call.window lacking reach.window
+            (omega (arith, reach.uncut, mul-le-mul_left call.rtt less)))
+            (mul-le-mul_left (5 * call.window) passed) (omega (arith, mul-le-mul_left (4 * call.rtt) below))
+            (ap (λ (n : ℕ). call.rtt * n) all) room)
+        | inr enough ↦ enough
+      ]
+
+-- what was delayed until a moment passes as much later as the roundings take: a call that is delayed is paced, the tokens
+-- do not cover it, and a bucket that was refilled holds no more than it takes
+pub passes : (call later : PacerCall) (old bucket : Bucket) (until questions slack : ℕ) → (let first = paced call old in
+    delay_of call first ≡ Some until → later ≡ record call { now = later.now } → IsInReach call first
+    → until < 2 ^ 64 - 1 → until + slack ≤ later.now
+    → 4 * (call.rtt * (call.bytes + questions)) + 20 * call.window
+    ≤ 4 * (call.rtt * first.capacity) + 5 * call.window * slack
+    → (0 < call.rtt → Fills call first questions bucket) → delay_of later (paced later bucket) ≡ None)
+passes call later old bucket until questions slack delays again reach before_end late room fills =
+    grind (arith, nat_tests, (fills short.2).1, again, enough)
   where
-    q : ℕ
-    q = rtt * short / window
+    first : Bucket
+    first = paced call old
 
-    whole : rtt * short + 1 ≤ (q + 1) * window
-    whole = omega (arith, div-add-mod (rtt * short) window, mod-lt (rtt * short) some_window)
+    short : (until ≡ next_moment call first.capacity first.tokens first.last)
+        × (first.tokens < call.bytes) × (0 < call.rtt) × (first.tokens ≤ first.capacity)
+    short = grind (arith, nat_tests, delays)
 
-    fifth : q + 1 ≤ 5 * (q / 5 + 1)
-    fifth = let lt : q % 5 < 5 = mod-lt q (omega arith) in omega (arith, div-add-mod q 5, lt)
+    most : max call.bytes first.capacity - first.tokens ≡ first.capacity - first.tokens
+    most = omega (arith, reach.fits)
 
-    same : 5 * window * wait_of rtt window short ≡ 5 * window * (4 * (q / 5))
-    same = let least : min (rtt * short) longest_span ≡ rtt * short =
-        omega (arith, uncut) in ap (λ (n : ℕ). 5 * window * (4 * (n / window / 5))) least
-
--- in the time of the wait and the slack the bytes that were short have come
-waited : (rtt window short elapsed : ℕ) → 0 < rtt → 0 < window → rtt * short ≤ longest_span
-    → wait_of rtt window short + 4 ≤ elapsed → short ≤ credit_of rtt window elapsed
-waited rtt window short elapsed some_rtt some_window uncut waits =
-    le-div short (5 * window * elapsed) (4 * rtt) (omega (arith, some_rtt))
-    (omega (arith, wait_comes rtt window short some_window uncut, mul-le-mul_left (5 * window) waits))
-
--- a call that is delayed is paced, and the tokens do not cover it
-pub short_of : (call : PacerCall) (bucket : Bucket) (until : ℕ) → delay_of call bucket ≡ Some until
-    → (may_send call bucket ≡ false) × (until ≡ next_moment call bucket.capacity bucket.tokens bucket.last)
-short_of call bucket until delays = grind (arith, nat_tests, delays)
-
-passes_in_time : (call later : PacerCall) (old : Bucket) (until : ℕ) → (let bucket = paced call old in
-    delay_of call bucket ≡ Some until → later ≡ record call { now = later.now } → IsInReach call bucket
-    → until + 4 ≤ later.now → later.now < 2 ^ 64 → delay_of later (paced later bucket) ≡ None)
-passes_in_time call later old until delays again reach late before_end = goes
-  where
-    bucket : Bucket
-    bucket = paced call old
-
-    short : (may_send call bucket ≡ false)
-        × (until ≡ next_moment call bucket.capacity bucket.tokens bucket.last)
-    short = short_of call bucket until delays
-
-    some : (bucket.tokens < call.bytes) × (0 < call.rtt)
-    some = grind (arith, nat_tests, short.0)
-
-    lacking : ℕ
-    lacking = bucket.capacity - bucket.tokens
-
-    moment : until ≡ min (bucket.last + wait_of call.rtt call.window lacking) (2 ^ 64 - 1)
-    moment = let most : max call.bytes bucket.capacity - bucket.tokens ≡ lacking = omega (arith, reach.fits) in
-        short.1 ∙ ap (λ (n : ℕ). min (bucket.last + wait_of call.rtt call.window n) (2 ^ 64 - 1)) most
-
-    elapsed : wait_of call.rtt call.window lacking + 4 ≤ later.now - bucket.last
-    elapsed = omega (arith, moment, late, before_end)
-
-    within : call.rtt * lacking ≤ longest_span
-    within =
-        let at_most : lacking ≤ bucket.capacity = omega arith in
-        omega (arith, reach.uncut, mul-le-mul_left call.rtt at_most)
-
-    credited : lacking ≤ credit_of call.rtt call.window (later.now - bucket.last)
-    credited = waited call.rtt call.window lacking (later.now - bucket.last) some.1 reach.window within elapsed
-
-    covers : call.bytes ≤ (refilled call.rtt call.window later.now bucket).tokens
-    covers = omega (arith, credited, reach.fits, some.0)
-
-    goes : delay_of later (paced later bucket) ≡ None
-    goes = grind (arith, nat_tests, paced-knows call old, again, covers)
+    enough : call.bytes ≤ (refilled call.rtt call.window later.now bucket).tokens
+    enough = covers call first questions slack later.now bucket short.2 (fills short.2) reach short.3
+        (omega (arith, rw most at short.0, before_end, late)) room
 
 pub passes_behind : (made : Bucket) (entries : List PacerEntry) (later : PacerCall)
     → PassesBehind made entries later (delay_of later (paced later (bucket_by made entries)))
-passes_behind made (asked call ∷ earlier) later = passes_in_time call later (bucket_by made earlier)
+passes_behind made (asked call ∷ earlier) later = λ until delays again reach late before_end.
+    passes call later (bucket_by made earlier) _ until 0 4 delays again reach (omega (arith, late, before_end)) late
+    (omega (arith, mul-le-mul_left call.rtt reach.fits)) (λ some. (refl, paced-knows call _, λ below. omega arith))
 passes_behind made entries later = tt

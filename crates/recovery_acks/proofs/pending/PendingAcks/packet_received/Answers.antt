@@ -1,5 +1,6 @@
+use Rattle.std.proofs.Common.{true, false, not, sym, ap}
 use Rattle.recovery_base.specs.Received.{Has}
-use Rattle.recovery_acks.proofs.AckLaws.{reaches, eliciting_receives, unarmed, armed_now}
+use Rattle.recovery_acks.proofs.AckLaws.{reaches, eliciting_receives, received}
 use Rattle.recovery_acks.proofs.pending.PendingAcks.packet_received.Goals as goal
 
 pub is_out_of_order-out_of_order-requires-clause-reached : goal.is_out_of_order-out_of_order-requires-clause-reached
@@ -9,14 +10,14 @@ is_out_of_order-out_of_order-requires-clause-reached c = rw (c.max-greatest.ensu
 
 pub returns-then-is_noticed-clause-receives : goal.returns-then-is_noticed-clause-receives
 returns-then-is_noticed-clause-receives c = rw (← c.self.view_is)
-    (eliciting_receives _ _ _ _ _ _ _ c.if-not-ack_eliciting.false (unarmed _
+    (eliciting_receives _ _ _ _ _ _ _ c.if-not-ack_eliciting.false (received _
     (rw c.unwrap_or-before.ensures at c.max-greatest.ensures) c.saturating_add-self-inside-2.ensures
     (rw c.unwrap_or-before.ensures at c.is_out_of_order-out_of_order.ensures) c.is_any-self-inside.ensures
-    c.may_send-can_send.ensures c.is_noticed.ensures c.if-is_noticed.true))
+    c.may_send-can_send.ensures c.is_noticed.ensures false (ap not (sym c.if-is_noticed.true))))
 
 pub returns-clause-receives : goal.returns-clause-receives
 returns-clause-receives c = rw (← c.self.view_is) (eliciting_receives _ _ _ _ _ _ _ c.if-not-ack_eliciting.false
-    (armed_now _
+    (received _
     (rw c.unwrap_or-before.ensures at c.max-greatest.ensures) c.saturating_add-self-inside-2.ensures
     (rw c.unwrap_or-before.ensures at c.is_out_of_order-out_of_order.ensures) c.is_any-self-inside.ensures
-    c.may_send-can_send.ensures c.is_noticed.ensures c.if-is_noticed.false))
+    c.may_send-can_send.ensures c.is_noticed.ensures true (ap not (sym c.if-is_noticed.false))))

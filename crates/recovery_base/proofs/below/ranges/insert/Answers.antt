@@ -7,45 +7,45 @@ use Rattle.recovery_base.proofs.below.ranges.insert.Goals.{else-at-len-2-via-the
 
 pub returns-in_err-push-clause-only_new_takes_memory : goal.returns-in_err-push-clause-only_new_takes_memory
 returns-in_err-push-clause-only_new_takes_memory c = λ _.
-    (inserts_last c.requires.apart c.deref.ensures.value c.place-at.ensures (omega arith)).answer
+    (inserts_last c.requires.apart (rw c.deref.ensures.value at c.place-at.ensures) (omega arith)).answer
 
 pub returns-then-at-len-clause-inserts : goal.returns-then-at-len-clause-inserts
 returns-then-at-len-clause-inserts c = rw c.in_ok-push.ensures.items
-    (inserts_last c.requires.apart c.deref.ensures.value c.place-at.ensures (omega arith))
+    (inserts_last c.requires.apart (rw c.deref.ensures.value at c.place-at.ensures) (omega arith))
 
 pub returns-in_err-insert-clause-only_new_takes_memory : goal.returns-in_err-insert-clause-only_new_takes_memory
 returns-in_err-insert-clause-only_new_takes_memory c = λ _.
-    (inserts_between c.requires.apart c.deref.ensures.value c.place-at.ensures (omega arith) c.index.ensures
+    (inserts_between c.requires.apart (rw c.deref.ensures.value at c.place-at.ensures) (omega arith) c.index.ensures
     c.index.ensures c.if-x-start.true).answer
 
 pub returns-in_ok-insert-clause-inserts : goal.returns-in_ok-insert-clause-inserts
 returns-in_ok-insert-clause-inserts c = rw c.in_ok-insert.ensures.items
-    (inserts_between c.requires.apart c.deref.ensures.value c.place-at.ensures (omega arith) c.index.ensures
+    (inserts_between c.requires.apart (rw c.deref.ensures.value at c.place-at.ensures) (omega arith) c.index.ensures
     c.index.ensures c.if-x-start.true)
 
 pub returns-then-x-end-clause-inserts : goal.returns-then-x-end-clause-inserts
-returns-then-x-end-clause-inserts c = inserts_known c.requires.apart c.deref.ensures.value c.place-at.ensures
+returns-then-x-end-clause-inserts c = inserts_known c.requires.apart (rw c.deref.ensures.value at c.place-at.ensures)
     (omega arith) c.index.ensures c.index-2.ensures (omega arith) (omega arith)
 
 pub returns-then-x-start-2-clause-inserts : goal.returns-then-x-start-2-clause-inserts
-returns-then-x-start-2-clause-inserts c = inserts_below c.requires.apart c.deref.ensures.value c.place-at.ensures
+returns-then-x-start-2-clause-inserts c = inserts_below c.requires.apart (rw c.deref.ensures.value at c.place-at.ensures)
     (omega arith) c.index_mut.ensures.value c.index.ensures (omega arith)
 
 pub returns-then-index-x-clause-inserts : goal.returns-then-index-x-clause-inserts
 returns-then-index-x-clause-inserts c =
-    let e : length c.deref.result.now ≡ length c.args.ranges.now.items = ap length c.deref.ensures.value in
+    let items = c.args.ranges.now.items in
+    let at = c.place-at.result in
     let seen = c.index_mut-then-index-x.result.now in
-    let kept : seen ≡ get_or c.args.ranges.now.items c.place-at.result seen = c.index_mut-then-index-x.ensures.value
-    ∙ ap (λ (rs : Ranges). get_or rs c.place-at.result seen) c.remove-next.ensures.items
-    ∙ get_or-remove_below c.args.ranges.now.items (c.place-at.result + 1) seen c.place-at.result (omega arith)
-    (omega arith) in
-    rw c.remove-next.ensures.items (inserts_joining c.requires.apart c.deref.ensures.value c.place-at.ensures
+    let kept : seen ≡ get_or items at seen = c.index_mut-then-index-x.ensures.value
+    ∙ ap (λ (rs : Ranges). get_or rs at seen) c.remove-next.ensures.items
+    ∙ get_or-remove_below items (at + 1) seen at (omega arith) (omega arith) in
+    rw c.remove-next.ensures.items (inserts_joining c.requires.apart (rw c.deref.ensures.value at c.place-at.ensures)
     (omega arith) kept c.index-2.ensures (omega arith) c.remove-next.result (omega arith) c.remove-next.ensures.value
-    (ap (λ (r : Range ℕ). r.start) (same_read c.deref.ensures.value (omega arith) (omega arith)
+    (ap (λ (r : Range ℕ). r.start) (same_read items _ (omega (arith, c.place-at.ensures.bound))
     c.remove-next.ensures.value c.index-then-at-len-2.ensures) ∙ c.if-index-x.true))
 
 pub returns-else-at-len-2-clause-inserts : goal.returns-else-at-len-2-clause-inserts
-returns-else-at-len-2-clause-inserts c = inserts_above c.requires.apart c.deref.ensures.value c.place-at.ensures
+returns-else-at-len-2-clause-inserts c = inserts_above c.requires.apart (rw c.deref.ensures.value at c.place-at.ensures)
     (omega arith) c.index_mut-else-at-len-2.ensures.value c.index-2.ensures (omega arith)
     (elim c.else-at-len-2.branch [
       | else-at-len-2-via-then-at-len-2+else-index-x w ↦ inr (

@@ -7,29 +7,29 @@ use Rattle.recovery_base.proofs.below.ranges.remove.Goals.{else-first-start-via-
 
 pub returns-then-at-len-clause-removes : goal.returns-then-at-len-clause-removes
 returns-then-at-len-clause-removes c =
-    none_at_end c.requires (omega arith) c.deref.ensures.value c.place-at.ensures (omega arith)
+    none_at_end c.requires (omega arith) (rw c.deref.ensures.value at c.place-at.ensures) (omega arith)
 
 pub returns-then-end-first-clause-removes : goal.returns-then-end-first-clause-removes
-returns-then-end-first-clause-removes c = none_before c.requires (omega arith) c.deref.ensures.value c.place-at.ensures
+returns-then-end-first-clause-removes c = none_before c.requires (omega arith) (rw c.deref.ensures.value at c.place-at.ensures)
     (omega arith) c.index.ensures (omega arith)
 
 pub returns-in_ok-insert-clause-removes : goal.returns-in_ok-insert-clause-removes
 returns-in_ok-insert-clause-removes c =
-    let e : length c.deref.result.now ≡ length c.args.ranges.now.items = ap length c.deref.ensures.value in
     let bound = c.place-at.ensures.bound in
     let put = c.in_ok-insert.ensures.items in
+    let items = c.args.ranges.now.items in
+    let at = c.place-at.result in
     let seen = c.index_mut.result.now in
-    let kept : seen ≡ get_or c.args.ranges.now.items c.place-at.result seen = c.index_mut.ensures.value
-    ∙ ap (λ (rs : Ranges). get_or rs c.place-at.result seen) put
-    ∙ get_or-insert_below c.args.ranges.now.items (c.place-at.result + 1) _ seen c.place-at.result (omega arith)
-    (omega (arith, bound)) in
-    rw put (rw (same_read c.deref.ensures.value bound (omega arith) kept c.index.ensures)
-    (splits c.requires (omega arith) c.deref.ensures.value c.place-at.ensures (omega arith) c.index.ensures
+    let kept : seen ≡ get_or items at seen = c.index_mut.ensures.value
+    ∙ ap (λ (rs : Ranges). get_or rs at seen) put
+    ∙ get_or-insert_below items (at + 1) _ seen at (omega arith) (omega (arith, bound)) in
+    rw put (rw (same_read items _ (omega (arith, bound)) kept c.index.ensures)
+    (splits c.requires (omega arith) (rw c.deref.ensures.value at c.place-at.ensures) (omega arith) c.index.ensures
     c.index-2.ensures (omega arith) (omega arith)))
 
 pub returns-else-first-start-clause-removes : goal.returns-else-first-start-clause-removes
 returns-else-first-start-clause-removes c =
-    rw c.cut.ensures (cut_at c.requires (omega arith) c.deref.ensures.value c.place-at.ensures (omega arith)
+    rw c.cut.ensures (cut_at c.requires (omega arith) (rw c.deref.ensures.value at c.place-at.ensures) (omega arith)
     c.index.ensures c.index-2.ensures (omega arith) (λ lower. elim c.else-first-start.branch [
       | else-first-start-via-then-first-start+else-end-last w ↦ omega (arith, w.if-end-last.false)
       | else-first-start-via-else-first-start w ↦ absurd (omega (arith, lower, w.if-first-start.false))
