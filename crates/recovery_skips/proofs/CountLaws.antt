@@ -58,12 +58,11 @@ module _ (skips : Skips) (words : Stream) where
   )
 
   pub skip_before_greatest : (n : ℕ) → IsGreatestBelow skips words n (skip_before skips words n)
-  skip_before_greatest zero = λ m less. absurd (omega (arith, less))
+  skip_before_greatest zero = grind arith
   skip_before_greatest (suc n) = go (is_skipped skips words n) refl (skip_before skips words n) (skip_before_greatest n)
     where
       go : (here : Bool) → is_skipped skips words n ≡ here → (last : Option ℕ) → IsGreatestBelow skips words n last
           → IsGreatestBelow skips words (suc n) (if here then Some n else last)
-      go true here last greatest = (omega arith, here, λ m above less. absurd (omega (arith, above, less)))
-      go false free None none = λ m less. grind (arith, less, free, none m)
-      go false free (Some s) greatest =
-          (omega (arith, greatest.0), greatest.1, λ m above less. grind (arith, less, free, greatest.2 m above))
+      go true here last greatest = grind (arith, here)
+      go false free None none = grind (arith, free, none)
+      go false free (Some s) greatest = grind (arith, free, greatest)

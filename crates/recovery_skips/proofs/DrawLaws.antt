@@ -24,22 +24,13 @@ high_below m range w hi lo fits some within product =
     let next : range ≤ hi + 1 → range * m ≤ (hi + 1) * m = λ over. mul-le range m (hi + 1) m over (omega arith) in
     grind (arith, most, least, next, fits, some, within, product)
 
-settled_below : (m range hi lo : ℕ) (next : Stream → ℕ × Stream) (rest : Stream) (opens : Bool) → hi < range
-    → (opens ≡ true → hi + 1 < range)
-    → (if opens then draw_map (λ w. if nat_le m (lo + w * range / m) then hi + 1 else hi) next rest else (hi, rest)).0
-    < range
-settled_below m range hi lo next rest true below room = grind (arith, below, room)
-settled_below m range hi lo next rest false below room = below
-
 canon_below : (m range : ℕ) (next : Stream → ℕ × Stream) (words : Stream) → (next words).0 < m → 0 < range → range ≤ m
     → (canon m next range words).0 < range
 unfolding canon
 canon_below m range next words fits some within =
     let product = (next words).0 * range in
     let parts : product / m * m + product % m ≡ product = omega (arith, div-add-mod product m) in
-    let high = high_below m range (next words).0 (product / m) (product % m) fits some within parts in
-    settled_below m range (product / m) (product % m) next (next words).1 (nat_lt (m - range) (product % m)) high.0
-    (λ opens. grind (arith, nat_tests, opens, high.1))
+    grind (arith, nat_tests, high_below m range (next words).0 (product / m) (product % m) fits some within parts)
 
 -- ---- words
 
@@ -51,18 +42,9 @@ rest_fits : (words : Stream) → AreWords words → AreWords (next_u64 words).1
 unfolding next_u64
 rest_fits words fit = λ calls. fit (u64_call ∷ calls)
 
-settled_fits : (read : ℕ → ℕ) (hi : ℕ) (rest : Stream) (opens : Bool) → AreWords rest
-    → AreWords (if opens then draw_map read next_u64 rest else (hi, rest)).1
-settled_fits read hi rest true fit = rest_fits rest fit
-settled_fits read hi rest false fit = fit
-
 canon_fits : (m range : ℕ) (words : Stream) → AreWords words → AreWords (canon m next_u64 range words).1
 unfolding canon
-canon_fits m range words fit =
-    let hi = (next_u64 words).0 * range / m in
-    let lo = (next_u64 words).0 * range % m in
-    settled_fits (λ w. if nat_le m (lo + w * range / m) then hi + 1 else hi) hi (next_u64 words).1
-    (nat_lt (m - range) lo) (rest_fits words fit)
+canon_fits m range words fit = grind (arith, rest_fits words fit, rest_fits (next_u64 words).1 (rest_fits words fit))
 
 draw_below : (low end : ℕ) (words : Stream) → AreWords words → low < end → end ≤ 2 ^ 64 → (draw low end words).0 < end
 draw_below low end words fit some within = omega (

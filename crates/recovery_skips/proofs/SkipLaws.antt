@@ -55,11 +55,7 @@ module _ (skips : Skips) (words : Stream) where
 
   -- a number that is given out is no skip
   pub number_not_skipped : (n : ℕ) → is_skipped skips words (number_from skips words n) ≡ false
-  number_not_skipped n = go (is_skipped skips words n) refl
-    where
-      go : (is : Bool) → is_skipped skips words n ≡ is → is_skipped skips words (if is then n + 1 else n) ≡ false
-      go true here = behind_it n here
-      go false here = here
+  number_not_skipped n = grind (arith, behind_it n)
 
   -- and it is not below n
   pub number_from_above : (n : ℕ) → n ≤ number_from skips words n
@@ -86,10 +82,10 @@ module _ (skips : Skips) (words : Stream) where
 
   pub number_at : (n : ℕ) (old : Skipping) → old ≡ skipping_at skips words n
       → number_by old.filter n ≡ number_from skips words n
-  number_at n old is = ap (λ (s : Skipping). number_by s.filter n) is
+  number_at n old is = rw is refl
 
   pub last_at : (n : ℕ) (old : Skipping) → old ≡ skipping_at skips words n → old.filter.last ≡ skip_before skips words n
-  last_at n old is = ap (λ (s : Skipping). s.filter.last) is
+  last_at n old is = rw is refl
 
   -- a number was given out
   pub allocated : (n number : ℕ) (old new : Skipping) → old ≡ skipping_at skips words n
