@@ -1,8 +1,9 @@
 -- What is read of the digits that bytes begin with, eight at a time. `leading_digits` rests on it.
-use Rattle.std.proofs.Common.{◌≡◌, ℕ, ◌+◌, ◌-◌, ◌*◌, ◌%◌, ◌^◌, ◌<◌, ◌≤◌, List, length, take, drop, get_or, ◌∙◌, refl, arith}
+use Rattle.std.proofs.Common.{◌≡◌, ℕ, ◌+◌, ◌-◌, ◌*◌, ◌%◌, ◌^◌, ◌<◌, ◌≤◌, List, length, length-take, take, drop, get_or, ◌∙◌, refl, arith}
 use Rattle.std.specs.Char.{is_ascii_digit}
 use Rattle.std.specs.Str.Parse.{digits_value}
 use Rattle.std.proofs.lemmas.List.Sums.{prefix_len_passes}
+use Rattle.std.proofs.lemmas.Str.Parse.{digits_value_short}
 use lib.Lanes.{number_l}
 use lib.Seq.{drop-drop, take-take}
 use mir.Syntax.{w8}
@@ -14,7 +15,7 @@ use Rattle.core.proofs.slice.Prefixes.{drop_more, prefix_len-drop_yes}
 use Rattle.core.proofs.dec2flt.DigitsLemmas.{HasRead, HasRead_more, digits_len-take, digit_range, is_digit}
 use Rattle.core.proofs.dec2flt.Eight.{eight_at, word_at}
 use Rattle.recovery_lines.specs.Reading.{AreDigits}
-use Rattle.recovery_lines.proofs.NumberLaws.{few_fit}
+use Rattle.recovery_lines.proofs.NumberLaws.{by_index, taken_digits}
 
 pub are_digits : (bs : List ℕ) (at value : ℕ) → HasRead bs 0 0 at value → AreDigits bs at
 are_digits bs at value r =
@@ -23,7 +24,12 @@ are_digits bs at value r =
 pub value_read : (bs : List ℕ) (at value : ℕ) → HasRead bs 0 0 at value → at ≤ 19
     → value ≡ digits_value 10 (take at bs)
 value_read bs at value r few =
-    grind (arith, r.value_is, few_fit bs at (are_digits bs at value r) r.within few)
+    grind (
+      arith,
+      r.value_is,
+      length-take at bs,
+      digits_value_short by_index (take at bs) 19 (taken_digits bs at (are_digits bs at value r) r.within),
+    )
 
 pub none_read : (bs : List ℕ) → HasRead bs 0 0 0 0
 none_read bs = record { after = omega arith; within = omega arith; digits = omega arith; value_is = refl }

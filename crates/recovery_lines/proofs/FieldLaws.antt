@@ -3,7 +3,7 @@
 use Rattle.std.proofs.Common.{arith, ◌≡◌, ℕ, ◌^◌, List, [], ◌∷◌, Option, Some, None, decimal, refl}
 use Rattle.std.proofs.lemmas.Slice.Eq.{bytes_eq-Decides}
 use lib.Chars.{codes}
-use Rattle.recovery_lines.specs.Fields.{Field, Value, word_for, Fits, a_space, a_timer, a_path, a_flag, a_largest}
+use Rattle.recovery_lines.specs.Fields.{Field, Value, word_for, Fits, a_space, a_largest}
 use Rattle.recovery_lines.specs.Reading.{◌>>=◌, field, value_of, flag_of, space_of, timer_of, path_of, largest_of, number_of}
 use Rattle.std.proofs.lemmas.Fmt.{decimal_is_IsNumeral}
 use Rattle.recovery_lines.proofs.NumberLaws.{number_takes, number_again}
@@ -17,13 +17,8 @@ bind_some None f y e = absurd cc
 
 takes : (f : Field) (text : List ℕ) (x : Value f) → value_of f text ≡ Some x → (text ≡ word_for f x) × Fits f x
 unfolding flag_of space_of timer_of path_of largest_of
-takes a_space text x e = grind (arith, e, bytes_eq-Decides text)
-takes a_timer text x e = grind (arith, e, bytes_eq-Decides text)
-takes a_path text x e = grind (arith, e, bytes_eq-Decides text)
-takes a_flag text x e = grind (arith, e, bytes_eq-Decides text)
-takes a_largest text None e = grind (arith, e, bytes_eq-Decides text)
 takes a_largest text (Some n) e = grind (arith, e, bytes_eq-Decides text, number_takes (2 ^ 64) text n)
-takes f text x e = number_takes _ text x e
+takes f text x e = first_of (search number_takes, grind (arith, e, bytes_eq-Decides text))
 
 pub again : (f : Field) (x : Value f) → Fits f x → value_of f (word_for f x) ≡ Some x
 unfolding flag_of space_of timer_of path_of largest_of

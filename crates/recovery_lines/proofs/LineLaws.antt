@@ -1,13 +1,12 @@
 -- What is read from a line is what it spells, and what a line spells is read from it: the laws of lines and of scripts
 -- rest on it.
-use Rattle.std.proofs.Common.{IsSomeAnd, ◌≡◌, ◌≢◌, ℕ, ◌≤◌, List, [], length, Option, Some, inl, inr, refl, sym, subst, ◌∙◌, arith}
+use Rattle.std.proofs.Common.{IsSomeAnd, ◌≡◌, ◌≢◌, ℕ, ◌≤◌, List, [], length, Option, Some, inl, inr, refl, sym, ◌∙◌, arith}
 use Rattle.std.proofs.lemmas.Bool.Decides.{nat_tests}
 use Rattle.std.specs.List.{All, join_with_byte}
 use Rattle.recovery_events.specs.declared.event.Event.TheVariants.{Send}
 use Rattle.recovery_lines.specs.declared.lines.Line.{Line}
 use Rattle.recovery_lines.specs.declared.lines.Line.TheVariants.{Said, Ids, Path}
 use Rattle.recovery_lines.specs.Words.{words_of}
-use Rattle.recovery_lines.specs.Fields.{AllFit}
 use Rattle.recovery_lines.specs.Lines.{ItemEvent, Means, saying, spelling, IsWithinTypes, Spells, IsSame, HoldsList}
 use Rattle.recovery_lines.specs.Reading.{whole, line_at, line_of, TakesMemory, TookAll}
 use Rattle.recovery_lines.proofs.AddressLaws.{one_address}
@@ -33,8 +32,7 @@ line_found line said event e short means =
     record {
       unkept = own.0;
       words = grind (arith, r.0, own.1);
-      within = subst (λ (s : Saying). AllFit s.0.tail s.0.fields s.1 × Means (s.0.line s.1) event) (sym own.1)
-          (r.1, rw (r.2) means);
+      within = rw (own.1) (r.1, rw (r.2) means);
       short = short;
     }
 

@@ -1,15 +1,13 @@
 -- What it says that a number was read from a word, or not. The readers of numbers and `FieldLaws` rest on it.
-use Rattle.std.proofs.Common.{◌+◌, ◌*◌, ◌%◌, ◌==◌, take, length-take, length-take-le, zero, suc, lit≤, ◌≡◌, ℕ, ◌^◌, ◌<◌, ◌≤◌, List, length, get_or, Some, None, decimal, sym, ap, ◌∙◌, arith}
+use Rattle.std.proofs.Common.{◌+◌, ◌*◌, ◌%◌, take, length-take, zero, suc, lit≤, ◌≡◌, ℕ, ◌^◌, ◌<◌, ◌≤◌, List, length, get_or, Some, None, decimal, ap, arith}
 use Rattle.std.proofs.lemmas.Bool.Decides.{nat_tests}
 use Rattle.std.proofs.lemmas.List.{get_or-take}
-use Rattle.std.proofs.lemmas.List.Sums.{position_or_len_is}
-use Rattle.std.specs.List.{before_first, position_or_len}
 use Rattle.std.specs.Str.Parse.{digits_value}
 use Rattle.std.specs.Int.{IsInRange}
 use Rattle.std.proofs.lemmas.Int.Digits.{digits_value_more}
 use borrow.Author.Count.{below_more}
 use Rattle.std.proofs.lemmas.Fmt.{decimal_is_IsNumeral_wide, decimal_digit}
-use Rattle.std.proofs.lemmas.Str.Parse.{IsNumeralModel, numerals_by_value, tells_by_index, digits_value_short, digits_value-take-le, digit_at}
+use Rattle.std.proofs.lemmas.Str.Parse.{IsNumeralModel, numerals_by_value, tells_by_index, digits_value-take-le, digit_at}
 use Rattle.std.proofs.lemmas.Slice.Eq.{bytes_eq-Decides}
 use Rattle.recovery_lines.specs.Reading.{AreDigits, number_of}
 use Rattle.recovery_lines.proofs.NumeralLaws.{digits_written, leads_above_zero}
@@ -71,7 +69,7 @@ module _ (word : List ℕ) (i value : ℕ) (lt : i < length word) (byte : get_or
 
 -- ---- words of digits
 
-by_index : IsNumeralModel (λ ds. AreDigits ds (length ds)) (digits_value 10)
+pub by_index : IsNumeralModel (λ ds. AreDigits ds (length ds)) (digits_value 10)
 by_index = numerals_by_value (λ ds. AreDigits ds (length ds)) tells_by_index
 
 pub digits_read : (limit : ℕ) → limit ≤ 10 ^ 64 → (word : List ℕ) (value : ℕ)
@@ -87,33 +85,9 @@ digits_read limit most word value digits is small some lead =
       bytes_eq-Decides (decimal (digits_value 10 word)) word,
     )
 
-taken_digits : (bytes : List ℕ) (n : ℕ) → AreDigits bytes n → n ≤ length bytes
+-- digits at the front of bytes
+pub taken_digits : (bytes : List ℕ) (n : ℕ) → AreDigits bytes n → n ≤ length bytes
     → AreDigits (take n bytes) (length (take n bytes))
 taken_digits bytes n digits le = λ i lt.
     let inside : i < n = omega (arith, length-take n bytes) in
     rw (get_or-take n bytes i 0 inside) (digits i inside)
-
--- 19 digits fit in 64 bits
-pub few_fit : (bytes : List ℕ) (n : ℕ) → AreDigits bytes n → n ≤ length bytes → n ≤ 19
-    → digits_value 10 (take n bytes) < 2 ^ 64
-few_fit bytes n digits le few =
-    omega (
-      arith,
-      digits_value_short by_index (take n bytes) 19 (taken_digits bytes n digits le)
-          (omega (arith, length-take n bytes)),
-    )
-
--- digits up to a space or to the end
-pub first_read : (bytes : List ℕ) (value end : ℕ) → AreDigits bytes end → end ≤ length bytes → 0 < end
-    → (get_or bytes 0 0 ≡ 48 → end ≤ 1) → (end < length bytes → get_or bytes end 0 ≡ 32)
-    → value ≡ digits_value 10 (take end bytes) → value < 2 ^ 64
-    → (number_of (2 ^ 64) (before_first (λ b. b == 32) bytes) ≡ Some value)
-    × (end ≡ position_or_len (λ b. b == 32) bytes)
-first_read bytes value end digits le some lead stops is small =
-    let place : position_or_len (λ b. b == 32) bytes ≡ end =
-    position_or_len_is (λ b. b == 32) bytes end 0 le (λ k lt. grind (arith, nat_tests, digits k lt))
-    (λ lt. grind (arith, nat_tests, stops lt)) in
-    let read = digits_read (2 ^ 64) (lit≤ tt) (take end bytes) value (taken_digits bytes end digits le) is small
-    (omega (arith, length-take-le end bytes le))
-    (λ first. omega (arith, length-take-le end bytes le, lead (sym (get_or-take end bytes 0 0 some) ∙ first))) in
-    (rw place (sym read), sym place)

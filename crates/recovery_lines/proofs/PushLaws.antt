@@ -18,15 +18,15 @@ whole_read (Some line) left read is = ap whole is
 
 module _ {E : Type 0} (before : List ItemEvent) (result : Result Bool E) (after : List ItemEvent) where
   -- the form of a name says what stands behind it
-  pub form_pushes : {form : Form} (name : List ℕ) (words left : List (List ℕ)) (line : Option Line)
+  pub pushes : {form : Form} (name : List ℕ) (words left : List (List ℕ)) (line : Option Line)
       → form_named forms_without_items form.name ≡ Some form → true ≡ bytes_eq name form.name
       → Reads (λ x. x) line left (reading form words) → Pushes (all_of line left) before result after
       → Pushes (whole (line_behind forms_without_items name words)) before result after
   unfolding line_behind
-  form_pushes {form = form} name words left line named same is pushes =
+  pushes {form = form} name words left line named same is push =
       let found : form_named forms_without_items name ≡ Some form =
       grind (arith, same, named, bytes_eq-Decides name form.name) in
-      rw (found, whole_read line left (reading form words) is) pushes
+      rw (found, whole_read line left (reading form words) is) push
 
 -- no form has the name
 pub says_none : (E : Type 0) (name : List ℕ) (words : List (List ℕ)) (events : List ItemEvent)
@@ -42,21 +42,21 @@ says_none E name words events none = rw none (refl, refl)
 pushes_said : {E : Type 0} (line : List ℕ) (said : Option Line) (before : List ItemEvent) (result : Result Bool E)
     (after : List ItemEvent) → line_of line ≡ said → length line ≤ 4096 → Pushes said before result after
     → IfOk result (λ spells. PushesSpelled line before spells after) × OnErr result (HoldsList line)
-pushes_said line (Some said) before (Ok true) after is short pushes =
-    ((pushes.0, line_found line said pushes.0 is short pushes.1, pushes.2), tt)
-pushes_said line (Some said) before (Ok false) after is short pushes = (
+pushes_said line (Some said) before (Ok true) after is short push =
+    ((push.0, line_found line said push.0 is short push.1, push.2), tt)
+pushes_said line (Some said) before (Ok false) after is short push = (
   (
     λ event spells. let says = line_only line event spells in
-        let same : said ≡ says.0 = grind (arith, says.1, is) in pushes.0 event (rw same says.2),
-    pushes.1,
+        let same : said ≡ says.0 = grind (arith, says.1, is) in push.0 event (rw same says.2),
+    push.1,
   ),
   tt,
 )
-pushes_said line (Some said) before (Err refused) after is short pushes =
-    (tt, refused_whole line said is short pushes.0)
-pushes_said line None before (Ok false) after is short pushes =
-    ((λ event spells. grind (arith, (line_only line event spells).1, is), pushes.1), tt)
-pushes_said line None before result after is short pushes = absurd (grind (arith, pushes))
+pushes_said line (Some said) before (Err refused) after is short push =
+    (tt, refused_whole line said is short push.0)
+pushes_said line None before (Ok false) after is short push =
+    ((λ event spells. grind (arith, (line_only line event spells).1, is), push.1), tt)
+pushes_said line None before result after is short push = absurd (grind (arith, push))
 
 -- a line that is not too long, and its first word
 module _ (line : List ℕ) (words rest : List (List ℕ)) (name : List ℕ) (is : words ≡ words_of line)

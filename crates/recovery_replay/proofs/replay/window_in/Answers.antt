@@ -1,17 +1,21 @@
-use Rattle.std.proofs.Common.{Some, sym, ap, ◌∙◌, arith}
-use Rattle.std.specs.Prelude.{decimal}
-use Rattle.recovery_replay.proofs.ReplayLaws.{number_said, no_window, zero_is_no_window}
+use Rattle.std.proofs.Common.{◌^◌, arith}
+use Rattle.recovery_lines.proofs.NumberLaws.{number_again, number_takes}
 use Rattle.recovery_replay.proofs.replay.window_in.Goals as goal
 
 pub returns-in_err-window : goal.returns-in_err-window
 returns-in_err-window c =
-    rw c.from_residual.ensures (no_window c.args.word.now (sym c.number_in.ensures ∙ c.in_err-window.was))
+    rw c.from_residual.ensures
+    (λ factory is. grind (arith, c.number_in.ensures, is, number_again (2 ^ 64) factory.window))
 
 pub returns-in-0 : goal.returns-in-0
-returns-in-0 c =
-    zero_is_no_window c.args.word.now (sym c.number_in.ensures ∙ c.in_ok-window.was ∙ ap Some c.in-0.is)
+returns-in-0 c = λ factory is. grind (arith, c.number_in.ensures, is, number_again (2 ^ 64) factory.window)
 
 pub returns-in_default : goal.returns-in_default
 returns-in_default c =
-    let said = number_said c.args.word.now c.in_ok-window.window (sym c.number_in.ensures ∙ c.in_ok-window.was) in
-    (c.new.result.positive, omega (arith, said.0), said.1 ∙ sym (ap decimal c.new.ensures))
+    grind (
+      arith,
+      number_takes (2 ^ 64) c.args.word.now c.in_ok-window.window,
+      c.number_in.ensures,
+      c.new.ensures,
+      c.new.result.positive,
+    )

@@ -1,25 +1,24 @@
-use Rattle.std.proofs.Common.{[], ◌∷◌, Bool, subst, sym, ◌∙◌, arith}
-use borrow.Author.Tests.{eqb-true}
-use Rattle.recovery_replay.specs.Taking.{TakesBytes}
-use Rattle.recovery_replay.proofs.ScriptLaws.{empty, bad_whatever_follows, kept_ok, whole_ok}
+use Rattle.std.proofs.Common.{[], ◌∷◌, append-nil, arith}
+use Rattle.std.proofs.lemmas.Bool.Decides.{nat_tests}
+use Rattle.std.proofs.lemmas.List.Elements.{All-nil}
+use Rattle.std.proofs.lemmas.Result.{IfOk-weaker}
+use Rattle.recovery_replay.proofs.ScriptLaws.{bad_whatever_follows, line_ended, more_taken, nothing_kept}
 use Rattle.recovery_replay.proofs.script.Script.take_line.Goals as goal
 
 pub returns-then-is_empty : goal.returns-then-is_empty
-returns-then-is_empty c = whole_ok c.args.end.now c.args.self.now c.end_whole.new.self c.end_whole.result c.requires
-    (empty c.args.self.now.line.items (omega (
-      arith,
-      c.args.self.now.line.ok.0,
-      eqb-true _ _ (sym c.is_empty.ensures ∙ c.if-is_empty.true),
-    ))) c.end_whole.ensures
+returns-then-is_empty c =
+    let old = c.args.self.now in
+    IfOk-weaker c.end_whole.result _ _ (λ good. line_ended c.args.end.now _ old c.end_whole.new.self good c.requires
+    (nothing_kept old.line.items _ (grind (arith, nat_tests, old.line.ok.0)))) c.end_whole.ensures
 
 pub returns-then-not-branch : goal.returns-then-not-branch
 returns-then-not-branch c =
     bad_whatever_follows c.args.self.now c.keep.new.self c.args.end.now (10 ∷ [])
-    (subst (λ (g : Bool). TakesBytes c.args.self.now c.args.end.now g c.keep.new.self) c.if-not-branch.true
-    c.in_ok-keep.ensures)
+    (rw (c.if-not-branch.true) at c.in_ok-keep.ensures)
 
 pub returns : goal.returns
 returns c =
-    kept_ok c.args.end.now c.args.self.now c.keep.new.self c.end_line.new.self c.end_line.result
-    (subst (λ (g : Bool). TakesBytes c.args.self.now c.args.end.now g c.keep.new.self) c.if-not-branch.false
-    c.in_ok-keep.ensures) c.end_line.ensures
+    let mid = c.keep.new.self in
+    IfOk-weaker c.end_line.result _ _ (λ good ends. more_taken c.args.self.now mid c.end_line.new.self c.args.end.now
+    (10 ∷ []) good (rw (c.if-not-branch.false) at c.in_ok-keep.ensures)
+    (line_ended [] _ mid c.end_line.new.self good (All-nil _) (append-nil mid.line.items) ends)) c.end_line.ensures
