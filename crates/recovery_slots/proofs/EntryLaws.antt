@@ -40,10 +40,9 @@ module _ {T : Type 0} where
       → (let new = set slots place (slot_of slot.number item) in
       (length (entries_of new) + one_if (is_some slot.item) ≡ length (entries_of slots) + one_if (is_some item))
       × AreRising first new end)
-  replaced_sound [] first end place slot item rising at = absurd at
-  replaced_sound (head ∷ slots) first end zero slot item rising at = grind (arith, at)
   replaced_sound (head ∷ slots) first end (suc place) slot item rising at =
       grind (arith, replaced_sound slots (head.number + 1) end place slot item rising.2 at)
+  replaced_sound slots first end place slot item rising at = grind (arith, at)
 
   -- ---- what is held at a place
 
@@ -167,28 +166,24 @@ module _ {T : Type 0} where
     all_below entries limit (λ number item found. grind (arith, nat_tests, above number, above entry.0 entry.1)),
   )
 
-  rises_before : (before after : Slots T) (first end : ℕ) → AreRising first (before ++ after) end
-      → AreRising first before end
-  rises_before [] after first end rising = tt
-  rises_before (slot ∷ before) after first end rising = grind (arith, rises_before before after (slot.number + 1) end)
-
   -- a slot at the end with too high a number is empty
-  entries_before : (before : Slots T) (slot : Slot T) (number : ℕ)
-      → AllBelow (entries_of (before ++ slot ∷ [])) number → number ≤ slot.number
-      → entries_of before ≡ entries_of (before ++ slot ∷ [])
-  entries_before [] slot number under high = grind arith
-  entries_before (first ∷ before) slot number under high = grind (arith, entries_before before slot number)
+  cut_last : (before : Slots T) (slot : Slot T) (first end number : ℕ)
+      → (AreRising first (before ++ slot ∷ []) end → AreRising first before end)
+      × (AllBelow (entries_of (before ++ slot ∷ [])) number → number ≤ slot.number
+      → entries_of before ≡ entries_of (before ++ slot ∷ []))
+  cut_last [] slot first end number = grind arith
+  cut_last (head ∷ before) slot first end number = grind (arith, cut_last before slot (head.number + 1) end number)
 
-  pub cut_kept : {start old new : Slots T} (popped : Option (Slot T)) (number : ℕ) → Keeps start old
+  pub cut_kept : {start old new : Slots T} {number : ℕ} (popped : Option (Slot T)) → Keeps start old
       → old ≡ new ++ option_to_list popped → IsAboveAll (entries_of start) number → IsBackFrom number old
       → Keeps start new
-  cut_kept {new = new} None number kept is above back = subst (Keeps _) (is ∙ append-nil new) kept
-  cut_kept {start} {old} {new} (Some slot) number kept is above back =
+  cut_kept {new = new} None kept is above back = subst (Keeps _) (is ∙ append-nil new) kept
+  cut_kept {start} {new = new} {number} (Some slot) kept is above back =
       let last = same_from_push back.0 new back.1 slot (sym back.2 ∙ is) in
       let under : AllBelow (entries_of (new ++ slot ∷ [])) number =
       rw (← is, kept.entries) (all_below (entries_of start) number above) in record {
-        entries = grind (arith, is, last, under, entries_before new slot number, kept.entries);
-        rising = λ first end rising. rises_before new (slot ∷ []) first end (rw is at (kept.rising first end rising));
+        entries = grind (arith, is, last, under, cut_last new slot 0 0 number, kept.entries);
+        rising = λ first end rising. (cut_last new slot first end 0).0 (rw is at (kept.rising first end rising));
       }
 
   -- where the last number is below another, all are
@@ -243,9 +238,8 @@ module _ {T : Type 0} where
 
   pub drop_slot : (slots : Slots T) (place : ℕ) (slot : Slot T) → IsSlotAt slots place slot
       → drop place slots ≡ slot ∷ drop (place + 1) slots
-  drop_slot [] place slot at = absurd at
-  drop_slot (first ∷ slots) zero slot at = ap (λ (s : Slot T). s ∷ slots) at
   drop_slot (first ∷ slots) (suc place) slot at = grind (arith, drop_slot slots place slot at)
+  drop_slot slots place slot at = grind (arith, at)
 
   pub entries_dropped : (slots : Slots T) (place : ℕ) (slot : Slot T) → IsSlotAt slots place slot
       → slot.item ≡ None → entries_of (drop place slots) ≡ entries_of (drop (place + 1) slots)
@@ -267,9 +261,8 @@ module _ {T : Type 0} where
   -- no more are filed before a place than there are slots
   entries_to : (slots : Slots T) (place : ℕ)
       → length (entries_of slots) ≤ place + length (entries_of (drop place slots))
-  entries_to slots zero = omega arith
-  entries_to [] (suc place) = omega arith
   entries_to (slot ∷ slots) (suc place) = grind (arith, entries_to slots place)
+  entries_to slots place = omega arith
 
   pub filed : {slots : Slots T} {number place : ℕ} → Divides slots number place → place ≤ length slots
       → (length (filter (is_below number) (entries_of slots)) ≤ place)

@@ -6,16 +6,16 @@ pub loop-slots-preserved-in-loop-slots : goal.loop-slots-preserved-in-loop-slots
 loop-slots-preserved-in-loop-slots g c =
     search (
       rules,
-      cut_kept c.pop_back.result c.args.number c.loop-slots.invariant.kept c.pop_back.ensures.items
-          c.requires (c.is_back_from.ensures.0 c.loop-slots-test.true),
+      cut_kept c.pop_back.result c.loop-slots.invariant.kept c.pop_back.ensures.items c.requires
+          (c.is_back_from.ensures.0 c.loop-slots-test.true),
     )
 
 pub loop-slots-preserved-in-loop-slots-2 : goal.loop-slots-preserved-in-loop-slots-2
 loop-slots-preserved-in-loop-slots-2 g c =
     search (
       rules,
-      cut_kept c.pop_back.result c.args.number c.loop-slots.invariant.kept c.pop_back.ensures.items
-          c.requires (c.is_back_from.ensures.0 c.loop-slots-test.true),
+      cut_kept c.pop_back.result c.loop-slots.invariant.kept c.pop_back.ensures.items c.requires
+          (c.is_back_from.ensures.0 c.loop-slots-test.true),
     )
 
 pub returns-clause-rising : goal.returns-clause-rising

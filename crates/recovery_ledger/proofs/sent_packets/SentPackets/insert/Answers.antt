@@ -2,7 +2,7 @@ use Rattle.recovery_slots.specs.Slots.{entries_of}
 use Rattle.std.proofs.Common.{ap, arith}
 use Rattle.recovery_ledger.specs.Packets.{entry_at}
 use Rattle.recovery_ledger.proofs.CountLaws.{IsForgotten, silent_bound, silent_few, forgotten_found}
-use Rattle.recovery_ledger.proofs.PacketLaws.{sizes-le-length}
+use Rattle.recovery_ledger.proofs.PacketLaws.{sized_counted}
 use Rattle.recovery_ledger.proofs.TrackedLaws.{tracked_eliciting, tracked_silent, tracked_forgetting}
 use Rattle.recovery_ledger.proofs.sent_packets.SentPackets.insert.Goals as goal
 
@@ -11,7 +11,7 @@ overflow_add-self g c =
     grind (
       arith,
       c.self.invariant.counted.sized_is,
-      sizes-le-length (entries_of c.self.inside.packets),
+      sized_counted (entries_of c.self.inside.packets),
       c.filled-filled.ensures.few,
       c.size_count-count.ensures,
     )
