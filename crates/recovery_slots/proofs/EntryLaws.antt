@@ -7,6 +7,7 @@ use Rattle.std.specs.BTreeMap.{is_at}
 use Rattle.std.specs.Map.{lookup, remove_entry, set_value}
 use Rattle.std.proofs.lemmas.Bool.Decides.{nat_tests}
 use Rattle.std.proofs.lemmas.List.{length-set, length-drop, same_from_push}
+use Rattle.std.proofs.Math.Seq.{set-append_seam}
 use Rattle.std.proofs.lemmas.List.Filters.{length-filter_both}
 use Rattle.recovery_slots.specs.declared.slots.Slot.{Slot}
 use Rattle.recovery_slots.specs.Slots.{entries_of, item_at, AreRising, IsSlotAt, Divides, IsHeldAt, IsAboveAll, IsFrontEmpty, IsBackFrom, Replaces, Finds, is_filled, is_below, is_from, first_number, AreFrom, StaysRising}
@@ -46,22 +47,24 @@ module _ {T : Type 0} where
 
   -- ---- what is held at a place
 
-  -- another item, or none, in the place of one
-  replaced_between : (before after : Slots T) (number : ℕ) (item other : Option T) (slot : Slot T)
-      → IsSlotAt (before ++ slot_of number item ∷ after) (length before) slot
-      → (slot.item ≡ item) × (set (before ++ slot_of number item ∷ after) (length before) (slot_of slot.number other)
-      ≡ before ++ slot_of number other ∷ after)
-  replaced_between [] after number item other slot at = grind (arith, at)
-  replaced_between (first ∷ before) after number item other slot at =
-      grind (arith, replaced_between before after number item other slot at)
+  behind : (before after : Slots T) (slot other : Slot T) → IsSlotAt (before ++ slot ∷ after) (length before) other
+      → slot ≡ other
+  behind [] after slot other at = at
+  behind (first ∷ before) after slot other at = behind before after slot other at
 
+  -- another item, or none, in the place of one
   replaced : {slots new : Slots T} {place : ℕ} {item other found : Option T} (before after : Slots T)
       (number : ℕ) → slots ≡ before ++ slot_of number item ∷ after → length before ≡ place
       → Replaces slots place other found new → (found ≡ item) × (new ≡ before ++ slot_of number other ∷ after)
   replaced {item = item} {other} before after number is there replaces =
-      let at : IsSlotAt (before ++ slot_of number item ∷ after) (length before) replaces.slot =
-      rw (there, ← is) replaces.at in
-      grind (arith, is, there, replaces, replaced_between before after number item other replaces.slot at)
+      grind (
+        arith,
+        is,
+        there,
+        replaces,
+        behind before after (slot_of number item) replaces.slot (rw (there, ← is) replaces.at),
+        set-append_seam before (slot_of number item) after (slot_of number other),
+      )
 
   module _ (number : ℕ) (item other : T) (after : Slots T) where
     abbrev holding : Slots T → Option T → Slots T
@@ -128,16 +131,11 @@ module _ {T : Type 0} where
   rises_within (slot ∷ slots) first lower end upper low high rising =
       grind (arith, rises_within slots (slot.number + 1) (slot.number + 1) end upper)
 
-  pub kept : (slots : Slots T) → (entries_of (filter is_filled slots) ≡ entries_of slots)
+  pub kept : (slots : Slots T) (first end : ℕ) → (entries_of (filter is_filled slots) ≡ entries_of slots)
       × (length (filter is_filled slots) ≡ length (entries_of slots))
-  kept [] = (refl, refl)
-  kept (slot ∷ slots) = grind (arith, kept slots)
-
-  pub kept_rises : (slots : Slots T) (first end : ℕ) → AreRising first slots end
-      → AreRising first (filter is_filled slots) end
-  kept_rises [] first end rising = tt
-  kept_rises (slot ∷ slots) first end rising =
-      grind (arith, kept_rises slots (slot.number + 1) end, rises_within)
+      × (AreRising first slots end → AreRising first (filter is_filled slots) end)
+  kept [] first end = grind arith
+  kept (slot ∷ slots) first end = grind (arith, kept slots (slot.number + 1) end, rises_within)
 
   -- slots are dropped of which none was filled
   pub record Keeps (start slots : Slots T) : Type 0 where
@@ -246,15 +244,11 @@ module _ {T : Type 0} where
   entries_dropped slots place slot at empty = grind (arith, drop_slot slots place slot at)
 
   -- what is filed first, if anything, is what leaves first
-  pub nothing_filed : (entries : List (ℕ × T)) → None ≡ first_number (filter (is_from 0) entries) → entries ≡ []
-  nothing_filed [] none = refl
-  nothing_filed (entry ∷ entries) none = grind (arith, nat_tests)
-
-  pub first_filed : (old : List (ℕ × T)) (number : ℕ) → Some number ≡ first_number (filter (is_from 0) old)
-      → MatchOption (lookup (is_at (nat_cmp number)) old) ⊥
-      (λ item. old ≡ (number, item) ∷ remove_entry (is_at (nat_cmp number)) old)
-  first_filed [] number first = absurd (cc)
-  first_filed (entry ∷ old) number first = grind (arith, nat_tests)
+  pub first_filed : (old : List (ℕ × T)) (first : Option ℕ) → first ≡ first_number (filter (is_from 0) old)
+      → MatchOption first (old ≡ []) (λ number. MatchOption (lookup (is_at (nat_cmp number)) old) ⊥
+      (λ item. old ≡ (number, item) ∷ remove_entry (is_at (nat_cmp number)) old))
+  first_filed [] first is = grind (arith, is)
+  first_filed (entry ∷ old) first is = grind (arith, nat_tests, is)
 
   -- ---- how many are filed before a number's place, and from it on
 

@@ -20,5 +20,5 @@ loop-slots-preserved-in-loop-slots-2 g c =
 
 pub returns-clause-rising : goal.returns-clause-rising
 returns-clause-rising g c = λ first end rising.
-    rises_to c.loop-slots.slots.items first end c.args.number (c.loop-slots.invariant.kept.rising first end rising)
+    rises_to _ first end _ (c.loop-slots.invariant.kept.rising first end rising)
     (λ back. not_both (c.is_back_from.ensures.1 back) c.loop-slots-test.false)
