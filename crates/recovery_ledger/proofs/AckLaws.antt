@@ -5,7 +5,7 @@ use Rattle.std.proofs.lemmas.Option.{none-some}
 use Rattle.recovery_base.specs.Received.{Has}
 use Rattle.recovery_base.proofs.WindowLaws.{HasGreatest, greatest_with}
 use Rattle.recovery_base.proofs.MissingLaws.{has_greatest, reached, stays_reached, missing_left}
-use Rattle.recovery_acks.specs.Acks.{Acks, AsksAtOnce, AddsPending, HasReached, Receives, ReceivesEliciting, CanSend, counts_received, silent_received}
+use Rattle.recovery_acks.specs.Acks.{Acks, AsksAtOnce, AddsPending, HasReached, Receives, ReceivesEliciting, CanSend, counts_received}
 use Rattle.recovery_acks.proofs.AckLaws.{out_of_order_alike}
 use Rattle.recovery_ledger.specs.Packets.{Packet}
 use Rattle.recovery_ledger.specs.Spaces.{Space, acks_of, with_acks, after_acknowledging, heard_with, ArmsBy, HasGreatestCome, HearsNew, ReceivesNew, SubtractsLargest}
@@ -37,6 +37,9 @@ armed_by arms unset only can required = grind (arith, arms, unset, only, can, re
 module _ (Old New : ℕ → Type 0) (number : ℕ) (greatest : HasGreatest Old)
     (numbers : (n : ℕ) → New n ↔ Recent (With number Old) n) (old added new : Acks) (now : ℕ) (arm : Bool)
     (adds : AddsPending old number now added) where
+  abbrev Armed : Bool → Type 0
+  Armed = ArmsBy (heard_with Old old) old.counts number
+
   module _ (receives : ReceivesEliciting New added now number arm new) where
     required_eliciting : IsTrue new.required
         ↔ (IsTrue old.required ⊎ (IsTrue true × AsksAtOnce (With number Old) old.counts number))
@@ -44,39 +47,33 @@ module _ (Old New : ℕ → Type 0) (number : ℕ) (greatest : HasGreatest Old)
         required_by (rw (adds.others.0, adds.counts) at receives.required) (out_of_order_alike
         (missing_left (With number Old) New (greatest_with Old number greatest) numbers) _ _ _ _ _)
 
-    arms_eliciting : IsTrue arm ↔ ArmsBy (heard_with Old old) old.counts number true
+    arms_eliciting : IsTrue arm ↔ Armed true
     arms_eliciting =
-        let can : IsTrue new.required → CanSend new = λ required. (required, rw receives.ranges adds.some) in
-        armed_by (rw (adds.others.1) at receives.armed) (is_none old.base) (λ send. send.0) can required_eliciting
+        armed_by (rw (adds.others.1) at receives.armed) (is_none old.base) (λ (send : CanSend new). send.0)
+        (λ required. (required, rw receives.ranges adds.some)) required_eliciting
 
-    hears_eliciting : HearsNew Old old now number true new
-    hears_eliciting = record {
-      pending = λ n. rw receives.ranges (adds.pending n);
-      required = required_eliciting;
-      started = starts arm now old.base new.base (ArmsBy (heard_with Old old) old.counts number true)
-          (rw (adds.others.1) at receives.base) arms_eliciting (λ should. (is_none old.base).1 should.1);
-      counts = receives.counts ∙ ap (counts_received true number) adds.counts;
-    }
-
-  hears_silent : new ≡ silent_received added → HearsNew Old old now number false new
-  hears_silent is = rw is (record {
-    pending = adds.pending;
-    required = grind (arith, adds);
-    started = starts false now old.base added.base (ArmsBy (heard_with Old old) old.counts number false)
-        adds.others.1 (grind arith) (grind arith);
-    counts = ap (counts_received false number) adds.counts;
-  })
-
+  -- what it does, and when it starts the timer for a late ACK
   pub hears : (ack_eliciting : Bool) → Receives New added now number ack_eliciting arm new
-      → HearsNew Old old now number ack_eliciting new
-  hears true receives = hears_eliciting receives
-  hears false receives = hears_silent receives.1
-
-  -- and when it starts the timer for a late ACK
-  pub arms : (ack_eliciting : Bool) → Receives New added now number ack_eliciting arm new
-      → IsTrue arm ↔ ArmsBy (heard_with Old old) old.counts number ack_eliciting
-  arms true receives = arms_eliciting receives
-  arms false receives = grind (arith, receives.0)
+      → HearsNew Old old now number ack_eliciting new × (IsTrue arm ↔ Armed ack_eliciting)
+  hears true receives = (
+    record {
+      pending = λ n. rw receives.ranges (adds.pending n);
+      required = required_eliciting receives;
+      started = starts arm now old.base new.base (Armed true) (rw (adds.others.1) at receives.base)
+          (arms_eliciting receives) (λ should. (is_none old.base).1 should.1);
+      counts = receives.counts ∙ ap (counts_received true number) adds.counts;
+    },
+    arms_eliciting receives,
+  )
+  hears false receives = (
+    rw (receives.1) (record {
+      pending = adds.pending;
+      required = grind (arith, adds);
+      started = starts false now old.base added.base (Armed false) adds.others.1 (grind arith) (grind arith);
+      counts = ap (counts_received false number) adds.counts;
+    }),
+    grind (arith, receives.0),
+  )
 
 -- the greatest ack-eliciting number was reached by the numbers before, and is by those after
 pub still_reached : (Old New : ℕ → Type 0) (number : ℕ) → HasGreatest Old → HasGreatest New

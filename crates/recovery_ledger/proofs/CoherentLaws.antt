@@ -9,7 +9,7 @@ use Rattle.recovery_ledger.specs.Packets.{Packet, Packets, no_packets, forgotten
 use Rattle.recovery_ledger.specs.Probes.{ProbeFound}
 use Rattle.recovery_ledger.specs.Spaces.{Space, Spaces, space_of, tracking_of, packets_of, acks_of, next_number_of, HasGreatestCome, IsCoherent, one_probe_more, space_probes, space_loses}
 use Rattle.recovery_ledger.proofs.AmongLaws.{Acknowledges, all_without, all_sent, all_carrying}
-use Rattle.recovery_ledger.proofs.PacketLaws.{AllBelow, all_below, are_below, AllBelow-without, AllBelow-push, AllBelow-more, AllBelow-carrying, AllBelow-without_some}
+use Rattle.recovery_ledger.proofs.PacketLaws.{AllBelow, all_below, are_below, AllBelow-without, AllBelow-push, AllBelow-carrying, AllBelow-without_some}
 
 module _ {P M : Type 0} where
   -- what was received and asks for an ACK stays
@@ -56,7 +56,7 @@ module _ {P M : Type 0} where
         → next_number_of here ≡ number + 1 → IsCoherent here
     coherent_sent number packet above small tracking next =
         let below = AllBelow-without_some (packets_of old) (forgotten_number (tracking_of old).last_eliciting packet
-        (packets_of old)) number (AllBelow-more (packets_of old) (next_number_of old) number above own) in
+        (packets_of old)) number (all_below _ _ (λ n p found. omega (arith, coherent.packets n p found, above))) in
         record {
           packets = rw (tracking, next) (are_below _ _ (AllBelow-push _ number packet below));
           last = λ m is. grind (arith, tracking, is, coherent.last m, above, next);

@@ -5,7 +5,7 @@ use Rattle.std.specs.Prelude.{sum_by}
 use Rattle.std.proofs.lemmas.List.Sums.{sum_by_push, sum_by-cons}
 use Rattle.recovery_ledger.specs.Packets.{Packet, Packets, Tracking, IsAboveLast, packet_at, without, with_contents, replaced, is_above, silent_above, least_number, forgotten_number}
 use Rattle.recovery_ledger.specs.Counts.{silent_count, eliciting_count, size_count, AreCounted}
-use Rattle.recovery_ledger.proofs.PacketLaws.{AllBelow-push, found-append, AllBelow, sum-without, sum-replaced, silent_count-length, all_silent, some_of, first_found, first_passes}
+use Rattle.recovery_ledger.proofs.PacketLaws.{AllBelow-push, found-append, AllBelow, sum-without, sum-replaced, silent_count-length, some_of, first_found, first_passes}
 
 module _ {P M : Type 0} where
   -- a packet is forgotten where another is sent: it was tracked before, above the last eliciting number, and counted
@@ -66,8 +66,8 @@ module _ {P M : Type 0} where
             view,
             is_silent,
             counted.silent_is,
+            counted.others,
             silent_count-length last packets,
-            all_silent last packets counted.others,
           )
 
           pub silent_few : None ≡ forgotten_number tracking.last_eliciting packet tracking.packets → silent ≤ 1000
@@ -89,7 +89,7 @@ module _ {P M : Type 0} where
           forgotten_found number {least} some more found =
               let its : Some least ≡ forgotten_number last packet packets = rw (← is) at some in
               let above : least_number (filter (λ entry. is_above last entry.0) packets) ≡ Some least =
-              grind (arith, nat_tests, its, view, is_silent, all_silent last packets counted.others) in
+              grind (arith, nat_tests, its, view, is_silent, counted.others, silent_count-length last packets) in
               let gone = some_of _ (first_found (λ entry. is_above last entry.0) packets least above) in
               let kept = found-append packets ((number, packet) ∷ []) least gone.0 gone.1 in
               rw (found, more, kept.0)

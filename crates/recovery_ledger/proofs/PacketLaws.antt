@@ -82,22 +82,24 @@ module _ {P M : Type 0} where
   sum-replaced f (entry ∷ packets) number packet other found alike =
       grind (arith, sum_by-cons f, alike entry.0, sum-replaced f packets number packet other)
 
-  pub sizes-le-length : (packets : Packets P M) → sum_by (λ entry. size_count entry.1) packets ≤ length packets
-  sizes-le-length [] = omega arith
-  sizes-le-length (entry ∷ packets) =
-      grind (arith, sum_by-cons (λ (e : ℕ × Packet P M). size_count e.1) entry packets, sizes-le-length packets)
-
-  -- the count of silent packets is their number
+  -- the count of silent packets is their number, and where no packet above the last eliciting number elicits an ACK, the
+  -- silent ones above it are all above it
   pub silent_count-length : (last : Option ℕ) (packets : Packets P M)
-      → length (silent_above last packets) ≡ sum_by (silent_count last) packets
-  silent_count-length last [] = refl
+      → (length (silent_above last packets) ≡ sum_by (silent_count last) packets)
+      × (sum_by (eliciting_count last) packets ≡ 0
+      → filter (λ entry. is_above last entry.0) packets ≡ silent_above last packets)
+  silent_count-length last [] = grind arith
   silent_count-length last (entry ∷ packets) =
-      grind (arith, sum_by-cons (silent_count last) entry packets, silent_count-length last packets)
+      grind (
+        arith,
+        sum_by-cons (silent_count last) entry packets,
+        sum_by-cons (eliciting_count last) entry packets,
+        silent_count-length last packets,
+      )
 
-  -- ---- sizes
-
-  pub sized_counted : (packets : Packets P M) → (sum_by (λ entry. size_count entry.1) packets ≢ 0) ↔ HasSize packets
-  sized_counted [] = (λ some. some refl, λ sized none. sized)
+  pub sized_counted : (packets : Packets P M) → (let sized = sum_by (λ entry. size_count entry.1) packets in
+      (sized ≤ length packets) × ((sized ≢ 0) ↔ HasSize packets))
+  sized_counted [] = (omega arith, (λ some. some refl, λ sized none. sized))
   sized_counted (entry ∷ packets) =
       grind (
         arith,
@@ -107,13 +109,6 @@ module _ {P M : Type 0} where
       )
 
   -- ---- silent packets
-
-  -- where no packet above the last eliciting number elicits an ACK, the silent ones above it are all above it
-  pub all_silent : (last : Option ℕ) (packets : Packets P M) → sum_by (eliciting_count last) packets ≡ 0
-      → filter (λ entry. is_above last entry.0) packets ≡ silent_above last packets
-  all_silent last [] none = refl
-  all_silent last (entry ∷ packets) none =
-      grind (arith, sum_by-cons (eliciting_count last) entry packets, all_silent last packets)
 
   -- the first number that passes a test is that of a packet
   pub first_found : (test : ℕ × Packet P M → Bool) (packets : Packets P M) (number : ℕ)
@@ -125,11 +120,6 @@ module _ {P M : Type 0} where
       → least_number (filter (λ entry. is_above last entry.0) packets) ≡ Some number → is_above last number ≡ true
   first_passes last [] number e = absurd (cc)
   first_passes last (entry ∷ packets) number e = grind (arith, first_passes last packets number)
-
-  pub AllBelow-more : (packets : Packets P M) (limit more : ℕ) → limit ≤ more → AllBelow packets limit
-      → AllBelow packets more
-  AllBelow-more [] limit more le below = tt
-  AllBelow-more (entry ∷ packets) limit more le below = grind (arith, AllBelow-more packets limit more le)
 
   pub without-absent : (packets : Packets P M) (number : ℕ) → packet_at packets number ≡ None
       → without packets number ≡ packets

@@ -54,15 +54,14 @@ module _ {K P M : Type 0} (spaces : Spaces P M) (paths : OfPaths (Path K)) (bala
   moved path fresh =
       let next : generation_of path.ledger ≡ generation_of ledger + 1 =
       ap (λ (l : PathLedger). generation_of l) fresh in
-      record {
-        current = none_balanced path.ledger spaces
+      grind (
+        arith,
+        balanced,
+        next,
+        none_balanced path.ledger spaces
             (λ space packet among same. absurd (omega (arith, balanced.up_to space packet among, same, next)))
-            (ap (λ (l : PathLedger). counters_of l) fresh);
-        previous = λ old is. rw (← some_same is) balanced.current;
-        older = λ old is. rw (← some_same is) (omega (arith, next));
-        up_to = λ space packet among. omega (arith, balanced.up_to space packet among, next);
-        coherent = balanced.coherent;
-      }
+            (ap (λ (l : PathLedger). counters_of l) fresh),
+      )
 
   module _ (space : SpaceId) where
     abbrev before : Space P M
@@ -123,15 +122,14 @@ module _ {K P M : Type 0} (spaces : Spaces P M) (paths : OfPaths (Path K)) (bala
         → next_number_of before ≤ number → CanTrackOn paths number packet before
     can_track number packet own above =
         let coherent : IsCoherent before = balanced.coherent space in
-        let last = (tracking_of before).last_eliciting in
         record {
           current = record {
             above = λ n p found. omega (arith, coherent.packets n p found, above);
             above_last = λ n is. omega (arith, coherent.last n is, above);
             own = own;
-            counted = forgotten_counted ledger all each_counted.0 last packet;
+            counted = forgotten_counted ledger all each_counted.0 _ packet;
           };
-          previous = λ path is. forgotten_counted path.ledger all (each_counted.1 path is) last packet;
+          previous = λ path is. forgotten_counted path.ledger all (each_counted.1 path is) _ packet;
         }
 
     pub paths_balanced_sent : (number : ℕ) (packet : Packet P M) (here : Space P M)

@@ -28,22 +28,19 @@ IsPathSearchedBy by past = IsSearchedBy by past.kept.discovery past.searched
 -- one more call that is in turn
 searched_after : (by : Option MtuDiscoveryConfig) (made : Discovery) (call : MtuCall) (earlier : List MtuCall)
     → IsInTurn call (discovery_by made earlier) → IsSearchedBy by made earlier → IsSearchedBy by made (call ∷ earlier)
-searched_after by made call earlier turn searched = record {
-  untold = searched.untold;
-  settings_are = searched.settings_are;
-  outside = limits_outside_after made searched.untold call earlier turn searched.outside;
-}
+searched_after by made call earlier turn searched =
+    grind (arith, searched, limits_outside_after made searched.untold call earlier turn searched.outside)
 
 -- the discovery of a path that is made is searched where that is allowed, as the settings of paths say
 pub first_searched : {F : Type 0} (allowed : Bool) (limit : Option ℕ) (config : TransportConfig F)
     → IsSearchedBy (if allowed then config.mtu_discovery_config else None) (first_discovery allowed limit config) []
 first_searched allowed limit config =
     let by = if allowed then config.mtu_discovery_config else None in
-    record {
-      untold = discovery_made_untold (initial_mtu_of config) config.min_mtu limit by;
-      settings_are = made_settings (initial_mtu_of config) config.min_mtu limit by;
-      outside = tt;
-    }
+    grind (
+      arith,
+      discovery_made_untold (initial_mtu_of config) config.min_mtu limit by,
+      made_settings (initial_mtu_of config) config.min_mtu limit by,
+    )
 
 module _ {K : Type 0} (settings : PathSettings K) (by : Option MtuDiscoveryConfig)
     (fresh_is : (limit : Option ℕ) → IsSearchedBy by (settings.discovery limit) []) where

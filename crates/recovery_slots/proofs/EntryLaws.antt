@@ -7,6 +7,7 @@ use Rattle.std.specs.BTreeMap.{is_at}
 use Rattle.std.specs.Map.{lookup, remove_entry, set_value}
 use Rattle.std.proofs.lemmas.Bool.Decides.{nat_tests}
 use Rattle.std.proofs.lemmas.List.{length-set, length-drop, same_from_push}
+use Rattle.std.proofs.Math.Seq.{set-append_seam}
 use Rattle.std.proofs.lemmas.List.Filters.{length-filter_both}
 use Rattle.recovery_slots.specs.declared.slots.Slot.{Slot}
 use Rattle.recovery_slots.specs.Slots.{entries_of, item_at, AreRising, IsSlotAt, Divides, IsHeldAt, IsAboveAll, IsFrontEmpty, IsBackFrom, Replaces, Finds, is_filled, is_below, is_from, first_number, AreFrom, StaysRising}
@@ -40,29 +41,30 @@ module _ {T : Type 0} where
       → (let new = set slots place (slot_of slot.number item) in
       (length (entries_of new) + one_if (is_some slot.item) ≡ length (entries_of slots) + one_if (is_some item))
       × AreRising first new end)
-  replaced_sound [] first end place slot item rising at = absurd at
-  replaced_sound (head ∷ slots) first end zero slot item rising at = grind (arith, at)
   replaced_sound (head ∷ slots) first end (suc place) slot item rising at =
       grind (arith, replaced_sound slots (head.number + 1) end place slot item rising.2 at)
+  replaced_sound slots first end place slot item rising at = grind (arith, at)
 
   -- ---- what is held at a place
 
-  -- another item, or none, in the place of one
-  replaced_between : (before after : Slots T) (number : ℕ) (item other : Option T) (slot : Slot T)
-      → IsSlotAt (before ++ slot_of number item ∷ after) (length before) slot
-      → (slot.item ≡ item) × (set (before ++ slot_of number item ∷ after) (length before) (slot_of slot.number other)
-      ≡ before ++ slot_of number other ∷ after)
-  replaced_between [] after number item other slot at = grind (arith, at)
-  replaced_between (first ∷ before) after number item other slot at =
-      grind (arith, replaced_between before after number item other slot at)
+  behind : (before after : Slots T) (slot other : Slot T) → IsSlotAt (before ++ slot ∷ after) (length before) other
+      → slot ≡ other
+  behind [] after slot other at = at
+  behind (first ∷ before) after slot other at = behind before after slot other at
 
+  -- another item, or none, in the place of one
   replaced : {slots new : Slots T} {place : ℕ} {item other found : Option T} (before after : Slots T)
       (number : ℕ) → slots ≡ before ++ slot_of number item ∷ after → length before ≡ place
       → Replaces slots place other found new → (found ≡ item) × (new ≡ before ++ slot_of number other ∷ after)
   replaced {item = item} {other} before after number is there replaces =
-      let at : IsSlotAt (before ++ slot_of number item ∷ after) (length before) replaces.slot =
-      rw (there, ← is) replaces.at in
-      grind (arith, is, there, replaces, replaced_between before after number item other replaces.slot at)
+      grind (
+        arith,
+        is,
+        there,
+        replaces,
+        behind before after (slot_of number item) replaces.slot (rw (there, ← is) replaces.at),
+        set-append_seam before (slot_of number item) after (slot_of number other),
+      )
 
   module _ (number : ℕ) (item other : T) (after : Slots T) where
     abbrev holding : Slots T → Option T → Slots T
@@ -129,16 +131,11 @@ module _ {T : Type 0} where
   rises_within (slot ∷ slots) first lower end upper low high rising =
       grind (arith, rises_within slots (slot.number + 1) (slot.number + 1) end upper)
 
-  pub kept : (slots : Slots T) → (entries_of (filter is_filled slots) ≡ entries_of slots)
+  pub kept : (slots : Slots T) (first end : ℕ) → (entries_of (filter is_filled slots) ≡ entries_of slots)
       × (length (filter is_filled slots) ≡ length (entries_of slots))
-  kept [] = (refl, refl)
-  kept (slot ∷ slots) = grind (arith, kept slots)
-
-  pub kept_rises : (slots : Slots T) (first end : ℕ) → AreRising first slots end
-      → AreRising first (filter is_filled slots) end
-  kept_rises [] first end rising = tt
-  kept_rises (slot ∷ slots) first end rising =
-      grind (arith, kept_rises slots (slot.number + 1) end, rises_within)
+      × (AreRising first slots end → AreRising first (filter is_filled slots) end)
+  kept [] first end = grind arith
+  kept (slot ∷ slots) first end = grind (arith, kept slots (slot.number + 1) end, rises_within)
 
   -- slots are dropped of which none was filled
   pub record Keeps (start slots : Slots T) : Type 0 where
@@ -167,28 +164,24 @@ module _ {T : Type 0} where
     all_below entries limit (λ number item found. grind (arith, nat_tests, above number, above entry.0 entry.1)),
   )
 
-  rises_before : (before after : Slots T) (first end : ℕ) → AreRising first (before ++ after) end
-      → AreRising first before end
-  rises_before [] after first end rising = tt
-  rises_before (slot ∷ before) after first end rising = grind (arith, rises_before before after (slot.number + 1) end)
-
   -- a slot at the end with too high a number is empty
-  entries_before : (before : Slots T) (slot : Slot T) (number : ℕ)
-      → AllBelow (entries_of (before ++ slot ∷ [])) number → number ≤ slot.number
-      → entries_of before ≡ entries_of (before ++ slot ∷ [])
-  entries_before [] slot number under high = grind arith
-  entries_before (first ∷ before) slot number under high = grind (arith, entries_before before slot number)
+  cut_last : (before : Slots T) (slot : Slot T) (first end number : ℕ)
+      → (AreRising first (before ++ slot ∷ []) end → AreRising first before end)
+      × (AllBelow (entries_of (before ++ slot ∷ [])) number → number ≤ slot.number
+      → entries_of before ≡ entries_of (before ++ slot ∷ []))
+  cut_last [] slot first end number = grind arith
+  cut_last (head ∷ before) slot first end number = grind (arith, cut_last before slot (head.number + 1) end number)
 
-  pub cut_kept : {start old new : Slots T} (popped : Option (Slot T)) (number : ℕ) → Keeps start old
+  pub cut_kept : {start old new : Slots T} {number : ℕ} (popped : Option (Slot T)) → Keeps start old
       → old ≡ new ++ option_to_list popped → IsAboveAll (entries_of start) number → IsBackFrom number old
       → Keeps start new
-  cut_kept {new = new} None number kept is above back = subst (Keeps _) (is ∙ append-nil new) kept
-  cut_kept {start} {old} {new} (Some slot) number kept is above back =
+  cut_kept {new = new} None kept is above back = subst (Keeps _) (is ∙ append-nil new) kept
+  cut_kept {start} {new = new} {number} (Some slot) kept is above back =
       let last = same_from_push back.0 new back.1 slot (sym back.2 ∙ is) in
       let under : AllBelow (entries_of (new ++ slot ∷ [])) number =
       rw (← is, kept.entries) (all_below (entries_of start) number above) in record {
-        entries = grind (arith, is, last, under, entries_before new slot number, kept.entries);
-        rising = λ first end rising. rises_before new (slot ∷ []) first end (rw is at (kept.rising first end rising));
+        entries = grind (arith, is, last, under, cut_last new slot 0 0 number, kept.entries);
+        rising = λ first end rising. (cut_last new slot first end 0).0 (rw is at (kept.rising first end rising));
       }
 
   -- where the last number is below another, all are
@@ -243,33 +236,27 @@ module _ {T : Type 0} where
 
   pub drop_slot : (slots : Slots T) (place : ℕ) (slot : Slot T) → IsSlotAt slots place slot
       → drop place slots ≡ slot ∷ drop (place + 1) slots
-  drop_slot [] place slot at = absurd at
-  drop_slot (first ∷ slots) zero slot at = ap (λ (s : Slot T). s ∷ slots) at
   drop_slot (first ∷ slots) (suc place) slot at = grind (arith, drop_slot slots place slot at)
+  drop_slot slots place slot at = grind (arith, at)
 
   pub entries_dropped : (slots : Slots T) (place : ℕ) (slot : Slot T) → IsSlotAt slots place slot
       → slot.item ≡ None → entries_of (drop place slots) ≡ entries_of (drop (place + 1) slots)
   entries_dropped slots place slot at empty = grind (arith, drop_slot slots place slot at)
 
   -- what is filed first, if anything, is what leaves first
-  pub nothing_filed : (entries : List (ℕ × T)) → None ≡ first_number (filter (is_from 0) entries) → entries ≡ []
-  nothing_filed [] none = refl
-  nothing_filed (entry ∷ entries) none = grind (arith, nat_tests)
-
-  pub first_filed : (old : List (ℕ × T)) (number : ℕ) → Some number ≡ first_number (filter (is_from 0) old)
-      → MatchOption (lookup (is_at (nat_cmp number)) old) ⊥
-      (λ item. old ≡ (number, item) ∷ remove_entry (is_at (nat_cmp number)) old)
-  first_filed [] number first = absurd (cc)
-  first_filed (entry ∷ old) number first = grind (arith, nat_tests)
+  pub first_filed : (old : List (ℕ × T)) (first : Option ℕ) → first ≡ first_number (filter (is_from 0) old)
+      → MatchOption first (old ≡ []) (λ number. MatchOption (lookup (is_at (nat_cmp number)) old) ⊥
+      (λ item. old ≡ (number, item) ∷ remove_entry (is_at (nat_cmp number)) old))
+  first_filed [] first is = grind (arith, is)
+  first_filed (entry ∷ old) first is = grind (arith, nat_tests, is)
 
   -- ---- how many are filed before a number's place, and from it on
 
   -- no more are filed before a place than there are slots
   entries_to : (slots : Slots T) (place : ℕ)
       → length (entries_of slots) ≤ place + length (entries_of (drop place slots))
-  entries_to slots zero = omega arith
-  entries_to [] (suc place) = omega arith
   entries_to (slot ∷ slots) (suc place) = grind (arith, entries_to slots place)
+  entries_to slots place = omega arith
 
   pub filed : {slots : Slots T} {number place : ℕ} → Divides slots number place → place ≤ length slots
       → (length (filter (is_below number) (entries_of slots)) ≤ place)

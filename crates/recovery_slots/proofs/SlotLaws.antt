@@ -47,15 +47,13 @@ module _ {T : Type 0} where
 
   pub slot_within : (slots : Slots T) (place : ℕ) (slot : Slot T) → IsSlotAt slots place slot
       → place < length slots
-  slot_within [] place slot at = absurd at
-  slot_within (first ∷ slots) zero slot at = omega arith
   slot_within (first ∷ slots) (suc place) slot at = omega (arith, slot_within slots place slot at)
+  slot_within slots place slot at = grind (arith, at)
 
-  pub one_slot : (slots : Slots T) (place : ℕ) (slot other : Slot T) → IsSlotAt slots place slot
+  one_slot : (slots : Slots T) (place : ℕ) (slot other : Slot T) → IsSlotAt slots place slot
       → IsSlotAt slots place other → slot ≡ other
-  one_slot [] place slot other at at2 = absurd at
-  one_slot (first ∷ slots) zero slot other at at2 = sym at ∙ at2
   one_slot (first ∷ slots) (suc place) slot other at at2 = one_slot slots place slot other at at2
+  one_slot slots place slot other at at2 = grind (arith, at, at2)
 
   -- ---- numbers that rise
 
@@ -68,11 +66,9 @@ module _ {T : Type 0} where
   -- a number is at least as far from the first as its place, and from the end as there are places behind it
   stands : (slots : Slots T) (first end place : ℕ) (slot : Slot T) → AreRising first slots end
       → IsSlotAt slots place slot → (first + place ≤ slot.number) × (slot.number + length slots ≤ end + place)
-  stands [] first end place slot rising at = absurd at
-  stands (head ∷ slots) first end zero slot rising at =
-      grind (arith, at, rises_room slots (head.number + 1) end rising.2)
   stands (head ∷ slots) first end (suc place) slot rising at =
       grind (arith, stands slots (head.number + 1) end place slot rising.2 at)
+  stands slots first end place slot rising at = grind (arith, at, rises_room)
 
   -- numbers are at least as far from one another as their places
   apart : (slots : Slots T) (place other : ℕ) (slot later : Slot T) → Rises slots → IsSlotAt slots place slot

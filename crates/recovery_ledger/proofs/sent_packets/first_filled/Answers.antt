@@ -9,36 +9,33 @@ use Rattle.recovery_ledger.proofs.sent_packets.first_filled.Goals.{then-are_void
 
 pub loop-place-init : goal.loop-place-init
 loop-place-init g c =
-    rw c.place_from-place.ensures.entries
-    (passes_below g.Q.RetransmitQueue.words c.args.streams.now c.args.from _ (entries_of c.args.packets.now) c.requires)
+    rw c.place_from-place.ensures.entries (passes_below _ _ _ _ _ c.requires)
 
 pub loop-place-preserved-in_default : goal.loop-place-preserved-in_default
 loop-place-preserved-in_default g c =
     let empty = c.in_default.ensures.slot in
-    rw (← entries_dropped c.args.packets.now c.loop-place.place empty.0 empty.1 empty.2) c.loop-place.invariant
+    rw (← entries_dropped c.args.packets.now c.loop-place.place _ empty.1 empty.2) c.loop-place.invariant
 
 pub returns-then-not-is_empty-clause-number : goal.returns-then-not-is_empty-clause-number
 returns-then-not-is_empty-clause-number g c =
-    (passes_next g.Q.RetransmitQueue.words c.loop-place.invariant c.is_empty.result
-    (ap (λ ss. entries_of ss) (drop_slot c.args.packets.now c.loop-place.place _ c.in-Some.ensures.slot))
-    c.packet.view_is c.is_empty.ensures).0 c.if-not-is_empty.true
+    (passes_next _ c.loop-place.invariant _
+    (ap (λ ss. entries_of ss) (drop_slot c.args.packets.now c.loop-place.place _ c.in-Some.ensures.slot)) c.packet.view_is c.is_empty.ensures).0 c.if-not-is_empty.true
 
 pub returns-then-not-is_empty-clause-void : goal.returns-then-not-is_empty-clause-void
 returns-then-not-is_empty-clause-void g c =
     elim c.if-are_void.branch [
-      | then-are_void w ↦ rw w.from-is (void_here g.Q.RetransmitQueue.words c.loop-place.invariant c.in-Some.number
-          (divided _ _ _ c.in-Some.ensures.divides) w.if-are_void.true)
+      | then-are_void w ↦ rw w.from-is (void_here _ c.loop-place.invariant _ (divided _ _ _ c.in-Some.ensures.divides)
+          w.if-are_void.true)
       | else-are_void w ↦ rw w.from-is c.loop-place.invariant.below
     ]
 
 pub loop-place-preserved : goal.loop-place-preserved
 loop-place-preserved g c =
-    (passes_next g.Q.RetransmitQueue.words c.loop-place.invariant c.is_empty.result
-    (ap (λ ss. entries_of ss) (drop_slot c.args.packets.now c.loop-place.place _ c.in-Some.ensures.slot))
-    c.packet.view_is c.is_empty.ensures).1 c.if-not-is_empty.false _ _
+    (passes_next _ c.loop-place.invariant _
+    (ap (λ ss. entries_of ss) (drop_slot c.args.packets.now c.loop-place.place _ c.in-Some.ensures.slot)) c.packet.view_is c.is_empty.ensures).1 c.if-not-is_empty.false _ _
     (elim c.if-are_void.branch [
-      | then-are_void w ↦ rw w.from-is (void_here g.Q.RetransmitQueue.words c.loop-place.invariant c.in-Some.number
-          (divided _ _ _ c.in-Some.ensures.divides) w.if-are_void.true)
+      | then-are_void w ↦ rw w.from-is (void_here _ c.loop-place.invariant _ (divided _ _ _ c.in-Some.ensures.divides)
+          w.if-are_void.true)
       | else-are_void w ↦ rw w.from-is c.loop-place.invariant.below
     ])
     (elim c.if-are_void.branch [

@@ -17,7 +17,7 @@ returns-in_ok-checked_add-in-Some-clause-first g c =
 pub returns-in_ok-checked_add-in-Some-clause-least : goal.returns-in_ok-checked_add-in-Some-clause-least
 returns-in_ok-checked_add-in-Some-clause-least g c =
     rw c.in-Some.is
-    (least_above (Some c.in-Some.last) c.args.from c.first_from.result (entries_of c.args.packets.now)
+    (least_above (Some c.in-Some.last) c.args.from _ _
     (rw c.in-Some.is at c.requires.found)
     (rw (c.max.ensures, c.in_ok-checked_add-in-Some.ensures.1) at c.first_from.ensures.lowest))
 
@@ -26,6 +26,6 @@ returns-in-None-clause-first g c = rw c.in-None.is (c.first_from-in-None.ensures
     ∙ (first_above None c.args.from 0 _ (rw c.in-None.is at c.requires.found)).0)
 
 pub returns-in-None-clause-least : goal.returns-in-None-clause-least
-returns-in-None-clause-least g c = rw c.in-None.is (least_above None c.args.from
-    c.first_from-in-None.result (entries_of c.args.packets.now) (rw c.in-None.is at c.requires.found)
+returns-in-None-clause-least g c = rw c.in-None.is (least_above None c.args.from _ _
+    (rw c.in-None.is at c.requires.found)
     c.first_from-in-None.ensures.lowest)

@@ -2,7 +2,7 @@ use Rattle.recovery_slots.specs.Slots.{entries_of}
 use Rattle.std.proofs.Common.{ap, arith}
 use Rattle.recovery_ledger.specs.Packets.{entry_at}
 use Rattle.recovery_ledger.proofs.CountLaws.{IsForgotten, silent_bound, silent_few, forgotten_found}
-use Rattle.recovery_ledger.proofs.PacketLaws.{sizes-le-length}
+use Rattle.recovery_ledger.proofs.PacketLaws.{sized_counted}
 use Rattle.recovery_ledger.proofs.TrackedLaws.{tracked_eliciting, tracked_silent, tracked_forgetting}
 use Rattle.recovery_ledger.proofs.sent_packets.SentPackets.insert.Goals as goal
 
@@ -11,7 +11,7 @@ overflow_add-self g c =
     grind (
       arith,
       c.self.invariant.counted.sized_is,
-      sizes-le-length (entries_of c.self.inside.packets),
+      sized_counted (entries_of c.self.inside.packets),
       c.filled-filled.ensures.few,
       c.size_count-count.ensures,
     )
@@ -66,12 +66,12 @@ returns-in_default-clause-bound g c = silent_bound (invariant_of-self-in_default
 pub unreachable-requires : goal.unreachable-requires
 unreachable-requires g c =
     rw c.in_default-take.is at (forgotten_found c.self.invariant.counted c.self.view_is c.packet.view_is
-    c.if-is_eliciting.false c.args.number c.in-Some.ensures.number c.in_ok-push.ensures.ok c.take.ensures.value)
+    c.if-is_eliciting.false _ c.in-Some.ensures.number c.in_ok-push.ensures.ok c.take.ensures.value)
 
 pub overflow_sub-self : goal.overflow_sub-self
 overflow_sub-self g c =
     let gone = rw c.in-Some-take.is at (forgotten_found c.self.invariant.counted c.self.view_is c.packet.view_is
-    c.if-is_eliciting.false c.args.number c.in-Some.ensures.number c.in_ok-push.ensures.ok c.take.ensures.value) in
+    c.if-is_eliciting.false _ c.in-Some.ensures.number c.in_ok-push.ensures.ok c.take.ensures.value) in
     omega (arith, gone.2, c.size_count.ensures)
 
 found : (g : _) (c : goal.After-self-4-1 g) → IsForgotten (entries_of c.self.inside.packets)
@@ -79,14 +79,14 @@ found : (g : _) (c : goal.After-self-4-1 g) → IsForgotten (entries_of c.self.i
     (entries_of c.push.new.self) c.in-Some-take.gone
 found g c =
     rw c.in-Some-take.is at (forgotten_found c.self.invariant.counted c.self.view_is c.packet.view_is
-    c.if-is_eliciting.false c.args.number c.in-Some.ensures.number c.in_ok-push.ensures.ok c.take.ensures.value)
+    c.if-is_eliciting.false _ c.in-Some.ensures.number c.in_ok-push.ensures.ok c.take.ensures.value)
 
 pub invariant_of-self-2 : goal.invariant_of-self-2
 invariant_of-self-2 g c =
     let gone = found g c in
     rw (c.size_count-count.ensures, c.min-self-inside.ensures, c.size_count.ensures)
     (tracked_forgetting c.self.invariant c.push.new.self _ _ c.ranges.number.fits
-    (rw (← c.self.view_is) at c.requires.above) c.in_ok-push.ensures.ok c.in-Some.least c.in-Some-take.gone
+    (rw (← c.self.view_is) at c.requires.above) c.in_ok-push.ensures.ok _ _
     c.packet.view_is c.if-is_eliciting.false (rw (← c.self.view_is) at c.requires.above_last) gone.0 gone.1
     (rw (← c.self.view_is) at c.in-Some.ensures.least) c.take.ensures.entries c.in-Some-take.ensures.bound)
 

@@ -26,8 +26,7 @@ unreachable-requires g c =
 pub invariant_of-self : goal.invariant_of-self
 invariant_of-self g c =
     let all = done g c in
-    tracked_carrying c.self.invariant c.args.number c.in-Some-replace.packet
-    (g.Q.RetransmitQueue.contents c.args.queue.now) all.found all.entries all.kept
+    tracked_carrying c.self.invariant _ _ _ all.found all.entries all.kept
     c.filled_with-self-inside.ensures.below c.filled_with-self-inside.ensures.void
 
 pub returns-clause-found : goal.returns-clause-found

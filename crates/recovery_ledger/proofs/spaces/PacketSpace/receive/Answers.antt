@@ -3,22 +3,20 @@ use Rattle.recovery_base.proofs.MissingLaws.{has_greatest}
 use Rattle.recovery_base.specs.Received.{Has}
 use Rattle.recovery_acks.specs.Acks.{AckCounts}
 use Rattle.recovery_ledger.specs.Spaces.{Space, HasGreatestCome}
-use Rattle.recovery_ledger.proofs.AckLaws.{arms, hears, still_reached}
+use Rattle.recovery_ledger.proofs.AckLaws.{hears, still_reached}
 use Rattle.recovery_ledger.proofs.spaces.PacketSpace.receive.Goals as goal
 
 pub packet_received-arm-requires-clause-earlier : goal.packet_received-arm-requires-clause-earlier
 packet_received-arm-requires-clause-earlier g c =
-    still_reached (Has c.self.inside.dedup) (Has c.insert.new.self) c.args.number (has_greatest c.self.inside.dedup)
-    (has_greatest c.insert.new.self) c.insert.ensures.inserts.numbers _ _
+    still_reached _ _ _ (has_greatest c.self.inside.dedup) (has_greatest c.insert.new.self) c.insert.ensures.inserts.numbers _ _
     (ap (λ (counts : AckCounts). counts.greatest) c.in-Ok.ensures.inserts.counts)
     (subst (λ (s : Space _ _). HasGreatestCome s) (sym c.self.view_is) c.requires.received)
 
 pub returns-clause-step : goal.returns-clause-step
 returns-clause-step g c = rw (← c.self.view_is) (record {
   numbers = c.insert.ensures.inserts.numbers;
-  hears = hears (Has c.self.inside.dedup) (Has c.insert.new.self) c.args.number (has_greatest c.self.inside.dedup)
-      c.insert.ensures.inserts.numbers _ _ _ c.args.now c.packet_received-arm.result c.in-Ok.ensures.inserts
-      c.args.ack_eliciting c.packet_received-arm.ensures.receives;
+  hears = (hears _ _ _ (has_greatest c.self.inside.dedup) c.insert.ensures.inserts.numbers _ _ _ _ _
+      c.in-Ok.ensures.inserts _ c.packet_received-arm.ensures.receives).0;
   others = rw c.max-self-inside.ensures refl;
 })
 
@@ -27,10 +25,8 @@ returns-clause-reply g c = rw (← c.self.view_is) (
   omega arith,
   (
     c.if-insert.ensures.inserts.answer,
-    arms (Has c.self.inside.dedup) (Has c.insert.new.self) c.args.number
-        (has_greatest c.self.inside.dedup) c.insert.ensures.inserts.numbers _ _ _ c.args.now
-        c.packet_received-arm.result
-        c.in-Ok.ensures.inserts c.args.ack_eliciting c.packet_received-arm.ensures.receives,
+    (hears _ _ _ (has_greatest c.self.inside.dedup) c.insert.ensures.inserts.numbers _ _ _ _ _
+        c.in-Ok.ensures.inserts _ c.packet_received-arm.ensures.receives).1,
   ),
 )
 

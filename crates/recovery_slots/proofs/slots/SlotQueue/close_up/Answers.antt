@@ -1,5 +1,5 @@
 use Rattle.std.proofs.Common.{length, ap, arith}
-use Rattle.recovery_slots.proofs.EntryLaws.{entries_fit, kept, kept_rises}
+use Rattle.recovery_slots.proofs.EntryLaws.{entries_fit, kept}
 use Rattle.recovery_slots.proofs.slots.SlotQueue.close_up.Goals as goal
 
 pub overflow_sub-len : goal.overflow_sub-len
@@ -10,13 +10,13 @@ overflow_add-self-inside g c = omega (arith, entries_fit c.self.inside.slots.ite
 
 pub invariant_of-self : goal.invariant_of-self
 invariant_of-self g c = rw c.keep_filled.ensures (
-  cc (kept c.trim.new.slots.items).0,
-  kept_rises _ _ _ (c.first_of-self-inside.ensures _ (c.trim.ensures.rising _ _ c.self.invariant.1)),
+  cc (kept c.trim.new.slots.items 0 0).0,
+  (kept _ _ _).2 (c.first_of-self-inside.ensures _ (c.trim.ensures.rising _ _ c.self.invariant.1)),
 )
 
 pub returns-then-len-self-clause-entries : goal.returns-then-len-self-clause-entries
-returns-then-len-self-clause-entries g c = cc (kept c.trim.new.slots.items).0
+returns-then-len-self-clause-entries g c = cc (kept c.trim.new.slots.items 0 0).0
 
 pub returns-then-len-self-clause-bound : goal.returns-then-len-self-clause-bound
 returns-then-len-self-clause-bound g c = rw c.keep_filled.ensures
-    (omega (arith, kept c.trim.new.slots.items, ap (λ es. length es) (kept c.trim.new.slots.items).0))
+    (omega (arith, kept c.trim.new.slots.items 0 0, ap (λ es. length es) (kept c.trim.new.slots.items 0 0).0))

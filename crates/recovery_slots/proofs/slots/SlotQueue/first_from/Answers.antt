@@ -22,11 +22,13 @@ returns-in-Some-clause-lowest g c =
 pub loop-place-preserved : goal.loop-place-preserved
 loop-place-preserved g c =
     let empty = c.in_default.ensures.slot in
-    sym (entries_dropped c.args.self.now c.loop-place.place empty.0 empty.1 empty.2) ∙ c.loop-place.invariant
+    sym (entries_dropped c.args.self.now c.loop-place.place _ empty.1 empty.2) ∙ c.loop-place.invariant
 
 pub returns-clause-first : goal.returns-clause-first
 returns-clause-first g c =
-    rw (
-      ← (c.loop-place.invariant ∙ c.place_from-place.ensures.entries),
-      drop_all c.loop-place.place c.args.self.now (omega arith),
-    ) refl
+    grind (
+      arith,
+      c.loop-place.invariant,
+      c.place_from-place.ensures.entries,
+      drop_all c.loop-place.place c.args.self.now,
+    )

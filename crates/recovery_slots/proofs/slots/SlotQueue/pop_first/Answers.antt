@@ -1,11 +1,11 @@
-use Rattle.std.proofs.Common.{arith}
+use Rattle.std.proofs.Common.{arith, None}
 use Rattle.recovery_slots.specs.Slots.{entries_of}
-use Rattle.recovery_slots.proofs.EntryLaws.{nothing_filed, first_filed}
+use Rattle.recovery_slots.proofs.EntryLaws.{first_filed}
 use Rattle.recovery_slots.proofs.slots.SlotQueue.pop_first.Goals as goal
 
 pub returns-in_err-number-clause-entries : goal.returns-in_err-number-clause-entries
 returns-in_err-number-clause-entries g c =
-    rw c.from_residual.ensures (nothing_filed (entries_of c.args.self.now) c.in_err-number.ensures.first)
+    rw c.from_residual.ensures (first_filed (entries_of c.args.self.now) _ c.in_err-number.ensures.first)
 
 pub returns-in_err-item-clause-entries : goal.returns-in_err-item-clause-entries
 returns-in_err-item-clause-entries g c =

@@ -9,8 +9,7 @@ returns-then-number-self-clause-encloses g c =
 
 pub returns-then-number-self-2-clause-encloses : goal.returns-then-number-self-2-clause-encloses
 returns-then-number-self-2-clause-encloses g c =
-    rw (c.len-len.ensures, ← c.self.view_is) (enclosed c.self.inside.slots.items _ _ c.args.number _ _
-    c.self.invariant.1 (omega arith) (λ _. omega (arith, c.if-number-self-2.true))
+    rw (c.len-len.ensures, ← c.self.view_is) (enclosed _ _ _ _ _ _ c.self.invariant.1 (omega arith) (λ _. omega (arith, c.if-number-self-2.true))
     (λ more. absurd (omega (arith, more))))
 
 pub returns-clause-encloses : goal.returns-clause-encloses

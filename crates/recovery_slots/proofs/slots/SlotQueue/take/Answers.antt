@@ -5,7 +5,7 @@ use Rattle.recovery_slots.proofs.slots.SlotQueue.take.Goals as goal
 
 pub returns-in_err-place-clause-entries : goal.returns-in_err-place-clause-entries
 returns-in_err-place-clause-entries g c =
-    sym (absent_removed (entries_of c.args.self.now) c.args.number (grind (arith, c.find-place.ensures.place)))
+    sym (absent_removed _ _ (grind (arith, c.find-place.ensures.place)))
 
 pub returns-clause-value : goal.returns-clause-value
 returns-clause-value g c = (taken c.find-place.ensures c.in_ok-place.was c.replace-item.ensures).0
