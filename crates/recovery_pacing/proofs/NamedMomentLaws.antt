@@ -22,24 +22,24 @@ module _ (call : PacerCall) (made : Bucket) (earlier : List PacerEntry) (some : 
   fills_asked other questions bucket alike fills = rw same (by_test (may_send other bucket))
     where
       same : resized other.rtt other.window other.mtu bucket ≡ bucket
-      same = grind (arith, nat_tests, alike, fills.1)
+      same = grind arith
 
       by_test : (pass : Bool) → Fills call first (suc questions)
           (cond pass bucket (refilled other.rtt other.window other.now bucket))
       by_test true = (fills.0, fills.1, λ below. omega (arith, fills.2 below))
       by_test false = rw (ap (λ (c : PacerCall). c.rtt) alike, ap (λ (c : PacerCall). c.window) alike)
-          (fills_refilled call first other.now questions bucket some fills)
+          (fills_refilled call first _ _ _ some fills)
 
   -- what so many questions leave
   fills_by : (between : List PacerCall) → AllByRecursion IsAlike between
       → Fills call first (length between) (bucket_by made (map asked between ++ asked call ∷ earlier))
-  fills_by [] alike = (refl, paced-knows call (bucket_by made earlier), λ below. omega arith)
-  fills_by (other ∷ between) alike = fills_asked other (length between)
-      (bucket_by made (map asked between ++ asked call ∷ earlier)) alike.0 (fills_by between alike.1)
+  fills_by [] _ = (refl, paced-knows _ _, λ below. omega arith)
+  fills_by (other ∷ between) alike = fills_asked _ _
+      _ alike.0 (fills_by between alike.1)
 
 pub passes_at_moment : (made : Bucket) (entries : List PacerEntry) (later : PacerCall)
     → PassesAtMoment made entries later (delay_of later (paced later (bucket_by made entries)))
-passes_at_moment made entries later between call earlier until is alike delays like reach room before_end late =
-    rw is (passes call later (bucket_by made earlier) (bucket_by made (map asked between ++ asked call ∷ earlier)) until
-    (length between) 0 delays like reach before_end (omega (arith, late)) (omega (arith, room))
+passes_at_moment made _ later between call earlier until is alike delays like reach room before_end late =
+    rw is (passes _ _ _ _ _
+    _ 0 delays like reach before_end (omega arith) (omega arith)
     (λ some. fills_by call made earlier some between alike))
