@@ -62,24 +62,11 @@ out_of_order_by : {A B : ℕ → Type 0} → ((m : ℕ) → IsMissing A m ↔ Is
     (acknowledged : Option ℕ) (before greatest number : ℕ)
     → IsOutOfOrder A threshold acknowledged before greatest number
     → IsOutOfOrder B threshold acknowledged before greatest number
-out_of_order_by same threshold acknowledged before greatest number (inl one) = inl (
-  one.0,
-  elim one.1 [
-    | inl below ↦ inl below
-    | inr gap ↦ inr (gap.0, least_missing_by _ _ same before number (Some gap.0) gap.1)
-  ],
-)
-out_of_order_by same threshold (Some k) before greatest number (inr more) = inr (
-  more.0,
-  (
-    more.1.0,
-    (
-      more.1.1.0,
-      least_missing_by _ _ same (k - threshold + 1) greatest (Some more.1.1.0) more.1.1.1,
-      more.1.1.2,
-    ),
-  ),
-)
+out_of_order_by same threshold acknowledged before greatest number (inl (many, inl below)) = inl (many, inl below)
+out_of_order_by same threshold acknowledged before greatest number (inl (many, inr (gap, least))) =
+    inl (many, inr (gap, least_missing_by _ _ same before number (Some gap) least))
+out_of_order_by same threshold (Some k) before greatest number (inr (many, (ahead, (gap, least, far)))) =
+    inr (many, (ahead, (gap, least_missing_by _ _ same (k - threshold + 1) greatest (Some gap) least, far)))
 out_of_order_by same threshold None before greatest number (inr more) = absurd more.1
 
 pub out_of_order_alike : {A B : ℕ → Type 0} → ((m : ℕ) → IsMissing A m ↔ IsMissing B m) → (threshold : ℕ)

@@ -15,14 +15,14 @@ AreWithin Places = (place : ℕ) → Places place → place < 128
 
 module _ (Places : ℕ → Type 0) (next number : ℕ) where
   pub known_below : IsKnown Places next number → number < next
-  known_below here = grind (arith, here)
+  known_below here = grind arith
 
   -- one that is known and not below it shows that a number lies below the next
   pub known_reach : (m : ℕ) × IsKnown Places next m × (number ≤ m) → number < next
-  known_reach (m, here, above) = grind (arith, here, above)
+  known_reach (m, here, above) = grind arith
 
   known_cut : AreWithin Places → IsKnown Places next number → IsInWindow (IsKnown Places next) number
-  known_cut within here = grind (arith, here, within (next - 2 - number))
+  known_cut within here = grind arith
 
   pub exceeds_is_new : next ≤ number → IsNew (IsKnown Places next) number
   exceeds_is_new above = grind arith
@@ -30,24 +30,24 @@ module _ (Places : ℕ → Type 0) (next number : ℕ) where
   new_bounds : IsNew (IsKnown Places next) number →
       (next ≤ number) ⊎ ((¬ IsKnown Places next number) × (next ≤ number + 129))
   new_bounds (inl exceeds) =
-      let last : 0 < next → next - 1 < number = λ some. exceeds (next - 1) (inl (omega arith)) in grind (arith, last)
+      let last : 0 < next → next - 1 < number = λ some. exceeds (next - 1) (inl (omega arith)) in grind arith
   new_bounds (inr gap) =
       let last : 0 < next → next - 1 ≤ number + 128 = λ some. gap.1 (next - 1) (inl (omega arith)) in
-      inr (gap.0, grind (arith, last))
+      inr (gap.0, grind arith)
 
 module _ (Places : ℕ → Type 0) (next number : ℕ) (within : AreWithin Places) where
   -- a duplicate
 
   pub known_duplicate : IsKnown Places next number → Inserts (IsKnown Places next) number true (IsKnown Places next)
   known_duplicate here = record {
-    answer = member_is_not_new (IsKnown Places next) number here;
-    numbers = member_adds_nothing (IsKnown Places next) number (λ n. known_cut Places next n within) here;
+    answer = member_is_not_new _ _ here;
+    numbers = member_adds_nothing _ number (λ n. known_cut Places next n within) here;
   }
 
   pub old_duplicate : number + 129 < next → Inserts (IsKnown Places next) number true (IsKnown Places next)
   old_duplicate far = record {
-    answer = old_is_not_new (IsKnown Places next) number (next - 1) (inl (omega arith)) (omega arith);
-    numbers = old_adds_nothing (IsKnown Places next) number (λ n. known_cut Places next n within) (next - 1)
+    answer = old_is_not_new _ _ (next - 1) (inl (omega arith)) (omega arith);
+    numbers = old_adds_nothing _ number (λ n. known_cut Places next n within) (next - 1)
         (inl (omega arith)) (omega arith);
   }
 
@@ -64,10 +64,10 @@ stays_known Places Places' next next' number on below numbers n known new =
 
 pub moved_on : (Old New : ℕ → Type 0) (next by number : ℕ) → number + 1 ≡ next + by → 0 < by → MovesBy by Old New →
     (n : ℕ) → IsKnown New (number + 1) n ↔ Recent (With number (IsKnown Old next)) n
-moved_on Old New next by number same some moves n =
+moved_on Old New next by number same _ moves n =
     let e : number + 1 - 2 - n - by ≡ next - 2 - n = omega arith in
     let moved = rw e at (moves (number + 1 - 2 - n)) in
-    (λ here. grind (arith, moved, here), λ r. grind (arith, moved, r, r.1 number (inl refl)))
+    (λ here. grind arith, λ r. grind (arith, r.1 number (inl refl)))
 
 -- ---- a number among the others
 
@@ -75,15 +75,15 @@ module _ (Old New : ℕ → Type 0) (next number : ℕ) {place : ℕ} (within : 
     (close : next ≤ number + 129) (at : place ≡ next - 2 - number) (sets : Sets place Old New) where
   pub set_known : (n : ℕ) → IsKnown New next n ↔ Recent (With number (IsKnown Old next)) n
   set_known n = (
-    λ here. grind (arith, sets (next - 2 - n), within (next - 2 - n), here),
-    λ r. grind (arith, sets (next - 2 - n), r),
+    λ here. grind arith,
+    λ r. grind arith,
   )
 
   -- the answer is whether the place was set
   pub set_inserts : (was : Bool) → MatchBool was (Old place) (¬ Old place) →
       Inserts (IsKnown Old next) number was (IsKnown New next)
   set_inserts true set = record {
-    answer = member_is_not_new (IsKnown Old next) number (inr (lower, rw at at set));
+    answer = member_is_not_new _ _ (inr (lower, rw at at set));
     numbers = set_known;
   }
   set_inserts false clear = record {

@@ -30,14 +30,14 @@ place_is words place word bit within is =
 -- the places of four words lie below 128
 pub places_within : (words : List ℕ) → length words ≡ 4 → AreWithin (IsSet words)
 places_within words four place set =
-    grind (arith, set, get_or_past words (place / 32) 0, bit_at-zero (place % 32))
+    grind (arith, get_or_past words (place / 32) 0)
 
 -- ---- a word that moves up, with what comes in from the one below
 
 -- the bits of n below a width
 bit_in : (n w i : ℕ) → i < w → bit_at (n % 2 ^ w) i ≡ bit_at n i
 bit_in n w i within =
-    let whole : n / 2 ^ w * 2 ^ w + n % 2 ^ w ≡ n = omega (arith, div-add-mod n (2 ^ w)) in
+    let whole : n / 2 ^ w * 2 ^ w + n % 2 ^ w ≡ n = omega arith in
     sym (bit_at_cat_low (n / 2 ^ w) w (n % 2 ^ w) i within) ∙ ap (λ k. bit_at k i) whole
 
 -- what `moved` says of a word
@@ -87,11 +87,11 @@ padded words =
 
 -- a word below four is one of four
 four_words : (P : ℕ → Type 0) → P 0 → P 1 → P 2 → P 3 → (word : ℕ) → word < 4 → P word
-four_words P a b c d zero few = a
-four_words P a b c d (suc zero) few = b
-four_words P a b c d (suc (suc zero)) few = c
-four_words P a b c d (suc (suc (suc zero))) few = d
-four_words P a b c d (suc (suc (suc (suc word)))) few = absurd (omega arith)
+four_words P a b c d zero _ = a
+four_words P a b c d (suc zero) _ = b
+four_words P a b c d (suc (suc zero)) _ = c
+four_words P a b c d (suc (suc (suc zero))) _ = d
+four_words P a b c d (suc (suc (suc (suc _)))) few = absurd (omega arith)
 
 module _ (words : List ℕ) where
   below_greatest : (place : ℕ) → place < 159 → bit_of (padded words) place ≡ 0
@@ -150,14 +150,6 @@ module _ (words : List ℕ) (bits : ℕ) (short : bits < 32) where
         let is = (rw e at (moved_place place within)) ∙ above_greatest words (place - by) (omega arith) in
         (λ set. sym is ∙ set, λ set. is ∙ set))
 
--- all places moved out of the window
-pub moved_away : (words : List ℕ) (by : ℕ) → 128 < by → MovesBy by (IsSet words) (IsSet (0 ∷ 0 ∷ 0 ∷ 0 ∷ []))
-moved_away words by far place =
-    let zero = bit_at-zero (place % 32) in
-    let none = four_words (λ word. bit_at (slice_index (0 ∷ 0 ∷ 0 ∷ 0 ∷ []) word) (place % 32) ≡ 0) zero zero zero zero
-    (place / 32) in
-    grind (arith, none, places_within (0 ∷ 0 ∷ 0 ∷ 0 ∷ []) refl place)
-
 -- ---- one place more
 
 module _ (words : List ℕ) (one : ℕ) (four : length words ≡ 4) (inside : one < 128) where
@@ -174,7 +166,7 @@ module _ (words : List ℕ) (one : ℕ) (four : length words ≡ 4) (inside : on
   tested = ap (λ m. bit_and word m) (one_shl (one % 32) 32 (omega arith)) ∙ and_pow word (one % 32)
 
   pub set_by_bit : ¬ (bit_and word mask ≡ 0) → IsSet words one
-  set_by_bit some = grind (arith, some, tested, zero-mul (2 ^ (one % 32)), bit_at-lt word (one % 32))
+  set_by_bit some = grind (arith, tested)
 
   pub clear_by_bit : bit_and word mask ≡ 0 → ¬ IsSet words one
   clear_by_bit none set = grind (arith, none, set, tested, pow_pos (one % 32))
@@ -189,7 +181,7 @@ module _ (words : List ℕ) (one : ℕ) (four : length words ≡ 4) (inside : on
   )
 
 pub sets_again : (Places : ℕ → Type 0) (one : ℕ) → Places one → Sets one Places Places
-sets_again Places one here place = grind (arith, here)
+sets_again Places _ here _ = grind arith
 
 -- ---- the highest that is clear
 

@@ -18,27 +18,22 @@ module _ (n start end : ℕ) where
       → is_some_range (clipped start end range) ≡ some
       → Cut 0 low (range ∷ others) (cond some (clipped start end range ∷ left) left)
   unfolding InRanges AreApart
-  cut_one low range others left some short apart cut true is =
+  cut_one _ range _ left _ short apart cut true is =
       grind (
         arith,
-        nat_tests,
-        apart,
-        short,
-        is,
-        cut,
         apart_lower (range.end + 1) ((clipped start end range).end + 1)
             left,
       )
-  cut_one low range others left some short apart cut false is =
-      grind (arith, nat_tests, apart, short, is, cut, apart_lower (range.end + 1) low left)
+  cut_one low range _ left _ short apart cut false is =
+      grind (arith, is, cut, apart_lower (range.end + 1) low left)
 
   cut_all : (low : ℕ) (ranges : Ranges) → start < end → start ≤ low → AreApart low ranges → Cut 0 low ranges
       (cut_ranges start end ranges)
   unfolding AreApart InRanges
-  cut_all low [] some above apart = grind (arith, apart)
+  cut_all _ [] _ _ apart = grind arith
   cut_all low (range ∷ others) some above apart =
-      cut_one low range others (cut_ranges start end others) some (omega (arith, apart)) apart
-      (cut_all (range.end + 1) others some (omega (arith, apart)) apart.2)
+      cut_one low range others (cut_ranges start end others) some (omega arith) apart
+      (cut_all (range.end + 1) others some (omega arith) apart.2)
       (is_some_range (clipped start end range)) refl
 
 -- ---- numbers out of the ranges, by places
@@ -63,7 +58,7 @@ module _ {ranges : Ranges} {start end at : ℕ} (apart : AreApart 0 ranges) (som
 
     module _ {range : Range ℕ} (differs : ¬ (at ≡ length ranges)) (is : range ≡ get_or ranges at range) where
       inside : at < length ranges
-      inside = omega (arith, place.bound, differs)
+      inside = omega arith
 
       after : Ranges
       after = drop (suc at) ranges

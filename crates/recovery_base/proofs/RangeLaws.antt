@@ -17,38 +17,32 @@ Ranges = List (Range ℕ)
 
 pub apart_lower : (low other : ℕ) (ranges : Ranges) → other ≤ low → AreApart low ranges → AreApart other ranges
 unfolding AreApart
-apart_lower low other [] less apart = tt
-apart_lower low other (range ∷ others) less apart = grind (arith, apart)
+apart_lower _ _ [] _ _ = tt
+apart_lower _ _ (_ ∷ _) less apart = grind arith
 
 pub apart_rest : (low : ℕ) (range : Range ℕ) (others : Ranges) → AreApart low (range ∷ others) → AreApart low others
 unfolding AreApart
-apart_rest low range others apart = grind (arith, apart, apart_lower (range.end + 1) low others)
+apart_rest low range others apart = grind (arith, apart_lower (range.end + 1) low others)
 
 pub in_above : (low : ℕ) (ranges : Ranges) (n : ℕ) → AreApart low ranges → InRanges ranges n → low ≤ n
 unfolding InRanges AreApart
-in_above low [] n apart here = absurd here
-in_above low (range ∷ others) n apart here = grind (arith, apart, here, in_above (range.end + 1) others n)
+in_above _ [] n _ here = absurd here
+in_above _ (range ∷ others) n apart here = grind (arith, in_above (range.end + 1) others n)
 
 -- what stands from a place on
 pub from_there : (low at : ℕ) (ranges : Ranges) → AreApart low ranges
     → (low ≤ floor_above low (take at ranges)) × AreApart (floor_above low (take at ranges)) (drop at ranges)
 unfolding AreApart floor_above
-from_there low zero ranges apart = (omega arith, apart)
-from_there low (suc at) [] apart = (omega arith, tt)
-from_there low (suc at) (range ∷ others) apart = grind (arith, apart, from_there (range.end + 1) at others)
+from_there _ (suc at) (range ∷ others) apart = grind (arith, from_there (range.end + 1) at others)
+from_there low at ranges apart = (omega arith, apart)
 
 -- a number from `bound` on lies in what is left of the ranges
 pub from_place : (bound n low at : ℕ) (ranges : Ranges) → AreApart low ranges → floor_above low (take at ranges) ≤ bound
     → bound ≤ n + 1 → InRanges ranges n ↔ InRanges (drop at ranges) n
 unfolding InRanges AreApart floor_above
-from_place bound n low zero ranges apart below above = (λ here. here, λ here. here)
-from_place bound n low (suc at) [] apart below above = (λ here. here, λ here. here)
-from_place bound n low (suc at) (range ∷ others) apart below above = grind (
-  arith,
-  apart,
-  from_place bound n (range.end + 1) at others apart.2 below above,
-  from_there (range.end + 1) at others,
-)
+from_place bound n _ (suc at) (range ∷ others) apart below above =
+    grind (arith, from_place bound n (range.end + 1) at others apart.2, from_there (range.end + 1) at others)
+from_place bound n low at ranges apart below above = (λ here. here, λ here. here)
 
 -- what comes and what goes where ranges change, of which `n` may be
 module _ (n bound more : ℕ) (Comes Goes : Type 0) (arrives : Comes → bound ≤ n + 1)
@@ -122,7 +116,7 @@ module _ {ranges : Ranges} {x at : ℕ} (apart : AreApart 0 ranges) (place : IsP
   module _ {range other : Range ℕ} (differs : ¬ (at ≡ length ranges)) (is : range ≡ get_or ranges at range)
       (also : other ≡ get_or ranges at other) where
     inside : at < length ranges
-    inside = omega (arith, place.bound, differs)
+    inside = omega arith
 
     after : Ranges
     after = drop (suc at) ranges
@@ -160,7 +154,7 @@ module _ {ranges : Ranges} {x at : ℕ} (apart : AreApart 0 ranges) (place : IsP
           → drop at ranges ≡ range ∷ next ∷ drop (suc (suc at)) ranges
       unfolding after
       rest_two next within is' = rest ∙ ap (λ (rs : Ranges). range ∷ rs)
-          (drop_at ranges (suc at) next (omega arith) (is' ∙ ap (λ i. get_or ranges i next) (add-one at)))
+          (drop_at _ (suc at) _ (omega arith) (is' ∙ ap (λ i. get_or ranges i next) (add-one at)))
 
       -- no range joins it from above
       pub inserts_above : (length ranges ≤ at + 1) ⊎ ((next : Range ℕ) × (at + 1 < length ranges)
@@ -211,26 +205,23 @@ at_range : (low i : ℕ) (ranges : Ranges) (d : Range ℕ) → AreApart low rang
     × ((get_or ranges i d).start < (get_or ranges i d).end)
     × (floor_above low (take (suc i) ranges) ≡ (get_or ranges i d).end + 1)
 unfolding AreApart floor_above
-at_range low i [] d apart within = absurd (omega arith)
-at_range low zero (range ∷ others) d apart within = (apart.0, apart.1, refl)
-at_range low (suc i) (range ∷ others) d apart within = at_range (range.end + 1) i others d apart.2 (omega arith)
+at_range _ i [] d _ within = absurd (omega arith)
+at_range _ zero (_ ∷ _) d apart _ = (apart.0, apart.1, refl)
+at_range _ (suc i) (range ∷ others) d apart within = at_range (range.end + 1) i _ d apart.2 (omega arith)
 
 ends_from : (x i : ℕ) (ranges : Ranges) (d : Range ℕ) → (i < length ranges → x ≤ (get_or ranges i d).end)
     → EndsFrom x (drop i ranges)
-ends_from x zero [] d above = tt
-ends_from x (suc i) [] d above = tt
-ends_from x zero (range ∷ others) d above = above (omega arith)
-ends_from x (suc i) (range ∷ others) d above = ends_from x i others d (λ within. above (omega arith))
+ends_from x zero (_ ∷ _) d above = above (omega arith)
+ends_from x (suc i) (_ ∷ others) d above = ends_from x i _ d (λ within. above (omega arith))
+ends_from x i ranges d above = tt
 
 ends_rise : (low : ℕ) (ranges : Ranges) → AreApart low ranges → IsNonDecreasingBy (λ (r : Range ℕ). r.end) ranges
 unfolding AreApart
-ends_rise low [] apart i j d less within = absurd (omega arith)
-ends_rise low (range ∷ others) apart zero zero d less within = omega arith
-ends_rise low (range ∷ others) apart zero (suc j) d less within =
-    grind (arith, apart, from_there (range.end + 1) j others, at_range (range.end + 1) j others d apart.2)
-ends_rise low (range ∷ others) apart (suc i) zero d less within = absurd (omega arith)
+ends_rise _ (range ∷ others) apart zero (suc j) d less within =
+    grind (arith, from_there (range.end + 1) j others, at_range (range.end + 1) j others d)
 ends_rise low (range ∷ others) apart (suc i) (suc j) d less within =
     ends_rise (range.end + 1) others apart.2 i j d (omega arith) (omega arith)
+ends_rise low ranges apart i j d less within = omega arith
 
 pub ends_parted : (ranges : Ranges) (x : ℕ) → AreApart 0 ranges → IsPartitionedBy (λ (r : Range ℕ). ltb r.end x) ranges
 ends_parted ranges x apart = IsPartitionedBy-ltb (λ (r : Range ℕ). r.end) ranges x (ends_rise 0 ranges apart)
@@ -257,8 +248,8 @@ place_is ranges x at apart within parts = record {
     )
 
 some_last : (ranges : Ranges) (last : Range ℕ) → slice_get ranges (length ranges - 1) ≡ Some last → 0 < length ranges
-some_last [] last is = absurd cc
-some_last (range ∷ others) last is = omega arith
+some_last [] _ is = absurd cc
+some_last (_ ∷ _) _ is = omega arith
 
 -- what the last range tells of the place
 module _ (ranges : Ranges) (x : ℕ) where
@@ -307,7 +298,6 @@ apart_dropped (range ∷ others) apart = apart_rest 0 range others apart
 pub is_empty_told : (ranges : Ranges) (low count : ℕ) → AreApart low ranges → length ranges ≡ count → (empty : Bool)
     → empty ≡ (count == 0) → MatchBool empty ((n : ℕ) → ¬ InRanges ranges n) ((n : ℕ) × InRanges ranges n)
 unfolding AreApart InRanges
-is_empty_told [] low count apart size true is = λ n here. here
-is_empty_told [] low count apart size false is = grind (arith, nat_tests, is, size)
-is_empty_told (range ∷ others) low count apart size true is = grind (arith, nat_tests, is, size)
-is_empty_told (range ∷ others) low count apart size false is = (range.start, inl (omega arith, apart.1))
+is_empty_told [] _ _ _ _ true is = λ n here. here
+is_empty_told (range ∷ _) _ _ apart _ false is = (range.start, inl (omega arith, apart.1))
+is_empty_told ranges low count apart size empty is = grind arith

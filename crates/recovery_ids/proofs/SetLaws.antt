@@ -46,10 +46,6 @@ module _ {T : Type 0} where
     is_above (e.0 + 1) number es rise.1 other item,
   )
 
-  from_zero : (es : List (ℕ × T)) → filter (is_from 0) es ≡ es
-  from_zero [] = refl
-  from_zero (e ∷ es) = grind (arith, nat_tests, from_zero es)
-
   -- the least number decides whether one lies below another
   pub least_decides : (low high end least : ℕ) (es : List (ℕ × T)) → Rise low high (keys_of es)
       → Some least ≡ first_number (filter (is_from 0) es)

@@ -26,11 +26,6 @@ Narrows further change probed p =
     × (is_member nat_eq probed p.last ≡ true)
     × (length probed + 3 * further + 3 ≤ 48 + (p.losses + flying p.in_flight)))
 
--- a search begins with all 16 to come
-pub narrows_begun : (mtu : ℕ) (search : MtuSearch) → search.settings.upper_bound < 2 ^ 16
-    → Narrows 16 search.settings.minimum_change [] (begun mtu search)
-narrows_begun _ _ bound = grind arith
-
 one_more : (k : ℕ) → (1 ≤ k) ⊎ (2 ^ k ≡ 1)
 one_more zero = inr refl
 one_more (suc k) = inl (omega arith)

@@ -48,66 +48,61 @@ module _ (made : Bucket) where
   -- at first it is full
   tied_made : made.tokens ≡ made.capacity → Tied [] made
   unfolding balance_in
-  tied_made full = grind (arith, full)
+  tied_made full = grind arith
 
   -- a call changes the capacity
   tied_change : (call : PacerCall) (past : List PacerMark) (bucket : Bucket) → Tied past bucket
       → Tied (if is_as_before made call past then past else changed call ∷ past)
       (resized call.rtt call.window call.mtu bucket)
   unfolding balance_in
-  tied_change call past bucket t = grind (arith, nat_tests, t, t.last_change call)
+  tied_change call _ _ t = grind arith
 
   -- it refills
   tied_credit : (call : PacerCall) (past : List PacerMark) (bucket : Bucket) → Tied past bucket
       → Tied (credited call (credit_of call.rtt call.window (call.now - greatest_moment made past)) ∷ past)
       (refilled call.rtt call.window call.now bucket)
   unfolding balance_in
-  tied_credit call past bucket t =
+  tied_credit call past _ t =
       let credit = credit_of call.rtt call.window (call.now - greatest_moment made past) in
-      grind (
-        arith,
-        t,
-        credits_more made 0 0 credit past,
-        mul-div-le (5 * call.window * (call.now - greatest_moment made past)) (4 * call.rtt),
-      )
+      grind (arith, credits_more made 0 0 credit past)
 
   -- bytes are transmitted that the tokens cover
   tied_took : (bytes : ℕ) (past : List PacerMark) (bucket : Bucket) → bytes ≤ bucket.tokens → Tied past bucket
       → Tied (transmitted bytes ∷ past) (less_tokens bytes bucket)
   unfolding balance_in
-  tied_took bytes past bucket low t =
-      grind (arith, low, t, bytes_more made 0 0 bytes past)
+  tied_took bytes past _ low t =
+      grind (arith, bytes_more made 0 0 bytes past)
 
 -- a call within the bounds is paced
 is_bounded : (call : PacerCall) → IsPaced call → is_unpaced call ≡ false
-is_bounded call bounds = grind (arith, nat_tests, bounds)
+is_bounded _ bounds = grind arith
 
 -- what passes is covered, where the call is paced
 passed_is_covered : (call : PacerCall) (bucket : Bucket) → IsPaced call → delay_of call bucket ≡ None
     → call.bytes ≤ bucket.tokens
-passed_is_covered call bucket bounds passes = grind (arith, nat_tests, bounds, passes)
+passed_is_covered _ _ bounds passes = grind arith
 
 module _ (made : Bucket) where
   -- the law of a call, before its answer
   tied_asking : (call : PacerCall) (past : List PacerMark) (bucket : Bucket) → Tied made past bucket
       → Tied made (marks_asking made call past) (paced call bucket)
   tied_asking call past bucket t =
-      let changed = tied_change made call past bucket t in
-      grind (arith, nat_tests, changed, changed.tokens, tied_credit made call _ _ changed)
+      let changed = tied_change _ call past bucket t in
+      grind (arith, tied_credit made call _ _ changed)
 
   -- what the pacer holds is what the history says
   pub tied_by : (entries : List PacerEntry) → made.tokens ≡ made.capacity → AreChecked entries → HavePassed made entries
       → Tied made (marks_by made entries) (bucket_by made entries)
-  tied_by [] full checked passed = tied_made made full
+  tied_by [] full _ _ = tied_made made full
   tied_by (asked call ∷ earlier) full checked passed =
       tied_asking call _ _ (tied_by earlier full checked.1 passed)
-  tied_by (took bytes flag ∷ asked call ∷ earlier) full checked passed =
+  tied_by (took bytes _ ∷ asked call ∷ earlier) full checked passed =
       let bucket = paced call (bucket_by made earlier) in
       let pass = passed.0 checked.0 in
       let low : bytes ≤ bucket.tokens = omega (arith, pass.0, passed_is_covered call bucket checked.1.0 pass.1) in
       tied_took made bytes (marks_by made (asked call ∷ earlier)) bucket low
       (tied_by (asked call ∷ earlier) full checked.1 passed.1)
-  tied_by (took bytes flag ∷ earlier) full checked passed = absurd (passed.0 checked.0)
+  tied_by (took _ _ ∷ _) _ checked passed = absurd (passed.0 checked.0)
 
   -- a call is delayed exactly by the balance
   pub delays_by : (earlier : List PacerEntry) (call : PacerCall) → made.tokens ≡ made.capacity

@@ -16,24 +16,24 @@ Knows call bucket = (bucket.window ≡ call.window) × (bucket.mtu ≡ call.mtu)
 -- so it does after a call
 pub paced-knows : (call : PacerCall) (old : Bucket) → Knows call (paced call old)
 paced-knows call old =
-    let sized : Knows call (resized call.rtt call.window call.mtu old) = grind (arith, nat_tests) in
-    grind (arith, nat_tests, sized)
+    let sized : Knows call (resized call.rtt call.window call.mtu old) = grind arith in
+    grind arith
 
 -- a credit is rounded down by less than one byte
 credit_comes : (rtt window elapsed : ℕ) → 0 < rtt
     → 5 * window * elapsed + 1 ≤ 4 * rtt * (credit_of rtt window elapsed + 1)
 credit_comes rtt window elapsed some =
-    let lt : 5 * window * elapsed % (4 * rtt) < 4 * rtt = mod-lt (5 * window * elapsed) (omega (arith, some)) in
-    omega (arith, div-add-mod (5 * window * elapsed) (4 * rtt), lt)
+    let lt : 5 * window * elapsed % (4 * rtt) < 4 * rtt = mod-lt (5 * window * elapsed) (omega arith) in
+    omega arith
 
 -- a wait is rounded down by less than four nanoseconds
 wait_comes : (rtt window short : ℕ) → 0 < window → rtt * short ≤ longest_span
     → 4 * (rtt * short) + 4 ≤ 5 * window * wait_of rtt window short + 20 * window
 wait_comes rtt window short some uncut =
     let q = rtt * short / window in
-    let least : min (rtt * short) longest_span ≡ rtt * short = omega (arith, uncut) in
+    let least : min (rtt * short) longest_span ≡ rtt * short = omega arith in
     let fifth : q + 1 ≤ 5 * (q / 5 + 1) = omega arith in
-    rw least (omega (arith, div-add-mod (rtt * short) window, mod-lt (rtt * short) some, mul-le-mul_right window fifth))
+    rw least (omega (arith, mul-le-mul_right window fifth))
 
 -- where tokens are wanting in spite of the time that passed, there was no room
 no_room : (r w bytes questions capacity before lacking first last wait slack tokens : ℕ)
@@ -41,8 +41,8 @@ no_room : (r w bytes questions capacity before lacking first last wait slack tok
     → 4 * (r * lacking) + 4 ≤ 5 * w * wait + 20 * w → 5 * w * (first + wait + slack) ≤ 5 * w * last
     → 4 * r * (tokens + 1) ≤ 4 * r * bytes → r * (before + lacking) ≡ r * capacity
     → 4 * (r * (bytes + questions)) + 20 * w ≤ 4 * (r * capacity) + 5 * w * slack → ⊥
-no_room r w bytes questions capacity before lacking first last wait slack tokens filled waits passed wants all room =
-    omega (arith, filled, waits, passed, wants, all, room)
+no_room r w _ _ _ _ _ _ _ _ _ _ filled waits passed wants all room =
+    omega arith
 
 module _ (call : PacerCall) (first : Bucket) where
   -- so many questions behind a delayed call: where the bucket is not full, no more than a byte each was lost
@@ -54,7 +54,7 @@ module _ (call : PacerCall) (first : Bucket) where
   -- one question more refills
   pub fills_refilled : (now questions : ℕ) (bucket : Bucket) → 0 < call.rtt → Fills questions bucket
       → Fills (suc questions) (refilled call.rtt call.window now bucket)
-  fills_refilled now questions bucket some fills =
+  fills_refilled now _ bucket some fills =
       let elapsed = now - bucket.last in
       let credit = credit_of call.rtt call.window elapsed in
       let later : max bucket.last now ≡ bucket.last + elapsed = omega arith in (
@@ -62,9 +62,9 @@ module _ (call : PacerCall) (first : Bucket) where
         fills.1,
         λ below.
             let least : min (bucket.tokens + credit) bucket.capacity ≡ bucket.tokens + credit =
-            omega (arith, below, fills.0) in
-            let before = fills.2 (omega (arith, below, fills.0)) in
-            rw (least, later) (omega (arith, before, credit_comes call.rtt call.window elapsed some)),
+            omega arith in
+            let before = fills.2 (omega arith) in
+            rw (least, later) (omega arith),
       )
 
   -- the bucket fills enough by the moment that was named
@@ -77,15 +77,15 @@ module _ (call : PacerCall) (first : Bucket) where
   covers questions slack now bucket some fills reach sound late room =
       let after = refilled call.rtt call.window now bucket in
       let lacking = first.capacity - first.tokens in
-      let all : first.tokens + lacking ≡ first.capacity = omega (arith, sound) in
+      let all : first.tokens + lacking ≡ first.capacity = omega arith in
       let less : lacking ≤ first.capacity = omega arith in
-      let passed : first.last + wait_of call.rtt call.window lacking + slack ≤ after.last = omega (arith, late) in
+      let passed : first.last + wait_of call.rtt call.window lacking + slack ≤ after.last = omega arith in
       elim (cases_lt after.tokens call.bytes) [
-        | inl below ↦ absurd (no_room call.rtt call.window call.bytes questions first.capacity first.tokens lacking
+        | inl below ↦ absurd (no_room _ _ _ _ _ _ lacking
             first.last after.last (wait_of call.rtt call.window lacking) slack after.tokens
-            ((fills_refilled now questions bucket some fills).2 (omega (arith, below, reach.fits)))
-            (wait_comes call.rtt call.window lacking reach.window
-            (omega (arith, reach.uncut, mul-le-mul_left call.rtt less)))
+            ((fills_refilled now _ _ some fills).2 (omega arith))
+            (wait_comes _ _ _ reach.window
+            (omega (arith, mul-le-mul_left call.rtt less)))
             (mul-le-mul_left (5 * call.window) passed) (omega (arith, mul-le-mul_left (4 * call.rtt) below))
             (ap (λ (n : ℕ). call.rtt * n) all) room)
         | inr enough ↦ enough
@@ -100,7 +100,7 @@ pub passes : (call later : PacerCall) (old bucket : Bucket) (until questions sla
     ≤ 4 * (call.rtt * first.capacity) + 5 * call.window * slack
     → (0 < call.rtt → Fills call first questions bucket) → delay_of later (paced later bucket) ≡ None)
 passes call later old bucket until questions slack delays again reach before_end late room fills =
-    grind (arith, nat_tests, (fills short.2).1, again, enough)
+    grind (arith, enough)
   where
     first : Bucket
     first = paced call old
@@ -119,6 +119,6 @@ passes call later old bucket until questions slack delays again reach before_end
 pub passes_behind : (made : Bucket) (entries : List PacerEntry) (later : PacerCall)
     → PassesBehind made entries later (delay_of later (paced later (bucket_by made entries)))
 passes_behind made (asked call ∷ earlier) later = λ until delays again reach late before_end.
-    passes call later (bucket_by made earlier) _ until 0 4 delays again reach (omega (arith, late, before_end)) late
+    passes call later (bucket_by made earlier) _ until 0 4 delays again reach (omega (arith, before_end)) late
     (omega (arith, mul-le-mul_left call.rtt reach.fits)) (λ some. (refl, paced-knows call _, λ below. omega arith))
-passes_behind made entries later = tt
+passes_behind _ _ _ = tt

@@ -11,14 +11,14 @@ module _ (skips : Skips) (words : Stream) where
   -- the skips before one are there, and lie below it
   lower : (j k t : ℕ) → j < k → (skip_at skips words k).0 ≡ Some t
       → (s : ℕ) × ((skip_at skips words j).0 ≡ Some s) × (s < t)
-  lower j zero t less is = absurd (omega (arith, less))
+  lower j zero t less is = absurd (omega arith)
   lower j (suc k) t less is =
-      let before = skip_above skips words k t is in
+      let before = skip_above _ _ k t is in
       elim (cases_lt j k) [
         | inl further ↦
-            let found = lower j k before.0 further before.1 in (found.0, found.1, omega (arith, found.2, before.2))
-        | inr near ↦ let same : j ≡ k = omega (arith, near, less) in
-            (before.0, rw same before.1, omega (arith, before.2))
+            let found = lower j k _ further before.1 in (found.0, found.1, omega arith)
+        | inr near ↦ let same : j ≡ k = omega arith in
+            (before.0, rw same before.1, omega arith)
       ]
 
   -- just so many skips lie below n
@@ -30,8 +30,8 @@ module _ (skips : Skips) (words : Stream) where
   only_at n count counts k here =
       elim (cases_lt count k) [
         | inl further ↦
-            let found = lower count k n further here in absurd (grind (arith, found.2, counts count found.0 found.1))
-        | inr near ↦ grind (arith, near, counts k n here)
+            let found = lower _ k n further here in absurd (grind (arith, counts count found.0 found.1))
+        | inr near ↦ grind (arith, counts k n here)
       ]
 
   -- a skip lies below n just where its place is below their count
@@ -46,7 +46,7 @@ module _ (skips : Skips) (words : Stream) where
           let only = only_at n (skips_below skips words n) counts k in
           let some = is_at-some n (skip_at skips words (skips_below skips words n)).0 in
           let self = is_at-self n (skip_at skips words (skips_below skips words n)).0 in
-          grind (arith, is, at, only, some, self, counts k s is)
+          grind arith
 
   -- a number is skipped just where it stands in the sequence
   pub skipped_in_sequence : (n : ℕ) → (is_skipped skips words n ≡ true)
@@ -54,15 +54,16 @@ module _ (skips : Skips) (words : Stream) where
   skipped_in_sequence n = (
     λ here. (skips_below skips words n, is_at-some n _ here),
     λ found. is_at-self n _
-        (rw (only_at n (skips_below skips words n) (skips_below_counts n) found.0 found.1) at found.1),
+        (rw (only_at n _ (skips_below_counts n) found.0 found.1) at found.1),
   )
 
   pub skip_before_greatest : (n : ℕ) → IsGreatestBelow skips words n (skip_before skips words n)
-  skip_before_greatest zero = grind arith
+  skip_before_greatest zero = λ m less. absurd (omega arith)
   skip_before_greatest (suc n) = go (is_skipped skips words n) refl (skip_before skips words n) (skip_before_greatest n)
     where
       go : (here : Bool) → is_skipped skips words n ≡ here → (last : Option ℕ) → IsGreatestBelow skips words n last
           → IsGreatestBelow skips words (suc n) (if here then Some n else last)
-      go true here last greatest = grind (arith, here)
-      go false free None none = grind (arith, free, none)
-      go false free (Some s) greatest = grind (arith, free, greatest)
+      go true here last greatest = (omega arith, here, λ m above less. absurd (omega arith))
+      go false free None none = λ m less. grind arith
+      go false free (Some s) greatest =
+          (omega arith, greatest.1, λ m above less. grind arith)

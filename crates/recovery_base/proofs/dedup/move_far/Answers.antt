@@ -1,9 +1,6 @@
 use Rattle.std.proofs.Common.{arith, ◌-◌, ◌/◌, ◌%◌}
-use Rattle.recovery_base.proofs.PlaceLaws.{moved_words, moved_away}
+use Rattle.recovery_base.proofs.PlaceLaws.{moved_words}
 use Rattle.recovery_base.proofs.dedup.move_far.Goals as goal
-
-pub returns-then-places-gt-WINDOW : goal.returns-then-places-gt-WINDOW
-returns-then-places-gt-WINDOW c = moved_away c.args.window.now c.args.places (omega arith)
 
 pub returns : goal.returns
 returns c =

@@ -4,6 +4,6 @@ use Rattle.recovery_skips.proofs.filter.PacketNumberFilter.allocate.Goals as goa
 pub pass-requires : goal.pass-requires
 pass-requires g c =
     let sound = c.peek-number.ensures.sound in
-    let can = can_draw c.args.self.now sound c.args.next c.peek-number.result c.peek-number.ensures.number
+    let can = can_draw _ sound _ _ c.peek-number.ensures.number
     c.if-number-next.true c.if-number-ge-NUMBER_BOUND.false in
     record { first = sound.first; last = can.0; below = can.1 }
