@@ -159,8 +159,7 @@ module _ {K Q S M P : Type 0} (q : QueueMeaning Q S M P) (known : Known K P M) (
 
   told_if : (own : Bool) (call : ControllerCall) (earlier : List PathsEntry) → is telling ≡ true → IsKept earlier
       → IsKept (cond own (on_current (tells call) ∷ []) [] ++ earlier)
-  told_if true call earlier quiet kept = told call earlier quiet kept
-  told_if false call earlier quiet kept = kept
+  told_if own call earlier quiet kept = grind (arith, told call earlier quiet kept, kept)
 
   in_data : (is_data : Bool) (entries : List PathsEntry) → IsKept entries → IsKept (cond is_data entries [])
   in_data is_data entries kept = grind (arith, kept, none)

@@ -61,13 +61,9 @@ module _ {Q : Type 0} where
       (rest expected : Option Refusal) → (Cause → expected ≡ Some cause) → (¬ Cause → expected ≡ rest)
       → Names rest Otherwise → Names expected (Refuses cause Cause Otherwise)
   cause_names cause no_text is Cause Otherwise rest expected named_so else_so names (Ok answer) told =
-      names (Ok answer) told.1 ∙ sym (else_so told.0)
+      grind (arith, names (Ok answer), else_so, told)
   cause_names cause no_text is Cause Otherwise rest expected named_so else_so names (Err given) told =
-      by_cause (same_refusal given cause) (only_refusal given cause no_text) told
-    where
-      by_cause : (b : Bool) → (b ≡ true → given ≡ cause) → MatchBool b Cause ((¬ Cause) × Otherwise (Err given))
-          → (let reply : Reply Q = Err given in named reply ≡ expected)
-      by_cause b same told = grind (arith, same, is, named_so, else_so, names (Err given))
+      grind (arith, only_refusal given cause no_text, is, named_so, else_so, names (Err given), told)
 
   path_names : {K : Type 0} (found : Option (PathKnown K)) (Replies : PathKnown K → Reply Q → Type 0)
       → ((path : PathKnown K) → Names None (Replies path))
