@@ -3,7 +3,7 @@
 use Rattle.std.proofs.Common.{arith, ◌≡◌, ℕ, ◌^◌, List, [], ◌∷◌, Option, Some, None, decimal, refl}
 use Rattle.std.proofs.lemmas.Slice.Eq.{bytes_eq-Decides}
 use lib.Chars.{codes}
-use Rattle.recovery_lines.specs.Fields.{Field, Value, word_for, Fits, a_space, a_largest}
+use Rattle.recovery_lines.specs.Fields.{Field, Value, word_for, Fits, a_largest}
 use Rattle.recovery_lines.specs.Reading.{◌>>=◌, field, value_of, flag_of, space_of, timer_of, path_of, largest_of, number_of}
 use Rattle.std.proofs.lemmas.Fmt.{decimal_is_IsNumeral}
 use Rattle.recovery_lines.proofs.NumberLaws.{number_takes, number_again}
@@ -20,19 +20,17 @@ unfolding flag_of space_of timer_of path_of largest_of
 takes a_largest text (Some n) e = grind (arith, e, bytes_eq-Decides text, number_takes (2 ^ 64) text n)
 takes f text x e = first_of (search number_takes, grind (arith, e, bytes_eq-Decides text))
 
-pub again : (f : Field) (x : Value f) → Fits f x → value_of f (word_for f x) ≡ Some x
+pub again : (f : Field) (x : Value f) → Fits f x → (value_of f (word_for f x) ≡ Some x) × IsPlain (word_for f x)
 unfolding flag_of space_of timer_of path_of largest_of
-again a_largest (Some n) h =
-    grind (arith, number_again (2 ^ 64) n, decimal_is_IsNumeral n h, bytes_eq-Decides (decimal n) (codes "-"))
-again f x h = grind (arith, number_again)
-
-pub field_plain : (f : Field) (x : Value f) → Fits f x → IsPlain (word_for f x)
-field_plain a_space x h = grind arith
-field_plain f x h = grind (arith, decimal_plain)
+again a_largest (Some n) h = (
+  grind (arith, number_again (2 ^ 64) n, decimal_is_IsNumeral n h, bytes_eq-Decides (decimal n) (codes "-")),
+  grind (arith, decimal_plain),
+)
+again f x h = (grind (arith, number_again), grind (arith, decimal_plain))
 
 -- where a word is a number, it is none of the words for no number
 pub largest_is : (word : List ℕ) (n : ℕ) → number_of (2 ^ 64) word ≡ Some n → largest_of word ≡ Some (Some n)
-largest_is word n is = let t = number_takes (2 ^ 64) word n is in rw (t.0) (again a_largest (Some n) t.1)
+largest_is word n is = let t = number_takes (2 ^ 64) word n is in rw (t.0) ((again a_largest (Some n) t.1).0)
 
 -- a field at the front of the words
 pub field_takes : (f : Field) (words : List (List ℕ)) (x : Value f) (rest : List (List ℕ))

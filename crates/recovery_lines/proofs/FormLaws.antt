@@ -10,9 +10,9 @@ use Rattle.recovery_lines.specs.declared.lines.Line.TheVariants.{Said, Ids, Path
 use Rattle.recovery_lines.specs.Fields.{Field, Tail, no_tail, an_item_tail, Values, words_for, AllFit}
 use Rattle.recovery_lines.specs.Lines.{ItemEvent, Means, Form, FormValues, issue_ids, new_path, forms, saying, words_said, spelling, IsWithinTypes}
 use Rattle.recovery_lines.specs.Reading.{◌>>=◌, field, value_of, items_read, fields_read, all_read, reading, form_named, line_at, line_behind}
-use Rattle.recovery_lines.proofs.FieldLaws.{bind_some, again, field_plain, field_takes}
+use Rattle.recovery_lines.proofs.FieldLaws.{bind_some, again, field_takes}
 use Rattle.recovery_lines.proofs.IdLaws.{ids_count, ids_first}
-use Rattle.recovery_lines.proofs.ItemLaws.{items_take, items_again, items_plain}
+use Rattle.recovery_lines.proofs.ItemLaws.{items_take, items_again}
 use Rattle.recovery_lines.proofs.PlainLaws.{IsPlain}
 
 -- ---- several fields, and what stands behind them
@@ -32,18 +32,15 @@ fields_take tail (f ∷ fields) make words made e =
     ((b.0.0, r.0), grind (arith, field_takes f words b.0.0 b.0.1 b.1, r))
 
 fields_again : {A : Type 0} (tail : Tail) (fields : List Field) (make : Values tail fields → A) (x : Values tail fields)
-    → AllFit tail fields x → fields_read tail fields make (words_for tail fields x) ≡ Some (make x, [])
+    → AllFit tail fields x → (fields_read tail fields make (words_for tail fields x) ≡ Some (make x, []))
+    × AllByRecursion IsPlain (words_for tail fields x)
 unfolding fields_read field
-fields_again no_tail [] make x h = refl
-fields_again an_item_tail [] make x h = rw (items_again x h) refl
+fields_again no_tail [] make x h = (refl, tt)
+fields_again an_item_tail [] make x h = let items = items_again x h in (rw (items.0) refl, items.1)
 fields_again tail (f ∷ fields) make x h =
-    rw (again f x.0 h.0) (fields_again tail fields (λ y. make (x.0, y)) x.1 h.1)
-
-fields_plain : (tail : Tail) (fields : List Field) (x : Values tail fields) → AllFit tail fields x
-    → AllByRecursion IsPlain (words_for tail fields x)
-fields_plain no_tail [] x h = tt
-fields_plain an_item_tail [] x h = items_plain x h
-fields_plain tail (f ∷ fields) x h = (field_plain f x.0 h.0, fields_plain tail fields x.1 h.1)
+    let first = again f x.0 h.0 in
+    let rest = fields_again tail fields (λ y. make (x.0, y)) x.1 h.1 in
+    (rw (first.0) rest.0, (first.1, rest.1))
 
 all_is : {A : Type 0} (tail : Tail) (fields : List Field) (make : Values tail fields → A) (words : List (List ℕ))
     → all_read tail fields make words ≡ fields_read tail fields make words
@@ -110,19 +107,14 @@ line_takes (name ∷ words) said e =
     (grind (arith, n.0, r.1.0), r.1.1, r.1.2)
 
 pub line_again : (unkept : ℕ) (event : ItemEvent) → IsWithinTypes unkept event
-    → line_at (spelling unkept event) ≡ Some ((saying unkept event).0.line (saying unkept event).1, [])
+    → (line_at (spelling unkept event) ≡ Some ((saying unkept event).0.line (saying unkept event).1, []))
+    × AllByRecursion IsPlain (spelling unkept event)
 unfolding line_at line_behind
 line_again unkept event h =
     let s : Saying = saying unkept event in
-    ap (λ (o : Option Form). o >>= λ f. reading f (words_for s.0.tail s.0.fields s.1)) (is_listed unkept event)
-    ∙ all_is s.0.tail s.0.fields s.0.line (words_for s.0.tail s.0.fields s.1)
-    ∙ fields_again s.0.tail s.0.fields s.0.line s.1 h.0
-
--- the words that spell an event are plain
-pub spelling_plain : (unkept : ℕ) (event : ItemEvent) → IsWithinTypes unkept event
-    → AllByRecursion IsPlain (spelling unkept event)
-spelling_plain unkept event h =
-    let s : Saying = saying unkept event in (
-      All-from_recursion _ _ (named_form forms are_forms s.0.name s.0 (is_listed unkept event)).1.plain,
-      fields_plain s.0.tail s.0.fields s.1 h.0,
+    let listed = is_listed unkept event in
+    let read = fields_again s.0.tail s.0.fields s.0.line s.1 h.0 in (
+      ap (λ (o : Option Form). o >>= λ f. reading f (words_for s.0.tail s.0.fields s.1)) listed
+          ∙ all_is s.0.tail s.0.fields s.0.line (words_for s.0.tail s.0.fields s.1) ∙ read.0,
+      (All-from_recursion _ _ (named_form forms are_forms s.0.name s.0 listed).1.plain, read.1),
     )

@@ -15,13 +15,12 @@ pub items_take : (words : List (List ℕ)) (items : List ℕ) → items_read wor
 items_take [] items e = grind (arith, e)
 items_take (word ∷ words) items e = grind (arith, e, number_takes (2 ^ 64) word, items_take words)
 
-pub items_again : (items : List ℕ) → AreItems items → items_read (map decimal items) ≡ Some items
-items_again [] h = refl
-items_again (item ∷ items) h = rw (number_again (2 ^ 64) item (lit≤ tt) h.0, items_again items h.1) refl
-
-pub items_plain : (items : List ℕ) → AreItems items → AllByRecursion IsPlain (map decimal items)
-items_plain [] h = tt
-items_plain (item ∷ items) h = (decimal_plain item (omega (arith, h.0)), items_plain items h.1)
+pub items_again : (items : List ℕ) → AreItems items
+    → (items_read (map decimal items) ≡ Some items) × AllByRecursion IsPlain (map decimal items)
+items_again [] h = (refl, tt)
+items_again (item ∷ items) h =
+    let rest = items_again items h.1 in
+    (rw (number_again (2 ^ 64) item (lit≤ tt) h.0, rest.0) refl, (decimal_plain item (omega (arith, h.0)), rest.1))
 
 -- ---- reading them one after the other
 

@@ -11,7 +11,7 @@ use Rattle.recovery_lines.specs.Lines.{ItemEvent, Means, saying, spelling, IsWit
 use Rattle.recovery_lines.specs.Reading.{whole, line_at, line_of, TakesMemory, TookAll}
 use Rattle.recovery_lines.proofs.AddressLaws.{one_address}
 use Rattle.recovery_lines.proofs.PlainLaws.{plain_no_feed, words_joined}
-use Rattle.recovery_lines.proofs.FormLaws.{Saying, Spell, said_by, means_said, line_takes, line_again, spelling_plain}
+use Rattle.recovery_lines.proofs.FormLaws.{Saying, Spell, said_by, means_said, line_takes, line_again}
 
 -- ---- whole lines
 
@@ -42,7 +42,7 @@ pub line_only : (line : List ℕ) (event : ItemEvent) → Spells line event → 
 unfolding line_of
 line_only line event s =
     let by : Saying = saying s.unkept event in
-    (by.0.line by.1, rw (s.words, line_again s.unkept event s.within) refl, s.within.1)
+    (by.0.line by.1, rw (s.words, (line_again s.unkept event s.within).0) refl, s.within.1)
 
 one_meant : (said : Line) (first second : ItemEvent) → Means said first → Means said second → IsSame first second
 one_meant (Said event) first second m n = inl (m ∙ sym n)
@@ -87,7 +87,7 @@ items_refused line read e short took = grind (arith, took)
 
 pub spelled_no_feed : (line : List ℕ) (event : ItemEvent) → Spells line event → All (λ byte. byte ≢ 10) line
 spelled_no_feed line event spells =
-    plain_no_feed line (rw spells.words (spelling_plain spells.unkept event spells.within))
+    plain_no_feed line (rw spells.words ((line_again spells.unkept event spells.within).1))
 
 pub one_event : (line : List ℕ) (first second : ItemEvent) → Spells line first → Spells line second
     → IsSame first second
@@ -102,7 +102,7 @@ pub one_line : (unkept : ℕ) (event : ItemEvent) → IsWithinTypes unkept event
     → Spells (join_with_byte 32 (spelling unkept event)) event
 one_line unkept event within short = record {
   unkept = unkept;
-  words = words_joined _ _ (spelling_plain unkept event within);
+  words = words_joined _ _ (line_again unkept event within).1;
   within = within;
   short = short;
 }

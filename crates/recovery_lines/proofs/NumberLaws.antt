@@ -1,5 +1,5 @@
 -- What it says that a number was read from a word, or not. The readers of numbers and `FieldLaws` rest on it.
-use Rattle.std.proofs.Common.{◌+◌, ◌*◌, ◌%◌, take, length-take, zero, suc, lit≤, ◌≡◌, ℕ, ◌^◌, ◌<◌, ◌≤◌, List, length, get_or, Some, None, decimal, ap, arith}
+use Rattle.std.proofs.Common.{◌+◌, ◌*◌, ◌%◌, take, length-take, lit≤, ◌≡◌, ℕ, ◌^◌, ◌<◌, ◌≤◌, List, length, get_or, Some, None, decimal, arith}
 use Rattle.std.proofs.lemmas.Bool.Decides.{nat_tests}
 use Rattle.std.proofs.lemmas.List.{get_or-take}
 use Rattle.std.specs.Str.Parse.{digits_value}
@@ -27,10 +27,6 @@ number_again limit n most lt =
 
 -- ---- words that are no number
 
-one_zero : (n : ℕ) → n < 10 ^ 64 → get_or (decimal n) 0 0 ≡ 48 → length (decimal n) ≡ 1
-one_zero zero lt e = ap length (decimal_digit 0 (omega arith))
-one_zero (suc n) lt e = absurd (omega (arith, leads_above_zero (suc n) (omega arith) lt))
-
 -- what a number is spelled by
 pub record IsSpelled (word : List ℕ) (n : ℕ) : Type 0 where
   pub digits : AreDigits word (length word)
@@ -41,7 +37,12 @@ pub record IsSpelled (word : List ℕ) (n : ℕ) : Type 0 where
 is_spelled : (n : ℕ) → n < 10 ^ 64 → IsSpelled (decimal n) n
 is_spelled n lt =
     let d = decimal_is_IsNumeral_wide n lt in
-    record { digits = λ i inside. digit_at (decimal n) i d.0.1 inside; some = d.0.0; lead = one_zero n lt; value = d.1 }
+    record {
+      digits = λ i. digit_at (decimal n) i d.0.1;
+      some = d.0.0;
+      lead = λ first. grind (arith, first, leads_above_zero n, decimal_digit n);
+      value = d.1;
+    }
 
 -- what spells no number is not read
 pub not_read : (word : List ℕ) → ((n : ℕ) → n < 2 ^ 128 → IsSpelled word n → ⊥) → None ≡ number_of (2 ^ 128) word
@@ -88,6 +89,4 @@ digits_read limit most word value digits is small some lead =
 -- digits at the front of bytes
 pub taken_digits : (bytes : List ℕ) (n : ℕ) → AreDigits bytes n → n ≤ length bytes
     → AreDigits (take n bytes) (length (take n bytes))
-taken_digits bytes n digits le = λ i lt.
-    let inside : i < n = omega (arith, length-take n bytes) in
-    rw (get_or-take n bytes i 0 inside) (digits i inside)
+taken_digits bytes n digits le = λ i lt. grind (arith, length-take n bytes, get_or-take n bytes i 0, digits i)

@@ -39,7 +39,7 @@ says_none E name words events none = rw none (refl, refl)
 
 -- what all words of a line say it spells, and where they say nothing, or nothing that an event means, it spells none;
 -- memory is refused to lines that hold a list alone
-pushes_said : {E : Type 0} (line : List ℕ) (said : Option Line) (before : List ItemEvent) (result : Result Bool E)
+pub pushes_said : {E : Type 0} (line : List ℕ) (said : Option Line) (before : List ItemEvent) (result : Result Bool E)
     (after : List ItemEvent) → line_of line ≡ said → length line ≤ 4096 → Pushes said before result after
     → IfOk result (λ spells. PushesSpelled line before spells after) × OnErr result (HoldsList line)
 pushes_said line (Some said) before (Ok true) after is short push =
@@ -58,25 +58,21 @@ pushes_said line None before (Ok false) after is short push =
     ((λ event spells. grind (arith, (line_only line event spells).1, is), push.1), tt)
 pushes_said line None before result after is short push = absurd (grind (arith, push))
 
--- a line that is not too long, and its first word
+-- a line, and its first word
 module _ (line : List ℕ) (words rest : List (List ℕ)) (name : List ℕ) (is : words ≡ words_of line)
     (first : first_word words ≡ Some (name, rest)) where
+  -- one without items
+  pub other_said : false ≡ bytes_eq name (codes "send")
+      → line_of line ≡ whole (line_behind forms_without_items name rest)
+  unfolding line_of line_at line_behind
+  other_said other = rw (← is, first, ← other) refl
+
   -- one with items
   pub send_line : true ≡ bytes_eq name (codes "send") → line_at (words_of line) ≡ reading send rest
   unfolding line_at line_behind
   send_line same = rw (← is, first, ← same) refl
 
-  module _ {E : Type 0} (before : List ItemEvent) (result : Result Bool E) (after : List ItemEvent)
-      (short : length line ≤ 4096) where
-    pub other_pushed : false ≡ bytes_eq name (codes "send")
-        → Pushes (whole (line_behind forms_without_items name rest)) before result after
-        → IfOk result (λ spells. PushesSpelled line before spells after) × OnErr result (HoldsList line)
-    unfolding line_of line_at line_behind
-    other_pushed other = pushes_said line _ before result after (rw (← is, first, ← other) refl) short
-
-    pub send_pushed : true ≡ bytes_eq name (codes "send") → (said : Option Line) (left : List (List ℕ))
-        → Reads (λ x. x) said left (reading send rest) → Pushes (all_of said left) before result after
-        → IfOk result (λ spells. PushesSpelled line before spells after) × OnErr result (HoldsList line)
-    unfolding line_of
-    send_pushed same said left reads =
-        pushes_said line _ before result after (rw (send_line same) (whole_read said left _ reads)) short
+  pub send_said : true ≡ bytes_eq name (codes "send") → (said : Option Line) (left : List (List ℕ))
+      → Reads (λ x. x) said left (reading send rest) → line_of line ≡ all_of said left
+  unfolding line_of
+  send_said same said left reads = rw (send_line same) (whole_read said left _ reads)

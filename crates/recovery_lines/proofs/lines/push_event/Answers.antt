@@ -1,7 +1,7 @@
 use Rattle.std.proofs.Common.{rules}
 use Rattle.recovery_lines.proofs.ItemLaws.{on_err}
 use Rattle.recovery_lines.proofs.LineLaws.{items_refused}
-use Rattle.recovery_lines.proofs.PushLaws.{other_pushed, send_line, send_pushed}
+use Rattle.recovery_lines.proofs.PushLaws.{other_said, pushes_said, send_line, send_said}
 use Rattle.recovery_lines.proofs.lines.push_event.Goals as goal
 
 pub returns-in_err-line-clause-memory : goal.returns-in_err-line-clause-memory
@@ -12,12 +12,13 @@ returns-in_err-line-clause-memory c =
 
 pub returns-then-is_name : goal.returns-then-is_name
 returns-then-is_name c =
-    let pushed = send_pushed c.args.line.now _ _ _ c.new-words.ensures c.in-Some.ensures _ _ _
-    c.if-line-gt-LINE_LIMIT.false c.if-is_name.ensures _ _ c.in_ok-line.ensures.found c.push_read.ensures in
+    let pushed = pushes_said c.args.line.now _ _ _ _ (send_said c.args.line.now _ _ _ c.new-words.ensures
+    c.in-Some.ensures c.if-is_name.ensures _ _ c.in_ok-line.ensures.found) c.if-line-gt-LINE_LIMIT.false
+    c.push_read.ensures in
     record { found = pushed.0; memory = pushed.1; kept = search rules }
 
 pub returns : goal.returns
 returns c =
-    let pushed = other_pushed c.args.line.now _ _ _ c.new-words.ensures c.in-Some.ensures _ _ _
-    c.if-line-gt-LINE_LIMIT.false c.if-is_name.ensures c.push_behind.ensures in
+    let pushed = pushes_said c.args.line.now _ _ _ _ (other_said c.args.line.now _ _ _ c.new-words.ensures
+    c.in-Some.ensures c.if-is_name.ensures) c.if-line-gt-LINE_LIMIT.false c.push_behind.ensures in
     record { found = pushed.0; memory = pushed.1; kept = search rules }
