@@ -82,8 +82,8 @@ module _ {P M : Type 0} where
   sum-replaced f (entry ∷ packets) number packet other found alike =
       grind (arith, sum_by-cons f, alike entry.0, sum-replaced f packets number packet other)
 
-  -- the count of silent packets is their number, and where no packet above the last eliciting number elicits an ACK, the
-  -- silent ones above it are all above it
+  -- the count of silent packets is their number, and where no packet above the last eliciting number elicits an ACK,
+  -- they are all that is above it
   pub silent_count-length : (last : Option ℕ) (packets : Packets P M)
       → (length (silent_above last packets) ≡ sum_by (silent_count last) packets)
       × (sum_by (eliciting_count last) packets ≡ 0

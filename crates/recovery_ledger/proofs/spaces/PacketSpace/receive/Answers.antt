@@ -8,7 +8,8 @@ use Rattle.recovery_ledger.proofs.spaces.PacketSpace.receive.Goals as goal
 
 pub packet_received-arm-requires-clause-earlier : goal.packet_received-arm-requires-clause-earlier
 packet_received-arm-requires-clause-earlier g c =
-    still_reached _ _ _ (has_greatest c.self.inside.dedup) (has_greatest c.insert.new.self) c.insert.ensures.inserts.numbers _ _
+    still_reached _ _ _ (has_greatest c.self.inside.dedup) (has_greatest c.insert.new.self)
+    c.insert.ensures.inserts.numbers _ _
     (ap (λ (counts : AckCounts). counts.greatest) c.in-Ok.ensures.inserts.counts)
     (subst (λ (s : Space _ _). HasGreatestCome s) (sym c.self.view_is) c.requires.received)
 
