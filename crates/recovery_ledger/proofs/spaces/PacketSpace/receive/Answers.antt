@@ -1,6 +1,5 @@
 use Rattle.std.proofs.Common.{refl, sym, ap, subst, arith}
 use Rattle.recovery_base.proofs.MissingLaws.{has_greatest}
-use Rattle.recovery_base.specs.Received.{Has}
 use Rattle.recovery_acks.specs.Acks.{AckCounts}
 use Rattle.recovery_ledger.specs.Spaces.{Space, HasGreatestCome}
 use Rattle.recovery_ledger.proofs.AckLaws.{hears, still_reached}
