@@ -1,10 +1,10 @@
 -- A tracked packet whose contents are exchanged. `queue_lost` and `lose` rest on it.
-use Rattle.std.proofs.Common.{arith, ◌≡◌, ℕ, [], ◌∷◌, Option, None, Some, refl, sym, subst, ◌∙◌}
-use Rattle.std.specs.Prelude.{IfNone, option_map, sum_by}
+use Rattle.std.proofs.Common.{arith, ◌≡◌, ℕ, [], ◌∷◌, Some}
+use Rattle.std.specs.Prelude.{option_map, sum_by}
 use Rattle.recovery_queue.specs.Queues.{QueueWords}
 use Rattle.recovery_ledger.specs.Packets.{Packet, Packets, Tracking, packet_at, without, with_contents, replaced, carrying, contents_or, after_carrying}
 use Rattle.recovery_ledger.specs.Spaces.{Space, packets_of, space_moves, space_loses, space_takes}
-use Rattle.recovery_ledger.proofs.PacketLaws.{none_found, sum-replaced, without-absent}
+use Rattle.recovery_ledger.proofs.PacketLaws.{none_found, sum-replaced}
 
 -- a packet that is put in the place of another
 put : {P M : Type 0} (packets : Packets P M) (number : ℕ) (packet other : Packet P M)

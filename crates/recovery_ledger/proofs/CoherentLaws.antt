@@ -27,12 +27,8 @@ module _ {P M : Type 0} where
     coherent_by : {packets : Packets P M} → tracking_of here ≡ record (tracking_of old) { packets = packets }
         → next_number_of here ≡ next_number_of old → AllBelow packets (next_number_of old) → AreAcknowledging packets
         → IsCoherent here
-    coherent_by same next below acknowledging = record {
-      packets = rw (same, next) (are_below _ _ below);
-      last = rw (same, next) coherent.last;
-      acknowledging = rw same acknowledging;
-      received = received;
-    }
+    coherent_by {packets} same next below acknowledging =
+        grind (arith, same, next, coherent, received, are_below packets (next_number_of old) below, acknowledging)
 
     -- nothing that is tracked changes
     pub coherent_kept : tracking_of here ≡ tracking_of old → next_number_of here ≡ next_number_of old → IsCoherent here

@@ -2,10 +2,10 @@
 use Rattle.std.proofs.lemmas.Bool.Decides.{nat_tests}
 use Rattle.std.proofs.Common.{◌≡◌, ℕ, ◌+◌, ◌-◌, ◌<◌, ◌≤◌, ◌⊎◌, MatchOption, true, false, [], ◌∷◌, ◌++◌, length, Option, None, Some, refl, arith, filter}
 use Rattle.std.specs.Prelude.{sum_by}
-use Rattle.std.proofs.lemmas.List.Sums.{sum_by_push, sum_by-cons}
-use Rattle.recovery_ledger.specs.Packets.{Packet, Packets, Tracking, IsAboveLast, packet_at, without, with_contents, replaced, is_above, silent_above, least_number, forgotten_number}
+use Rattle.std.proofs.lemmas.List.Sums.{sum_by-cons}
+use Rattle.recovery_ledger.specs.Packets.{Packet, Packets, Tracking, packet_at, without, is_above, silent_above, least_number, forgotten_number}
 use Rattle.recovery_ledger.specs.Counts.{silent_count, eliciting_count, size_count, AreCounted}
-use Rattle.recovery_ledger.proofs.PacketLaws.{AllBelow-push, found-append, AllBelow, sum-without, sum-replaced, silent_count-length, some_of, first_found, first_passes}
+use Rattle.recovery_ledger.proofs.PacketLaws.{found-append, AllBelow, sum-without, silent_count-length, some_of, first_found, first_passes}
 
 module _ {P M : Type 0} where
   -- a packet is forgotten where another is sent: it was tracked before, above the last eliciting number, and counted

@@ -1,9 +1,9 @@
 -- Tracked packets: what sums over them and look-ups among them do when one is sent or taken. All that is said of
 -- tracked packets rests on it.
-use Rattle.std.proofs.Common.{◌≡◌, ◌≢◌, ◌↔◌, ℕ, ◌+◌, ◌≤◌, Bool, true, [], ◌∷◌, ◌++◌, length, filter, Option, None, Some, refl, sym, ap, arith}
+use Rattle.std.proofs.Common.{◌≡◌, ◌≢◌, ◌↔◌, ℕ, ◌+◌, ◌≤◌, Bool, true, [], ◌∷◌, ◌++◌, length, filter, Option, None, Some, refl, sym, arith}
 use Rattle.std.specs.Prelude.{sum_by}
-use Rattle.std.specs.Ordering.{nat_cmp, is_eq}
-use Rattle.std.specs.Cmp.{nat_cmp_total, Equal-is, tied_itself}
+use Rattle.std.specs.Ordering.{nat_cmp}
+use Rattle.std.specs.Cmp.{Equal-is}
 use Rattle.std.specs.BTreeMap.{is_at}
 use Rattle.std.proofs.lemmas.List.Sums.{sum_by-cons}
 use Rattle.std.proofs.lemmas.Bool.Decides.{nat_tests}
@@ -82,8 +82,8 @@ module _ {P M : Type 0} where
   sum-replaced f (entry ∷ packets) number packet other found alike =
       grind (arith, sum_by-cons f, alike entry.0, sum-replaced f packets number packet other)
 
-  -- the count of silent packets is their number, and where no packet above the last eliciting number elicits an ACK, the
-  -- silent ones above it are all above it
+  -- the count of silent packets is their number, and where no packet above the last eliciting number elicits an ACK,
+  -- they are all that is above it
   pub silent_count-length : (last : Option ℕ) (packets : Packets P M)
       → (length (silent_above last packets) ≡ sum_by (silent_count last) packets)
       × (sum_by (eliciting_count last) packets ≡ 0

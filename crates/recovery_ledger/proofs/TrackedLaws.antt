@@ -1,17 +1,14 @@
 -- Tracked packets in their slots: what is kept of them when one is sent, taken or forgotten. The calls of `SentPackets`
 -- rest on it.
 use Rattle.std.proofs.lemmas.Bool.Decides.{nat_tests}
-use Rattle.std.proofs.Common.{◌≡◌, Bool, MatchOption, ℕ, zero, suc, ◌+◌, ◌-◌, ◌^◌, ◌<◌, ◌≤◌, min, max, true, false, List, [], ◌∷◌, ◌++◌, length, drop, filter, Option, None, Some, refl, sym, ◌∙◌, arith, length-append, IfSome}
-use Rattle.std.proofs.lemmas.Bool.{cases_lt}
-use Rattle.std.specs.Option.{is_some}
+use Rattle.std.proofs.Common.{◌≡◌, Bool, MatchOption, ℕ, ◌+◌, ◌-◌, ◌^◌, ◌<◌, ◌≤◌, min, max, true, false, [], ◌∷◌, ◌++◌, length, filter, Option, None, Some, refl, arith, length-append, IfSome}
 use Rattle.recovery_queue.specs.Queues.{QueueWords, IsVoid}
-use Rattle.recovery_slots.specs.declared.slots.Slot.{Slot}
-use Rattle.recovery_slots.specs.Slots.{Replaces, IsSlotAt, IsFiledAt, Divides, entries_of, item_at, Finds, IsHeldAt, first_number, is_from, AreFrom, IsClosedUp}
-use Rattle.recovery_slots.proofs.EntryLaws.{drop_slot, entries_dropped, entries_fit, taken, item_held, put_back, filed}
+use Rattle.recovery_slots.specs.Slots.{Divides, entries_of, item_at, Finds, IsHeldAt, first_number, is_from, AreFrom, IsClosedUp}
+use Rattle.recovery_slots.proofs.EntryLaws.{entries_fit, taken, item_held, filed}
 use Rattle.recovery_slots.proofs.SlotLaws.{Slots, slot_within}
 use Rattle.recovery_ledger.specs.Probes.{first_filled}
 use Rattle.recovery_ledger.specs.Places.{HasSlots, IsPlaceOf, FindsPacket}
-use Rattle.recovery_ledger.specs.Packets.{Packet, Packets, AreBelow, packet_at, without, replaced, with_contents, contents_or, Tracking, after_carrying, is_above, least_number, IsAboveLast}
+use Rattle.recovery_ledger.specs.Packets.{Packet, Packets, AreBelow, packet_at, without, replaced, with_contents, is_above, least_number, IsAboveLast}
 use Rattle.recovery_ledger.specs.Counts.{silent_count, eliciting_count, size_count, AreCounted, AreAboveFrom, AreTracked, AreVoidBelow}
 use Rattle.recovery_ledger.proofs.PacketLaws.{AllBelow-push, sum-without, sum-replaced, number_at, AllBelow, all_below, are_below, found-append}
 use Rattle.std.proofs.lemmas.List.Sums.{sum_by_push}

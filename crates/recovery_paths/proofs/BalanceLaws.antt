@@ -6,7 +6,7 @@ use Rattle.std.proofs.lemmas.Option.{none-some}
 use Rattle.recovery_base.specs.declared.below.SpaceId.{SpaceId}
 use Rattle.recovery_congestion.specs.Controllers.{ControllerWords}
 use Rattle.recovery_ledger.specs.declared.paths.PathLedger.{PathLedger}
-use Rattle.recovery_ledger.specs.Ledger.{tracked_by, IsBalancedOn, AreCoherent, AreUpTo}
+use Rattle.recovery_ledger.specs.Ledger.{tracked_by, IsBalancedOn, AreCoherent}
 use Rattle.recovery_ledger.specs.Packets.{IsAmong, Packet, Packets, Tracking, no_packets, packet_at, without, with_contents, forgotten_entry, IsTooLarge, after_sending}
 use Rattle.recovery_ledger.specs.Paths.{generation_of, counters_of, fresh_ledger, after_leaving, after_forgetting}
 use Rattle.recovery_ledger.specs.Probes.{ProbeFound}
@@ -16,7 +16,7 @@ use Rattle.recovery_ledger.proofs.CoherentLaws.{coherent_sent, coherent_probed}
 use Rattle.recovery_ledger.proofs.SpaceLaws.{each_with}
 use Rattle.recovery_ledger.specs.InFlight.{IsCountedIn}
 use Rattle.recovery_ledger.proofs.LedgerLaws.{Follows, carrying_follows, lost_follows, forgotten_counted, sent_follows, first_leaves, space_counted, balanced_by, none_balanced}
-use Rattle.recovery_paths.proofs.PathLogLaws.{some_same, for_changed}
+use Rattle.recovery_paths.proofs.PathLogLaws.{for_changed}
 use Rattle.recovery_paths.specs.Balance.{AreBalanced}
 use Rattle.recovery_paths.specs.declared.live_paths.PathName.{PathName}
 use Rattle.recovery_paths.specs.declared.live_paths.PathName.TheVariants.{Current, Previous}

@@ -1,5 +1,5 @@
 -- The responses stay sound: `push` rests on it, and that they are a model.
-use Rattle.std.proofs.Common.{◌≡◌, ℕ, zero, suc, ◌<◌, Bool, false, List, [], ◌∷◌, ◌++◌, length, map, take, refl, ◌∙◌, arith, rules}
+use Rattle.std.proofs.Common.{◌≡◌, ℕ, zero, suc, Bool, false, List, [], ◌∷◌, ◌++◌, map, take, refl, arith, rules}
 use Rattle.std.specs.List.{IsDistinct, AllByRecursion, list_any}
 use Rattle.std.proofs.lemmas.List.{take-map, length-map, length-append, length-take, map-append}
 use Rattle.std.proofs.lemmas.Bool.{or_parts}

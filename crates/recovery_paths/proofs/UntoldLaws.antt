@@ -1,8 +1,8 @@
 -- The search for the MTU of the path in use began with nothing told to it. The driver's `BurstLaws` rest on it.
 use Rattle.std.proofs.Common.{ℕ, List, [], ◌∷◌, Option}
 use Rattle.recovery_mtud.specs.MtuEntries.{IsUntold}
-use Rattle.recovery_paths.specs.declared.live_paths.PathName.TheVariants.{Current, Previous}
-use Rattle.recovery_paths.specs.PathLog.{PathsEntry, PathEntry, PathPast, Following, pasts_by, past_with, past_following, on, moves, drops_previous, fresh, goes_on, receives}
+use Rattle.recovery_paths.specs.declared.live_paths.PathName.TheVariants.{Current}
+use Rattle.recovery_paths.specs.PathLog.{PathsEntry, PathEntry, PathPast, pasts_by, past_with, on, moves, fresh, receives}
 use Rattle.recovery_paths.specs.PathMaking.{PathSettings}
 use Rattle.recovery_paths.specs.PathStates.{PathState}
 

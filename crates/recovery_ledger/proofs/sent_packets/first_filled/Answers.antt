@@ -19,7 +19,8 @@ loop-place-preserved-in_default g c =
 pub returns-then-not-is_empty-clause-number : goal.returns-then-not-is_empty-clause-number
 returns-then-not-is_empty-clause-number g c =
     (passes_next _ c.loop-place.invariant _
-    (ap (λ ss. entries_of ss) (drop_slot c.args.packets.now c.loop-place.place _ c.in-Some.ensures.slot)) c.packet.view_is c.is_empty.ensures).0 c.if-not-is_empty.true
+    (ap (λ ss. entries_of ss) (drop_slot c.args.packets.now c.loop-place.place _ c.in-Some.ensures.slot))
+    c.packet.view_is c.is_empty.ensures).0 c.if-not-is_empty.true
 
 pub returns-then-not-is_empty-clause-void : goal.returns-then-not-is_empty-clause-void
 returns-then-not-is_empty-clause-void g c =
@@ -32,7 +33,8 @@ returns-then-not-is_empty-clause-void g c =
 pub loop-place-preserved : goal.loop-place-preserved
 loop-place-preserved g c =
     (passes_next _ c.loop-place.invariant _
-    (ap (λ ss. entries_of ss) (drop_slot c.args.packets.now c.loop-place.place _ c.in-Some.ensures.slot)) c.packet.view_is c.is_empty.ensures).1 c.if-not-is_empty.false _ _
+    (ap (λ ss. entries_of ss) (drop_slot c.args.packets.now c.loop-place.place _ c.in-Some.ensures.slot))
+    c.packet.view_is c.is_empty.ensures).1 c.if-not-is_empty.false _ _
     (elim c.if-are_void.branch [
       | then-are_void w ↦ rw w.from-is (void_here _ c.loop-place.invariant _ (divided _ _ _ c.in-Some.ensures.divides)
           w.if-are_void.true)

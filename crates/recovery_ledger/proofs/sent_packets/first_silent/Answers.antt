@@ -1,5 +1,4 @@
 use Rattle.std.proofs.Common.{None, Some, ◌∙◌}
-use Rattle.recovery_slots.specs.Slots.{entries_of}
 use Rattle.recovery_ledger.proofs.PacketLaws.{all_below}
 use Rattle.recovery_ledger.proofs.TrackedLaws.{all_above, first_above, least_above}
 use Rattle.recovery_ledger.proofs.sent_packets.first_silent.Goals as goal

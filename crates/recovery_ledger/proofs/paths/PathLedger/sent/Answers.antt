@@ -9,4 +9,4 @@ remove_in_flight-requires g c = λ own.
     let count = ap (λ (f : InFlight). f.ack_eliciting) with_one.1 in
     let counted = c.requires.counted (c.in-Some-forgotten.field-0-0, c.in-Some-forgotten.packet)
     (sym c.in-Ok.ensures.forgotten ∙ c.in-Some-forgotten.is) own in
-    (omega (arith, bytes, counted.0), omega (arith, count, counted.1))
+    (omega (arith, counted.0), omega (arith, counted.1))

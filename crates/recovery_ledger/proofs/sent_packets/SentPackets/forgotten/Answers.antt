@@ -6,7 +6,7 @@ use Rattle.recovery_ledger.proofs.sent_packets.SentPackets.forgotten.Goals.{then
 pub returns-clause-number : goal.returns-clause-number
 returns-clause-number g c =
     c.first_silent.ensures.first ∙ forgotten_is c.self.invariant.counted c.self.view_is c.packet.view_is
-    c.if-packet.false (omega (arith, c.if-self-lt-MAX_SILENT.false))
+    c.if-packet.false (omega arith)
 
 pub returns-clause-least : goal.returns-clause-least
 returns-clause-least g c = rw (← c.self.view_is) c.first_silent.ensures.least

@@ -27,7 +27,7 @@ invariant_of-self-then-is_eliciting g c =
 pub returns-then-is_eliciting-clause-ok : goal.returns-then-is_eliciting-clause-ok
 returns-then-is_eliciting-clause-ok g c =
     rw (← c.self.view_is, ← c.packet.view_is)
-    (grind (arith, c.packet.view_is, c.if-is_eliciting.true, c.in_ok-push.ensures.ok))
+    (grind (arith, c.if-is_eliciting.true, c.in_ok-push.ensures.ok))
 
 pub returns-then-is_eliciting-clause-bound : goal.returns-then-is_eliciting-clause-bound
 returns-then-is_eliciting-clause-bound g c = silent_bound (invariant_of-self-then-is_eliciting g c).counted
@@ -48,8 +48,6 @@ returns-in_default-clause-ok g c =
     rw (← c.self.view_is, ← c.packet.view_is)
     (grind (
       arith,
-      c.self.view_is,
-      c.packet.view_is,
       c.if-is_eliciting.false,
       c.in_ok-push.ensures.ok,
       c.in_default.ensures.number,
@@ -72,7 +70,7 @@ pub overflow_sub-self : goal.overflow_sub-self
 overflow_sub-self g c =
     let gone = rw c.in-Some-take.is at (forgotten_found c.self.invariant.counted c.self.view_is c.packet.view_is
     c.if-is_eliciting.false _ c.in-Some.ensures.number c.in_ok-push.ensures.ok c.take.ensures.value) in
-    omega (arith, gone.2, c.size_count.ensures)
+    omega (arith, gone.2)
 
 found : (g : _) (c : goal.After-self-4-1 g) → IsForgotten (entries_of c.self.inside.packets)
     c.self.inside.last_eliciting c.self.inside.sized c.args.number c.args.packet c.in-Some.least
@@ -97,8 +95,6 @@ returns-clause-ok g c =
     (grind (
       arith,
       gone,
-      c.self.view_is,
-      c.packet.view_is,
       c.if-is_eliciting.false,
       c.take.ensures.entries,
       c.in-Some.ensures.number,
@@ -107,7 +103,7 @@ returns-clause-ok g c =
 pub returns-clause-forgotten : goal.returns-clause-forgotten
 returns-clause-forgotten g c =
     let gone = found g c in
-    rw (← c.self.view_is) (grind (arith, gone, c.self.view_is, c.in-Some.ensures.number))
+    rw (← c.self.view_is) (grind (arith, gone, c.in-Some.ensures.number))
 
 pub returns-clause-bound : goal.returns-clause-bound
 returns-clause-bound g c = silent_bound (invariant_of-self-2 g c).counted

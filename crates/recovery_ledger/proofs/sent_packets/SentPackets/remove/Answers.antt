@@ -6,12 +6,12 @@ use Rattle.recovery_ledger.proofs.sent_packets.SentPackets.remove.Goals as goal
 pub overflow_sub-self : goal.overflow_sub-self
 overflow_sub-self g c =
     let enough = counted_taken c.self.invariant.counted _ _ (sym c.take.ensures.value ∙ c.in_ok-packet.was) in
-    omega (arith, enough.1, c.silent_count.ensures)
+    omega (arith, enough.1)
 
 pub overflow_sub-self-2 : goal.overflow_sub-self-2
 overflow_sub-self-2 g c =
     let enough = counted_taken c.self.invariant.counted _ _ (sym c.take.ensures.value ∙ c.in_ok-packet.was) in
-    omega (arith, enough.2, c.size_count.ensures)
+    omega (arith, enough.2)
 
 pub invariant_of-self-2 : goal.invariant_of-self-2
 invariant_of-self-2 g c =

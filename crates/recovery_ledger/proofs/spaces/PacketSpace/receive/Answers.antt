@@ -1,6 +1,5 @@
 use Rattle.std.proofs.Common.{refl, sym, ap, subst, arith}
 use Rattle.recovery_base.proofs.MissingLaws.{has_greatest}
-use Rattle.recovery_base.specs.Received.{Has}
 use Rattle.recovery_acks.specs.Acks.{AckCounts}
 use Rattle.recovery_ledger.specs.Spaces.{Space, HasGreatestCome}
 use Rattle.recovery_ledger.proofs.AckLaws.{hears, still_reached}
@@ -8,7 +7,8 @@ use Rattle.recovery_ledger.proofs.spaces.PacketSpace.receive.Goals as goal
 
 pub packet_received-arm-requires-clause-earlier : goal.packet_received-arm-requires-clause-earlier
 packet_received-arm-requires-clause-earlier g c =
-    still_reached _ _ _ (has_greatest c.self.inside.dedup) (has_greatest c.insert.new.self) c.insert.ensures.inserts.numbers _ _
+    still_reached _ _ _ (has_greatest c.self.inside.dedup) (has_greatest c.insert.new.self)
+    c.insert.ensures.inserts.numbers _ _
     (ap (λ (counts : AckCounts). counts.greatest) c.in-Ok.ensures.inserts.counts)
     (subst (λ (s : Space _ _). HasGreatestCome s) (sym c.self.view_is) c.requires.received)
 

@@ -1,9 +1,9 @@
-use Rattle.std.proofs.Common.{length, ap, arith}
+use Rattle.std.proofs.Common.{arith}
 use Rattle.recovery_slots.proofs.EntryLaws.{entries_fit, kept}
 use Rattle.recovery_slots.proofs.slots.SlotQueue.close_up.Goals as goal
 
 pub overflow_sub-len : goal.overflow_sub-len
-overflow_sub-len g c = omega (arith, entries_fit c.trim.new.slots.items, ap (λ es. length es) c.trim.ensures.entries)
+overflow_sub-len g c = grind (arith, entries_fit c.trim.new.slots.items, c.trim.ensures.entries)
 
 pub overflow_add-self-inside : goal.overflow_add-self-inside
 overflow_add-self-inside g c = omega (arith, entries_fit c.self.inside.slots.items)
@@ -18,5 +18,4 @@ pub returns-then-len-self-clause-entries : goal.returns-then-len-self-clause-ent
 returns-then-len-self-clause-entries g c = cc (kept c.trim.new.slots.items 0 0).0
 
 pub returns-then-len-self-clause-bound : goal.returns-then-len-self-clause-bound
-returns-then-len-self-clause-bound g c = rw c.keep_filled.ensures
-    (omega (arith, kept c.trim.new.slots.items 0 0, ap (λ es. length es) (kept c.trim.new.slots.items 0 0).0))
+returns-then-len-self-clause-bound g c = rw c.keep_filled.ensures (grind (arith, kept c.trim.new.slots.items 0 0))

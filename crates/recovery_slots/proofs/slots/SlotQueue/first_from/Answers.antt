@@ -1,4 +1,4 @@
-use Rattle.std.proofs.Common.{sym, subst, ◌∙◌, arith, refl}
+use Rattle.std.proofs.Common.{sym, subst, ◌∙◌, arith}
 use Rattle.std.proofs.lemmas.List.{drop_all}
 use Rattle.recovery_slots.specs.Slots.{AreFrom, entries_of}
 use Rattle.recovery_slots.proofs.EntryLaws.{drop_slot, entries_dropped, divided, all_from}

@@ -1,4 +1,4 @@
-use Rattle.std.proofs.Common.{arith, None}
+use Rattle.std.proofs.Common.{arith}
 use Rattle.recovery_slots.specs.Slots.{entries_of}
 use Rattle.recovery_slots.proofs.EntryLaws.{first_filed}
 use Rattle.recovery_slots.proofs.slots.SlotQueue.pop_first.Goals as goal

@@ -1,5 +1,4 @@
 use Rattle.std.proofs.Common.{sym, ◌∙◌, arith}
-use Rattle.recovery_slots.specs.Slots.{entries_of}
 use Rattle.recovery_slots.proofs.EntryLaws.{taken, absent_removed}
 use Rattle.recovery_slots.proofs.slots.SlotQueue.take.Goals as goal
 
