@@ -12,7 +12,7 @@ returns-then-window-word-ne0-clause-sets c = sets_again _ _
     (set_by_bit _ c.args.place (omega arith) (omega arith) c.if-window-word-ne0.true)
 
 pub returns-clause-answer : goal.returns-clause-answer
-returns-clause-answer c = clear_by_bit c.args.window.now c.args.place (omega arith)
+returns-clause-answer c = clear_by_bit _ c.args.place (omega arith)
     (omega arith) c.if-window-word-ne0.false
 
 pub returns-clause-sets : goal.returns-clause-sets
