@@ -1,5 +1,4 @@
 use Rattle.std.proofs.Common.{arith}
-use Rattle.recovery_base.specs.Received.{IsSet}
 use Rattle.recovery_base.proofs.PlaceLaws.{set_by_bit, clear_by_bit, sets_one, sets_again}
 use Rattle.recovery_base.proofs.dedup.set.Goals as goal
 

@@ -1,4 +1,4 @@
-use Rattle.std.proofs.Common.{◌≡◌, ℕ, ◌+◌, inl, inr, get_or, length, ◌∙◌, ap, arith}
+use Rattle.std.proofs.Common.{◌≡◌, ℕ, ◌+◌, inl, inr, get_or, ◌∙◌, ap, arith}
 use Rattle.std.specs.declared.ops.Range.{Range}
 use Rattle.std.proofs.lemmas.List.Edits.{get_or-remove_below}
 use Rattle.recovery_base.proofs.RangeLaws.{Ranges, inserts_last, inserts_known, inserts_between, inserts_below, inserts_above, inserts_joining, same_read}

@@ -1,4 +1,4 @@
-use Rattle.std.proofs.Common.{◌≡◌, ◌+◌, get_or, ◌∙◌, ap, arith, length}
+use Rattle.std.proofs.Common.{◌≡◌, ◌+◌, get_or, ◌∙◌, ap, arith}
 use Rattle.std.proofs.lemmas.List.Edits.{get_or-insert_below}
 use Rattle.recovery_base.proofs.RangeLaws.{Ranges, same_read}
 use Rattle.recovery_base.proofs.RangeCuts.{none_at_end, none_before, cut_at, splits}
