@@ -17,10 +17,6 @@ module _ (Places : ℕ → Type 0) (next number : ℕ) where
   pub known_below : IsKnown Places next number → number < next
   known_below here = grind arith
 
-  -- one that is known and not below it shows that a number lies below the next
-  pub known_reach : (m : ℕ) × IsKnown Places next m × (number ≤ m) → number < next
-  known_reach (m, here, above) = grind arith
-
   known_cut : AreWithin Places → IsKnown Places next number → IsInWindow (IsKnown Places next) number
   known_cut within here = grind arith
 

@@ -5,7 +5,7 @@ use Rattle.std.proofs.Common.{List, [], ◌∷◌, length, slice_index, slice_se
 use Rattle.std.proofs.Common.{arith}
 use Rattle.std.specs.Prelude.{bit_and, bit_or}
 use Rattle.std.specs.Int.{bit_at, bit_not, w32, leading_zeros}
-use Rattle.std.proofs.Math.Nat.{div-add-mod, lt_of_le_of_lt, pow-suc, le_refl, zero-mul}
+use Rattle.std.proofs.Math.Nat.{lt_of_le_of_lt, pow-suc, le_refl}
 use Rattle.std.proofs.lemmas.Nat.{leading_top, pow_pos, and_le_l, shr-shr, shr_below, one_shl}
 use Rattle.std.proofs.lemmas.Bool.{cases_lt, cases_eq}
 use Rattle.std.proofs.lemmas.Nat.Bits.{bit_at_cat_low, bit_at_cat_high, bit_at_above, bit_at-zero, bit_at_or}

@@ -1,6 +1,6 @@
 -- Ranges that lie apart, without the numbers that leave them. `remove` of the set of ranges rests on it.
 use Rattle.std.proofs.lemmas.Bool.Decides.{nat_tests}
-use Rattle.std.proofs.Common.{◌≡◌, ℕ, suc, ◌+◌, ◌<◌, ◌≤◌, inl, ◌↔◌, [], ◌∷◌, length, take, drop, set, get_or, ap, refl, arith}
+use Rattle.std.proofs.Common.{◌≡◌, ℕ, suc, ◌+◌, ◌<◌, ◌≤◌, inl, ◌↔◌, [], ◌∷◌, length, take, drop, set, get_or, refl, arith}
 use Rattle.std.specs.Prelude.{Bool, true, false, cond, max}
 use Rattle.std.specs.declared.ops.Range.{Range}
 use Rattle.std.specs.List.{insert}

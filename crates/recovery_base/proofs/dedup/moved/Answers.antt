@@ -3,7 +3,7 @@ use Rattle.recovery_base.proofs.PlaceLaws.{moved_is}
 use Rattle.recovery_base.proofs.dedup.moved.Goals as goal
 
 pub returns-clause-stays : goal.returns-clause-stays
-returns-clause-stays c = (moved_is c.args.word c.args.lower c.args.bits (omega arith) (omega arith)).0
+returns-clause-stays c = (moved_is _ _ _ (omega arith) (omega arith)).0
 
 pub returns-clause-carries : goal.returns-clause-carries
-returns-clause-carries c = (moved_is c.args.word c.args.lower c.args.bits (omega arith) (omega arith)).1
+returns-clause-carries c = (moved_is _ _ _ (omega arith) (omega arith)).1

@@ -1,4 +1,4 @@
-use Rattle.std.proofs.Common.{◌≡◌, ℕ, ◌+◌, inl, inr, get_or, length, ◌∙◌, ap, arith}
+use Rattle.std.proofs.Common.{◌≡◌, ℕ, ◌+◌, inl, inr, get_or, ◌∙◌, ap, arith}
 use Rattle.std.specs.declared.ops.Range.{Range}
 use Rattle.std.proofs.lemmas.List.Edits.{get_or-remove_below}
 use Rattle.recovery_base.proofs.RangeLaws.{Ranges, inserts_last, inserts_known, inserts_between, inserts_below, inserts_above, inserts_joining, same_read}
@@ -40,8 +40,8 @@ returns-then-index-x-clause-inserts c =
     ∙ ap (λ (rs : Ranges). get_or rs at seen) c.remove-next.ensures.items
     ∙ get_or-remove_below items (at + 1) seen at (omega arith) (omega arith) in
     rw c.remove-next.ensures.items (inserts_joining c.requires.apart (rw c.deref.ensures.value at c.place-at.ensures)
-    (omega arith) kept c.index-2.ensures (omega arith) c.remove-next.result (omega arith) c.remove-next.ensures.value
-    (ap (λ (r : Range ℕ). r.start) (same_read items _ (omega (arith, c.place-at.ensures.bound))
+    (omega arith) kept c.index-2.ensures (omega arith) _ (omega arith) c.remove-next.ensures.value
+    (ap (λ (r : Range ℕ). r.start) (same_read items _ (omega arith)
     c.remove-next.ensures.value c.index-then-at-len-2.ensures) ∙ c.if-index-x.true))
 
 pub returns-else-at-len-2-clause-inserts : goal.returns-else-at-len-2-clause-inserts
@@ -50,9 +50,9 @@ returns-else-at-len-2-clause-inserts c = inserts_above c.requires.apart (rw c.de
     (elim c.else-at-len-2.branch [
       | else-at-len-2-via-then-at-len-2+else-index-x w ↦ inr (
         w.index-then-at-len-2.result.now,
-        omega (arith, w.if-at-len-2.true),
+        omega arith,
         w.index-then-at-len-2.ensures,
         w.if-index-x.false,
       )
-      | else-at-len-2-via-else-at-len-2 w ↦ inl (omega (arith, w.if-at-len-2.false))
+      | else-at-len-2-via-else-at-len-2 w ↦ inl (omega arith)
     ])

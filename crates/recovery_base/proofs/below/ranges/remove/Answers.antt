@@ -1,4 +1,4 @@
-use Rattle.std.proofs.Common.{◌≡◌, ◌+◌, get_or, ◌∙◌, ap, arith, length}
+use Rattle.std.proofs.Common.{◌≡◌, ◌+◌, get_or, ◌∙◌, ap, arith}
 use Rattle.std.proofs.lemmas.List.Edits.{get_or-insert_below}
 use Rattle.recovery_base.proofs.RangeLaws.{Ranges, same_read}
 use Rattle.recovery_base.proofs.RangeCuts.{none_at_end, none_before, cut_at, splits}
@@ -22,8 +22,8 @@ returns-in_ok-insert-clause-removes c =
     let seen = c.index_mut.result.now in
     let kept : seen ≡ get_or items at seen = c.index_mut.ensures.value
     ∙ ap (λ (rs : Ranges). get_or rs at seen) put
-    ∙ get_or-insert_below items (at + 1) _ seen at (omega arith) (omega (arith, bound)) in
-    rw put (rw (same_read items _ (omega (arith, bound)) kept c.index.ensures)
+    ∙ get_or-insert_below items (at + 1) _ seen at (omega arith) (omega arith) in
+    rw put (rw (same_read items _ (omega arith) kept c.index.ensures)
     (splits c.requires (omega arith) (rw c.deref.ensures.value at c.place-at.ensures) (omega arith) c.index.ensures
     c.index-2.ensures (omega arith) (omega arith)))
 
@@ -31,6 +31,6 @@ pub returns-else-first-start-clause-removes : goal.returns-else-first-start-clau
 returns-else-first-start-clause-removes c =
     rw c.cut.ensures (cut_at c.requires (omega arith) (rw c.deref.ensures.value at c.place-at.ensures) (omega arith)
     c.index.ensures c.index-2.ensures (omega arith) (λ lower. elim c.else-first-start.branch [
-      | else-first-start-via-then-first-start+else-end-last w ↦ omega (arith, w.if-end-last.false)
-      | else-first-start-via-else-first-start w ↦ absurd (omega (arith, lower, w.if-first-start.false))
+      | else-first-start-via-then-first-start+else-end-last w ↦ omega arith
+      | else-first-start-via-else-first-start w ↦ absurd (omega arith)
     ]))
