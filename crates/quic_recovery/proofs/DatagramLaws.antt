@@ -22,6 +22,7 @@ use Rattle.quic_recovery.specs.Promises.Datagrams.{datagrams_on, bytes_in, bytes
 use Rattle.quic_recovery.specs.Promises.Threefold.{is_checked}
 use Rattle.quic_recovery.proofs.AmplificationLaws.{sent_freely}
 use Rattle.quic_recovery.proofs.EntryKinds.{PathKind, receiving, validating, transmitting, passing, moving, dropping, elsewhere, path_kind, paths_kept}
+use Rattle.quic_recovery.proofs.SearchSaid.{Follows, Keeps}
 
 -- ---- what the bound reads of a path
 
@@ -54,25 +55,16 @@ module _ {Q S M P : Type 0} where
       → IsFlow validated here old
       → IsFlow validated ((DatagramIn name bytes, reply) ∷ here) (flow old.validated (old.came + bytes) old.went)
   came_more validated here name bytes reply old same =
-      grind (
-        arith,
-        same,
-        sum_by-cons bytes_in (DatagramIn name bytes, reply) here,
-        sum_by-cons bytes_out (DatagramIn name bytes, reply) here,
-      )
+      let happened : Event Q S M P × Reply Q = (DatagramIn name bytes, reply) in
+      grind (arith, same, sum_by-cons bytes_in happened here, sum_by-cons bytes_out happened here)
 
   -- one went out, within the bound where it was checked
   went_more : (validated : Bool) (here : History Q S M P) (now bytes : ℕ) (checked : Bool) (reply : Reply Q)
       (old : Flow) → (validated ≡ false → checked ≡ true → old.went + bytes ≤ 3 * old.came) → IsFlow validated here old
       → IsFlow validated ((Transmit now bytes checked, reply) ∷ here) (flow old.validated old.came (old.went + bytes))
   went_more validated here now bytes checked reply old within same =
-      grind (
-        arith,
-        same,
-        within,
-        sum_by-cons bytes_in (Transmit now bytes checked, reply) here,
-        sum_by-cons bytes_out (Transmit now bytes checked, reply) here,
-      )
+      let happened : Event Q S M P × Reply Q = (Transmit now bytes checked, reply) in
+      grind (arith, same, within, sum_by-cons bytes_in happened here, sum_by-cons bytes_out happened here)
 
   -- so it is of each path, and no datagrams are those of a path that does not live
   abbrev pub IsFlowWhereLives : Bool → History Q S M P → Option Flow → Type 0
@@ -156,21 +148,19 @@ module _ {F K Q S M P : Type 0} (beginning : Beginning F K Q S M P) (earlier : H
         go (Some past) Replies lives same =
             came_more validated (datagrams_on Previous earlier) Previous bytes (Ok answer) (flow_of past) same
     reply_flows (Validated Current) (Ok answer) told =
-        ((ap (λ (f : Flow). flow true f.came f.went) same.0.0, λ unproved. absurd (cc (unproved))), same.1)
+        ((ap (λ (f : Flow). flow true f.came f.went) same.0.0, λ unproved. absurd cc), same.1)
     reply_flows (Validated Previous) (Ok answer) told = (same.0, grind (arith, told, same.1))
     reply_flows (Transmit now bytes true) (Ok Transmitted) told =
-        let path = state_of pasts.current in
-        let free = (sent_freely beginning.words (is_blocked path bytes) (path_delay beginning.words now bytes path)
-        told.1).0 in
-        let validated = is_validated first Current earlier in
-        let fits : validated ≡ false → true ≡ true → path.total_sent + bytes ≤ 3 * path.total_recvd =
-        grind (arith, nat_tests, free, same.0.0) in
-        (went_more validated (datagrams_on Current earlier) now bytes true (Ok Transmitted) _ fits same.0, same.1)
+        let free = (sent_freely beginning.words _ _ told.1).0 in (
+          went_more _ (datagrams_on Current earlier) now bytes true (Ok Transmitted) (flow_of pasts.current)
+              (grind (arith, nat_tests, free, same.0.0)) same.0,
+          same.1,
+        )
     reply_flows (Transmit now bytes true) (Ok answer) told = same
     reply_flows (Transmit now bytes false) (Ok answer) told =
         rw told.1 (
           went_more _ (datagrams_on Current earlier) now bytes false (Ok Transmitted) _
-              (λ unproved checked. absurd (cc (checked))) same.0,
+              (λ unproved checked. absurd cc) same.0,
           same.1,
         )
     reply_flows (NewPath now remote true) (Ok answer) told = (at_first false, same.0)
@@ -181,8 +171,7 @@ module _ {F K Q S M P : Type 0} (beginning : Beginning F K Q S M P) (earlier : H
         one_more event (Ok answer) refl
     reply_flows (DatagramIn Current bytes) (Err refusal) told = same
     reply_flows (Validated Current) (Err refusal) told = same
-    reply_flows event (Err refusal) told =
-        same
+    reply_flows event (Err refusal) told = same
 
 module _ {F K Q S M P : Type 0} (beginning : Beginning F K Q S M P) where
   -- in a history that was told so, the flows by events and answers are those of the pasts
@@ -192,7 +181,5 @@ module _ {F K Q S M P : Type 0} (beginning : Beginning F K Q S M P) where
   pub flows_at_first : FlowsAgree []
   flows_at_first = ((refl, λ unproved checked. omega arith), refl)
 
-  pub flows_after : (before : History Q S M P) (event : Event Q S M P) (reply : Reply Q)
-      → Told beginning before event reply
-      → FlowsAgree before → FlowsAgree ((event, reply) ∷ before)
+  pub flows_after : Keeps (Told beginning) FlowsAgree
   flows_after before event reply told same = reply_flows beginning before same event reply told

@@ -21,6 +21,7 @@ use Rattle.quic_recovery.proofs.Runs.{AllAlong, throughout_kept}
 use Rattle.quic_recovery.proofs.EntryKinds.{SpaceKind, hearing, answering, delaying, space_kind, space_kept}
 use Rattle.quic_recovery.proofs.RequiredLaws.{either, asks, is_required}
 use Rattle.quic_recovery.proofs.TrackedLaws.{one_space}
+use Rattle.quic_recovery.proofs.SearchSaid.{Follows, Keeps}
 
 -- ---- what a packet, an ACK and a timeout do
 
@@ -137,8 +138,7 @@ module _ {F K Q S M P : Type 0} (beginning : Beginning F K Q S M P) where
       → AttendsTo beginning.queue.words (waits space history) (timer_runs space history)
       ((logs_of beginning history).spaces space)
 
-  after_one : (before : History Q S M P) (event : Event Q S M P) (reply : Reply Q) → Told beginning before event reply
-      → AllAttended before → AllAttended ((event, reply) ∷ before)
+  after_one : Keeps (Told beginning) AllAttended
   after_one before event reply told all = λ space. reply_attends beginning before space (all space) event reply told
 
   pub keeps_duty : AllAlong beginning (KeepsDuty beginning)

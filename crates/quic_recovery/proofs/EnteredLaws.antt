@@ -59,7 +59,7 @@ module _ {F K Q S M P : Type 0} (beginning : Beginning F K Q S M P) (past : Hist
   polled now given None is told = rw told (ap (λ p. poll_entry now known.next_number p ∷ before) is)
   polled now given (Some size) is told = rw told.1 (ap (λ p. poll_entry now known.next_number p ∷ before) is)
 
-  entered_one : (event : Event Q S M P) (reply : Reply Q) → Told beginning past event reply
+  pub entered_one : (event : Event Q S M P) (reply : Reply Q) → Told beginning past event reply
       → EntersAsTold beginning past event reply
   entered_one (PollMtu now) (Ok given) told =
       polled now given (poll_of now known.paths.current.state.discovery) refl told.1.1
@@ -80,10 +80,3 @@ module _ {F K Q S M P : Type 0} (beginning : Beginning F K Q S M P) (past : Hist
   entered_one (NewPath now remote true) (Err refusal) told = refl
   entered_one event (Err refusal) told =
       refl
-
--- throughout a run
-pub entries_told : {F K Q S M P : Type 0} (beginning : Beginning F K Q S M P)
-    → AllAlong beginning (EntersAsTold beginning)
-entries_told beginning =
-    throughout_kept beginning (λ past. Unit {0}) (EntersAsTold beginning) (λ past event reply told kept. tt)
-    (λ past event reply told kept. entered_one beginning past event reply told) tt

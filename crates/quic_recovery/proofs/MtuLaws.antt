@@ -23,8 +23,8 @@ use Rattle.quic_recovery.proofs.HolesLaws as holes
 use Rattle.quic_recovery.proofs.MadeLaws.{is_made, made_in}
 use Rattle.quic_recovery.proofs.NearLaws as near
 use Rattle.quic_recovery.proofs.SearchLaws.{mtu_one, probes_one}
-use Rattle.quic_recovery.proofs.SearchSaid.{ProbesInTurn, entered_so_far}
-use Rattle.quic_recovery.proofs.SearchSteps.{Facts, Step, facts, stepped}
+use Rattle.quic_recovery.proofs.SearchSaid.{ProbesInTurn, entered_so_far, Follows, Keeps}
+use Rattle.quic_recovery.proofs.SearchSteps.{Facts, Step, stepped, throughout_facts}
 use Rattle.quic_recovery.proofs.Runs.{AllAlong, throughout_by}
 use Rattle.quic_recovery.proofs.SeenLaws.{IsStill, IsStillOn, stays_seen}
 
@@ -61,18 +61,16 @@ module _ {Q S M P : Type 0} (first least : ℕ) where
         step_tied event (Ok given) = λ none. tied
         step_tied event (Err refusal) = λ none. tied
 
-fresh_unsearched : {F : Type 0} (limit : Option ℕ) (config : TransportConfig F) (by : Option MtuDiscoveryConfig)
-    → by ≡ None
-    → (kept_limit (discovery_made (initial_mtu_of config) config.min_mtu limit by) ≡ None)
-    × (initial_mtu_of config ≡ (discovery_made (initial_mtu_of config) config.min_mtu limit by).mtu)
-fresh_unsearched limit config by is = grind (arith, is)
-
 module _ {F K Q S M P : Type 0} (beginning : Beginning F K Q S M P) (is : discovery_settings beginning ≡ None) where
   abbrev first : ℕ
   first = initial_mtu_of beginning.config.transport
 
   abbrev least : ℕ
   least = beginning.config.transport.min_mtu
+
+  fresh_unsearched : (limit : Option ℕ) → (let fresh = (settings_of beginning).discovery limit in
+      (kept_limit fresh ≡ None) × (first ≡ fresh.mtu))
+  fresh_unsearched limit = grind (arith, is)
 
   abbrev pub Unsearched : History Q S M P → Type 0
   Unsearched history = TiedTo first least (made_in beginning history) history (entered_so_far beginning history)
@@ -95,22 +93,17 @@ module _ {F K Q S M P : Type 0} (beginning : Beginning F K Q S M P) (is : discov
       (stepped beginning history (λ number bytes. Unit {0}) (λ number packet found. tt {0})
       (After first least fresh made history event) event reply known
       (step_tied first least fresh made history (entered_so_far beginning history) tied least_is
-      (fresh_unsearched (limit history) beginning.config.transport (discovery_settings beginning) is) event reply)
+      (fresh_unsearched (limit history)) event reply)
       (probes_none history event reply (probes_one beginning history event reply known.told known.searched)))
 
   pub unsearched_first : Unsearched []
-  unsearched_first =
-      let fresh = fresh_unsearched None beginning.config.transport (discovery_settings beginning) is in
-      (refl, fresh.0, fresh.1)
+  unsearched_first = (refl, (fresh_unsearched None).0, (fresh_unsearched None).1)
 
 -- ---- on both paths
 
 map_kept : {A B : Type 0} (see : A → B) (f : A → A) → ((a : A) → see (f a) ≡ see a) → (o : Option A)
     → option_map see (option_map f o) ≡ option_map see o
 map_kept see f same o = grind (arith, same)
-
-some_same : {A : Type 0} {a b : A} → Some a ≡ Some b → a ≡ b
-some_same e = cc
 
 module _ {F K Q S M P : Type 0} (beginning : Beginning F K Q S M P) where
   abbrev in_state : PathPast K → ℕ
@@ -139,8 +132,8 @@ module _ {F K Q S M P : Type 0} (beginning : Beginning F K Q S M P) where
 
   left_after : (history : History Q S M P) (event : Event Q S M P) (reply : Reply Q) → IsNow history → IsLeft history
       → IsLeft ((event, reply) ∷ history)
-  left_after history (NewPath now remote true) (Ok given) is left = λ size found. sym (some_same found) ∙ is
-  left_after history (NewPath now remote false) (Ok given) is left = λ size found. sym (some_same found) ∙ is
+  left_after history (NewPath now remote true) (Ok given) is left = λ size found. cc
+  left_after history (NewPath now remote false) (Ok given) is left = λ size found. cc
   left_after history DropPrevious (Ok given) is left = λ size found. absurd (cc)
   left_after history (NewPath now remote true) (Err refusal) is left = left
   left_after history event reply is left =
@@ -168,15 +161,12 @@ module _ {F K Q S M P : Type 0} (beginning : Beginning F K Q S M P) where
       go None is = ap of is ∙ (unsearched is).2
       go (Some settings) is = ap of is ∙ (near.searched settings is).tied.1
 
-  kept_after : (history : History Q S M P) (event : Event Q S M P) (reply : Reply Q)
-      → Facts beginning history event reply
-      → Kept history
-      → Kept ((event, reply) ∷ history)
+  kept_after : Keeps (Facts beginning) Kept
   kept_after history event reply known kept =
       let after = near.kept_by beginning history event reply known kept.near in
-      let least_is = sym (holes.least_known beginning history kept.near.holes) in
       let unsearched : (is : discovery_settings beginning ≡ None) → Unsearched beginning is ((event, reply) ∷ history) =
-      λ is. unsearched_after beginning is history (kept.unsearched is) least_is event reply known in
+      λ is. unsearched_after beginning is history (kept.unsearched is)
+      (sym (holes.least_known beginning history kept.near.holes)) event reply known in
       record {
         near = after;
         unsearched = unsearched;
@@ -200,9 +190,6 @@ module _ {F K Q S M P : Type 0} (beginning : Beginning F K Q S M P) where
 
   pub mtu_told : ForSome (discovery_settings beginning) (λ settings. settings.upper_bound < 2 ^ 16)
       → AllAlong beginning (UsesMtu beginning)
-  mtu_told small history told =
-      throughout_by (Facts beginning) (UsesMtu beginning) Kept kept_after
-      (λ history event reply known kept after. (
-        after.now,
-        λ path lives. after.left path.state.discovery.mtu (state_mtu _ path lives),
-      )) kept_first history (facts beginning history told)
+  mtu_told small = throughout_facts beginning Kept kept_after kept_first (λ history event reply known kept.
+      let after = kept_after history event reply known kept in
+      (after.now, λ path lives. after.left path.state.discovery.mtu (state_mtu _ path lives)))

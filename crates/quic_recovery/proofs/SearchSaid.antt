@@ -20,6 +20,16 @@ use Rattle.quic_recovery.specs.History.{Beginning, History, Reply}
 use Rattle.quic_recovery.specs.Known.{tracked_known}
 use Rattle.quic_recovery.specs.Search.{WhereSearched, discovery_settings}
 
+module _ {Q S M C : Type 0} where
+  -- what follows at each event of what it was told, and of what was kept before
+  abbrev pub Follows : (P : History Q S M C → Event Q S M C → Reply Q → Type 0) (Kept : History Q S M C → Type 0)
+      (Holds : History Q S M C → Event Q S M C → Reply Q → Type 0) → Type 0
+  Follows P Kept Holds = (before : History Q S M C) (event : Event Q S M C) (reply : Reply Q)
+      → P before event reply → Kept before → Holds before event reply
+
+  abbrev pub Keeps : (P : History Q S M C → Event Q S M C → Reply Q → Type 0) (Kept : History Q S M C → Type 0) → Type 0
+  Keeps P Kept = Follows P Kept (λ before event reply. Kept ((event, reply) ∷ before))
+
 -- what the discovery of a path was told and answered since it was made
 abbrev pub entries_on : {K : Type 0} → PathPast K → List MtuEntry
 entries_on past = entries_by past.kept.discovery past.searched

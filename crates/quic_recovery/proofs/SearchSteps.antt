@@ -11,19 +11,10 @@ use Rattle.recovery_events.specs.declared.event.Event.TheVariants.{PollMtu, Acke
 use Rattle.recovery_events.specs.declared.event.Answer.TheVariants as answer
 use Rattle.quic_recovery.specs.Told.{known_by, settings_of, Told}
 use Rattle.quic_recovery.specs.History.{AtEach, Beginning, History, Reply}
-use Rattle.quic_recovery.proofs.Runs.{AllAlong, throughout_by}
-use Rattle.quic_recovery.proofs.SearchSaid.{EntersAsTold, LimitsOutside, TellsProbes, data_packet, entered_so_far}
-use Rattle.quic_recovery.proofs.EnteredLaws.{entries_told}
+use Rattle.quic_recovery.proofs.Runs.{AllAlong, throughout_by, throughout_kept}
+use Rattle.quic_recovery.proofs.SearchSaid.{EntersAsTold, LimitsOutside, TellsProbes, data_packet, entered_so_far, Follows, Keeps}
+use Rattle.quic_recovery.proofs.EnteredLaws.{entered_one}
 use Rattle.quic_recovery.proofs.SearchLaws.{AreSearched, first_is, limits_one, searched_one, tells_one}
-
--- ---- throughout a run
-
-module _ {Q S M P : Type 0} (A B : History Q S M P → Event Q S M P → Reply Q → Type 0) where
-  -- two things that hold throughout hold both
-  pub throughout_both : (history : History Q S M P) → AtEach A history → AtEach B history
-      → AtEach (λ history event reply. A history event reply × B history event reply) history
-  throughout_both [] all others = tt
-  throughout_both (happened ∷ before) all others = ((all.0, others.0), throughout_both before all.1 others.1)
 
 -- ---- what is known of an event and its reply
 
@@ -37,18 +28,20 @@ pub record Facts {F K Q S M P : Type 0} (beginning : Beginning F K Q S M P) (his
   pub outside : LimitsOutside beginning history event reply
 
 module _ {F K Q S M P : Type 0} (beginning : Beginning F K Q S M P) where
-  pub facts : AllAlong beginning (Facts beginning)
-  facts history told =
-      throughout_by _ (Facts beginning) (AreSearched beginning)
-      (λ before event reply here searched. searched_one beginning before event reply here.0 searched)
-      (λ before event reply here searched after. record {
-        told = here.0;
-        entered = here.1;
+  pub throughout_facts : (Kept : History Q S M P → Type 0) → Keeps (Facts beginning) Kept → Kept []
+      → {Holds : History Q S M P → Event Q S M P → Reply Q → Type 0} → Follows (Facts beginning) Kept Holds
+      → AllAlong beginning Holds
+  throughout_facts Kept keeps first {Holds} each history told =
+      throughout_by _ Holds Kept keeps (λ before event reply here kept after. each before event reply here kept) first
+      history
+      (throughout_kept beginning (AreSearched beginning) (Facts beginning) (searched_one beginning)
+      (λ before event reply told searched. record {
+        told = told;
+        entered = entered_one beginning before event reply told;
         searched = searched;
-        tells = tells_one beginning before event reply here.0 searched;
-        outside = limits_one beginning before event reply here.0 searched;
-      }) (first_is beginning) history
-      (throughout_both (Told beginning) (EntersAsTold beginning) history told (entries_told beginning history told))
+        tells = tells_one beginning before event reply told searched;
+        outside = limits_one beginning before event reply told searched;
+      }) (first_is beginning) history told)
 
 -- ---- events whose answer says what they are
 

@@ -22,8 +22,8 @@ use Rattle.recovery_mtud.proofs.SearchRunLaws.{flight_within}
 use Rattle.quic_recovery.proofs.MadeLaws.{is_made, made_in}
 use Rattle.quic_recovery.proofs.NearLaws.{Kept, kept_by, kept_first, upper_is}
 use Rattle.quic_recovery.proofs.SearchLaws.{probes_one, searched_one}
-use Rattle.quic_recovery.proofs.SearchSaid.{entered_so_far}
-use Rattle.quic_recovery.proofs.SearchSteps.{Facts, facts}
+use Rattle.quic_recovery.proofs.SearchSaid.{entered_so_far, Follows, Keeps}
+use Rattle.quic_recovery.proofs.SearchSteps.{Facts, throughout_facts}
 use Rattle.quic_recovery.proofs.Runs.{throughout_by}
 use Rattle.quic_recovery.proofs.Runs.{AllAlong}
 
@@ -69,18 +69,15 @@ module _ {F K Q S M P : Type 0} (beginning : Beginning F K Q S M P) where
         let both = (between settings is).1 wide in
         (rw (is, (kept.searched settings is).tied.1) both.0, both.1)
 
-  sizes_one : (history : History Q S M P) (event : Event Q S M P) (reply : Reply Q)
-      → Facts beginning history event reply → Kept beginning history → Kept beginning ((event, reply) ∷ history)
-      → ProbesWithin beginning history event reply
-  sizes_one history (PollMtu now) (Ok (answer.Probe number size)) known kept after =
+  sizes_one : Follows (Facts beginning) (Kept beginning) (ProbesWithin beginning)
+  sizes_one history (PollMtu now) (Ok (answer.Probe number size)) known kept =
       let turn = probes_one beginning history (PollMtu now) (Ok (answer.Probe number size)) known.told known.searched in
       let upper = upper_within history now number size kept known (discovery_settings beginning) refl turn in
       (upper.0, upper.1, above_in_use history now number size kept known)
-  sizes_one history event reply known kept after = tt
+  sizes_one history event reply known kept = tt
 
   -- throughout a run
   pub sizes_told : ForSome (discovery_settings beginning) (λ settings. settings.upper_bound < 2 ^ 16)
       → AllAlong beginning (ProbesWithin beginning)
-  sizes_told small history told =
-      throughout_by (Facts beginning) (ProbesWithin beginning) (Kept beginning) (kept_by beginning) sizes_one
-      (kept_first beginning) history (facts beginning history told)
+  sizes_told small =
+      throughout_facts beginning (Kept beginning) (kept_by beginning) (kept_first beginning) sizes_one

@@ -21,7 +21,7 @@ use Rattle.quic_recovery.specs.Promises.Turns.{SearchesInTurn, is_probe}
 use Rattle.quic_recovery.proofs.SearchSaid.{entered_so_far, is_in_flight}
 use Rattle.quic_recovery.proofs.NearLaws.{Kept, kept_by, kept_first, runs_same}
 use Rattle.quic_recovery.proofs.SearchLaws.{probes_one}
-use Rattle.quic_recovery.proofs.SearchSteps.{Facts, facts}
+use Rattle.quic_recovery.proofs.SearchSteps.{Facts, throughout_facts}
 use Rattle.quic_recovery.proofs.Runs.{throughout_by}
 use Rattle.quic_recovery.proofs.Runs.{AllAlong}
 
@@ -66,7 +66,6 @@ module _ {F K Q S M P : Type 0} (beginning : Beginning F K Q S M P) where
   -- throughout a run
   pub turns_told : ForSome (discovery_settings beginning) (λ settings. settings.upper_bound < 2 ^ 16)
       → AllAlong beginning (SearchesInTurn beginning)
-  turns_told small history told =
-      throughout_by (Facts beginning) (SearchesInTurn beginning) (Kept beginning) (kept_by beginning)
-      (λ history event reply known kept after. turns_one history kept event reply known) (kept_first beginning)
-      history (facts beginning history told)
+  turns_told small =
+      throughout_facts beginning (Kept beginning) (kept_by beginning) (kept_first beginning)
+      (λ history event reply known kept. turns_one history kept event reply known)
