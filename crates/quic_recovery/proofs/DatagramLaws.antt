@@ -134,19 +134,10 @@ module _ {F K Q S M P : Type 0} (beginning : Beginning F K Q S M P) (earlier : H
         → AreFlows first ((event, reply) ∷ earlier) (each_path flow_of (pasts_of beginning ((event, reply) ∷ earlier)))
     reply_flows (DatagramIn Current bytes) (Ok answer) told =
         (came_more _ (datagrams_on Current earlier) Current bytes (Ok answer) _ same.0, same.1)
-    reply_flows (DatagramIn Previous bytes) (Ok answer) told = (same.0, go pasts.previous _ told same.1)
-      where
-        validated : Bool
-        validated = is_validated first Previous earlier
-
-        go : (previous : Option (PathPast K)) (Replies : PathKnown K → Reply Q → Type 0)
-            → OnPath (option_map known_of previous) Replies (Ok answer)
-            → IsFlowWhereLives validated (datagrams_on Previous earlier) (option_map flow_of previous)
-            → IsFlowWhereLives validated ((DatagramIn Previous bytes, Ok answer) ∷ datagrams_on Previous earlier)
-            (option_map flow_of (option_map (past_with (settings_of beginning) (receives bytes)) previous))
-        go None Replies nowhere none = absurd (nowhere.0 tt)
-        go (Some past) Replies lives same =
-            came_more validated (datagrams_on Previous earlier) Previous bytes (Ok answer) (flow_of past) same
+    reply_flows (DatagramIn Previous bytes) (Ok answer) told =
+        let happened : Event Q S M P × Reply Q = (DatagramIn Previous bytes, Ok answer) in
+        let before = datagrams_on Previous earlier in
+        (same.0, grind (arith, told, same.1, sum_by-cons bytes_in happened before, sum_by-cons bytes_out happened before))
     reply_flows (Validated Current) (Ok answer) told =
         ((ap (λ (f : Flow). flow true f.came f.went) same.0.0, λ unproved. absurd cc), same.1)
     reply_flows (Validated Previous) (Ok answer) told = (same.0, grind (arith, told, same.1))

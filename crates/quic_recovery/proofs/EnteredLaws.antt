@@ -34,7 +34,6 @@ module _ {K : Type 0} (settings : PathSettings K) (first : PathState K) where
   unseen_one : (entry : PathsEntry) (log : List PathsEntry) → is_unseen (path_kind entry) ≡ true
       → entries_on (pasts_by settings first (entry ∷ log)).current ≡ entries_on (pasts_by settings first log).current
   unseen_one (on Current (searches loses_probe)) log is = absurd (false≢true is)
-  unseen_one (on Current (is_reset now)) log is = absurd (false≢true is)
   unseen_one (on Previous entry) log is = refl
   unseen_one entry log is = grind (arith, is)
 
@@ -56,8 +55,7 @@ module _ {F K Q S M P : Type 0} (beginning : Beginning F K Q S M P) (past : Hist
   polled : (now : ℕ) (given : Answer Q) (size : Option ℕ) → poll_of now known.paths.current.state.discovery ≡ size
       → MtuProbeReply beginning.queue known now size (Ok given)
       → EntersAsTold beginning past (PollMtu now) (Ok given)
-  polled now given None is told = rw told (ap (λ p. poll_entry now known.next_number p ∷ before) is)
-  polled now given (Some size) is told = rw told.1 (ap (λ p. poll_entry now known.next_number p ∷ before) is)
+  polled now given size is told = grind (arith, is, told)
 
   pub entered_one : (event : Event Q S M P) (reply : Reply Q) → Told beginning past event reply
       → EntersAsTold beginning past event reply

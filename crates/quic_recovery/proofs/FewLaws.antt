@@ -34,7 +34,7 @@ module _ {Q S M P : Type 0} where
   module _ (first least : ℕ) (history : History Q S M P) (entries : List MtuEntry) (tied : TiedTo history entries)
     where
       step_tied : (event : Event Q S M P) (reply : Reply Q)
-          → Step first least entries (λ number bytes. Unit {0}) (λ r after. TiedTo ((event, r) ∷ history) after) event
+          → Step first least history entries (λ r after. TiedTo ((event, r) ∷ history) after) event
           reply
       step_tied (PollMtu now) (Ok (answer.Probe number size)) =
           (refl, ap (λ sizes. size ∷ sizes) tied.1, (refl, refl))
@@ -52,8 +52,7 @@ module _ {F K Q S M P : Type 0} (beginning : Beginning F K Q S M P) where
   pub tied_after : Keeps (Facts beginning) Tied
   tied_after history event reply known tied =
       let settings = settings_of beginning in
-      stepped beginning history (λ number bytes. Unit {0}) (λ number packet found. tt {0})
-      (λ r after. TiedTo ((event, r) ∷ history) after) event reply known
+      stepped beginning history (λ r after. TiedTo ((event, r) ∷ history) after) event reply known
       (step_tied settings.mtu settings.min_mtu history (entered_so_far beginning history) tied event reply)
 
   -- throughout a run, where the upper bound of a search is a `u16`

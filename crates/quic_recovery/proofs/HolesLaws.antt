@@ -52,8 +52,7 @@ module _ {Q S M P : Type 0} (least : ℕ) where
 
   module _ (first : ℕ) (history : History Q S M P) (entries : List MtuEntry) (tied : TiedTo history entries) where
     step_tied : (event : Event Q S M P) (reply : Reply Q)
-        → Step first least entries (λ number bytes. bytes ≡ size_of history number)
-        (λ r after. TiedTo ((event, r) ∷ history) after) event reply
+        → Step first least history entries (λ r after. TiedTo ((event, r) ∷ history) after) event reply
     step_tied (ResetPath now) (Ok given) = (refl, refl, refl, tied.3, (refl, tied.4))
     step_tied (NewPath now remote true) (Ok given) = (refl, refl, refl, refl, tt)
     step_tied (NewPath now remote true) (Err refusal) = tied
@@ -71,13 +70,6 @@ module _ {F K Q S M P : Type 0} (beginning : Beginning F K Q S M P) where
   abbrev Tied : History Q S M P → Type 0
   Tied history = TiedTo least history (entered_so_far beginning history)
 
-  -- the packet of a number has the size that the history says
-  size_known : (history : History Q S M P) → Sized beginning history → (number : ℕ) (packet : Packet P M)
-      → data_packet beginning history number ≡ Some packet → packet.size ≡ size_of history number
-  size_known history sized number packet found =
-      let sent = sent_by beginning.queue.words ((logs_of beginning history).spaces space.Data) in
-      said_found size_in (size_of history) sent.next sent.tracked sized number packet found
-
   -- ---- what is kept
 
   -- the path in use was made with the least MTU
@@ -91,23 +83,20 @@ module _ {F K Q S M P : Type 0} (beginning : Beginning F K Q S M P) where
 
   pub record Kept (history : History Q S M P) : Type 0 where
     pub tied : Tied history
-    pub sized : Sized beginning history
     pub made : IsMadeLeast history
     tracked : AllTracked beginning history
 
   pub kept_after : Keeps (Facts beginning) Kept
   kept_after history event reply known kept = record {
-    tied = stepped beginning history (λ number bytes. bytes ≡ size_of history number)
-        (size_known history kept.sized) (λ r after. TiedTo least ((event, r) ∷ history) after) event reply known
+    tied = stepped beginning history (λ r after. TiedTo least ((event, r) ∷ history) after) event reply known
         (step_tied least (settings_of beginning).mtu history (entered_so_far beginning history) kept.tied event reply);
-    sized = sized_after beginning history event reply known.told kept.sized;
     made = ap (λ made. made.bursts.min_mtu) (is_made beginning history event reply)
         ∙ made_least history event reply kept.made;
     tracked = keeps_tracked beginning history event reply known.told kept.tracked;
   }
 
   pub kept_first : Kept []
-  kept_first = record { tied = (refl, refl, refl, refl, tt); sized = tt; made = refl; tracked = none_tracked beginning }
+  kept_first = record { tied = (refl, refl, refl, refl, tt); made = refl; tracked = none_tracked beginning }
 
   pub least_known : (history : History Q S M P) → Kept history
       → min_mtu_in_use (made_in beginning history) (entered_so_far beginning history) ≡ least

@@ -26,7 +26,7 @@ use Rattle.quic_recovery.proofs.SearchLaws.{mtu_one, probes_one}
 use Rattle.quic_recovery.proofs.SearchSaid.{ProbesInTurn, entered_so_far, Follows, Keeps}
 use Rattle.quic_recovery.proofs.SearchSteps.{Facts, Step, stepped, throughout_facts}
 use Rattle.quic_recovery.proofs.Runs.{AllAlong, throughout_by}
-use Rattle.quic_recovery.proofs.SeenLaws.{IsStill, IsStillOn, stays_seen}
+use Rattle.quic_recovery.proofs.SeenLaws.{IsStill, IsStillOn, stays_seen, map_kept}
 
 -- ---- where paths are not searched: no probe goes out, and no limit is kept
 
@@ -49,16 +49,13 @@ module _ {Q S M P : Type 0} (first least : ℕ) where
         (least_is : least ≡ min_mtu_in_use made entries) (fresh_is : (kept_limit fresh ≡ None) × (first ≡ fresh.mtu))
       where
         step_tied : (event : Event Q S M P) (reply : Reply Q)
-            → Step first least entries (λ number bytes. Unit {0}) (After event) event reply
+            → Step first least history entries (After event) event reply
         step_tied (PollMtu now) (Ok (answer.Probe number size)) = λ none. absurd none
-        step_tied (PeerLimit size) (Ok given) = grind arith
         step_tied (Acked space.Data now number app_limited) (Ok given) = grind arith
         step_tied (Lost space.Data number) (Ok given) = grind arith
-        step_tied (LossesDone now) (Ok given) = grind arith
-        step_tied (ResetPath now) (Ok given) = grind arith
         step_tied (NewPath now remote true) (Ok given) = λ none. (refl, fresh_is.0, fresh_is.1)
         step_tied (NewPath now remote true) (Err refusal) = λ none. tied
-        step_tied event (Ok given) = λ none. tied
+        step_tied event (Ok given) = grind arith
         step_tied event (Err refusal) = λ none. tied
 
 module _ {F K Q S M P : Type 0} (beginning : Beginning F K Q S M P) (is : discovery_settings beginning ≡ None) where
@@ -90,20 +87,15 @@ module _ {F K Q S M P : Type 0} (beginning : Beginning F K Q S M P) (is : discov
       let Now : Discovery → Type 0 =
       λ d. TiedTo first least d ((event, reply) ∷ history) (entered_so_far beginning ((event, reply) ∷ history)) in
       subst Now (sym (is_made beginning history event reply))
-      (stepped beginning history (λ number bytes. Unit {0}) (λ number packet found. tt {0})
-      (After first least fresh made history event) event reply known
+      (stepped beginning history (After first least fresh made history event) event reply known
       (step_tied first least fresh made history (entered_so_far beginning history) tied least_is
       (fresh_unsearched (limit history)) event reply)
-      (probes_none history event reply (probes_one beginning history event reply known.told known.searched)))
+      (probes_none history event reply known.turn))
 
   pub unsearched_first : Unsearched []
   unsearched_first = (refl, (fresh_unsearched None).0, (fresh_unsearched None).1)
 
 -- ---- on both paths
-
-map_kept : {A B : Type 0} (see : A → B) (f : A → A) → ((a : A) → see (f a) ≡ see a) → (o : Option A)
-    → option_map see (option_map f o) ≡ option_map see o
-map_kept see f same o = grind (arith, same)
 
 module _ {F K Q S M P : Type 0} (beginning : Beginning F K Q S M P) where
   abbrev in_state : PathPast K → ℕ
@@ -117,8 +109,7 @@ module _ {F K Q S M P : Type 0} (beginning : Beginning F K Q S M P) where
   still entry paths = refl
 
   still_on : IsStillOn (settings_of beginning) mtu_before
-  still_on Current paths = (λ bytes. refl, refl)
-  still_on Previous paths = (
+  still_on paths = (
     λ bytes. map_kept in_state (past_with (settings_of beginning) (receives bytes)) (λ past. refl) paths.previous,
     map_kept in_state (past_with (settings_of beginning) is_validated) (λ past. refl) paths.previous,
   )

@@ -98,7 +98,7 @@ module _ {Q S M P : Type 0} (first least : ℕ) (settings : MtuDiscoveryConfig) 
     stays = grind (arith, seen entries)
 
     pub step_tied : (event : Event Q S M P) (reply : Reply Q)
-        → Step first least entries (λ number bytes. Unit {0}) (After fresh made history entries event) event reply
+        → Step first least history entries (After fresh made history entries event) event reply
     step_tied (PollMtu now) (Ok (answer.Probe number size)) = grind arith
     step_tied (PollMtu now) (Ok answer.NoProbe) = grind (arith, seen entries)
     step_tied (PeerLimit size) (Ok given) = grind (arith, seen entries)
@@ -154,8 +154,7 @@ module _ {F K Q S M P : Type 0} (beginning : Beginning F K Q S M P) (settings : 
         let Now : Discovery → Type 0 =
         λ d. TiedTo first least settings d ((event, reply) ∷ history) entries × Carries d made entries so_far in
         let both = subst Now (sym (is_made beginning history event reply))
-        (stepped beginning history (λ number bytes. Unit {0}) (λ number packet found. tt {0})
-        (After first least settings fresh made history so_far event) event reply known
+        (stepped beginning history (After first least settings fresh made history so_far event) event reply known
         (step_tied first least settings fresh made history so_far before searched.tied least_is
         (fresh_searched (limit history)) event reply)) in
         record {

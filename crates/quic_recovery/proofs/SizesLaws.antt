@@ -71,8 +71,7 @@ module _ {F K Q S M P : Type 0} (beginning : Beginning F K Q S M P) where
 
   sizes_one : Follows (Facts beginning) (Kept beginning) (ProbesWithin beginning)
   sizes_one history (PollMtu now) (Ok (answer.Probe number size)) known kept =
-      let turn = probes_one beginning history (PollMtu now) (Ok (answer.Probe number size)) known.told known.searched in
-      let upper = upper_within history now number size kept known (discovery_settings beginning) refl turn in
+      let upper = upper_within history now number size kept known (discovery_settings beginning) refl known.turn in
       (upper.0, upper.1, above_in_use history now number size kept known)
   sizes_one history event reply known kept = tt
 

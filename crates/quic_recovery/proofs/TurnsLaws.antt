@@ -49,8 +49,7 @@ module _ {F K Q S M P : Type 0} (beginning : Beginning F K Q S M P) where
     turns_one : (event : Event Q S M P) (reply : Reply Q) → Facts beginning history event reply
         → SearchesInTurn beginning history event reply
     turns_one (PollMtu now) (Ok (answer.Probe number size)) known =
-        turn_of now number size (discovery_settings beginning) refl
-        (probes_one beginning history (PollMtu now) (Ok (answer.Probe number size)) known.told known.searched)
+        turn_of now number size (discovery_settings beginning) refl known.turn
     turns_one (Acked there now number app_limited) (Ok given) known =
         known.tells ∙ ap (λ probe. answer.Acked probe) (probe_same there number)
     turns_one (Lost there number) (Ok given) known =
