@@ -50,14 +50,6 @@ module _ {Q S M P : Type 0} where
   abbrev IsFlow : Bool → History Q S M P → Flow → Type 0
   IsFlow validated here found = (flow_by validated here ≡ found) × IsBounded validated here
 
-  -- a datagram came in
-  came_more : (validated : Bool) (here : History Q S M P) (name : PathName) (bytes : ℕ) (reply : Reply Q) (old : Flow)
-      → IsFlow validated here old
-      → IsFlow validated ((DatagramIn name bytes, reply) ∷ here) (flow old.validated (old.came + bytes) old.went)
-  came_more validated here name bytes reply old same =
-      let happened : Event Q S M P × Reply Q = (DatagramIn name bytes, reply) in
-      grind (arith, same, sum_by-cons bytes_in happened here, sum_by-cons bytes_out happened here)
-
   -- one went out, within the bound where it was checked
   went_more : (validated : Bool) (here : History Q S M P) (now bytes : ℕ) (checked : Bool) (reply : Reply Q)
       (old : Flow) → (validated ≡ false → checked ≡ true → old.went + bytes ≤ 3 * old.came) → IsFlow validated here old
@@ -88,15 +80,6 @@ is_quiet dropping = false
 is_quiet elsewhere = false
 is_quiet kind = true
 
-module _ {K : Type 0} (settings : PathSettings K) (first : PathState K) where
-  abbrev flows_in : List PathsEntry → OfPaths Flow
-  flows_in log = each_path flow_of (pasts_by settings first log)
-
-  quiet_one : (entry : PathEntry) → is_quiet (path_kind (on Current entry)) ≡ true → (log : List PathsEntry)
-      → flows_in (on Current entry ∷ log) ≡ flows_in log
-  quiet_one (receives bytes) quiet log = absurd (false≢true quiet)
-  quiet_one entry quiet log = grind (arith, quiet)
-
 -- ---- the table
 
 module _ {F K Q S M P : Type 0} (beginning : Beginning F K Q S M P) (earlier : History Q S M P) where
@@ -110,7 +93,7 @@ module _ {F K Q S M P : Type 0} (beginning : Beginning F K Q S M P) (earlier : H
   first = beginning.config.validated
 
   abbrev flows : List PathsEntry → OfPaths Flow
-  flows = flows_in (settings_of beginning) (first_path beginning)
+  flows log = each_path flow_of (pasts_by (settings_of beginning) (first_path beginning) log)
 
   abbrev pasts : OfPaths (PathPast K)
   pasts = pasts_by (settings_of beginning) (first_path beginning) log
@@ -119,21 +102,17 @@ module _ {F K Q S M P : Type 0} (beginning : Beginning F K Q S M P) (earlier : H
     -- what is no datagram on a path
     one_more : (entry : PathsEntry) (entries : List PathsEntry) → is_quiet (path_kind entry) ≡ true
         → AreFlows first earlier (flows (entries ++ log)) → AreFlows first earlier (flows (entry ∷ entries ++ log))
-    one_more (on Current entry) entries quiet flows =
-        subst (AreFlows first earlier)
-        (sym (quiet_one (settings_of beginning) (first_path beginning) entry quiet (entries ++ log))) flows
+    one_more (on Current (receives bytes)) entries quiet flows = absurd (false≢true quiet)
     one_more (on Previous (receives bytes)) entries quiet flows = absurd (false≢true quiet)
-    one_more entry entries quiet flows = grind (arith, quiet)
-
-    -- nothing came or went
-    at_first : (validated : Bool) → IsFlow {Q = Q} {S = S} {M = M} {P = P} validated [] (flow validated 0 0)
-    at_first validated = (refl, λ unproved checked. omega arith)
+    one_more entry entries quiet flows = grind (arith, quiet, flows)
 
     -- one event more
     pub reply_flows : (event : Event Q S M P) (reply : Reply Q) → Told beginning earlier event reply
         → AreFlows first ((event, reply) ∷ earlier) (each_path flow_of (pasts_of beginning ((event, reply) ∷ earlier)))
     reply_flows (DatagramIn Current bytes) (Ok answer) told =
-        (came_more _ (datagrams_on Current earlier) Current bytes (Ok answer) _ same.0, same.1)
+        let happened : Event Q S M P × Reply Q = (DatagramIn Current bytes, Ok answer) in
+        let before = datagrams_on Current earlier in
+        (grind (arith, same.0, sum_by-cons bytes_in happened before, sum_by-cons bytes_out happened before), same.1)
     reply_flows (DatagramIn Previous bytes) (Ok answer) told =
         let happened : Event Q S M P × Reply Q = (DatagramIn Previous bytes, Ok answer) in
         let before = datagrams_on Previous earlier in
@@ -154,8 +133,8 @@ module _ {F K Q S M P : Type 0} (beginning : Beginning F K Q S M P) (earlier : H
               (λ unproved checked. absurd cc) same.0,
           same.1,
         )
-    reply_flows (NewPath now remote true) (Ok answer) told = (at_first false, same.0)
-    reply_flows (NewPath now remote false) (Ok answer) told = (at_first false, same.0)
+    reply_flows (NewPath now remote true) (Ok answer) told = ((refl, λ unproved checked. omega arith), same.0)
+    reply_flows (NewPath now remote false) (Ok answer) told = ((refl, λ unproved checked. omega arith), same.0)
     reply_flows DropPrevious (Ok answer) told = (same.0, refl)
     reply_flows event (Ok answer) told =
         paths_kept beginning.queue known (λ entries. AreFlows first earlier (flows (entries ++ log))) is_quiet same

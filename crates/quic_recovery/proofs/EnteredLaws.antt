@@ -76,5 +76,4 @@ module _ {F K Q S M P : Type 0} (beginning : Beginning F K Q S M P) (past : Hist
       (λ entry earlier is kept. unseen_one (settings_of beginning) (first_path beginning) entry (earlier ++ log) is
       ∙ kept) event (Ok given) refl
   entered_one (NewPath now remote true) (Err refusal) told = refl
-  entered_one event (Err refusal) told =
-      refl
+  entered_one event (Err refusal) told = refl

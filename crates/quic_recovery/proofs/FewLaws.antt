@@ -13,7 +13,7 @@ use Rattle.quic_recovery.specs.History.{Beginning, History, Reply}
 use Rattle.quic_recovery.specs.Search.{discovery_settings}
 use Rattle.quic_recovery.specs.Promises.Few.{ProbesFew, is_in_flight, probed}
 use Rattle.quic_recovery.specs.Promises.Probes.{last_probe}
-use Rattle.quic_recovery.proofs.SearchSaid.{entered_so_far, Follows, Keeps}
+use Rattle.quic_recovery.proofs.SearchSaid.{entered_so_far, Follows, Keeps, IsSmall}
 use Rattle.quic_recovery.proofs.SearchLaws.{few_one}
 use Rattle.quic_recovery.proofs.SearchSteps.{Facts, Step, stepped, throughout_facts}
 use Rattle.quic_recovery.proofs.Runs.{throughout_by}
@@ -56,8 +56,7 @@ module _ {F K Q S M P : Type 0} (beginning : Beginning F K Q S M P) where
       (step_tied settings.mtu settings.min_mtu history (entered_so_far beginning history) tied event reply)
 
   -- throughout a run, where the upper bound of a search is a `u16`
-  pub few_told : ForSome (discovery_settings beginning) (λ settings. settings.upper_bound < 2 ^ 16)
-      → AllAlong beginning (ProbesFew beginning)
+  pub few_told : IsSmall beginning → AllAlong beginning (ProbesFew beginning)
   few_told small =
       throughout_facts beginning Tied tied_after (refl, refl, tt) (λ history event reply known tied settings is change.
       let few = few_one beginning small history event reply known.told known.searched settings is change in

@@ -23,7 +23,7 @@ use Rattle.quic_recovery.proofs.HolesLaws as holes
 use Rattle.quic_recovery.proofs.MadeLaws.{is_made, made_in}
 use Rattle.quic_recovery.proofs.NearLaws as near
 use Rattle.quic_recovery.proofs.SearchLaws.{mtu_one, probes_one}
-use Rattle.quic_recovery.proofs.SearchSaid.{ProbesInTurn, entered_so_far, Follows, Keeps}
+use Rattle.quic_recovery.proofs.SearchSaid.{ProbesInTurn, entered_so_far, Follows, Keeps, IsSmall}
 use Rattle.quic_recovery.proofs.SearchSteps.{Facts, Step, stepped, throughout_facts}
 use Rattle.quic_recovery.proofs.Runs.{AllAlong, throughout_by}
 use Rattle.quic_recovery.proofs.SeenLaws.{IsStill, IsStillOn, stays_seen, map_kept}
@@ -144,13 +144,10 @@ module _ {F K Q S M P : Type 0} (beginning : Beginning F K Q S M P) where
       → mtu_in_use beginning history ≡ by_entries (made_in beginning history) (entered_so_far beginning history)
   in_use_same history near unsearched = go (discovery_settings beginning) refl
     where
-      of : Option MtuDiscoveryConfig → ℕ
-      of by = mtu (is_some by) (initial_mtu_of beginning.config.transport) beginning.config.transport.min_mtu history
-
       go : (by : Option MtuDiscoveryConfig) → discovery_settings beginning ≡ by
           → mtu_in_use beginning history ≡ by_entries (made_in beginning history) (entered_so_far beginning history)
-      go None is = ap of is ∙ (unsearched is).2
-      go (Some settings) is = ap of is ∙ (near.searched settings is).tied.1
+      go None is = grind (arith, is, (unsearched is).2)
+      go (Some settings) is = grind (arith, is, (near.searched settings is).tied.1)
 
   kept_after : Keeps (Facts beginning) Kept
   kept_after history event reply known kept =
@@ -179,8 +176,7 @@ module _ {F K Q S M P : Type 0} (beginning : Beginning F K Q S M P) where
       → option_map in_state previous ≡ Some path.state.discovery.mtu
   state_mtu previous path is = grind (arith, is)
 
-  pub mtu_told : ForSome (discovery_settings beginning) (λ settings. settings.upper_bound < 2 ^ 16)
-      → AllAlong beginning (UsesMtu beginning)
+  pub mtu_told : IsSmall beginning → AllAlong beginning (UsesMtu beginning)
   mtu_told small = throughout_facts beginning Kept kept_after kept_first (λ history event reply known kept.
       let after = kept_after history event reply known kept in
       (after.now, λ path lives. after.left path.state.discovery.mtu (state_mtu _ path lives)))

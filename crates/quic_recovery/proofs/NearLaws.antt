@@ -23,7 +23,7 @@ use Rattle.quic_recovery.specs.Promises.Few.{is_in_flight}
 use Rattle.quic_recovery.specs.Promises.Mtu.{mtu}
 use Rattle.quic_recovery.specs.Promises.Near.{EndsNearBy, IsNear, next, start}
 use Rattle.quic_recovery.specs.Promises.Probes.{acked_probes, lost_probes, runs}
-use Rattle.quic_recovery.proofs.SearchSaid.{entered_so_far, Follows, Keeps}
+use Rattle.quic_recovery.proofs.SearchSaid.{entered_so_far, Follows, Keeps, IsSmall}
 use Rattle.quic_recovery.proofs.FewLaws as few
 use Rattle.recovery_mtud.proofs.SearchRunLaws.{idle_before}
 use Rattle.quic_recovery.proofs.HolesLaws as holes
@@ -218,8 +218,7 @@ module _ {F K Q S M P : Type 0} (beginning : Beginning F K Q S M P) where
     searched = λ settings is. searched_first beginning settings is;
   }
 
-  pub near_told : ForSome (discovery_settings beginning) (λ settings. settings.upper_bound < 2 ^ 16)
-      → AllAlong beginning (EndsNearBy beginning)
+  pub near_told : IsSmall beginning → AllAlong beginning (EndsNearBy beginning)
   near_told small = throughout_facts beginning Kept kept_by kept_first near
     where
       near : Follows (Facts beginning) Kept (EndsNearBy beginning)

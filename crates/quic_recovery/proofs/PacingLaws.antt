@@ -45,11 +45,8 @@ module _ {F K Q S M P : Type 0} (beginning : Beginning F K Q S M P) where
         → AtCalls beginning Holds before event reply
     at_calls before (PacerCheck now bytes) (Ok answer) told holds =
         rw told (grind (arith, holds now bytes))
-    at_calls before (PacerCheck now bytes) (Err refusal) told holds = tt
     at_calls before (Transmit now bytes true) (Ok answer) told holds =
         rw told.1 (grind (arith, holds now bytes))
-    at_calls before (Transmit now bytes true) (Err refusal) told holds = tt
-    at_calls before (Transmit now bytes false) reply told holds = tt
     at_calls before event reply told holds = tt
 
   -- what follows at each event from that holds throughout a run

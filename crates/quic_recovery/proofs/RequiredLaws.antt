@@ -86,18 +86,17 @@ module _ (Numbers : ℕ → Type 0) (greatest : HasGreatest Numbers) (came : (n 
       ]
       go (inr none) = inr (λ h. none h.0 h.1.0 h.1.1 h.1.2)
 
-  some_gap : (low high : ℕ) → Decided ((m : ℕ) × IsLeastMissing Numbers low high (Some m))
-  some_gap low high = elim (found (IsMissing Numbers) is_missing low high) [
-    | inl first ↦ inl first
-    | inr none ↦ inr (λ h. none h.0 h.1.0 h.1.1 h.1.2)
-  ]
-
   is_out_of_order : (threshold : ℕ) (acknowledged : Option ℕ) (before greatest number : ℕ)
       → Decided (IsOutOfOrder Numbers threshold acknowledged before greatest number)
   is_out_of_order threshold acknowledged before greatest number =
       either
-      (both (cases_eq threshold 1) (either (grind arith) (some_gap before number)))
+      (both (cases_eq threshold 1) (either (grind arith) (gap (found (IsMissing Numbers) is_missing before number))))
       (both (grind arith) (is_reported threshold greatest acknowledged))
+    where
+      gap : Found (IsMissing Numbers) is_missing before number
+          → Decided ((m : ℕ) × IsLeastMissing Numbers before number (Some m))
+      gap (inl first) = inl first
+      gap (inr none) = inr (λ h. none h.0 h.1.0 h.1.1 h.1.2)
 
 module _ {P M : Type 0} where
   has_come : (log : List (SpaceEntry P M)) (n : ℕ) → Decided (CameIn log n)

@@ -33,7 +33,7 @@ use Rattle.quic_recovery.specs.History.{Beginning, History, QueueMeaning, Reply}
 use Rattle.quic_recovery.specs.Known.{Known}
 use Rattle.quic_recovery.specs.Search.{WhereSearched, discovery_settings}
 use Rattle.quic_recovery.specs.PartReplies.{MtuProbeReply}
-use Rattle.quic_recovery.proofs.SearchSaid.{EndsNear, LimitsOutside, ProbesInTurn, TellsProbes, entered_so_far, entries_on, is_in_flight, Follows, Keeps}
+use Rattle.quic_recovery.proofs.SearchSaid.{EndsNear, LimitsOutside, ProbesInTurn, TellsProbes, entered_so_far, entries_on, is_in_flight, Follows, Keeps, IsSmall}
 use Rattle.quic_recovery.proofs.AmplificationLaws.{is_allowed}
 
 -- an upper bound is a `u16`
@@ -99,7 +99,7 @@ module _ {F K Q S M P : Type 0} (beginning : Beginning F K Q S M P) where
       (is_allowed beginning.queue (settings_of beginning) _ (known_by beginning before) event reply told) searched
 
   -- the upper bound is a `u16`
-  module _ (small : ForSome (discovery_settings beginning) (λ settings. settings.upper_bound < 2 ^ 16)) where
+  module _ (small : IsSmall beginning) where
     pub few_one : Follows (Told beginning) AreSearched (λ before event reply. WhereSearched beginning (λ settings.
         TakesFew (entered_so_far beginning ((event, reply) ∷ before))))
     few_one before event reply told searched = λ settings is change.
