@@ -26,8 +26,7 @@ use Rattle.quic_recovery.proofs.EntryKinds.{PathKind, passing, limiting, elsewhe
 pub sent_freely : {K Q : Type 0} (words : ControllerWords K) (blocked : Bool) (delay : Option ℕ)
     → (let t : Answer Q = Transmitted in t ≡ cond blocked Blocked (delayed_or words t delay)) → (blocked ≡ false)
     × (delay ≡ None)
-sent_freely words blocked None is = grind (arith, is)
-sent_freely words blocked (Some until) is = grind (arith, is)
+sent_freely words blocked delay is = grind (arith, is)
 
 -- nothing passes, and no limit is told to a search
 abbrev is_free : PathKind → Bool
@@ -36,34 +35,19 @@ is_free limiting = false
 is_free elsewhere = false
 is_free kind = true
 
--- what is told to a search in turn whatever it does
-free_call : (call : MtuCall) → is_free (call_kind call) ≡ true → (old : Discovery) → IsInTurn call old
-free_call (is_limited limit) free old = absurd cc
-free_call call free old = tt
-
 module _ {K : Type 0} (settings : PathSettings K) where
-  free_one : (entry : PathEntry) → is_free (path_kind (on Current entry)) ≡ true → (state : PathState K)
-      → IsAllowed settings.words state entry
-  free_one (passes now bytes) free state = absurd cc
-  free_one (searches call) free state = free_call call free state.discovery
-  free_one entry free state = tt
-
   free_on : (entry : PathsEntry) → is_free (path_kind entry) ≡ true → (now : OfPaths (PathKnown K))
       → IsAllowedOn settings now entry
-  free_on (on Current entry) free now = free_one entry free now.current.state
+  free_on (on Current (searches (is_limited limit))) free now = absurd cc
   free_on (on Previous (receives bytes)) free now = tt
-  free_on (on Previous is_validated) free now = tt
-  free_on (on Previous entry) free now = absurd cc
-  free_on (moves following) free now = tt
-  free_on drops_previous free now = tt
+  free_on entry free now = grind (arith, free)
 
 module _ {K Q S M P : Type 0} (q : QueueMeaning Q S M P) (settings : PathSettings K) (heard : SpaceId
     → Heard) (known : Known K P M) where
   answer_allowed : (event : Event Q S M P) (answer : Answer Q) → ToldBy q settings.words heard known event (Ok answer)
       → AreAllowed settings known.paths (answered q known event answer).paths
   answer_allowed (Transmit now bytes true) Transmitted told =
-      let path = known.paths.current.state in
-      ((sent_freely settings.words (is_blocked path bytes) (path_delay settings.words now bytes path) told.1).1, tt)
+      ((sent_freely settings.words _ _ told.1).1, tt)
   answer_allowed (Transmit now bytes true) (Delayed until) told = (tt, tt)
   answer_allowed (Transmit now bytes true) answer told = tt
   answer_allowed (Transmit now bytes false) answer told = (tt, tt)
@@ -81,5 +65,4 @@ module _ {K Q S M P : Type 0} (q : QueueMeaning Q S M P) (settings : PathSetting
   pub is_allowed : (event : Event Q S M P) (reply : Reply Q) → ToldBy q settings.words heard known event reply
       → AreAllowed settings known.paths (entries_of q known event reply).paths
   is_allowed event (Ok answer) told = answer_allowed event answer told
-  is_allowed event (Err refusal) told =
-      tt
+  is_allowed event (Err refusal) told = tt

@@ -16,6 +16,7 @@ use Rattle.quic_recovery.specs.PartReplies.{Is, delayed_or, transmit_answer}
 use Rattle.quic_recovery.specs.Promises.Blocked.{IsPassage, BlocksExactly}
 use Rattle.quic_recovery.proofs.Runs.{AllAlong, throughout_kept}
 use Rattle.quic_recovery.proofs.DatagramLaws.{FlowsAgree, flows_at_first, flows_after}
+use Rattle.quic_recovery.proofs.SearchSaid.{Follows, Keeps}
 
 -- what the table answers is one of what the promise allows
 module _ {K : Type 0} (Q : Type 0) (words : ControllerWords K) where
@@ -23,45 +24,26 @@ module _ {K : Type 0} (Q : Type 0) (words : ControllerWords K) where
       → (let answer : Answer Q = transmit_answer words now bytes checked path in IsPassage false checked
       (is_blocked path bytes) (Ok answer))
   fits now bytes false path = refl
-  fits now bytes true path = go (is_blocked path bytes) (path_delay words now bytes path) where
-    go : (forbidden : Bool) (delay : Option ℕ) → (let t : Answer Q = Transmitted in IsPassage false true forbidden
-        (Ok (cond forbidden Blocked (delayed_or words t delay))))
-    go true delay = refl
-    go false None = tt
-    go false (Some until) = tt
+  fits now bytes true path = grind arith
 
 module _ {Q : Type 0} (checked forbidden : Bool) (answer : Answer Q)
     (fine : IsPassage false checked forbidden (Ok answer)) (TooLarge : Type 0) where
   decide : (large : Bool) → (TooLarge → large ≡ true) → (large ≡ true → TooLarge) → (reply : Reply Q)
       → Refuses Overflow TooLarge (AlwaysAnswers (Is answer)) reply → IsPassage large checked forbidden reply
-  decide true is to (Ok given) told = absurd (told.0 (to refl))
-  decide true is to (Err Overflow) told = refl
-  decide true is to (Err refusal) told = absurd (told.0 (to refl))
-  decide false is to (Ok given) told = rw told.1 fine
-  decide false is to (Err Overflow) told = let wrong = is told in cc
-  decide false is to (Err refusal) told = absurd told.1
+  decide large is to (Err Overflow) told = grind (arith, is, to, told)
+  decide large is to reply told = grind (arith, is, to, told, fine)
 
 module _ {F K Q S M P : Type 0} (beginning : Beginning F K Q S M P) where
-  transmit_told : (before : History Q S M P) (now bytes : ℕ) (checked : Bool) (reply : Reply Q)
-      → Told beginning before (Transmit now bytes checked) reply → FlowsAgree beginning before
-      → BlocksExactly beginning.config.validated before (Transmit now bytes checked) reply
-  transmit_told before now bytes checked reply told agree =
+  blocked_told : Follows (Told beginning) (FlowsAgree beginning) (BlocksExactly beginning.config.validated)
+  blocked_told before (Transmit now bytes checked) reply told agree =
       let path = state_of (pasts_of beginning before).current in
-      let large = nat_le (2 ^ 64) (path.total_sent + bytes) in
       grind (
         arith,
         agree.0.0,
-        decide checked (is_blocked path bytes)
-            (transmit_answer beginning.words now bytes checked path)
-            (fits Q beginning.words now bytes checked path) (2 ^ 64 ≤ path.total_sent + bytes) large
+        decide checked (is_blocked path bytes) (transmit_answer beginning.words now bytes checked path)
+            (fits Q beginning.words now bytes checked path) (2 ^ 64 ≤ path.total_sent + bytes) _
             (le-leb (2 ^ 64) (path.total_sent + bytes)) (leb-true (2 ^ 64) (path.total_sent + bytes)) reply told,
       )
-
-  blocked_told : (before : History Q S M P) (event : Event Q S M P) (reply : Reply Q)
-      → Told beginning before event reply
-      → FlowsAgree beginning before → BlocksExactly beginning.config.validated before event reply
-  blocked_told before (Transmit now bytes checked) reply told agree =
-      transmit_told before now bytes checked reply told agree
   blocked_told before event reply told agree = tt
 
   -- throughout a run

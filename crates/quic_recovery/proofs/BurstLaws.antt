@@ -15,7 +15,7 @@ use Rattle.recovery_events.specs.declared.event.Refusal.TheVariants.{NoMemory}
 use Rattle.quic_recovery.specs.Told.{logs_of, pasts_of, first_path, settings_of, Told}
 use Rattle.quic_recovery.specs.History.{Beginning, History, Reply}
 use Rattle.quic_recovery.specs.Promises.Once.{departures_of}
-use Rattle.quic_recovery.proofs.SearchSaid.{ComesAtFourBursts, NeedsFourBursts}
+use Rattle.quic_recovery.proofs.SearchSaid.{ComesAtFourBursts, NeedsFourBursts, Follows, Keeps}
 use Rattle.quic_recovery.proofs.Runs.{AllAlong, throughout_kept}
 use Rattle.quic_recovery.proofs.FateLaws.{fates_depart}
 use Rattle.quic_recovery.proofs.OneFateLaws.{leave_once, one_fate}
@@ -66,17 +66,7 @@ module _ {F K Q S M P : Type 0} (beginning : Beginning F K Q S M P) where
   needs_by before now once false is = tt
 
   -- so where the answer says one
-  needs_one : (before : History Q S M P) (event : Event Q S M P) (reply : Reply Q) → Told beginning before event reply
-      → HaveLeftOnce before → NeedsFourBursts beginning before event reply
-  needs_one before (LossesDone now) (Ok answer) told once =
-      rw told (needs_by before now once (reports_there before) refl)
-  needs_one before (LossesDone now) (Err refusal) told once = tt
-  needs_one before event reply told once = tt
-
-  -- throughout a run
-  pub needs_four : AllAlong beginning (NeedsFourBursts beginning)
-  needs_four =
-      throughout_kept beginning (AllTracked beginning) (NeedsFourBursts beginning) (keeps_tracked beginning)
-      (λ before event reply here all.
-      needs_one before event reply here (leave_once before (one_fate beginning before all) Data))
-      (none_tracked beginning)
+  pub needs_one : Follows (Told beginning) (AllTracked beginning) (NeedsFourBursts beginning)
+  needs_one before (LossesDone now) (Ok answer) told all =
+      rw told (needs_by before now (leave_once before (one_fate beginning before all) Data) (reports_there before) refl)
+  needs_one before event reply told all = tt

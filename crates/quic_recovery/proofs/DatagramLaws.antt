@@ -22,6 +22,7 @@ use Rattle.quic_recovery.specs.Promises.Datagrams.{datagrams_on, bytes_in, bytes
 use Rattle.quic_recovery.specs.Promises.Threefold.{is_checked}
 use Rattle.quic_recovery.proofs.AmplificationLaws.{sent_freely}
 use Rattle.quic_recovery.proofs.EntryKinds.{PathKind, receiving, validating, transmitting, passing, moving, dropping, elsewhere, path_kind, paths_kept}
+use Rattle.quic_recovery.proofs.SearchSaid.{Follows, Keeps}
 
 -- ---- what the bound reads of a path
 
@@ -49,30 +50,13 @@ module _ {Q S M P : Type 0} where
   abbrev IsFlow : Bool → History Q S M P → Flow → Type 0
   IsFlow validated here found = (flow_by validated here ≡ found) × IsBounded validated here
 
-  -- a datagram came in
-  came_more : (validated : Bool) (here : History Q S M P) (name : PathName) (bytes : ℕ) (reply : Reply Q) (old : Flow)
-      → IsFlow validated here old
-      → IsFlow validated ((DatagramIn name bytes, reply) ∷ here) (flow old.validated (old.came + bytes) old.went)
-  came_more validated here name bytes reply old same =
-      grind (
-        arith,
-        same,
-        sum_by-cons bytes_in (DatagramIn name bytes, reply) here,
-        sum_by-cons bytes_out (DatagramIn name bytes, reply) here,
-      )
-
   -- one went out, within the bound where it was checked
   went_more : (validated : Bool) (here : History Q S M P) (now bytes : ℕ) (checked : Bool) (reply : Reply Q)
       (old : Flow) → (validated ≡ false → checked ≡ true → old.went + bytes ≤ 3 * old.came) → IsFlow validated here old
       → IsFlow validated ((Transmit now bytes checked, reply) ∷ here) (flow old.validated old.came (old.went + bytes))
   went_more validated here now bytes checked reply old within same =
-      grind (
-        arith,
-        same,
-        within,
-        sum_by-cons bytes_in (Transmit now bytes checked, reply) here,
-        sum_by-cons bytes_out (Transmit now bytes checked, reply) here,
-      )
+      let happened : Event Q S M P × Reply Q = (Transmit now bytes checked, reply) in
+      grind (arith, same, within, sum_by-cons bytes_in happened here, sum_by-cons bytes_out happened here)
 
   -- so it is of each path, and no datagrams are those of a path that does not live
   abbrev pub IsFlowWhereLives : Bool → History Q S M P → Option Flow → Type 0
@@ -96,15 +80,6 @@ is_quiet dropping = false
 is_quiet elsewhere = false
 is_quiet kind = true
 
-module _ {K : Type 0} (settings : PathSettings K) (first : PathState K) where
-  abbrev flows_in : List PathsEntry → OfPaths Flow
-  flows_in log = each_path flow_of (pasts_by settings first log)
-
-  quiet_one : (entry : PathEntry) → is_quiet (path_kind (on Current entry)) ≡ true → (log : List PathsEntry)
-      → flows_in (on Current entry ∷ log) ≡ flows_in log
-  quiet_one (receives bytes) quiet log = absurd (false≢true quiet)
-  quiet_one entry quiet log = grind (arith, quiet)
-
 -- ---- the table
 
 module _ {F K Q S M P : Type 0} (beginning : Beginning F K Q S M P) (earlier : History Q S M P) where
@@ -118,7 +93,7 @@ module _ {F K Q S M P : Type 0} (beginning : Beginning F K Q S M P) (earlier : H
   first = beginning.config.validated
 
   abbrev flows : List PathsEntry → OfPaths Flow
-  flows = flows_in (settings_of beginning) (first_path beginning)
+  flows log = each_path flow_of (pasts_by (settings_of beginning) (first_path beginning) log)
 
   abbrev pasts : OfPaths (PathPast K)
   pasts = pasts_by (settings_of beginning) (first_path beginning) log
@@ -127,62 +102,46 @@ module _ {F K Q S M P : Type 0} (beginning : Beginning F K Q S M P) (earlier : H
     -- what is no datagram on a path
     one_more : (entry : PathsEntry) (entries : List PathsEntry) → is_quiet (path_kind entry) ≡ true
         → AreFlows first earlier (flows (entries ++ log)) → AreFlows first earlier (flows (entry ∷ entries ++ log))
-    one_more (on Current entry) entries quiet flows =
-        subst (AreFlows first earlier)
-        (sym (quiet_one (settings_of beginning) (first_path beginning) entry quiet (entries ++ log))) flows
+    one_more (on Current (receives bytes)) entries quiet flows = absurd (false≢true quiet)
     one_more (on Previous (receives bytes)) entries quiet flows = absurd (false≢true quiet)
-    one_more entry entries quiet flows = grind (arith, quiet)
-
-    -- nothing came or went
-    at_first : (validated : Bool) → IsFlow {Q = Q} {S = S} {M = M} {P = P} validated [] (flow validated 0 0)
-    at_first validated = (refl, λ unproved checked. omega arith)
+    one_more entry entries quiet flows = grind (arith, quiet, flows)
 
     -- one event more
     pub reply_flows : (event : Event Q S M P) (reply : Reply Q) → Told beginning earlier event reply
         → AreFlows first ((event, reply) ∷ earlier) (each_path flow_of (pasts_of beginning ((event, reply) ∷ earlier)))
     reply_flows (DatagramIn Current bytes) (Ok answer) told =
-        (came_more _ (datagrams_on Current earlier) Current bytes (Ok answer) _ same.0, same.1)
-    reply_flows (DatagramIn Previous bytes) (Ok answer) told = (same.0, go pasts.previous _ told same.1)
-      where
-        validated : Bool
-        validated = is_validated first Previous earlier
-
-        go : (previous : Option (PathPast K)) (Replies : PathKnown K → Reply Q → Type 0)
-            → OnPath (option_map known_of previous) Replies (Ok answer)
-            → IsFlowWhereLives validated (datagrams_on Previous earlier) (option_map flow_of previous)
-            → IsFlowWhereLives validated ((DatagramIn Previous bytes, Ok answer) ∷ datagrams_on Previous earlier)
-            (option_map flow_of (option_map (past_with (settings_of beginning) (receives bytes)) previous))
-        go None Replies nowhere none = absurd (nowhere.0 tt)
-        go (Some past) Replies lives same =
-            came_more validated (datagrams_on Previous earlier) Previous bytes (Ok answer) (flow_of past) same
+        let happened : Event Q S M P × Reply Q = (DatagramIn Current bytes, Ok answer) in
+        let before = datagrams_on Current earlier in
+        (grind (arith, same.0, sum_by-cons bytes_in happened before, sum_by-cons bytes_out happened before), same.1)
+    reply_flows (DatagramIn Previous bytes) (Ok answer) told =
+        let happened : Event Q S M P × Reply Q = (DatagramIn Previous bytes, Ok answer) in
+        let before = datagrams_on Previous earlier in
+        (same.0, grind (arith, told, same.1, sum_by-cons bytes_in happened before, sum_by-cons bytes_out happened before))
     reply_flows (Validated Current) (Ok answer) told =
-        ((ap (λ (f : Flow). flow true f.came f.went) same.0.0, λ unproved. absurd (cc (unproved))), same.1)
+        ((ap (λ (f : Flow). flow true f.came f.went) same.0.0, λ unproved. absurd cc), same.1)
     reply_flows (Validated Previous) (Ok answer) told = (same.0, grind (arith, told, same.1))
     reply_flows (Transmit now bytes true) (Ok Transmitted) told =
-        let path = state_of pasts.current in
-        let free = (sent_freely beginning.words (is_blocked path bytes) (path_delay beginning.words now bytes path)
-        told.1).0 in
-        let validated = is_validated first Current earlier in
-        let fits : validated ≡ false → true ≡ true → path.total_sent + bytes ≤ 3 * path.total_recvd =
-        grind (arith, nat_tests, free, same.0.0) in
-        (went_more validated (datagrams_on Current earlier) now bytes true (Ok Transmitted) _ fits same.0, same.1)
+        let free = (sent_freely beginning.words _ _ told.1).0 in (
+          went_more _ (datagrams_on Current earlier) now bytes true (Ok Transmitted) (flow_of pasts.current)
+              (grind (arith, nat_tests, free, same.0.0)) same.0,
+          same.1,
+        )
     reply_flows (Transmit now bytes true) (Ok answer) told = same
     reply_flows (Transmit now bytes false) (Ok answer) told =
         rw told.1 (
           went_more _ (datagrams_on Current earlier) now bytes false (Ok Transmitted) _
-              (λ unproved checked. absurd (cc (checked))) same.0,
+              (λ unproved checked. absurd cc) same.0,
           same.1,
         )
-    reply_flows (NewPath now remote true) (Ok answer) told = (at_first false, same.0)
-    reply_flows (NewPath now remote false) (Ok answer) told = (at_first false, same.0)
+    reply_flows (NewPath now remote true) (Ok answer) told = ((refl, λ unproved checked. omega arith), same.0)
+    reply_flows (NewPath now remote false) (Ok answer) told = ((refl, λ unproved checked. omega arith), same.0)
     reply_flows DropPrevious (Ok answer) told = (same.0, refl)
     reply_flows event (Ok answer) told =
         paths_kept beginning.queue known (λ entries. AreFlows first earlier (flows (entries ++ log))) is_quiet same
         one_more event (Ok answer) refl
     reply_flows (DatagramIn Current bytes) (Err refusal) told = same
     reply_flows (Validated Current) (Err refusal) told = same
-    reply_flows event (Err refusal) told =
-        same
+    reply_flows event (Err refusal) told = same
 
 module _ {F K Q S M P : Type 0} (beginning : Beginning F K Q S M P) where
   -- in a history that was told so, the flows by events and answers are those of the pasts
@@ -192,7 +151,5 @@ module _ {F K Q S M P : Type 0} (beginning : Beginning F K Q S M P) where
   pub flows_at_first : FlowsAgree []
   flows_at_first = ((refl, λ unproved checked. omega arith), refl)
 
-  pub flows_after : (before : History Q S M P) (event : Event Q S M P) (reply : Reply Q)
-      → Told beginning before event reply
-      → FlowsAgree before → FlowsAgree ((event, reply) ∷ before)
+  pub flows_after : Keeps (Told beginning) FlowsAgree
   flows_after before event reply told same = reply_flows beginning before same event reply told

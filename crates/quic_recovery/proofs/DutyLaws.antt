@@ -21,6 +21,7 @@ use Rattle.quic_recovery.proofs.Runs.{AllAlong, throughout_kept}
 use Rattle.quic_recovery.proofs.EntryKinds.{SpaceKind, hearing, answering, delaying, space_kind, space_kept}
 use Rattle.quic_recovery.proofs.RequiredLaws.{either, asks, is_required}
 use Rattle.quic_recovery.proofs.TrackedLaws.{one_space}
+use Rattle.quic_recovery.proofs.SearchSaid.{Follows, Keeps}
 
 -- ---- what a packet, an ACK and a timeout do
 
@@ -72,62 +73,32 @@ module _ {F K Q S M P : Type 0} (beginning : Beginning F K Q S M P) (before : Hi
   abbrev After : Option (SpaceEntry P M) → Bool → Bool → Type 0
   After entry waiting running = AttendsTo beginning.queue.words waiting running (onto entry (log space))
 
-  abbrev ArmsIn : SpaceId → ℕ → Type 0
-  ArmsIn there number = ArmsBy (heard_by beginning.queue.words (log there)) (counts_by (log there)) number true
-
-  -- an entry that leaves what waits, in this space or in another one
-  stays : (b : Bool) (entry : SpaceEntry P M) → After (Some entry) waiting running
-      → After (cond b (Some entry) None) waiting running
-  stays b entry first = grind (arith, first, here)
-
-  sends_ack : (b : Bool) → After (cond b (Some ack_goes) None) (not b && waiting) (not b && running)
-  sends_ack b = grind (arith, nat_tests, here)
-
-  expires : (b : Bool) → After (cond b (Some ack_is_late) None) waiting (not b && running)
-  expires b = grind (arith, nat_tests, here)
-
-  -- a new ack-eliciting packet with which the timer starts, or does not
-  module _ (there : SpaceId) (now number : ℕ) where
-    abbrev Comes : Bool → Bool → Type 0
-    Comes b running = After (cond b (Some (heard now number true)) None) (b || waiting) running
-
-    arms_told : (b : Bool) → Comes b (b || running)
-    arms_told b = grind (arith, nat_tests, here)
-
-    other_told : ¬ ArmsIn there number → Comes (same_space there space) running
-    other_told other = go (same_space there space) refl
-      where
-        go : (b : Bool) → same_space there space ≡ b → Comes b running
-        go true at = not_now beginning.queue.words waiting running (log space) here now number
-            (rw (one_space there space at) at other)
-        go false at = here
-
-  -- all other entries
-  unmoved : (entry : SpaceEntry P M) → is_silent (space_kind entry) ≡ true → After (Some entry) waiting running
-  unmoved entry is = grind (arith, is, here)
+  -- a new ack-eliciting packet with which the timer does not start
+  module _ (there : SpaceId) (now number : ℕ)
+      (other : ¬ ArmsBy (heard_by beginning.queue.words (log there)) (counts_by (log there)) number true) where
+    other_told : (b : Bool) → same_space there space ≡ b
+        → After (cond b (Some (heard now number true)) None) (b || waiting) running
+    other_told true at = not_now beginning.queue.words waiting running (log space) here now number
+        (rw (one_space there space at) at other)
+    other_told false at = here
 
   reply_attends : (event : Event Q S M P) (reply : Reply Q) → Told beginning before event reply
       → After ((entries_of beginning.queue known event reply).spaces space)
       (waits space ((event, reply) ∷ before)) (timer_runs space ((event, reply) ∷ before))
-  reply_attends (Received there now number true) (Ok (New true)) told =
-      arms_told there now number (same_space there space)
   reply_attends (Received there now number true) (Ok (New false)) told =
-      let receipt = told.1.1 in other_told there now number (λ arms. let is = receipt.1.1 arms in cc)
+      let receipt = told.1.1 in
+      other_told there now number (λ arms. let is = receipt.1.1 arms in cc) (same_space there space) refl
   reply_attends (Received there now number false) (Ok (New true)) told =
       let receipt = told.1.1 in let is = (receipt.1.0 refl).0 in cc
-  reply_attends (Received there now number false) (Ok (New false)) told =
-      stays (same_space there space) (heard now number false) (grind (arith, nat_tests, here))
-  reply_attends (Received there now number eliciting) (Ok answer) told =
-      stays (same_space there space) (heard_again number) here
-  reply_attends (AcksSent there) (Ok answer) told = sends_ack (same_space there space)
-  reply_attends (AckDelayTimeout there) (Ok answer) told = expires (same_space there space)
+  reply_attends (Received there now number eliciting) (Ok answer) told = grind (arith, nat_tests, here)
+  reply_attends (AcksSent there) (Ok answer) told = grind (arith, nat_tests, here)
+  reply_attends (AckDelayTimeout there) (Ok answer) told = grind (arith, nat_tests, here)
   reply_attends event (Ok answer) told =
-      space_kept beginning.queue known space (λ entry. After entry waiting running) is_silent here unmoved event
-      (Ok answer) refl
+      space_kept beginning.queue known space (λ entry. After entry waiting running) is_silent here
+      (λ entry is. grind (arith, is, here)) event (Ok answer) refl
   reply_attends (Received there now number true) (Err refusal) told = here
   reply_attends (Received there now number false) (Err refusal) told = here
-  reply_attends event (Err refusal) told =
-      here
+  reply_attends event (Err refusal) told = here
 
 -- ---- throughout a run
 
@@ -137,8 +108,7 @@ module _ {F K Q S M P : Type 0} (beginning : Beginning F K Q S M P) where
       → AttendsTo beginning.queue.words (waits space history) (timer_runs space history)
       ((logs_of beginning history).spaces space)
 
-  after_one : (before : History Q S M P) (event : Event Q S M P) (reply : Reply Q) → Told beginning before event reply
-      → AllAttended before → AllAttended ((event, reply) ∷ before)
+  after_one : Keeps (Told beginning) AllAttended
   after_one before event reply told all = λ space. reply_attends beginning before space (all space) event reply told
 
   pub keeps_duty : AllAlong beginning (KeepsDuty beginning)

@@ -34,7 +34,6 @@ module _ {K : Type 0} (settings : PathSettings K) (first : PathState K) where
   unseen_one : (entry : PathsEntry) (log : List PathsEntry) → is_unseen (path_kind entry) ≡ true
       → entries_on (pasts_by settings first (entry ∷ log)).current ≡ entries_on (pasts_by settings first log).current
   unseen_one (on Current (searches loses_probe)) log is = absurd (false≢true is)
-  unseen_one (on Current (is_reset now)) log is = absurd (false≢true is)
   unseen_one (on Previous entry) log is = refl
   unseen_one entry log is = grind (arith, is)
 
@@ -56,10 +55,9 @@ module _ {F K Q S M P : Type 0} (beginning : Beginning F K Q S M P) (past : Hist
   polled : (now : ℕ) (given : Answer Q) (size : Option ℕ) → poll_of now known.paths.current.state.discovery ≡ size
       → MtuProbeReply beginning.queue known now size (Ok given)
       → EntersAsTold beginning past (PollMtu now) (Ok given)
-  polled now given None is told = rw told (ap (λ p. poll_entry now known.next_number p ∷ before) is)
-  polled now given (Some size) is told = rw told.1 (ap (λ p. poll_entry now known.next_number p ∷ before) is)
+  polled now given size is told = grind (arith, is, told)
 
-  entered_one : (event : Event Q S M P) (reply : Reply Q) → Told beginning past event reply
+  pub entered_one : (event : Event Q S M P) (reply : Reply Q) → Told beginning past event reply
       → EntersAsTold beginning past event reply
   entered_one (PollMtu now) (Ok given) told =
       polled now given (poll_of now known.paths.current.state.discovery) refl told.1.1
@@ -78,12 +76,4 @@ module _ {F K Q S M P : Type 0} (beginning : Beginning F K Q S M P) (past : Hist
       (λ entry earlier is kept. unseen_one (settings_of beginning) (first_path beginning) entry (earlier ++ log) is
       ∙ kept) event (Ok given) refl
   entered_one (NewPath now remote true) (Err refusal) told = refl
-  entered_one event (Err refusal) told =
-      refl
-
--- throughout a run
-pub entries_told : {F K Q S M P : Type 0} (beginning : Beginning F K Q S M P)
-    → AllAlong beginning (EntersAsTold beginning)
-entries_told beginning =
-    throughout_kept beginning (λ past. Unit {0}) (EntersAsTold beginning) (λ past event reply told kept. tt)
-    (λ past event reply told kept. entered_one beginning past event reply told) tt
+  entered_one event (Err refusal) told = refl

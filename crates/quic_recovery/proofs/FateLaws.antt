@@ -28,45 +28,18 @@ leaves_data space other number = if same_space space Data && other == number the
 module _ {K P M : Type 0} (known : Known K P M) (number : ℕ) where
   -- ---- what each part of an event's entries tells
 
-  -- a call of the search tells its own
-  searched_tells : (changes : Bool) (call : MtuCall) → told_in number (searched known changes call) ≡ fate number call
-  searched_tells changes call = grind (arith, nat_tests)
-
-  acked_entry_tells : (now : ℕ) (app_limited : Bool) (packet : Option (Packet P M))
-      → told_in number (acked_entry known now app_limited packet) ≡ 0
-  acked_entry_tells now app_limited None = refl
-  acked_entry_tells now app_limited (Some packet) = grind arith
-
-  -- ---- the packets that leave
-
   -- what is told of an acknowledged packet
   acked_departs : (space : SpaceId) (now other : ℕ) (app_limited : Bool) (packet : Option (Packet P M))
       → told_in number (acked_entry known now app_limited packet ++ acked_search known space other packet) ≤ leaves_data
       space other number
-  acked_departs space now other app_limited None = omega arith
-  acked_departs Data now other app_limited (Some packet) =
-      let call = acks_packet other packet.size in
-      omega (
-        arith,
-        told-append number (acked_entry known now app_limited (Some packet)),
-        acked_entry_tells now app_limited (Some packet),
-        searched_tells (is_path_probe Data other known.paths.current.state) call,
-      )
-  acked_departs space now other app_limited (Some packet) =
-      omega (
-        arith,
-        told-append number (acked_entry known now app_limited (Some packet)) [],
-        acked_entry_tells now app_limited (Some packet),
-      )
+  acked_departs Data now other app_limited (Some packet) = grind (arith, nat_tests)
+  acked_departs space now other app_limited packet = grind (arith, nat_tests)
 
   -- and of a lost one
   lost_departs : (space : SpaceId) (other : ℕ) (packet : Option (Packet P M))
       → told_in number (lost_search known space other packet) ≤ leaves_data space other number
-  lost_departs space other None = omega arith
-  lost_departs Data other (Some packet) =
-      let discovery = known.paths.current.state.discovery in
-      grind (arith, nat_tests, searched_tells false (loss_call other packet.size discovery))
-  lost_departs space other (Some packet) = omega arith
+  lost_departs Data other (Some packet) = grind (arith, nat_tests)
+  lost_departs space other packet = grind (arith, nat_tests)
 
 -- ---- all else
 
@@ -77,20 +50,10 @@ is_silent elsewhere = false
 is_silent kind = true
 
 module _ (number : ℕ) where
-  silent_call : (call : MtuCall) → is_silent (call_kind call) ≡ true → fate number call ≡ 0
-  silent_call (acks_packet other bytes) silent = absurd cc
-  silent_call (loses_packet other bytes) silent = absurd cc
-  silent_call call silent = refl
-
-  silent_here : (entry : PathEntry) (earlier : List PathsEntry) → is_silent (path_kind (on Current entry)) ≡ true
-      → told_in number earlier ≡ 0 → told_in number (on Current entry ∷ earlier) ≡ 0
-  silent_here (searches call) earlier silent none = omega (arith, none, silent_call call silent)
-  silent_here entry earlier silent none = omega (arith, none)
-
   silent_one : (entry : PathsEntry) (earlier : List PathsEntry) → is_silent (path_kind entry) ≡ true
       → told_in number earlier ≡ 0 → told_in number (entry ∷ earlier) ≡ 0
-  silent_one (on Current entry) earlier silent none = silent_here entry earlier silent none
-  silent_one entry earlier silent none = omega (arith, none)
+  silent_one (on Current (searches loses_probe)) earlier silent none = grind (arith, silent, none)
+  silent_one entry earlier silent none = grind (arith, silent, none)
 
 module _ {K Q S M P : Type 0} (q : QueueMeaning Q S M P) (known : Known K P M) (number : ℕ) (earlier : History Q S M P)
   where

@@ -13,9 +13,9 @@ use Rattle.quic_recovery.specs.History.{Beginning, History, Reply}
 use Rattle.quic_recovery.specs.Search.{discovery_settings}
 use Rattle.quic_recovery.specs.Promises.Few.{ProbesFew, is_in_flight, probed}
 use Rattle.quic_recovery.specs.Promises.Probes.{last_probe}
-use Rattle.quic_recovery.proofs.SearchSaid.{entered_so_far}
+use Rattle.quic_recovery.proofs.SearchSaid.{entered_so_far, Follows, Keeps, IsSmall}
 use Rattle.quic_recovery.proofs.SearchLaws.{few_one}
-use Rattle.quic_recovery.proofs.SearchSteps.{Facts, Step, facts, stepped}
+use Rattle.quic_recovery.proofs.SearchSteps.{Facts, Step, stepped, throughout_facts}
 use Rattle.quic_recovery.proofs.Runs.{throughout_by}
 use Rattle.quic_recovery.proofs.Runs.{AllAlong}
 
@@ -34,7 +34,7 @@ module _ {Q S M P : Type 0} where
   module _ (first least : ℕ) (history : History Q S M P) (entries : List MtuEntry) (tied : TiedTo history entries)
     where
       step_tied : (event : Event Q S M P) (reply : Reply Q)
-          → Step first least entries (λ number bytes. Unit {0}) (λ r after. TiedTo ((event, r) ∷ history) after) event
+          → Step first least history entries (λ r after. TiedTo ((event, r) ∷ history) after) event
           reply
       step_tied (PollMtu now) (Ok (answer.Probe number size)) =
           (refl, ap (λ sizes. size ∷ sizes) tied.1, (refl, refl))
@@ -49,25 +49,15 @@ module _ {F K Q S M P : Type 0} (beginning : Beginning F K Q S M P) where
   abbrev pub Tied : History Q S M P → Type 0
   Tied history = TiedTo history (entered_so_far beginning history)
 
-  pub tied_after : (history : History Q S M P) (event : Event Q S M P) (reply : Reply Q)
-      → Facts beginning history event reply → Tied history
-      → Tied ((event, reply) ∷ history)
+  pub tied_after : Keeps (Facts beginning) Tied
   tied_after history event reply known tied =
       let settings = settings_of beginning in
-      stepped beginning history (λ number bytes. Unit {0}) (λ number packet found. tt {0})
-      (λ r after. TiedTo ((event, r) ∷ history) after) event reply known
+      stepped beginning history (λ r after. TiedTo ((event, r) ∷ history) after) event reply known
       (step_tied settings.mtu settings.min_mtu history (entered_so_far beginning history) tied event reply)
 
   -- throughout a run, where the upper bound of a search is a `u16`
-  pub few_told : ForSome (discovery_settings beginning) (λ settings. settings.upper_bound < 2 ^ 16)
-      → AllAlong beginning (ProbesFew beginning)
-  few_told small history told =
-      throughout_by (Facts beginning) (ProbesFew beginning) Tied tied_after few (refl, refl, tt) history
-      (facts beginning history told)
-    where
-      few : (history : History Q S M P) (event : Event Q S M P) (reply : Reply Q)
-          → Facts beginning history event reply → Tied history → Tied ((event, reply) ∷ history)
-          → ProbesFew beginning history event reply
-      few history event reply known tied after = λ settings is change.
-          let few = few_one beginning small history event reply known.told known.searched settings is change in
-          rw (after.1) (few.probes, few.sizes)
+  pub few_told : IsSmall beginning → AllAlong beginning (ProbesFew beginning)
+  few_told small =
+      throughout_facts beginning Tied tied_after (refl, refl, tt) (λ history event reply known tied settings is change.
+      let few = few_one beginning small history event reply known.told known.searched settings is change in
+      rw (tied_after history event reply known tied).1 (few.probes, few.sizes))

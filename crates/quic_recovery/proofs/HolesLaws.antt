@@ -14,14 +14,15 @@ use Rattle.quic_recovery.specs.Told.{logs_of, settings_of}
 use Rattle.quic_recovery.specs.History.{Beginning, History, Reply}
 use Rattle.quic_recovery.specs.Promises.Bursts.{size_of, open_run}
 use Rattle.quic_recovery.specs.Promises.Holes.{ReportsAtFour, larger_acked, standing, unanswered}
-use Rattle.quic_recovery.proofs.SearchSaid.{NeedsFourBursts, data_packet, entered_so_far}
-use Rattle.quic_recovery.proofs.BurstLaws.{comes_one, needs_four}
+use Rattle.quic_recovery.proofs.SearchSaid.{NeedsFourBursts, data_packet, entered_so_far, Follows, Keeps}
+use Rattle.quic_recovery.proofs.BurstLaws.{comes_one, needs_one}
 use Rattle.quic_recovery.proofs.FieldLaws.{said_found}
 use Rattle.quic_recovery.proofs.MadeLaws.{is_made, made_after, made_in}
-use Rattle.quic_recovery.proofs.SearchSteps.{Facts, Step, facts, stepped, throughout_both}
+use Rattle.quic_recovery.proofs.SearchSteps.{Facts, Step, stepped, throughout_facts}
 use Rattle.quic_recovery.proofs.Runs.{throughout_by}
 use Rattle.quic_recovery.proofs.SizeLaws.{Sized, sized_after, size_in}
 use Rattle.quic_recovery.proofs.Runs.{AllAlong}
+use Rattle.quic_recovery.proofs.TrackedLaws.{AllTracked, keeps_tracked, none_tracked}
 
 -- ---- the least MTU is that of the settings
 
@@ -51,8 +52,7 @@ module _ {Q S M P : Type 0} (least : ℕ) where
 
   module _ (first : ℕ) (history : History Q S M P) (entries : List MtuEntry) (tied : TiedTo history entries) where
     step_tied : (event : Event Q S M P) (reply : Reply Q)
-        → Step first least entries (λ number bytes. bytes ≡ size_of history number)
-        (λ r after. TiedTo ((event, r) ∷ history) after) event reply
+        → Step first least history entries (λ r after. TiedTo ((event, r) ∷ history) after) event reply
     step_tied (ResetPath now) (Ok given) = (refl, refl, refl, tied.3, (refl, tied.4))
     step_tied (NewPath now remote true) (Ok given) = (refl, refl, refl, refl, tt)
     step_tied (NewPath now remote true) (Err refusal) = tied
@@ -70,13 +70,6 @@ module _ {F K Q S M P : Type 0} (beginning : Beginning F K Q S M P) where
   abbrev Tied : History Q S M P → Type 0
   Tied history = TiedTo least history (entered_so_far beginning history)
 
-  -- the packet of a number has the size that the history says
-  size_known : (history : History Q S M P) → Sized beginning history → (number : ℕ) (packet : Packet P M)
-      → data_packet beginning history number ≡ Some packet → packet.size ≡ size_of history number
-  size_known history sized number packet found =
-      let sent = sent_by beginning.queue.words ((logs_of beginning history).spaces space.Data) in
-      said_found size_in (size_of history) sent.next sent.tracked sized number packet found
-
   -- ---- what is kept
 
   -- the path in use was made with the least MTU
@@ -90,23 +83,20 @@ module _ {F K Q S M P : Type 0} (beginning : Beginning F K Q S M P) where
 
   pub record Kept (history : History Q S M P) : Type 0 where
     pub tied : Tied history
-    pub sized : Sized beginning history
     pub made : IsMadeLeast history
+    tracked : AllTracked beginning history
 
-  pub kept_after : (history : History Q S M P) (event : Event Q S M P) (reply : Reply Q)
-      → Facts beginning history event reply → Kept history
-      → Kept ((event, reply) ∷ history)
+  pub kept_after : Keeps (Facts beginning) Kept
   kept_after history event reply known kept = record {
-    tied = stepped beginning history (λ number bytes. bytes ≡ size_of history number)
-        (size_known history kept.sized) (λ r after. TiedTo least ((event, r) ∷ history) after) event reply known
+    tied = stepped beginning history (λ r after. TiedTo least ((event, r) ∷ history) after) event reply known
         (step_tied least (settings_of beginning).mtu history (entered_so_far beginning history) kept.tied event reply);
-    sized = sized_after beginning history event reply known.told kept.sized;
     made = ap (λ made. made.bursts.min_mtu) (is_made beginning history event reply)
         ∙ made_least history event reply kept.made;
+    tracked = keeps_tracked beginning history event reply known.told kept.tracked;
   }
 
   pub kept_first : Kept []
-  kept_first = record { tied = (refl, refl, refl, refl, tt); sized = tt; made = refl }
+  kept_first = record { tied = (refl, refl, refl, refl, tt); made = refl; tracked = none_tracked beginning }
 
   pub least_known : (history : History Q S M P) → Kept history
       → min_mtu_in_use (made_in beginning history) (entered_so_far beginning history) ≡ least
@@ -115,22 +105,16 @@ module _ {F K Q S M P : Type 0} (beginning : Beginning F K Q S M P) where
 
   -- ---- what is promised
 
-  holes_one : (history : History Q S M P) (event : Event Q S M P) (reply : Reply Q)
-      → Facts beginning history event reply × NeedsFourBursts beginning history event reply
-      → Kept history → Kept ((event, reply) ∷ history) → ReportsAtFour least history event reply
-  holes_one history (LossesDone now) reply known kept after =
+  holes_one : Follows (Facts beginning) Kept (ReportsAtFour least)
+  holes_one history (LossesDone now) reply known kept =
       let is = least_known history kept in
       let tied = kept.tied in
       let Needed : Reply Q → Type 0 = λ r. NeedsFourBursts beginning history (LossesDone now) r in (
-        λ reports. let needs = subst Needed reports known.1 in grind (arith, is, tied, needs),
-        λ four. comes_one beginning history (LossesDone now) reply known.0.told (grind (arith, is, tied)),
+        λ reports. let needs = subst Needed reports (needs_one beginning history (LossesDone now) reply known.told kept.tracked) in grind (arith, is, tied, needs),
+        λ four. comes_one beginning history (LossesDone now) reply known.told (grind (arith, is, tied)),
       )
-  holes_one history event reply known kept after = tt
+  holes_one history event reply known kept = tt
 
   -- throughout a run
   pub holes_told : AllAlong beginning (ReportsAtFour least)
-  holes_told history told =
-      throughout_by _ (ReportsAtFour least) Kept (λ history event reply known. kept_after history event reply known.0)
-      holes_one kept_first history
-      (throughout_both (Facts beginning) (NeedsFourBursts beginning) history (facts beginning history told)
-      (needs_four beginning history told))
+  holes_told = throughout_facts beginning Kept kept_after kept_first holes_one

@@ -20,8 +20,7 @@ module _ {F K Q S M P : Type 0} (beginning : Beginning F K Q S M P) where
   still entry paths = refl
 
   still_on : IsStillOn (settings_of beginning) made_of
-  still_on Current paths = (λ bytes. refl, refl)
-  still_on Previous paths = (λ bytes. refl, refl)
+  still_on paths = (λ bytes. refl, refl)
 
   abbrev pub made_in : History Q S M P → Discovery
   made_in history = made_of (pasts_of beginning history)

@@ -23,10 +23,10 @@ use Rattle.quic_recovery.proofs.HolesLaws as holes
 use Rattle.quic_recovery.proofs.MadeLaws.{is_made, made_in}
 use Rattle.quic_recovery.proofs.NearLaws as near
 use Rattle.quic_recovery.proofs.SearchLaws.{mtu_one, probes_one}
-use Rattle.quic_recovery.proofs.SearchSaid.{ProbesInTurn, entered_so_far}
-use Rattle.quic_recovery.proofs.SearchSteps.{Facts, Step, facts, stepped}
+use Rattle.quic_recovery.proofs.SearchSaid.{ProbesInTurn, entered_so_far, Follows, Keeps, IsSmall}
+use Rattle.quic_recovery.proofs.SearchSteps.{Facts, Step, stepped, throughout_facts}
 use Rattle.quic_recovery.proofs.Runs.{AllAlong, throughout_by}
-use Rattle.quic_recovery.proofs.SeenLaws.{IsStill, IsStillOn, stays_seen}
+use Rattle.quic_recovery.proofs.SeenLaws.{IsStill, IsStillOn, stays_seen, map_kept}
 
 -- ---- where paths are not searched: no probe goes out, and no limit is kept
 
@@ -49,23 +49,14 @@ module _ {Q S M P : Type 0} (first least : ℕ) where
         (least_is : least ≡ min_mtu_in_use made entries) (fresh_is : (kept_limit fresh ≡ None) × (first ≡ fresh.mtu))
       where
         step_tied : (event : Event Q S M P) (reply : Reply Q)
-            → Step first least entries (λ number bytes. Unit {0}) (After event) event reply
+            → Step first least history entries (After event) event reply
         step_tied (PollMtu now) (Ok (answer.Probe number size)) = λ none. absurd none
-        step_tied (PeerLimit size) (Ok given) = grind arith
         step_tied (Acked space.Data now number app_limited) (Ok given) = grind arith
         step_tied (Lost space.Data number) (Ok given) = grind arith
-        step_tied (LossesDone now) (Ok given) = grind arith
-        step_tied (ResetPath now) (Ok given) = grind arith
         step_tied (NewPath now remote true) (Ok given) = λ none. (refl, fresh_is.0, fresh_is.1)
         step_tied (NewPath now remote true) (Err refusal) = λ none. tied
-        step_tied event (Ok given) = λ none. tied
+        step_tied event (Ok given) = grind arith
         step_tied event (Err refusal) = λ none. tied
-
-fresh_unsearched : {F : Type 0} (limit : Option ℕ) (config : TransportConfig F) (by : Option MtuDiscoveryConfig)
-    → by ≡ None
-    → (kept_limit (discovery_made (initial_mtu_of config) config.min_mtu limit by) ≡ None)
-    × (initial_mtu_of config ≡ (discovery_made (initial_mtu_of config) config.min_mtu limit by).mtu)
-fresh_unsearched limit config by is = grind (arith, is)
 
 module _ {F K Q S M P : Type 0} (beginning : Beginning F K Q S M P) (is : discovery_settings beginning ≡ None) where
   abbrev first : ℕ
@@ -73,6 +64,10 @@ module _ {F K Q S M P : Type 0} (beginning : Beginning F K Q S M P) (is : discov
 
   abbrev least : ℕ
   least = beginning.config.transport.min_mtu
+
+  fresh_unsearched : (limit : Option ℕ) → (let fresh = (settings_of beginning).discovery limit in
+      (kept_limit fresh ≡ None) × (first ≡ fresh.mtu))
+  fresh_unsearched limit = grind (arith, is)
 
   abbrev pub Unsearched : History Q S M P → Type 0
   Unsearched history = TiedTo first least (made_in beginning history) history (entered_so_far beginning history)
@@ -92,25 +87,15 @@ module _ {F K Q S M P : Type 0} (beginning : Beginning F K Q S M P) (is : discov
       let Now : Discovery → Type 0 =
       λ d. TiedTo first least d ((event, reply) ∷ history) (entered_so_far beginning ((event, reply) ∷ history)) in
       subst Now (sym (is_made beginning history event reply))
-      (stepped beginning history (λ number bytes. Unit {0}) (λ number packet found. tt {0})
-      (After first least fresh made history event) event reply known
+      (stepped beginning history (After first least fresh made history event) event reply known
       (step_tied first least fresh made history (entered_so_far beginning history) tied least_is
-      (fresh_unsearched (limit history) beginning.config.transport (discovery_settings beginning) is) event reply)
-      (probes_none history event reply (probes_one beginning history event reply known.told known.searched)))
+      (fresh_unsearched (limit history)) event reply)
+      (probes_none history event reply known.turn))
 
   pub unsearched_first : Unsearched []
-  unsearched_first =
-      let fresh = fresh_unsearched None beginning.config.transport (discovery_settings beginning) is in
-      (refl, fresh.0, fresh.1)
+  unsearched_first = (refl, (fresh_unsearched None).0, (fresh_unsearched None).1)
 
 -- ---- on both paths
-
-map_kept : {A B : Type 0} (see : A → B) (f : A → A) → ((a : A) → see (f a) ≡ see a) → (o : Option A)
-    → option_map see (option_map f o) ≡ option_map see o
-map_kept see f same o = grind (arith, same)
-
-some_same : {A : Type 0} {a b : A} → Some a ≡ Some b → a ≡ b
-some_same e = cc
 
 module _ {F K Q S M P : Type 0} (beginning : Beginning F K Q S M P) where
   abbrev in_state : PathPast K → ℕ
@@ -124,8 +109,7 @@ module _ {F K Q S M P : Type 0} (beginning : Beginning F K Q S M P) where
   still entry paths = refl
 
   still_on : IsStillOn (settings_of beginning) mtu_before
-  still_on Current paths = (λ bytes. refl, refl)
-  still_on Previous paths = (
+  still_on paths = (
     λ bytes. map_kept in_state (past_with (settings_of beginning) (receives bytes)) (λ past. refl) paths.previous,
     map_kept in_state (past_with (settings_of beginning) is_validated) (λ past. refl) paths.previous,
   )
@@ -139,8 +123,8 @@ module _ {F K Q S M P : Type 0} (beginning : Beginning F K Q S M P) where
 
   left_after : (history : History Q S M P) (event : Event Q S M P) (reply : Reply Q) → IsNow history → IsLeft history
       → IsLeft ((event, reply) ∷ history)
-  left_after history (NewPath now remote true) (Ok given) is left = λ size found. sym (some_same found) ∙ is
-  left_after history (NewPath now remote false) (Ok given) is left = λ size found. sym (some_same found) ∙ is
+  left_after history (NewPath now remote true) (Ok given) is left = λ size found. cc
+  left_after history (NewPath now remote false) (Ok given) is left = λ size found. cc
   left_after history DropPrevious (Ok given) is left = λ size found. absurd (cc)
   left_after history (NewPath now remote true) (Err refusal) is left = left
   left_after history event reply is left =
@@ -160,23 +144,17 @@ module _ {F K Q S M P : Type 0} (beginning : Beginning F K Q S M P) where
       → mtu_in_use beginning history ≡ by_entries (made_in beginning history) (entered_so_far beginning history)
   in_use_same history near unsearched = go (discovery_settings beginning) refl
     where
-      of : Option MtuDiscoveryConfig → ℕ
-      of by = mtu (is_some by) (initial_mtu_of beginning.config.transport) beginning.config.transport.min_mtu history
-
       go : (by : Option MtuDiscoveryConfig) → discovery_settings beginning ≡ by
           → mtu_in_use beginning history ≡ by_entries (made_in beginning history) (entered_so_far beginning history)
-      go None is = ap of is ∙ (unsearched is).2
-      go (Some settings) is = ap of is ∙ (near.searched settings is).tied.1
+      go None is = grind (arith, is, (unsearched is).2)
+      go (Some settings) is = grind (arith, is, (near.searched settings is).tied.1)
 
-  kept_after : (history : History Q S M P) (event : Event Q S M P) (reply : Reply Q)
-      → Facts beginning history event reply
-      → Kept history
-      → Kept ((event, reply) ∷ history)
+  kept_after : Keeps (Facts beginning) Kept
   kept_after history event reply known kept =
       let after = near.kept_by beginning history event reply known kept.near in
-      let least_is = sym (holes.least_known beginning history kept.near.holes) in
       let unsearched : (is : discovery_settings beginning ≡ None) → Unsearched beginning is ((event, reply) ∷ history) =
-      λ is. unsearched_after beginning is history (kept.unsearched is) least_is event reply known in
+      λ is. unsearched_after beginning is history (kept.unsearched is)
+      (sym (holes.least_known beginning history kept.near.holes)) event reply known in
       record {
         near = after;
         unsearched = unsearched;
@@ -198,11 +176,7 @@ module _ {F K Q S M P : Type 0} (beginning : Beginning F K Q S M P) where
       → option_map in_state previous ≡ Some path.state.discovery.mtu
   state_mtu previous path is = grind (arith, is)
 
-  pub mtu_told : ForSome (discovery_settings beginning) (λ settings. settings.upper_bound < 2 ^ 16)
-      → AllAlong beginning (UsesMtu beginning)
-  mtu_told small history told =
-      throughout_by (Facts beginning) (UsesMtu beginning) Kept kept_after
-      (λ history event reply known kept after. (
-        after.now,
-        λ path lives. after.left path.state.discovery.mtu (state_mtu _ path lives),
-      )) kept_first history (facts beginning history told)
+  pub mtu_told : IsSmall beginning → AllAlong beginning (UsesMtu beginning)
+  mtu_told small = throughout_facts beginning Kept kept_after kept_first (λ history event reply known kept.
+      let after = kept_after history event reply known kept in
+      (after.now, λ path lives. after.left path.state.discovery.mtu (state_mtu _ path lives)))

@@ -23,13 +23,13 @@ use Rattle.quic_recovery.specs.Promises.Few.{is_in_flight}
 use Rattle.quic_recovery.specs.Promises.Mtu.{mtu}
 use Rattle.quic_recovery.specs.Promises.Near.{EndsNearBy, IsNear, next, start}
 use Rattle.quic_recovery.specs.Promises.Probes.{acked_probes, lost_probes, runs}
-use Rattle.quic_recovery.proofs.SearchSaid.{entered_so_far}
+use Rattle.quic_recovery.proofs.SearchSaid.{entered_so_far, Follows, Keeps, IsSmall}
 use Rattle.quic_recovery.proofs.FewLaws as few
 use Rattle.recovery_mtud.proofs.SearchRunLaws.{idle_before}
 use Rattle.quic_recovery.proofs.HolesLaws as holes
 use Rattle.quic_recovery.proofs.MadeLaws.{is_made, made_in}
 use Rattle.quic_recovery.proofs.SearchLaws.{ends_one}
-use Rattle.quic_recovery.proofs.SearchSteps.{Facts, Step, facts, stepped}
+use Rattle.quic_recovery.proofs.SearchSteps.{Facts, Step, stepped, throughout_facts}
 use Rattle.quic_recovery.proofs.Runs.{AllAlong, throughout_by}
 
 -- ---- the limit that the peer told last
@@ -98,7 +98,7 @@ module _ {Q S M P : Type 0} (first least : ℕ) (settings : MtuDiscoveryConfig) 
     stays = grind (arith, seen entries)
 
     pub step_tied : (event : Event Q S M P) (reply : Reply Q)
-        → Step first least entries (λ number bytes. Unit {0}) (After fresh made history entries event) event reply
+        → Step first least history entries (After fresh made history entries event) event reply
     step_tied (PollMtu now) (Ok (answer.Probe number size)) = grind arith
     step_tied (PollMtu now) (Ok answer.NoProbe) = grind (arith, seen entries)
     step_tied (PeerLimit size) (Ok given) = grind (arith, seen entries)
@@ -109,18 +109,10 @@ module _ {Q S M P : Type 0} (first least : ℕ) (settings : MtuDiscoveryConfig) 
     step_tied (NewPath now remote true) (Ok given) =
         ((fresh_is.0, fresh_is.1, refl, refl, refl, tt), λ runs. absurd (cc))
     step_tied (NewPath now remote true) (Err refusal) = grind (arith, seen entries)
-    step_tied event (Ok given) =
-        ((tied.0, tied.1, tied.2, stays.0, stays.1, tied.5), λ runs. (refl, refl))
-    step_tied event (Err refusal) =
-        ((tied.0, tied.1, tied.2, stays.0, stays.1, tied.5), λ runs. (refl, refl))
+    step_tied event (Ok given) = ((tied.0, tied.1, tied.2, stays.0, stays.1, tied.5), λ runs. (refl, refl))
+    step_tied event (Err refusal) = ((tied.0, tied.1, tied.2, stays.0, stays.1, tied.5), λ runs. (refl, refl))
 
 -- ---- a path that is fresh
-
-fresh_searched : {F : Type 0} (limit : Option ℕ) (config : TransportConfig F) (settings : MtuDiscoveryConfig)
-    (by : Option MtuDiscoveryConfig) → by ≡ Some settings
-    → (kept_limit (discovery_made (initial_mtu_of config) config.min_mtu limit by) ≡ Some (limit_or_greatest limit))
-    × (within (initial_mtu_of config) limit ≡ (discovery_made (initial_mtu_of config) config.min_mtu limit by).mtu)
-fresh_searched limit config settings by is = grind (arith, is)
 
 module _ {F K Q S M P : Type 0} (beginning : Beginning F K Q S M P) (settings : MtuDiscoveryConfig)
     (is : discovery_settings beginning ≡ Some settings) where
@@ -129,6 +121,10 @@ module _ {F K Q S M P : Type 0} (beginning : Beginning F K Q S M P) (settings : 
 
   abbrev least : ℕ
   least = beginning.config.transport.min_mtu
+
+  fresh_searched : (limit : Option ℕ) → (let fresh = (settings_of beginning).discovery limit in
+      (kept_limit fresh ≡ Some (limit_or_greatest limit)) × (within first limit ≡ fresh.mtu))
+  fresh_searched limit = grind (arith, is)
 
   -- ---- what is kept
 
@@ -158,12 +154,9 @@ module _ {F K Q S M P : Type 0} (beginning : Beginning F K Q S M P) (settings : 
         let Now : Discovery → Type 0 =
         λ d. TiedTo first least settings d ((event, reply) ∷ history) entries × Carries d made entries so_far in
         let both = subst Now (sym (is_made beginning history event reply))
-        (stepped beginning history (λ number bytes. Unit {0}) (λ number packet found. tt {0})
-        (After first least settings fresh made history so_far event) event reply known
+        (stepped beginning history (After first least settings fresh made history so_far event) event reply known
         (step_tied first least settings fresh made history so_far before searched.tied least_is
-        (fresh_searched (limit history) beginning.config.transport settings (discovery_settings beginning) is) event
-        reply))
-        in
+        (fresh_searched (limit history)) event reply)) in
         record {
           tied = both.0;
           start = start_after _ made history (event, reply) entries so_far after both.0.1 both.1 searched.start;
@@ -171,8 +164,7 @@ module _ {F K Q S M P : Type 0} (beginning : Beginning F K Q S M P) (settings : 
 
   searched_first : Searched []
   searched_first =
-      let fresh = fresh_searched None beginning.config.transport settings (discovery_settings beginning) is in
-      record { tied = (fresh.0, fresh.1, refl, refl, refl, tt); start = fresh.1 }
+      let fresh = fresh_searched None in record { tied = (fresh.0, fresh.1, refl, refl, refl, tt); start = fresh.1 }
 
   -- ---- a search that ends
 
@@ -209,8 +201,7 @@ module _ {F K Q S M P : Type 0} (beginning : Beginning F K Q S M P) where
     pub searched : (settings : MtuDiscoveryConfig) (is : discovery_settings beginning ≡ Some settings)
         → Searched beginning settings is history
 
-  pub kept_by : (history : History Q S M P) (event : Event Q S M P) (reply : Reply Q)
-      → Facts beginning history event reply → Kept history → Kept ((event, reply) ∷ history)
+  pub kept_by : Keeps (Facts beginning) Kept
   kept_by history event reply known kept =
       let after = few.tied_after beginning history event reply known kept.few in
       record {
@@ -227,17 +218,12 @@ module _ {F K Q S M P : Type 0} (beginning : Beginning F K Q S M P) where
     searched = λ settings is. searched_first beginning settings is;
   }
 
-  pub near_told : ForSome (discovery_settings beginning) (λ settings. settings.upper_bound < 2 ^ 16)
-      → AllAlong beginning (EndsNearBy beginning)
-  near_told small history told =
-      throughout_by (Facts beginning) (EndsNearBy beginning) Kept kept_by near kept_first history
-      (facts beginning history told)
+  pub near_told : IsSmall beginning → AllAlong beginning (EndsNearBy beginning)
+  near_told small = throughout_facts beginning Kept kept_by kept_first near
     where
-      near : (history : History Q S M P) (event : Event Q S M P) (reply : Reply Q)
-          → Facts beginning history event reply → Kept history → Kept ((event, reply) ∷ history)
-          → EndsNearBy beginning history event reply
-      near history (PollMtu now) (Ok answer.NoProbe) known kept after = λ settings is change.
+      near : Follows (Facts beginning) Kept (EndsNearBy beginning)
+      near history (PollMtu now) (Ok answer.NoProbe) known kept = λ settings is change.
           near_after beginning settings is history now kept.few (kept.searched settings is)
           (ends_one beginning small history (PollMtu now) (Ok answer.NoProbe) known.told known.searched settings is
           change)
-      near history event reply known kept after = tt
+      near history event reply known kept = tt

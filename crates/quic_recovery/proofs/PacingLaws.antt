@@ -19,6 +19,7 @@ use Rattle.quic_recovery.specs.History.{Beginning, History, Reply}
 use Rattle.quic_recovery.specs.Pacing.{IsByBalance, OnCall, AtCalls, DelaysByBalance, PassesSoon, PassesWhenNamed, KeepsPace}
 use Rattle.quic_recovery.proofs.Runs.{AllAlong, throughout_kept}
 use Rattle.quic_recovery.proofs.AmplificationLaws.{is_allowed}
+use Rattle.quic_recovery.proofs.SearchSaid.{Follows, Keeps}
 
 -- a pacer whose checked transmissions had passed keeps its rate
 keeps_pace : {K : Type 0} (past : PathPast K) → HavePassedOn past → AreChecked past.pacing
@@ -31,38 +32,26 @@ module _ {F K Q S M P : Type 0} (beginning : Beginning F K Q S M P) where
   HavePassedThere history = OnEachPath HavePassedOn (pasts_of beginning history)
 
   -- an event keeps that
-  passed_one : (before : History Q S M P) (event : Event Q S M P) (reply : Reply Q) → Told beginning before event reply
-      → HavePassedThere before → HavePassedThere ((event, reply) ∷ before)
+  passed_one : Keeps (Told beginning) HavePassedThere
   passed_one before event reply told passed =
-      let logs = logs_of beginning before in
-      let known = known_by beginning before in
-      passed_after (settings_of beginning) (first_path beginning) (entries_of beginning.queue known event reply).paths
-      logs.paths (is_allowed beginning.queue (settings_of beginning) _ known event reply told) passed
-
-  -- what the pacer of the path in use answers to a call
-  abbrev delay_there : History Q S M P → ℕ → ℕ → Option ℕ
-  delay_there before now bytes =
-      path_delay beginning.words now bytes (state_of (pasts_of beginning before).current)
+      passed_after (settings_of beginning) (first_path beginning) _ (logs_of beginning before).paths
+      (is_allowed beginning.queue (settings_of beginning) _ (known_by beginning before) event reply told) passed
 
   -- what holds of each call and its answer holds at each event
   module _ (Holds : PathPast K → PacerCall → Option ℕ → Type 0) where
     at_calls : (before : History Q S M P) (event : Event Q S M P) (reply : Reply Q) → Told beginning before event reply
-        → ((now bytes : ℕ) → OnCall beginning Holds before now bytes (delay_there before now bytes))
+        → ((now bytes : ℕ) → OnCall beginning Holds before now bytes
+        (path_delay beginning.words now bytes (state_of (pasts_of beginning before).current)))
         → AtCalls beginning Holds before event reply
     at_calls before (PacerCheck now bytes) (Ok answer) told holds =
         rw told (grind (arith, holds now bytes))
-    at_calls before (PacerCheck now bytes) (Err refusal) told holds = tt
     at_calls before (Transmit now bytes true) (Ok answer) told holds =
         rw told.1 (grind (arith, holds now bytes))
-    at_calls before (Transmit now bytes true) (Err refusal) told holds = tt
-    at_calls before (Transmit now bytes false) reply told holds = tt
     at_calls before event reply told holds = tt
 
   -- what follows at each event from that holds throughout a run
   paced : (Holds : History Q S M P → Event Q S M P → Reply Q → Type 0)
-      → ((before : History Q S M P) (event : Event Q S M P) (reply : Reply Q) → Told beginning before event reply
-      → HavePassedThere before → Holds before event reply)
-      → AllAlong beginning Holds
+      → Follows (Told beginning) HavePassedThere Holds → AllAlong beginning Holds
   paced Holds each =
       throughout_kept beginning HavePassedThere Holds passed_one each
       (passed_at_first (settings_of beginning) (first_path beginning) refl)

@@ -22,15 +22,6 @@ both first second = grind arith
 pub either : {A B : Type 0} → Decided A → Decided B → Decided (A ⊎ B)
 either first second = grind arith
 
-less : (m n : ℕ) → Decided (m < n)
-less m n = grind arith
-
-up_to : (m n : ℕ) → Decided (m ≤ n)
-up_to m n = grind arith
-
-flag : (b : Bool) → Decided (IsTrue b)
-flag b = grind arith
-
 -- ---- the least missing number, by a search
 
 module _ (Missing : ℕ → Type 0) (decided : (n : ℕ) → Decided (Missing n)) (low : ℕ) where
@@ -40,32 +31,28 @@ module _ (Missing : ℕ → Type 0) (decided : (n : ℕ) → Decided (Missing n)
   abbrev Found : ℕ → Type 0
   Found high = ((n : ℕ) × IsFirst high n) ⊎ ((m : ℕ) → low < m → m < high → ¬ Missing m)
 
-  seek : (count : ℕ) → Found (low + 1 + count)
-  seek zero = inr (λ m above below missing. omega (arith, above, below))
-  seek (suc count) = go (seek count) (decided (low + 1 + count))
-    where
-      go : Found (low + 1 + count) → Decided (Missing (low + 1 + count)) → Found (low + 1 + suc count)
-      go (inl first) last = inl (
-        first.0,
-        (
-          first.1.0,
-          omega (arith, first.1.1),
-          first.1.2,
-          λ m above inside missing. grind (arith, first.1.1, first.1.3 m above),
-        ),
-      )
-      go (inr none) (inl last) =
-          inl (low + 1 + count, (omega arith, omega arith, last, λ m above inside missing. grind (arith, none m above)))
-      go (inr none) (inr other) = inr (λ m above inside missing. grind (arith, none m above))
-
   found : (high : ℕ) → Found high
-  found high = elim (cases_lt low high) [
-    | inl above ↦ (
-        let is : low + 1 + (high - (low + 1)) ≡ high = omega (arith, above) in
-        subst Found is (seek (high - (low + 1)))
-        )
-    | inr below ↦ inr (λ m over under missing. omega (arith, below, over, under))
-  ]
+  found zero = inr (λ m above below missing. omega (arith, below))
+  found (suc high) = go (found high) (both (grind arith) (decided high))
+    where
+      go : Found high → Decided ((low < high) × Missing high) → Found (suc high)
+      go (inl first) last =
+          inl (
+            first.0,
+            (
+              first.1.0,
+              omega (arith, first.1.1),
+              first.1.2,
+              λ m above inside missing. grind (
+                arith,
+                first.1.1,
+                first.1.3 m above,
+              ),
+            ),
+          )
+      go (inr none) (inl last) =
+          inl (high, (last.0, omega arith, last.1, λ m above inside missing. grind (arith, none m above)))
+      go (inr none) (inr other) = inr (λ m above inside missing. grind (arith, none m above))
 
 -- ---- of the numbers that came
 
@@ -80,55 +67,48 @@ module _ (Numbers : ℕ → Type 0) (greatest : HasGreatest Numbers) (came : (n 
   is_missing : (n : ℕ) → Decided (IsMissing Numbers n)
   is_missing n = grind (arith, came n, is_near greatest n)
 
-  abbrev HasLeast : ℕ → ℕ → (ℕ → Type 0) → Type 0
-  HasLeast low high P = (m : ℕ) × IsLeastMissing Numbers low high (Some m) × P m
-
-  least_with : (low high : ℕ) (P : ℕ → Type 0) → ((m : ℕ) → Decided (P m)) → Decided (HasLeast low high P)
-  least_with low high P decided = go (found (IsMissing Numbers) is_missing low high)
-    where
-      go : Found (IsMissing Numbers) is_missing low high → Decided (HasLeast low high P)
-      go (inl first) = elim (decided first.0) [
-        | inl is ↦ inl (first.0, first.1, is)
-        | inr other ↦ inr (λ h. (
-            let up = first.1.3 h.0 h.1.0 h.1.1 h.1.2 in
-            let down = h.1.3 first.0 first.1.0 first.1.1 first.1.2 in
-            other (subst P (omega (arith, up, down)) h.2)
-            ))
-      ]
-      go (inr none) = inr (λ h. none h.0 h.1.0 h.1.1 h.1.2)
-
   is_reported : (threshold greatest : ℕ) (acknowledged : Option ℕ)
       → Decided (IsReported Numbers threshold greatest acknowledged)
   is_reported threshold greatest None = inr (λ h. h)
   is_reported threshold greatest (Some k) =
-      let decided = least_with (k - threshold + 1) greatest (λ m. threshold ≤ greatest - m) in
-      both (up_to threshold k) (decided (λ m. up_to threshold (greatest - m)))
-
-  some_gap : (low high : ℕ) → Decided ((m : ℕ) × IsLeastMissing Numbers low high (Some m))
-  some_gap low high = elim (least_with low high (λ m. Unit {0}) (λ m. inl tt)) [
-    | inl first ↦ inl (first.0, first.1)
-    | inr none ↦ inr (λ h. none (h.0, h.1, tt))
-  ]
+      both (grind arith) (go (found (IsMissing Numbers) is_missing (k - threshold + 1) greatest))
+    where
+      go : Found (IsMissing Numbers) is_missing (k - threshold + 1) greatest
+          → Decided ((m : ℕ) × IsLeastMissing Numbers (k - threshold + 1) greatest (Some m)
+          × (threshold ≤ greatest - m))
+      go (inl first) = elim (cases_lt (greatest - first.0) threshold) [
+        | inl below ↦ inr (λ h. (
+            let up = first.1.3 h.0 h.1.0 h.1.1 h.1.2 in
+            let down = h.1.3 first.0 first.1.0 first.1.1 first.1.2 in
+            omega (arith, up, down, below, h.2)
+            ))
+        | inr is ↦ inl (first.0, first.1, is)
+      ]
+      go (inr none) = inr (λ h. none h.0 h.1.0 h.1.1 h.1.2)
 
   is_out_of_order : (threshold : ℕ) (acknowledged : Option ℕ) (before greatest number : ℕ)
       → Decided (IsOutOfOrder Numbers threshold acknowledged before greatest number)
   is_out_of_order threshold acknowledged before greatest number =
       either
-      (both (cases_eq threshold 1) (either (less number before) (some_gap before number)))
-      (both (less 1 threshold) (is_reported threshold greatest acknowledged))
+      (both (cases_eq threshold 1) (either (grind arith) (gap (found (IsMissing Numbers) is_missing before number))))
+      (both (grind arith) (is_reported threshold greatest acknowledged))
+    where
+      gap : Found (IsMissing Numbers) is_missing before number
+          → Decided ((m : ℕ) × IsLeastMissing Numbers before number (Some m))
+      gap (inl first) = inl first
+      gap (inr none) = inr (λ h. none h.0 h.1.0 h.1.1 h.1.2)
 
 module _ {P M : Type 0} where
   has_come : (log : List (SpaceEntry P M)) (n : ℕ) → Decided (CameIn log n)
   has_come [] n = inr (λ h. h)
-  has_come (heard now number eliciting ∷ earlier) n = either (cases_eq n number) (has_come earlier n)
-  has_come (heard_again number ∷ earlier) n = either (cases_eq n number) (has_come earlier n)
-  has_come (entry ∷ earlier) n = has_come earlier n
+  has_come (heard now number eliciting ∷ earlier) n = grind (arith, has_come earlier n)
+  has_come (entry ∷ earlier) n = grind (arith, has_come earlier n)
 
   pub asks : (log : List (SpaceEntry P M)) (counts : AckCounts) (number : ℕ)
       → Decided (AsksAtOnce (With number (CameIn log)) counts number)
   asks log counts number =
       let longer : List (SpaceEntry P M) = heard_again number ∷ log in
-      either (less counts.thresholds.0 (counted counts.eliciting))
+      either (grind arith)
       (is_out_of_order (CameIn longer) (came_greatest longer) (has_come longer) counts.thresholds.1 counts.acknowledged
       (unwrap_or counts.greatest 0) (max (unwrap_or counts.greatest 0) number) number)
 
@@ -136,7 +116,5 @@ module _ {P M : Type 0} where
   pub is_required : (log : List (SpaceEntry P M)) → Decided (IsRequired log)
   is_required [] = inr (λ h. h)
   is_required (heard now number eliciting ∷ earlier) =
-      either (is_required earlier) (both (flag eliciting) (asks earlier (counts_by earlier) number))
-  is_required (ack_goes ∷ earlier) = inr (λ h. h)
-  is_required (ack_is_late ∷ earlier) = less 0 (counts_by earlier).eliciting
-  is_required (entry ∷ earlier) = is_required earlier
+      either (is_required earlier) (both (grind arith) (asks earlier (counts_by earlier) number))
+  is_required (entry ∷ earlier) = grind (arith, is_required earlier)

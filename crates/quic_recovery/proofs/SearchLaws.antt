@@ -33,7 +33,7 @@ use Rattle.quic_recovery.specs.History.{Beginning, History, QueueMeaning, Reply}
 use Rattle.quic_recovery.specs.Known.{Known}
 use Rattle.quic_recovery.specs.Search.{WhereSearched, discovery_settings}
 use Rattle.quic_recovery.specs.PartReplies.{MtuProbeReply}
-use Rattle.quic_recovery.proofs.SearchSaid.{EndsNear, LimitsOutside, ProbesInTurn, TellsProbes, entered_so_far, entries_on, is_in_flight}
+use Rattle.quic_recovery.proofs.SearchSaid.{EndsNear, LimitsOutside, ProbesInTurn, TellsProbes, entered_so_far, entries_on, is_in_flight, Follows, Keeps, IsSmall}
 use Rattle.quic_recovery.proofs.AmplificationLaws.{is_allowed}
 
 -- an upper bound is a `u16`
@@ -74,120 +74,93 @@ module _ {K Q S M P : Type 0} (q : QueueMeaning Q S M P) (known : Known K P M) (
 
 module _ {F K Q S M P : Type 0} (beginning : Beginning F K Q S M P) where
   -- a path is searched by the settings of the run
-  abbrev IsSearched : PathPast K → Type 0
-  IsSearched = IsPathSearchedBy (discovery_settings beginning)
-
   fresh_is : (limit : Option ℕ) → IsSearchedBy (discovery_settings beginning) ((settings_of beginning).discovery limit)
       []
   fresh_is limit = first_searched beginning.config.allow_mtud limit beginning.config.transport
 
   -- so is the first one
-  pub first_is : OnEachPath IsSearched (pasts_by (settings_of beginning) (first_path beginning) [])
+  pub first_is : OnEachPath (IsPathSearchedBy (discovery_settings beginning)) (pasts_by (settings_of beginning) (first_path beginning) [])
   first_is = searched_at_first (settings_of beginning) (discovery_settings beginning) fresh_is (first_path beginning)
       (fresh_is None)
 
 module _ {F K Q S M P : Type 0} (beginning : Beginning F K Q S M P) where
+  abbrev past_in : History Q S M P → PathPast K
+  past_in history = (pasts_of beginning history).current
+
   -- each path that lives is
   abbrev pub AreSearched : History Q S M P → Type 0
-  AreSearched history = OnEachPath (IsSearched beginning) (pasts_of beginning history)
+  AreSearched history = OnEachPath (IsPathSearchedBy (discovery_settings beginning)) (pasts_of beginning history)
 
   -- an event keeps that
-  pub searched_one : (before : History Q S M P) (event : Event Q S M P) (reply : Reply Q)
-      → Told beginning before event reply → AreSearched before → AreSearched ((event, reply) ∷ before)
+  pub searched_one : Keeps (Told beginning) AreSearched
   searched_one before event reply told searched =
-      let logs = logs_of beginning before in
-      let known = known_by beginning before in
-      searched_over (settings_of beginning) (discovery_settings beginning) (fresh_is beginning) (first_path beginning)
-      (entries_of beginning.queue known event reply).paths logs.paths
-      (is_allowed beginning.queue (settings_of beginning) _ known event reply told) searched
+      searched_over (settings_of beginning) (discovery_settings beginning) (fresh_is beginning) (first_path beginning) _
+      (logs_of beginning before).paths
+      (is_allowed beginning.queue (settings_of beginning) _ (known_by beginning before) event reply told) searched
 
   -- the upper bound is a `u16`
-  module _ (small : ForSome (discovery_settings beginning) (λ settings. settings.upper_bound < 2 ^ 16)) where
-    pub few_one : (before : History Q S M P) (event : Event Q S M P) (reply : Reply Q)
-        → Told beginning before event reply → AreSearched before
-        → WhereSearched beginning (λ settings. TakesFew (entered_so_far beginning ((event, reply) ∷ before)))
+  module _ (small : IsSmall beginning) where
+    pub few_one : Follows (Told beginning) AreSearched (λ before event reply. WhereSearched beginning (λ settings.
+        TakesFew (entered_so_far beginning ((event, reply) ∷ before))))
     few_one before event reply told searched = λ settings is change.
-        let past = (pasts_of beginning ((event, reply) ∷ before)).current in
+        let past = past_in ((event, reply) ∷ before) in
         let by = (searched_one before event reply told searched).0 in
         search_takes_few past.kept.discovery settings by.untold (by.settings_are ∙ is) change (small settings is)
         past.searched
 
-    pub ends_one : (before : History Q S M P) (event : Event Q S M P) (reply : Reply Q)
-        → Told beginning before event reply
-        → AreSearched before → EndsNear beginning before event reply
+    pub ends_one : Follows (Told beginning) AreSearched (EndsNear beginning)
     ends_one before (PollMtu now) (Ok NoProbe) told searched = λ settings is change. (
-        let known = known_by beginning before in
-        let past = (pasts_of beginning before).current in
+        let past = past_in before in
         let made = past.kept.discovery in
         let by = searched.0 in
-        let next = known.next_number in
-        let outside = limits_outside_after made by.untold (polls now next) past.searched tt by.outside in
-        none_out beginning.queue known settings now next (entries_on past) made
-        (poll_of now (state_of past).discovery) told.1.1
+        let poll = polls now (known_by beginning before).next_number in
+        none_out beginning.queue (known_by beginning before) settings now _ (entries_on past) made _ told.1.1
         (search_ends_near made settings by.untold (by.settings_are ∙ is) change (small settings is)
-        (polls now next ∷ past.searched) outside)
+        (poll ∷ past.searched) (limits_outside_after made by.untold poll past.searched tt by.outside))
         )
     ends_one before event reply told searched = tt
 
-  pub probes_one : (before : History Q S M P) (event : Event Q S M P) (reply : Reply Q)
-      → Told beginning before event reply
-      → AreSearched before → ProbesInTurn beginning before event reply
+  pub probes_one : Follows (Told beginning) AreSearched (ProbesInTurn beginning)
   probes_one before (PollMtu now) (Ok (Probe number size)) told searched = go (discovery_settings beginning) refl
     where
-      known : Known K P M
-      known = known_by beginning before
-
       past : PathPast K
-      past = (pasts_of beginning before).current
-
-      answer : Option ℕ
-      answer = poll_of now (state_of past).discovery
+      past = past_in before
 
       go : (by : Option MtuDiscoveryConfig) → discovery_settings beginning ≡ by
           → IsSomeAnd by (λ settings. ProbesInSearch settings (probed now number size ∷ entries_on past))
-      go None is = unanswered beginning.queue known now answer number size
+      go None is = unanswered beginning.queue (known_by beginning before) now _ number size
           (unsearched past.kept.discovery (searched.0.settings_are ∙ is) now past.searched) told.1.1
       go (Some settings) is =
-          let next = known.next_number in
-          probe_out beginning.queue known settings now next (entries_on past) answer number size told.1.1
-          (probes_in_search past.kept.discovery settings searched.0.untold (searched.0.settings_are
-          ∙ is) (polls now next ∷ past.searched))
+          probe_out beginning.queue (known_by beginning before) settings now _ (entries_on past) _ number size told.1.1
+          (probes_in_search past.kept.discovery settings searched.0.untold (searched.0.settings_are ∙ is)
+          (polls now (known_by beginning before).next_number ∷ past.searched))
   probes_one before event reply told searched = tt
 
   -- a search runs on the path in use exactly where its entries say so
-  pub limits_one : (before : History Q S M P) (event : Event Q S M P) (reply : Reply Q)
-      → Told beginning before event reply
-      → AreSearched before → LimitsOutside beginning before event reply
+  pub limits_one : Follows (Told beginning) AreSearched (LimitsOutside beginning)
   limits_one before (PeerLimit size) (Err Searching) told searched =
-      let past = (pasts_of beginning before).current in
-      sym (search_runs_by past.kept.discovery searched.0.untold past.searched) ∙ told.1
+      sym (search_runs_by _ searched.0.untold (past_in before).searched) ∙ told.1
   limits_one before (PeerLimit size) (Ok given) told searched =
-      let past = (pasts_of beginning before).current in
-      grind (arith, told.1.0, search_runs_by past.kept.discovery searched.0.untold past.searched)
+      grind (arith, told.1.0, search_runs_by _ searched.0.untold (past_in before).searched)
   limits_one before event reply told searched = tt
 
   -- the packet that is a probe by the state is the one in flight by the entries
   probe_same : (before : History Q S M P) → AreSearched before → (space : SpaceId) (number : ℕ)
-      → is_path_probe space number (state_of (pasts_of beginning before).current) ≡ is_in_flight
-      beginning before space number
+      → is_path_probe space number (state_of (past_in before)) ≡ is_in_flight beginning before space number
   probe_same before searched space number =
-      let past = (pasts_of beginning before).current in
       ap (λ probe. same_space space Data && probe)
-      (is_probe_by past.kept.discovery searched.0.untold past.searched number)
+      (is_probe_by _ searched.0.untold (past_in before).searched number)
 
-  pub tells_one : (before : History Q S M P) (event : Event Q S M P) (reply : Reply Q)
-      → Told beginning before event reply
-      → AreSearched before → TellsProbes beginning before event reply
+  pub tells_one : Follows (Told beginning) AreSearched (TellsProbes beginning)
   tells_one before (Acked space now number app_limited) (Ok given) told searched = told.1.1
-      ∙ ap (λ probe. answer.Acked probe) (probe_same before searched space number)
+      ∙ ap answer.Acked (probe_same before searched space number)
   tells_one before (Lost space number) (Ok given) told searched =
-      told.1.1 ∙ ap (λ probe. answer.Lost probe) (probe_same before searched space number)
+      told.1.1 ∙ ap answer.Lost (probe_same before searched space number)
   tells_one before event reply told searched = tt
 
   -- after an event, the MTU in use is the one that the entries say
-  pub mtu_one : (before : History Q S M P) (event : Event Q S M P) (reply : Reply Q) → Told beginning before event reply
-      → AreSearched before → (let past = (pasts_of beginning ((event, reply) ∷ before)).current in
+  pub mtu_one : Follows (Told beginning) AreSearched (λ before event reply.
+      let past = (pasts_of beginning ((event, reply) ∷ before)).current in
       (state_of past).discovery.mtu ≡ mtu_in_use past.kept.discovery (entries_on past))
   mtu_one before event reply told searched =
-      let past = (pasts_of beginning ((event, reply) ∷ before)).current in
-      mtu_by past.kept.discovery (searched_one before event reply told searched).0.untold past.searched
+      mtu_by _ (searched_one before event reply told searched).0.untold (past_in ((event, reply) ∷ before)).searched

@@ -1,6 +1,6 @@
 -- What the search on the path in use was told and answered says of each event: words, from which all promises on
 -- searches and black holes are proved.
-use Rattle.std.specs.Prelude.{◌≡◌, ℕ, ◌&&◌, Bool, true, false, List, [], ◌∷◌, ◌++◌, Option, Ok, Err, if◌then◌else◌, is_some, IsSomeAnd, option_to_list, option_map}
+use Rattle.std.specs.Prelude.{◌≡◌, ℕ, ◌&&◌, Bool, true, false, List, [], ◌∷◌, ◌++◌, Option, Ok, Err, if◌then◌else◌, is_some, IsSomeAnd, option_to_list, option_map, ◌<◌, ◌^◌}
 use Rattle.recovery_base.specs.declared.below.SpaceId.{SpaceId}
 use Rattle.recovery_base.specs.Spaces.{same_space}
 use Rattle.recovery_base.specs.declared.below.SpaceId.TheVariants.{Data}
@@ -19,6 +19,17 @@ use Rattle.quic_recovery.specs.Told.{pasts_of, known_by, settings_of}
 use Rattle.quic_recovery.specs.History.{Beginning, History, Reply}
 use Rattle.quic_recovery.specs.Known.{tracked_known}
 use Rattle.quic_recovery.specs.Search.{WhereSearched, discovery_settings}
+use Rattle.std.specs.Option.{ForSome}
+
+module _ {Q S M C : Type 0} where
+  -- what follows at each event of what it was told, and of what was kept before
+  abbrev pub Follows : (P : History Q S M C → Event Q S M C → Reply Q → Type 0) (Kept : History Q S M C → Type 0)
+      (Holds : History Q S M C → Event Q S M C → Reply Q → Type 0) → Type 0
+  Follows P Kept Holds = (before : History Q S M C) (event : Event Q S M C) (reply : Reply Q)
+      → P before event reply → Kept before → Holds before event reply
+
+  abbrev pub Keeps : (P : History Q S M C → Event Q S M C → Reply Q → Type 0) (Kept : History Q S M C → Type 0) → Type 0
+  Keeps P Kept = Follows P Kept (λ before event reply. Kept ((event, reply) ∷ before))
 
 -- what the discovery of a path was told and answered since it was made
 abbrev pub entries_on : {K : Type 0} → PathPast K → List MtuEntry
@@ -33,34 +44,34 @@ module _ {F K Q S M P : Type 0} (beginning : Beginning F K Q S M P) where
   abbrev pub data_packet : History Q S M P → ℕ → Option (Packet P M)
   data_packet history = packet_at (tracked_known (known_by beginning history) Data)
 
-  -- what an event is to the search on the path in use, read off its answer
-  abbrev pub entered : History Q S M P → Event Q S M P → Answer Q → List MtuEntry
-  entered history (PollMtu now) (Probe number size) = probed now number size ∷ []
-  entered history (PollMtu now) NoProbe = unprobed now ∷ []
-  entered history (PeerLimit size) given = limited size ∷ []
-  entered history (Acked Data now number app_limited) given = of_packet (acked number) (data_packet history number)
-  entered history (Lost Data number) (answer.Lost is_probe) =
-      of_packet (λ bytes. if is_probe then probe_lost else lost number bytes) (data_packet history number)
-  entered history (LossesDone now) (BlackHole reports) = (if reports then reported now else losses_over) ∷ []
-  entered history (ResetPath now) given =
-      let settings = settings_of beginning in reset settings.mtu settings.min_mtu ∷ []
-  entered history event given = []
-
-  -- after an event, the entries on the path in use are what the event is to its search, and those before; a fresh path
-  -- has none
-  abbrev pub EntersAsTold : History Q S M P → Event Q S M P → Reply Q → Type 0
-  EntersAsTold history (NewPath now remote true) (Ok given) =
-      entries_on (pasts_of beginning ((NewPath now remote true, Ok given) ∷ history)).current ≡ []
-  EntersAsTold history event (Ok given) =
-      entries_on (pasts_of beginning ((event, Ok given) ∷ history)).current
-      ≡ entered history event given ++ entries_on (pasts_of beginning history).current
-  EntersAsTold history event (Err refusal) =
-      entries_on (pasts_of beginning ((event, Err refusal) ∷ history)).current ≡ entries_on
-      (pasts_of beginning history).current
-
   -- what the search on the path in use was told and answered before
   abbrev pub entered_so_far : History Q S M P → List MtuEntry
   entered_so_far history = entries_on (pasts_of beginning history).current
+
+  -- and after an event, read off its answer: what the event is to the search, and what was before; a fresh path has none
+  abbrev pub entered : History Q S M P → Event Q S M P → Reply Q → List MtuEntry
+  entered history event (Err refusal) = entered_so_far history
+  entered history (PollMtu now) (Ok (Probe number size)) = probed now number size ∷ entered_so_far history
+  entered history (PollMtu now) (Ok NoProbe) = unprobed now ∷ entered_so_far history
+  entered history (PeerLimit size) (Ok given) = limited size ∷ entered_so_far history
+  entered history (Acked Data now number app_limited) (Ok given) =
+      of_packet (acked number) (data_packet history number) ++ entered_so_far history
+  entered history (Lost Data number) (Ok (answer.Lost is_probe)) =
+      of_packet (λ bytes. if is_probe then probe_lost else lost number bytes) (data_packet history number)
+      ++ entered_so_far history
+  entered history (LossesDone now) (Ok (BlackHole reports)) =
+      (if reports then reported now else losses_over) ∷ entered_so_far history
+  entered history (ResetPath now) (Ok given) =
+      let settings = settings_of beginning in reset settings.mtu settings.min_mtu ∷ entered_so_far history
+  entered history (NewPath now remote true) (Ok given) = []
+  entered history event (Ok given) = entered_so_far history
+
+  abbrev pub EntersAsTold : History Q S M P → Event Q S M P → Reply Q → Type 0
+  EntersAsTold history event reply = entered_so_far ((event, reply) ∷ history) ≡ entered history event reply
+
+  -- the upper bound of a search is a `u16`
+  abbrev pub IsSmall : Type 0
+  IsSmall = ForSome (discovery_settings beginning) (λ settings. settings.upper_bound < 2 ^ 16)
 
   -- a limit of the peer is refused by `Searching` while a search runs, from its first probe until it ends, and taken
   -- while none does
@@ -87,7 +98,7 @@ module _ {F K Q S M P : Type 0} (beginning : Beginning F K Q S M P) where
   abbrev pub ProbesInTurn : History Q S M P → Event Q S M P → Reply Q → Type 0
   ProbesInTurn history (PollMtu now) (Ok (Probe number size)) =
       IsSomeAnd (discovery_settings beginning) (λ settings.
-      ProbesInSearch settings (probed now number size ∷ entries_on (pasts_of beginning history).current))
+      ProbesInSearch settings (probed now number size ∷ entered_so_far history))
   ProbesInTurn history event reply = Unit {0}
 
   -- a search that ends by a poll that is answered by no probe ends near the best size of an honest link

@@ -9,21 +9,16 @@ use Rattle.recovery_mtud.specs.SearchRuns.{search_runs}
 use Rattle.recovery_events.specs.declared.event.Event.{Event}
 use Rattle.recovery_events.specs.declared.event.Event.TheVariants.{PollMtu, Acked, Lost, LossesDone, PeerLimit, ResetPath, NewPath}
 use Rattle.recovery_events.specs.declared.event.Answer.TheVariants as answer
-use Rattle.quic_recovery.specs.Told.{known_by, settings_of, Told}
+use Rattle.quic_recovery.specs.Told.{known_by, settings_of, Told, logs_of}
 use Rattle.quic_recovery.specs.History.{AtEach, Beginning, History, Reply}
-use Rattle.quic_recovery.proofs.Runs.{AllAlong, throughout_by}
-use Rattle.quic_recovery.proofs.SearchSaid.{EntersAsTold, LimitsOutside, TellsProbes, data_packet, entered_so_far}
-use Rattle.quic_recovery.proofs.EnteredLaws.{entries_told}
-use Rattle.quic_recovery.proofs.SearchLaws.{AreSearched, first_is, limits_one, searched_one, tells_one}
-
--- ---- throughout a run
-
-module _ {Q S M P : Type 0} (A B : History Q S M P → Event Q S M P → Reply Q → Type 0) where
-  -- two things that hold throughout hold both
-  pub throughout_both : (history : History Q S M P) → AtEach A history → AtEach B history
-      → AtEach (λ history event reply. A history event reply × B history event reply) history
-  throughout_both [] all others = tt
-  throughout_both (happened ∷ before) all others = ((all.0, others.0), throughout_both before all.1 others.1)
+use Rattle.quic_recovery.proofs.Runs.{AllAlong, throughout_by, throughout_kept}
+use Rattle.quic_recovery.proofs.SearchSaid.{EntersAsTold, LimitsOutside, TellsProbes, data_packet, entered_so_far, Follows, Keeps, ProbesInTurn}
+use Rattle.quic_recovery.proofs.EnteredLaws.{entered_one}
+use Rattle.quic_recovery.proofs.SearchLaws.{AreSearched, first_is, limits_one, searched_one, tells_one, probes_one}
+use Rattle.quic_recovery.proofs.SizeLaws.{Sized, sized_after, size_in}
+use Rattle.quic_recovery.proofs.FieldLaws.{said_found}
+use Rattle.quic_recovery.specs.Promises.Bursts.{size_of}
+use Rattle.recovery_ledger.specs.Tracked.{sent_by}
 
 -- ---- what is known of an event and its reply
 
@@ -35,20 +30,30 @@ pub record Facts {F K Q S M P : Type 0} (beginning : Beginning F K Q S M P) (his
   pub searched : AreSearched beginning history
   pub tells : TellsProbes beginning history event reply
   pub outside : LimitsOutside beginning history event reply
+  pub turn : ProbesInTurn beginning history event reply
+  pub sized : Sized beginning history
 
 module _ {F K Q S M P : Type 0} (beginning : Beginning F K Q S M P) where
-  pub facts : AllAlong beginning (Facts beginning)
-  facts history told =
-      throughout_by _ (Facts beginning) (AreSearched beginning)
-      (λ before event reply here searched. searched_one beginning before event reply here.0 searched)
-      (λ before event reply here searched after. record {
-        told = here.0;
-        entered = here.1;
-        searched = searched;
-        tells = tells_one beginning before event reply here.0 searched;
-        outside = limits_one beginning before event reply here.0 searched;
-      }) (first_is beginning) history
-      (throughout_both (Told beginning) (EntersAsTold beginning) history told (entries_told beginning history told))
+  pub throughout_facts : (Kept : History Q S M P → Type 0) → Keeps (Facts beginning) Kept → Kept []
+      → {Holds : History Q S M P → Event Q S M P → Reply Q → Type 0} → Follows (Facts beginning) Kept Holds
+      → AllAlong beginning Holds
+  throughout_facts Kept keeps first {Holds} each history told =
+      throughout_by _ Holds Kept keeps (λ before event reply here kept after. each before event reply here kept) first
+      history
+      (throughout_kept beginning (λ before. AreSearched beginning before × Sized beginning before) (Facts beginning)
+      (λ before event reply told kept. (
+        searched_one beginning before event reply told kept.0,
+        sized_after beginning before event reply told kept.1,
+      ))
+      (λ before event reply told kept. record {
+        told = told;
+        entered = entered_one beginning before event reply told;
+        searched = kept.0;
+        tells = tells_one beginning before event reply told kept.0;
+        outside = limits_one beginning before event reply told kept.0;
+        turn = probes_one beginning before event reply told kept.0;
+        sized = kept.1;
+      }) (first_is beginning, tt) history told)
 
 -- ---- events whose answer says what they are
 
@@ -62,7 +67,7 @@ found_packet (Some packet) there = (packet, refl)
 abbrev is_probed : List MtuEntry → ℕ → Bool
 is_probed entries number = is_some (size_at number (probe_in_flight entries))
 
-module _ {Q S M P : Type 0} (first least : ℕ) (entries : List MtuEntry) (IsSize : ℕ → ℕ → Type 0)
+module _ {Q S M P : Type 0} (first least : ℕ) (history : History Q S M P) (entries : List MtuEntry)
     (G : Reply Q → List MtuEntry → Type 0) where
   -- what is to show for an event, by each reply that it may have: that this holds of the reply and the entries then
   abbrev pub Step : Event Q S M P → Reply Q → Type 0
@@ -72,13 +77,11 @@ module _ {Q S M P : Type 0} (first least : ℕ) (entries : List MtuEntry) (IsSiz
   Step (PollMtu now) (Ok answer.NoProbe) = G (Ok answer.NoProbe) (unprobed now ∷ entries)
   Step (PeerLimit size) (Ok given) = search_runs entries ≡ false → G (Ok given) (limited size ∷ entries)
   Step (Acked Data now number app_limited) (Ok given) =
-      (bytes : ℕ) → IsSize number bytes
-      → G (Ok (answer.Acked (is_probed entries number))) (acked number bytes ∷ entries)
+      G (Ok (answer.Acked (is_probed entries number))) (acked number (size_of history number) ∷ entries)
   Step (Acked there now number app_limited) (Ok given) = G (Ok (answer.Acked false)) entries
   Step (Lost Data number) (Ok given) =
-      (bytes : ℕ) → IsSize number bytes
-      → G (Ok (answer.Lost (is_probed entries number)))
-      ((if is_probed entries number then probe_lost else lost number bytes) ∷ entries)
+      G (Ok (answer.Lost (is_probed entries number)))
+      ((if is_probed entries number then probe_lost else lost number (size_of history number)) ∷ entries)
   Step (Lost there number) (Ok given) = G (Ok (answer.Lost false)) entries
   Step (LossesDone now) (Ok given) =
       (hole : Bool) → G (Ok (answer.BlackHole hole)) ((if hole then reported now else losses_over) ∷ entries)
@@ -87,32 +90,33 @@ module _ {Q S M P : Type 0} (first least : ℕ) (entries : List MtuEntry) (IsSiz
   Step event (Ok given) = G (Ok given) entries
 
 module _ {F K Q S M P : Type 0} (beginning : Beginning F K Q S M P) (history : History Q S M P)
-    (IsSize : ℕ → ℕ → Type 0)
-    (sizes : (number : ℕ) (packet : Packet P M) → data_packet beginning history number ≡ Some packet
-    → IsSize number packet.size)
     (G : Reply Q → List MtuEntry → Type 0) where
   abbrev before : List MtuEntry
   before = entered_so_far beginning history
 
   abbrev Shows : Event Q S M P → Reply Q → Type 0
-  Shows = let settings = settings_of beginning in Step settings.mtu settings.min_mtu before IsSize G
+  Shows = let settings = settings_of beginning in Step settings.mtu settings.min_mtu history before G
 
-  turned : {reply other : Reply Q} {after entries : List MtuEntry} → reply ≡ other → after ≡ entries → G other entries
-      → G reply after
-  turned same is holds = rw (same, is) holds
+  -- the packet of a number is there, and has the size that the history says
+  found : (number : ℕ) → Sized beginning history → ¬ (data_packet beginning history number ≡ None)
+      → (packet : Packet P M) × (data_packet beginning history number ≡ Some packet)
+      × (packet.size ≡ size_of history number)
+  found number sized there =
+      let sent = sent_by beginning.queue.words ((logs_of beginning history).spaces Data) in
+      let packet = found_packet (data_packet beginning history number) there in
+      (packet.0, packet.1, said_found size_in (size_of history) sent.next sent.tracked sized number packet.0 packet.1)
 
   -- so it holds
   pub stepped : (event : Event Q S M P) (reply : Reply Q) → Facts beginning history event reply → Shows event reply
       → G reply (entered_so_far beginning ((event, reply) ∷ history))
-  stepped (PollMtu now) (Ok (answer.Probe number size)) known step = turned refl known.entered step
-  stepped (PollMtu now) (Ok answer.NoProbe) known step = turned refl known.entered step
-  stepped (PeerLimit size) (Ok given) known step = turned refl known.entered (step known.outside)
+  stepped (PollMtu now) (Ok answer.NoProbe) known step = grind (arith, known.entered, step)
+  stepped (PeerLimit size) (Ok given) known step = grind (arith, known.entered, step known.outside)
   stepped (Acked Data now number app_limited) (Ok given) known step =
-      let found = found_packet (data_packet beginning history number) known.told.1.0 in
-      grind (arith, known.tells, known.entered, found.1, step found.0.size (sizes number found.0 found.1))
+      let packet = found number known.sized known.told.1.0 in
+      grind (arith, known.tells, known.entered, packet.1, packet.2, step)
   stepped (Lost Data number) (Ok given) known step =
-      let found = found_packet (data_packet beginning history number) known.told.1.0 in
-      grind (arith, known.tells, known.entered, found.1, step found.0.size (sizes number found.0 found.1))
+      let packet = found number known.sized known.told.1.0 in
+      grind (arith, known.tells, known.entered, packet.1, packet.2, step)
   stepped (LossesDone now) (Ok given) known step =
       grind (
         arith,
@@ -120,8 +124,6 @@ module _ {F K Q S M P : Type 0} (beginning : Beginning F K Q S M P) (history : H
         known.entered,
         step (reports (known_by beginning history).paths.current.state.discovery),
       )
-  stepped (Acked there now number app_limited) (Ok given) known step = grind (arith, known.tells, known.entered, step)
-  stepped (Lost there number) (Ok given) known step = grind (arith, known.tells, known.entered, step)
-  stepped (NewPath now remote true) (Ok given) known step = turned refl known.entered step
-  stepped event (Ok given) known step = turned refl known.entered step
-  stepped event (Err refusal) known step = turned refl known.entered step
+  stepped (NewPath now remote true) (Ok given) known step = grind (arith, known.entered, step)
+  stepped event (Ok given) known step = grind (arith, known.tells, known.entered, step)
+  stepped event (Err refusal) known step = grind (arith, known.entered, step)

@@ -1,6 +1,6 @@
 -- What is seen of the paths and is not changed by what happens on one of them stays through every event but those that
 -- make a path or drop one. `MadeLaws` and `MtuLaws` rest on it.
-use Rattle.std.proofs.Common.{ℕ, ◌≡◌, Bool, true, false, List, ◌∷◌, ◌++◌, Ok, Err, refl, ◌∙◌}
+use Rattle.std.proofs.Common.{ℕ, ◌≡◌, Bool, true, false, List, ◌∷◌, ◌++◌, Ok, Err, refl, ◌∙◌, arith}
 use Rattle.recovery_paths.specs.PathMaking.{PathSettings}
 use Rattle.recovery_paths.specs.PathLog.{OfPaths, PathEntry, PathPast, PathsEntry, on, moves, drops_previous, is_validated, on_path_of, past_with, pasts_by, receives}
 use Rattle.recovery_paths.specs.declared.live_paths.PathName.{PathName}
@@ -12,17 +12,23 @@ use Rattle.quic_recovery.specs.Told.{logs_of, pasts_of, known_by, first_path, se
 use Rattle.quic_recovery.specs.History.{Beginning, History, Reply}
 use Rattle.quic_recovery.specs.Known.{Known}
 use Rattle.quic_recovery.proofs.EntryKinds.{PathKind, moving, dropping, elsewhere, path_kind, paths_kept}
+use Rattle.std.specs.Prelude.{Option, option_map}
 
 -- what happens on the path in use is not seen
 abbrev pub IsStill : {K A : Type 0} → PathSettings K → (OfPaths (PathPast K) → A) → Type 0
 IsStill {K} settings see = (entry : PathEntry) (paths : OfPaths (PathPast K))
     → see (on_path_of Current (past_with settings entry) paths) ≡ see paths
 
--- nor that datagrams come in on a path, or that it is validated
+-- nor that datagrams come in on the path before it, or that it is validated
 abbrev pub IsStillOn : {K A : Type 0} → PathSettings K → (OfPaths (PathPast K) → A) → Type 0
-IsStillOn {K} settings see = (name : PathName) (paths : OfPaths (PathPast K))
-    → ((bytes : ℕ) → see (on_path_of name (past_with settings (receives bytes)) paths) ≡ see paths)
-    × (see (on_path_of name (past_with settings is_validated) paths) ≡ see paths)
+IsStillOn {K} settings see = (paths : OfPaths (PathPast K))
+    → ((bytes : ℕ) → see (on_path_of Previous (past_with settings (receives bytes)) paths) ≡ see paths)
+    × (see (on_path_of Previous (past_with settings is_validated) paths) ≡ see paths)
+
+-- what nothing changes of a value stays so of an option
+pub map_kept : {A B : Type 0} (see : A → B) (f : A → A) → ((a : A) → see (f a) ≡ see a) → (o : Option A)
+    → option_map see (option_map f o) ≡ option_map see o
+map_kept see f same o = grind (arith, same)
 
 -- it neither makes a path nor drops one
 abbrev stays_there : PathKind → Bool
@@ -36,11 +42,9 @@ module _ {K A : Type 0} (settings : PathSettings K) (first : PathState K) (see :
   one_seen : (entry : PathsEntry) (log : List PathsEntry) → stays_there (path_kind entry) ≡ true
       → see (pasts_by settings first (entry ∷ log)) ≡ see (pasts_by settings first log)
   one_seen (on Current entry) log is = still entry (pasts_by settings first log)
-  one_seen (on Previous (receives bytes)) log is = (still_on Previous (pasts_by settings first log)).0 bytes
-  one_seen (on Previous is_validated) log is = (still_on Previous (pasts_by settings first log)).1
-  one_seen (on Previous entry) log is = absurd cc
-  one_seen (moves following) log is = absurd cc
-  one_seen drops_previous log is = absurd cc
+  one_seen (on Previous (receives bytes)) log is = (still_on (pasts_by settings first log)).0 bytes
+  one_seen (on Previous is_validated) log is = (still_on (pasts_by settings first log)).1
+  one_seen entry log is = absurd cc
 
 module _ {F K Q S M P A : Type 0} (beginning : Beginning F K Q S M P) (see : OfPaths (PathPast K) → A)
     (still : IsStill (settings_of beginning) see) (still_on : IsStillOn (settings_of beginning) see)
@@ -68,5 +72,4 @@ module _ {F K Q S M P A : Type 0} (beginning : Beginning F K Q S M P) (see : OfP
       (λ entry entries is kept. one_seen settings first see still still_on entry (entries ++ log) is ∙ kept) event
       (Ok given) refl
   stays_seen (NewPath now remote is_fresh) (Err refusal) = refl
-  stays_seen event (Err refusal) =
-      refl
+  stays_seen event (Err refusal) = refl

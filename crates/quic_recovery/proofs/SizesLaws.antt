@@ -22,13 +22,10 @@ use Rattle.recovery_mtud.proofs.SearchRunLaws.{flight_within}
 use Rattle.quic_recovery.proofs.MadeLaws.{is_made, made_in}
 use Rattle.quic_recovery.proofs.NearLaws.{Kept, kept_by, kept_first, upper_is}
 use Rattle.quic_recovery.proofs.SearchLaws.{probes_one, searched_one}
-use Rattle.quic_recovery.proofs.SearchSaid.{entered_so_far}
-use Rattle.quic_recovery.proofs.SearchSteps.{Facts, facts}
+use Rattle.quic_recovery.proofs.SearchSaid.{entered_so_far, Follows, Keeps, IsSmall}
+use Rattle.quic_recovery.proofs.SearchSteps.{Facts, throughout_facts}
 use Rattle.quic_recovery.proofs.Runs.{throughout_by}
 use Rattle.quic_recovery.proofs.Runs.{AllAlong}
-
-below_both : (size upper bound most : ℕ) → size ≤ upper → upper ≡ min bound most → (size ≤ most) × (size ≤ bound)
-below_both size upper bound most below is = (omega arith, omega arith)
 
 module _ {F K Q S M P : Type 0} (beginning : Beginning F K Q S M P) where
   abbrev first : ℕ
@@ -60,8 +57,7 @@ module _ {F K Q S M P : Type 0} (beginning : Beginning F K Q S M P) where
         × IsSomeAnd by (λ settings. size ≤ max settings.upper_bound (start first least history))
     upper_within None is inside = absurd inside
     upper_within (Some settings) is inside =
-        below_both size _ _ _ (between settings is).0
-        (upper_is beginning settings is history (kept.searched settings is))
+        grind (arith, (between settings is).0, upper_is beginning settings is history (kept.searched settings is))
 
     above_in_use : (settings : MtuDiscoveryConfig) → discovery_settings beginning ≡ Some settings
         → 3 ≤ settings.minimum_change → (mtu_in_use beginning history < size) × (size ≤ settings.upper_bound)
@@ -69,18 +65,13 @@ module _ {F K Q S M P : Type 0} (beginning : Beginning F K Q S M P) where
         let both = (between settings is).1 wide in
         (rw (is, (kept.searched settings is).tied.1) both.0, both.1)
 
-  sizes_one : (history : History Q S M P) (event : Event Q S M P) (reply : Reply Q)
-      → Facts beginning history event reply → Kept beginning history → Kept beginning ((event, reply) ∷ history)
-      → ProbesWithin beginning history event reply
-  sizes_one history (PollMtu now) (Ok (answer.Probe number size)) known kept after =
-      let turn = probes_one beginning history (PollMtu now) (Ok (answer.Probe number size)) known.told known.searched in
-      let upper = upper_within history now number size kept known (discovery_settings beginning) refl turn in
+  sizes_one : Follows (Facts beginning) (Kept beginning) (ProbesWithin beginning)
+  sizes_one history (PollMtu now) (Ok (answer.Probe number size)) known kept =
+      let upper = upper_within history now number size kept known (discovery_settings beginning) refl known.turn in
       (upper.0, upper.1, above_in_use history now number size kept known)
-  sizes_one history event reply known kept after = tt
+  sizes_one history event reply known kept = tt
 
   -- throughout a run
-  pub sizes_told : ForSome (discovery_settings beginning) (λ settings. settings.upper_bound < 2 ^ 16)
-      → AllAlong beginning (ProbesWithin beginning)
-  sizes_told small history told =
-      throughout_by (Facts beginning) (ProbesWithin beginning) (Kept beginning) (kept_by beginning) sizes_one
-      (kept_first beginning) history (facts beginning history told)
+  pub sizes_told : IsSmall beginning → AllAlong beginning (ProbesWithin beginning)
+  sizes_told small =
+      throughout_facts beginning (Kept beginning) (kept_by beginning) (kept_first beginning) sizes_one

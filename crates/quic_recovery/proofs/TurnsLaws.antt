@@ -18,10 +18,10 @@ use Rattle.quic_recovery.specs.Promises.Few.{is_in_flight as flies}
 use Rattle.quic_recovery.specs.Promises.Near.{next}
 use Rattle.quic_recovery.specs.Promises.Probes.{runs}
 use Rattle.quic_recovery.specs.Promises.Turns.{SearchesInTurn, is_probe}
-use Rattle.quic_recovery.proofs.SearchSaid.{entered_so_far, is_in_flight}
+use Rattle.quic_recovery.proofs.SearchSaid.{entered_so_far, is_in_flight, IsSmall}
 use Rattle.quic_recovery.proofs.NearLaws.{Kept, kept_by, kept_first, runs_same}
 use Rattle.quic_recovery.proofs.SearchLaws.{probes_one}
-use Rattle.quic_recovery.proofs.SearchSteps.{Facts, facts}
+use Rattle.quic_recovery.proofs.SearchSteps.{Facts, throughout_facts}
 use Rattle.quic_recovery.proofs.Runs.{throughout_by}
 use Rattle.quic_recovery.proofs.Runs.{AllAlong}
 
@@ -32,9 +32,8 @@ module _ {F K Q S M P : Type 0} (beginning : Beginning F K Q S M P) where
 
     probe_same : (there : SpaceId) (number : ℕ)
         → is_in_flight beginning history there number ≡ is_probe there number history
-    probe_same space.Initial number = refl
-    probe_same space.Handshake number = refl
     probe_same space.Data number = let few = kept.few in grind (arith, few)
+    probe_same there number = refl
 
     turn_of : (now number size : ℕ) (by : Option MtuDiscoveryConfig) → discovery_settings beginning ≡ by
         → IsSomeAnd by (λ settings. ProbesInSearch settings (probed now number size ∷ entries))
@@ -49,24 +48,19 @@ module _ {F K Q S M P : Type 0} (beginning : Beginning F K Q S M P) where
     turns_one : (event : Event Q S M P) (reply : Reply Q) → Facts beginning history event reply
         → SearchesInTurn beginning history event reply
     turns_one (PollMtu now) (Ok (answer.Probe number size)) known =
-        turn_of now number size (discovery_settings beginning) refl
-        (probes_one beginning history (PollMtu now) (Ok (answer.Probe number size)) known.told known.searched)
+        turn_of now number size (discovery_settings beginning) refl known.turn
     turns_one (Acked there now number app_limited) (Ok given) known =
-        known.tells ∙ ap (λ probe. answer.Acked probe) (probe_same there number)
+        known.tells ∙ ap answer.Acked (probe_same there number)
     turns_one (Lost there number) (Ok given) known =
-        known.tells ∙ ap (λ probe. answer.Lost probe) (probe_same there number)
-    turns_one (PeerLimit size) (Ok given) known =
-        grind (arith, nat_tests, runs_same history entries kept.few, known.outside, known.told)
+        known.tells ∙ ap answer.Lost (probe_same there number)
     turns_one (PeerLimit size) (Err Searching) known =
         grind (arith, nat_tests, runs_same history entries kept.few, known.outside, known.told.0)
-    turns_one (PeerLimit size) (Err ZeroMtu) known = grind (arith, nat_tests, known.told)
-    turns_one (PeerLimit size) (Err refusal) known = absurd known.told.1.1
+    turns_one (PeerLimit size) reply known =
+        grind (arith, nat_tests, runs_same history entries kept.few, known.outside, known.told)
     turns_one event reply known = tt
 
   -- throughout a run
-  pub turns_told : ForSome (discovery_settings beginning) (λ settings. settings.upper_bound < 2 ^ 16)
-      → AllAlong beginning (SearchesInTurn beginning)
-  turns_told small history told =
-      throughout_by (Facts beginning) (SearchesInTurn beginning) (Kept beginning) (kept_by beginning)
-      (λ history event reply known kept after. turns_one history kept event reply known) (kept_first beginning)
-      history (facts beginning history told)
+  pub turns_told : IsSmall beginning → AllAlong beginning (SearchesInTurn beginning)
+  turns_told small =
+      throughout_facts beginning (Kept beginning) (kept_by beginning) (kept_first beginning)
+      (λ history event reply known kept. turns_one history kept event reply known)
