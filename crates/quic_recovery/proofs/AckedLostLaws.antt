@@ -22,14 +22,8 @@ use Rattle.quic_recovery.specs.Entries.{acked_entry, acked_search}
 use Rattle.quic_recovery.specs.History.{QueueMeaning}
 use Rattle.quic_recovery.specs.Parts.{Parts}
 use Rattle.quic_recovery.specs.State.{Changes, known_to}
-use Rattle.quic_recovery.proofs.AboveLaws.{both_marks}
+use Rattle.quic_recovery.proofs.AboveLaws.{previous_same, both_marks}
 use Rattle.quic_recovery.proofs.DriverLaws.{space_changes, skips_nothing}
-
--- what leaves a path changes nothing that is known of it
-previous_known : {K P M : Type 0} (packet : Packet P M) (path : Option (Path K))
-    → option_map path_known (option_map (path_left_by packet) path) ≡ option_map path_known path
-previous_known packet None = refl
-previous_known packet (Some path) = refl
 
 module _ {K P M : Type 0} (old : Parts K P M) (space : SpaceId) (number : ℕ) (packet : Packet P M) where
   abbrev with_previous : PathKnown K → Option (PathKnown K) → OfPaths (PathKnown K)
@@ -41,7 +35,7 @@ module _ {K P M : Type 0} (old : Parts K P M) (space : SpaceId) (number : ℕ) (
       ++ acked_search (known_to old) space number (Some packet)) (paths_known old.paths)
       (paths_known (paths_acking old.settings.words space number now app_limited packet old.paths))
   acked_path now app_limited =
-      ap (with_previous _) (previous_known packet old.paths.previous)
+      ap (with_previous _) (previous_same path_known (path_left_by packet) (λ path. refl) old.paths.previous)
       ∙ go (packet.path_generation == generation_of old.paths.current.ledger && packet.ack_eliciting)
       (same_space space Data)
       (is_path_probe space number old.paths.current.state)
@@ -86,21 +80,15 @@ module _ {K Q S M P : Type 0} (q : QueueMeaning Q S M P) (old : Parts K P M) (sp
       → Changes {M = M} q old (Acked space now number app_limited) (Ok (answer.Acked probe))
       (record old { spaces = with_space old.spaces space there; paths = paths })
   acked_changes now app_limited step is =
-      let known = known_to old in
-      let Stepped : Option (Packet P M) → Type 0 = λ p. PathsStep old.settings
-      (acked_entry known now app_limited p ++ acked_search known space number p) (paths_known old.paths)
-      (paths_known paths) in
-      let entries = acked_entry known now app_limited (packet_at (tracked_by old.spaces space) number)
-      ++ acked_search known space number (packet_at (tracked_by old.spaces space) number) in
-      let path_step = subst Stepped (sym found) (ap (λ (p : OfPaths (Path K)). paths_known p) is
-      ∙ acked_path old space number packet now app_limited) in
       record {
         told = (
           fails _ live,
           ((λ none. absurd cc), ap (λ b. answer.Acked b) is_probe),
         );
-        steps = space_changes q.words old space (acknowledged number) there old.skipping entries paths step
-            (skips_nothing space (acknowledged number) _ old.skipping refl) path_step;
+        steps = space_changes q.words old space (acknowledged number) there old.skipping _ paths step
+            (skips_nothing space _ _ _ refl)
+            (rw found (ap (λ (p : OfPaths (Path K)). paths_known p) is
+            ∙ acked_path old space number packet now app_limited));
         plain = refl;
         marks = ap (λ (p : OfPaths (Path K)). paths_marks p) is
             ∙ both_marks (path_left_by packet) (λ path. refl)

@@ -112,10 +112,6 @@ module _ {F K Q S M P : Type 0} (beginning : Beginning F K Q S M P) (before : Hi
   abbrev held_after : Bool → SpaceEntry P M → ℕ
   held_after b entry = held_by (onto (cond b (Some entry) None) log)
 
-  leaves : (b : Bool) (entry : SpaceEntry P M) (left : ℕ) → (b ≡ true → held_by (entry ∷ log) + left ≡ held_by log)
-      → outgoing_now ≡ held_after b entry + (cond b left 0 + gone_now)
-  leaves b entry left less = grind (arith, nat_tests, same, less)
-
   goes : (b : Bool) (entry : SpaceEntry P M) (out left : ℕ)
       → (b ≡ true → held_by (entry ∷ log) + left ≡ held_by log + out)
       → cond b out 0 + outgoing_now ≡ held_after b entry + (cond b left 0 + gone_now)
@@ -142,17 +138,6 @@ module _ {F K Q S M P : Type 0} (beginning : Beginning F K Q S M P) (before : Hi
         adds.empty,
       )
 
-  -- a probe of the MTU carries nothing
-  probe_goes : (packet : Packet P M) → packet.retransmits ≡ words.empty → packet.ack_eliciting ≡ true
-      → outgoing_now ≡ held_after (same_space Data space) (sends (number_in known Data) packet) + gone_now
-  probe_goes packet empty eliciting =
-      let none : None ≡ forgotten_by sent packet = cc in
-      let sum = sends_more (number_in known Data) packet None none in
-      grind (arith, nat_tests, same, sum, empty, adds.empty)
-
-  hands_out : (waits : ℕ) → waits ≡ measure pending → held_by (takes_pending ∷ log) + waits ≡ held_by log
-  hands_out waits is = omega (arith, adds.empty, is)
-
   -- an entry by which no contents come or go
   unmoved : (entry : SpaceEntry P M) → keeps_contents (space_kind entry) ≡ true
       → outgoing_now ≡ held_by (entry ∷ log) + gone_now
@@ -177,16 +162,16 @@ module _ {F K Q S M P : Type 0} (beginning : Beginning F K Q S M P) (before : Hi
       (λ at. sends_more (number_in known there) packet forgotten (rw (← one_space there space at) forgets_there))
   reply_keeps (Send there now size eliciting largest queue frames) (Ok answer) told = let is = past_four told in cc
   reply_keeps (PollMtu now) (Ok (Probe number size)) told =
-      probe_goes (packet_now known now size true None words.empty beginning.queue.blank) refl refl
+      let sum = sends_more (number_in known Data)
+      (packet_now known now size true None words.empty beginning.queue.blank) None refl in
+      grind (arith, nat_tests, same, sum, adds.empty)
   reply_keeps (PollMtu now) (Ok answer) told = same
   reply_keeps (Acked there now number app_limited) (Ok answer) told =
-      leaves (same_space there space) (acknowledged number) _
-      (λ at. omega (arith, sum_leaves words measure adds sent.tracked number))
+      grind (arith, nat_tests, same, sum_leaves words measure adds sent.tracked number)
   reply_keeps (DiscardSpace there) (Ok answer) told =
-      leaves (same_space there space) emptied _ (λ at. omega (arith, adds.empty))
+      grind (arith, nat_tests, same, adds.empty)
   reply_keeps (TakePending there) (Ok (answers.Queue queue)) told =
-      leaves (same_space there space) takes_pending _
-      (λ at. hands_out _ (ap measure (rw (← one_space there space at) told.1)))
+      grind (arith, nat_tests, same, adds.empty, one_space there space, told.1)
   reply_keeps (TakePending there) (Ok answer) told = absurd told.1
   reply_keeps event (Ok answer) told =
       space_kept beginning.queue known space (λ entry. outgoing_now ≡ held_by (onto entry log) + gone_now)

@@ -178,12 +178,9 @@ module _ {F K Q S M P : Type 0} (beginning : Beginning F K Q S M P) (before : Hi
   changes Initial entry left weight each others =
       let sum = same weigh generation (λ space. left (same_space Initial space) space) in
       omega (arith, sum, each Initial refl, others Handshake, others Data)
-  changes Handshake entry left weight each others =
-      let sum = same weigh generation (λ space. left (same_space Handshake space) space) in
-      omega (arith, sum, others Initial, each Handshake refl, others Data)
-  changes Data entry left weight each others =
-      let sum = same weigh generation (λ space. left (same_space Data space) space) in
-      omega (arith, sum, others Initial, others Handshake, each Data refl)
+  changes there entry left weight each others =
+      let sum = same weigh generation (λ space. left (same_space there space) space) in
+      omega (arith, sum, each there refl, others Initial, others Handshake, others Data)
 
   -- one number of a space is gone too
   leaves_one : (there : SpaceId) (number : ℕ) (entry : SpaceEntry P M)
@@ -193,9 +190,11 @@ module _ {F K Q S M P : Type 0} (beginning : Beginning F K Q S M P) (before : Hi
       ≡ over_spaces (sum_after (only there entry))
   leaves_one there number entry less =
       changes there entry (λ b space n. (b && number == n) || gone space n) (cond is_path 0 0)
-      (λ space at. (
-      let sum = sum_without weigh generation (gone space) number (sent space).tracked (once space number) in
-      grind (arith, less space, sum)))
+      (λ space at. grind (
+        arith,
+        less space,
+        sum_without weigh generation (gone space) number (sent space).tracked (once space number),
+      ))
       (λ space. refl)
 
   -- a packet goes out
@@ -278,10 +277,6 @@ module _ {F K Q S M P : Type 0} (beginning : Beginning F K Q S M P) where
           eliciting_same generation packets,
         )
 
-    bytes_same : (generation : ℕ) → sum_on (λ size eliciting. size) generation (λ space n. false) before
-        ≡ over_spaces (λ space. sum_by (size_in generation) (sent_in beginning before space).tracked)
-    bytes_same generation = counts (λ size eliciting. size) generation (λ space n. false)
-
     count_same : (generation : ℕ)
         → sum_on (λ size eliciting. if eliciting then 1 else 0) generation (λ space n. false) before
         ≡ over_spaces (λ space. sum_by (eliciting_in generation) (sent_in beginning before space).tracked)
@@ -293,11 +288,12 @@ module _ {F K Q S M P : Type 0} (beginning : Beginning F K Q S M P) where
         (in_flight_on known_then there).ack_eliciting))) reply
         → IsTally before (option_map (λ p. p.generation) path) reply
     tally None (Err NoSuchPath) told = refl
-    tally None reply told = absurd told.1
     tally (Some path) (Ok answer) told =
-        grind (arith, told, bytes_same path.generation, count_same path.generation)
-    tally (Some path) (Err NoMemory) told = absurd told
-    tally (Some path) reply told = absurd told
+        let bytes : sum_on (λ size eliciting. size) path.generation (λ space n. false) before
+        ≡ over_spaces (λ space. sum_by (size_in path.generation) (sent_in beginning before space).tracked) =
+        counts (λ size eliciting. size) path.generation (λ space n. false) in
+        grind (arith, told, bytes, count_same path.generation)
+    tally path reply told = grind (arith, told)
 
   holds : (before : History Q S M P) (event : Event Q S M P) (reply : Reply Q) → Told beginning before event reply
       → Kept before → CountsInFlight before event reply

@@ -1,6 +1,12 @@
 -- What an event does to one space is a step of all three. The steps of calls (`SendLaws`, `ProbeStepLaws`,
 -- `PathStepLaws`, `AckedLostLaws`) rest on it.
-use Rattle.std.proofs.Common.{◌≡◌, ℕ, ◌<◌, ◌^◌, arith, Bool, false, List, [], ◌∷◌, Option, Some, Result, IfOk, OnErr, Ok, Err, refl, ap}
+use Rattle.recovery_paths.proofs.BalanceLaws.{kept}
+use Rattle.recovery_events.specs.declared.event.Event.{Event}
+use Rattle.recovery_events.specs.declared.event.Refusal.{Refusal}
+use Rattle.quic_recovery.specs.Table.{PlainStep, ToldBy}
+use Rattle.quic_recovery.specs.Plain.{plain_of}
+use Rattle.quic_recovery.proofs.AboveLaws.{marks_refused}
+use Rattle.std.proofs.Common.{◌≡◌, ℕ, ◌<◌, ◌^◌, arith, Bool, false, List, [], ◌∷◌, Option, Some, Result, IfOk, OnErr, Ok, Err, refl, ap, sym}
 use Rattle.recovery_base.specs.declared.below.SpaceId.{SpaceId}
 use Rattle.recovery_base.specs.declared.below.SpaceId.TheVariants.{Initial, Handshake, Data}
 use Rattle.recovery_ledger.specs.declared.spaces.ReceiveError.{ReceiveError}
@@ -29,7 +35,7 @@ use Rattle.quic_recovery.specs.Known.{number_in, current_in_flight}
 use Rattle.quic_recovery.specs.Logs.{StepBy}
 use Rattle.quic_recovery.specs.Parts.{Parts}
 use Rattle.quic_recovery.specs.Replies.{reply_to}
-use Rattle.quic_recovery.specs.State.{Changes, Steps, SkippingStep, known_to}
+use Rattle.quic_recovery.specs.State.{Changes, Steps, SkippingStep, known_to, heard_to}
 
 -- a space that is put back as it was
 pub with_same_space : {P M : Type 0} (spaces : Spaces P M) (space : SpaceId) (there : Space P M)
@@ -72,15 +78,28 @@ module _ {K P M S : Type 0} (words : QueueWords P S) where
   space_changes old space entry there skipping entries paths step skips same =
       grind (arith, spaces_step words entry old.spaces space there step, skips, same)
 
+-- a refusal for which a space is put back as it was
+pub put_back : {K Q S M P : Type 0} (q : QueueMeaning Q S M P) (old : Parts K P M) (event : Event Q S M P)
+    (refusal : Refusal) (space : SpaceId) (there : Space P M) → there ≡ space_of space old.spaces
+    → PlainStep event (Err refusal) (plain_of old) (plain_of old)
+    → ToldBy q old.settings.words (heard_to old) (known_to old) event (Err refusal)
+    → Changes q old event (Err refusal) (record old { spaces = with_space old.spaces space there })
+put_back {K} {Q} {S} {M} {P} q old event refusal space there same plain told =
+    let new : Parts K P M = record old { spaces = with_space old.spaces space there } in
+    let kept : new ≡ old =
+    ap (λ (spaces : Spaces P M). record old { spaces = spaces }) (with_same_space old.spaces space there same) in
+    record {
+      told = told;
+      steps = nothing_changes q.words old new kept;
+      plain = plain;
+      marks = sym (marks_refused event refusal (paths_marks old.paths));
+      refused = kept;
+    }
+
 -- ---- a received packet
 
 module _ {K Q S M P : Type 0} (q : QueueMeaning Q S M P) (old : Parts K P M) (space : SpaceId) (now number : ℕ)
     (ack_eliciting : Bool) (there : Space P M) (live : is_discarded space old.discarded ≡ false) where
-  -- the space is put back as it was
-  same_parts : there ≡ space_of space old.spaces → (record old { spaces = with_space old.spaces space there }) ≡ old
-  same_parts kept =
-      ap (λ (spaces : Spaces P M). record old { spaces = spaces }) (with_same_space old.spaces space there kept)
-
   pub received_changes : (receipt : Result Receipt ReceiveError)
       → ReceiveReply (heard_of (space_of space old.spaces)) (acks_of (space_of space old.spaces)).counts number
       ack_eliciting receipt
@@ -90,7 +109,7 @@ module _ {K Q S M P : Type 0} (q : QueueMeaning Q S M P) (old : Parts K P M) (sp
       (record old { spaces = with_space old.spaces space there })
   received_changes (Ok (New arm)) is step kept = record {
     told = grind (arith, live, is);
-    steps = space_changes q.words old space (heard now number ack_eliciting) there _ _ _ step
+    steps = space_changes _ _ _ _ _ _ _ _ step
         (skips_nothing space _ _ _ refl) refl;
     plain = refl;
     marks = refl;
@@ -98,25 +117,15 @@ module _ {K Q S M P : Type 0} (q : QueueMeaning Q S M P) (old : Parts K P M) (sp
   }
   received_changes (Ok Duplicate) is step kept = record {
     told = grind (arith, live, is);
-    steps = space_changes q.words old space (heard_again number) there _ _ _ step (skips_nothing space _ _ _ refl) refl;
+    steps = space_changes _ _ _ _ _ _ _ _ step (skips_nothing space _ _ _ refl) refl;
     plain = refl;
     marks = refl;
     refused = tt;
   }
-  received_changes (Err NumberTooLarge) is step kept = record {
-    told = grind (arith, live, is);
-    steps = nothing_changes q.words old _ (same_parts kept);
-    plain = refl;
-    marks = refl;
-    refused = same_parts kept;
-  }
-  received_changes (Err NoMemory) is step kept = record {
-    told = grind (arith, live, is);
-    steps = nothing_changes q.words old _ (same_parts kept);
-    plain = refl;
-    marks = refl;
-    refused = same_parts kept;
-  }
+  received_changes (Err NumberTooLarge) is step kept =
+      put_back q old (Received space now number ack_eliciting) _ space there kept refl (grind (arith, live, is))
+  received_changes (Err NoMemory) is step kept =
+      put_back q old (Received space now number ack_eliciting) _ space there kept refl (grind (arith, live, is))
 
 -- what a received packet changes leaves the tracked packets, and the greatest ack-eliciting number was received
 pub received_keeps : {P M S : Type 0} (words : QueueWords P S) (now number : ℕ) (ack_eliciting : Bool)
@@ -128,37 +137,4 @@ received_keeps words now number ack_eliciting (Ok (New arm)) old new come step k
   ap next_number_of step.others,
   heard_greatest old new now number ack_eliciting come step,
 )
-received_keeps words now number ack_eliciting (Ok Duplicate) old new come step kept = rw step.1 (refl, refl, come)
-received_keeps words now number ack_eliciting (Err refused) old new come step kept = rw kept (refl, refl, come)
-
--- ---- a packet that is sent
-
-module _ {K Q S M P : Type 0} (q : QueueMeaning Q S M P) (old : Parts K P M) (space : SpaceId) (now size : ℕ)
-    (ack_eliciting : Bool) (largest_acked : Option ℕ) (queue : Q) (frames : M) where
-  abbrev packet_then : Packet P M
-  packet_then = packet_sent (generation_of old.paths.current.ledger) now size ack_eliciting largest_acked
-      (q.contents queue) frames
-
-  pub sent_changes : (there : Space P M) (skipping : Skipping) (paths : OfPaths (Path K)) (number : ℕ)
-      (forgotten : Option ℕ)
-      → is_discarded space old.discarded ≡ false → (¬ IsTooLarge largest_acked)
-      → number_in (known_to old) space < 2 ^ 62 → (¬ Overflows (current_in_flight (known_to old)) packet_then)
-      → number ≡ number_in (known_to old) space
-      → forgotten ≡ forgotten_number (tracking_of (space_of space old.spaces)).last_eliciting packet_then
-      (tracked_by old.spaces space)
-      → SpaceStep q.words (sends (number_in (known_to old) space) packet_then) (space_of space old.spaces) there
-      → SkippingStep (here space Data (sends (number_in (known_to old) space) packet_then))
-      (next_number_of (space_of Data old.spaces)) old.skipping skipping
-      → PathsStep old.settings (on_current (tells (sends_bytes now size (number_in (known_to old) space))) ∷ [])
-      (paths_known old.paths) (paths_known paths) → paths_marks paths ≡ paths_marks old.paths
-      → Changes q old (Send space now size ack_eliciting largest_acked queue frames) (Ok (Sent number forgotten))
-      (record old { spaces = with_space old.spaces space there; skipping = skipping; paths = paths })
-  sent_changes there skipping paths number forgotten live small left fits is_next is_forgotten step skips told marked =
-      record {
-        told = grind (arith, live, small, left, fits, is_next, is_forgotten);
-        steps = space_changes q.words old space (sends (number_in (known_to old) space) packet_then) there skipping
-            (on_current (tells (sends_bytes now size (number_in (known_to old) space))) ∷ []) paths step skips told;
-        plain = refl;
-        marks = marked;
-        refused = tt;
-      }
+received_keeps words now number ack_eliciting receipt old new come step kept = grind (arith, step, kept, come)

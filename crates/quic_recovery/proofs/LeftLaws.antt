@@ -39,43 +39,29 @@ use Rattle.quic_recovery.proofs.PlainLaws.{plain_after}
 module _ {F K Q S M P : Type 0} (beginning : Beginning F K Q S M P) where
   -- ---- what is in flight
 
-  -- the packets that the spaces track are those of their logs
-  tracked_same : (history : History Q S M P) (spaces : Spaces P M)
-      → ((space : SpaceId) → SpaceLeft beginning.queue.words beginning.start ((logs_of beginning history).spaces space)
-      (space_of space spaces)) → tracked_by spaces ≡ tracked_known (known_by beginning history)
-  tracked_same history spaces left = fun_ext (λ space. ap (λ (s : Sent P M). s.tracked) (left space).sent)
-
   pub in_flight_law : (history : History Q S M P) (spaces : Spaces P M) (paths : OfPaths (Path K))
       → ((space : SpaceId) → SpaceLeft beginning.queue.words beginning.start ((logs_of beginning history).spaces space)
       (space_of space spaces)) → AreBalanced spaces paths → InFlightLeft (known_by beginning history) paths
-  in_flight_law history spaces paths left balanced = record {
-    current = rw (← tracked_same history spaces left) balanced.current;
-    previous = λ path is. rw (← tracked_same history spaces left) (balanced.previous path is);
-  }
+  in_flight_law history spaces paths left balanced =
+      let same : tracked_by spaces ≡ tracked_known (known_by beginning history) =
+      fun_ext (λ space. ap (λ (s : Sent P M). s.tracked) (left space).sent) in
+      record {
+        current = rw (← same) balanced.current;
+        previous = λ path is. rw (← same) (balanced.previous path is);
+      }
 
   -- ---- what is known
-
-  -- the filter knows the number behind the last one, and the skip before it
-  numbering_same : (history : History Q S M P) (state : Parts K P M) → Left beginning history state
-      → ((known_to state).next_number ≡ (known_by beginning history).next_number)
-      × ((known_to state).skipped ≡ (known_by beginning history).skipped)
-  numbering_same history state left =
-      let skips = beginning.config.skips in
-      let n = ((known_by beginning history).spaces Data).sent.next in
-      grind (
-        arith,
-        (left.spaces Data).sent,
-        number_at skips beginning.random n state.skipping left.skipping,
-        last_at skips beginning.random n state.skipping left.skipping,
-      )
 
   pub known_same : (history : History Q S M P) (state : Parts K P M) → Left beginning history state
       → known_to state ≡ known_by beginning history
   known_same history state left =
+      let n = ((known_by beginning history).spaces Data).sent.next in
       grind (
         arith,
         fun_ext spaces,
-        numbering_same history state left,
+        (left.spaces Data).sent,
+        number_at beginning.config.skips beginning.random n state.skipping left.skipping,
+        last_at beginning.config.skips beginning.random n state.skipping left.skipping,
         left.frequency,
         held_same beginning.config.initial_cid history (remote_ids state.remote_cids) left.remote_ids,
         left.local_ids,
@@ -114,21 +100,17 @@ module _ {F K Q S M P : Type 0} (beginning : Beginning F K Q S M P) where
       → Left beginning history old → ChangesBy beginning.queue (known_by beginning history) old event reply new
       → AreBalanced new.spaces new.paths → Left beginning ((event, reply) ∷ history) new
   left_after history event reply old new left changes balanced =
-      let logs = logs_of beginning history in
       let entries = entries_of beginning.queue (known_by beginning history) event reply in
       let steps = changes.steps in
-      let known = known_by beginning history in
-      let same = held_same beginning.config.initial_cid history (remote_ids old.remote_cids) left.remote_ids in
-      let plain = plain_after beginning.queue old.settings.words (heard_to old) known beginning.config.max_ack_delay
-      beginning.config.initial_cid (first_ids beginning) history event reply (plain_of old) (plain_of new)
-      (left.discarded, left.frequency, left.timers, left.peer_limit, left.remote_ids, left.local_ids) (sym same)
+      let plain = plain_after beginning.queue old.settings.words (heard_to old) (known_by beginning history) beginning.config.max_ack_delay
+      beginning.config.initial_cid (first_ids beginning) history event reply _ _
+      (left.discarded, left.frequency, left.timers, left.peer_limit, left.remote_ids, left.local_ids)
+      (sym (held_same _ history _ left.remote_ids))
       changes.told changes.plain in
-      let Stepped : PathSettings K → Type 0 = λ settings. PathsStep settings entries.paths (paths_known old.paths)
-      (paths_known new.paths) in
       let spaces : (space : SpaceId) → SpaceLeft beginning.queue.words beginning.start
       ((logs_of beginning ((event, reply) ∷ history)).spaces space) (space_of space new.spaces) = λ space.
       left_by_entry (SpaceStep beginning.queue.words) (SpaceLeft beginning.queue.words beginning.start)
-      (space_law beginning.queue.words beginning.start) (entries.spaces space) (logs.spaces space) _ _
+      (space_law beginning.queue.words beginning.start) (entries.spaces space) _ _ _
       (left.spaces space) (steps.spaces space) in
       record {
         settings = steps.settings ∙ left.settings;
@@ -136,16 +118,14 @@ module _ {F K Q S M P : Type 0} (beginning : Beginning F K Q S M P) where
         beside = λ space. beside_stays beginning.queue.words (entries.spaces space) _ _ (steps.spaces space)
             ∙ left.beside space;
         discarded = plain.0;
-        skipping = skipping_law (entries.spaces Data) (logs.spaces Data) (next_number_of (space_of Data old.spaces))
-            old.skipping new.skipping (ap (λ (s : Sent P M). s.next) (left.spaces Data).sent) left.skipping
+        skipping = skipping_law (entries.spaces Data) ((logs_of beginning history).spaces Data) _ _ _ (ap (λ (s : Sent P M). s.next) (left.spaces Data).sent) left.skipping
             steps.skipping;
         frequency = plain.1;
         timers = plain.2;
         remote_ids = plain.4;
         local_ids = plain.5;
         paths =
-            paths_law (settings_of beginning) (first_path beginning) entries.paths logs.paths (paths_known old.paths)
-            (paths_known new.paths) left.paths (subst Stepped left.settings steps.paths);
+            paths_law (settings_of beginning) (first_path beginning) entries.paths _ _ _ left.paths (rw left.settings at steps.paths);
         peer_limit = plain.3;
         in_flight = in_flight_law beginning ((event, reply) ∷ history) new.spaces new.paths spaces balanced;
       }

@@ -79,42 +79,31 @@ module _ {F K Q S M P : Type 0} (beginning : Beginning F K Q S M P) where
         };
       }
 
-module _ {F K Q S M P : Type 0} (built : F → ℕ → ℕ → K) (words : ControllerWords K) (queue : QueueMeaning Q S M P)
-    (old : Parts K P M)
-    (event : Event Q S M P) (reply : Reply Q) (new : Parts K P M) (on : GoesOn built words queue old event reply new)
+module _ {F K Q S M P : Type 0} {built : F → ℕ → ℕ → K} {words : ControllerWords K} {queue : QueueMeaning Q S M P}
+    {old : Parts K P M} {event : Event Q S M P} {reply : Reply Q} {new : Parts K P M} (on : GoesOn built words queue old event reply new)
   where
     -- from a past by which it came here it went on
-    went : CameSomehow built words queue old → WentOn built words queue old event reply new
-    went by = record { origin = by; goes = on by.config by.start by.random by.past by.came }
-
     pub went_on : ∥ CameSomehow built words queue old ∥₁ → ∥ WentOn built words queue old event reply new ∥₁
-    went_on by = ∥∥₁_map by went
+    went_on by = ∥∥₁_map by (λ by. record { origin = by; goes = on by.config by.start by.random by.past by.came })
 
     -- and came on
-    came_on : CameSomehow built words queue old → CameSomehow built words queue new
-    came_on by = record {
+    pub still_came : ∥ CameSomehow built words queue old ∥₁ → ∥ CameSomehow built words queue new ∥₁
+    still_came by = ∥∥₁_map by (λ by. record {
       config = by.config;
       start = by.start;
       random = by.random;
       past = (event, reply) ∷ by.past;
       came = (on by.config by.start by.random by.past by.came).came;
-    }
+    })
 
-    pub still_came : ∥ CameSomehow built words queue old ∥₁ → ∥ CameSomehow built words queue new ∥₁
-    still_came by = ∥∥₁_map by came_on
-
-module _ {F K Q S M P : Type 0} (built : F → ℕ → ℕ → K) (words : ControllerWords K) (queue : QueueMeaning Q S M P)
-    (old new : Parts K P M)
-    (stays : StaysOn built words queue old new) where
-  stays_by : CameSomehow built words queue old → CameSomehow built words queue new
-  stays_by by = record {
+module _ {F K Q S M P : Type 0} {built : F → ℕ → ℕ → K} {words : ControllerWords K} {queue : QueueMeaning Q S M P}
+    {old new : Parts K P M} (stays : StaysOn built words queue old new) where
+  -- what is all the same for every past leaves that there is one
+  pub stays_come : ∥ CameSomehow built words queue old ∥₁ → ∥ CameSomehow built words queue new ∥₁
+  stays_come by = ∥∥₁_map by (λ by. record {
     config = by.config;
     start = by.start;
     random = by.random;
     past = by.past;
     came = stays by.config by.start by.random by.past by.came;
-  }
-
-  -- what is all the same for every past leaves that there is one
-  pub stays_come : ∥ CameSomehow built words queue old ∥₁ → ∥ CameSomehow built words queue new ∥₁
-  stays_come by = ∥∥₁_map by stays_by
+  })

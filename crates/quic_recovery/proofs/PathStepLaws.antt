@@ -32,7 +32,7 @@ use Rattle.quic_recovery.specs.Parts.{Parts}
 use Rattle.quic_recovery.specs.Replies.{Answers, Refuses, same_refusal}
 use Rattle.quic_recovery.specs.State.{Changes, Steps, known_to}
 use Rattle.quic_recovery.specs.PartReplies.{InSpace, SendReply, MtuProbeReply}
-use Rattle.quic_recovery.proofs.AboveLaws.{both_marks}
+use Rattle.quic_recovery.proofs.AboveLaws.{previous_same, both_marks}
 use Rattle.quic_recovery.proofs.DriverLaws.{spaces_step, skips_nothing}
 
 -- ---- packets leave the paths: what is known of a path holds no counters
@@ -50,13 +50,10 @@ module _ {K P M : Type 0} (packets : Packets P M) where
 
   -- what is known of all paths stays
   pub paths_known_without : (paths : OfPaths (Path K)) → paths_known (paths_without packets paths) ≡ paths_known paths
-  paths_known_without paths = go paths.previous
-    where
-      go : (other : Option (Path K))
-          → let old : OfPaths (Path K) = record { current = paths.current; previous = other } in
-          paths_known (paths_without packets old) ≡ paths_known old
-      go None = rw (known_without paths.current) refl
-      go (Some path) = rw (known_without paths.current, known_without path) refl
+  paths_known_without paths = rw (
+    known_without paths.current,
+    previous_same path_known (on_ledger (ledger_without packets)) known_without paths.previous,
+  ) refl
 
 -- ---- a space is discarded
 
@@ -107,36 +104,23 @@ module _ {K Q S M P : Type 0} (q : QueueMeaning Q S M P) (old then : Parts K P M
   abbrev known : Known K P M
   known = known_to old
 
-  abbrev probe_of : P × M → Packet P M
-  probe_of carried = packet_now known now size true None carried.0 carried.1
-
-  -- what a probe carries
-  abbrev nothing_carried : P × M
-  nothing_carried = (q.words.empty, q.blank)
-
-  carries_nothing : (q.contents queue, frames) ≡ nothing_carried
-  carries_nothing = cc
-
-  abbrev Over : P × M → Type 0
-  Over carried = Overflows (current_in_flight known) (probe_of carried)
+  -- a probe carries nothing
+  abbrev probe : Packet P M
+  probe = packet_now known now size true None q.words.empty q.blank
 
   -- where the probe cannot be sent the event is refused likewise
   pub probe_refused : (refusal : Refusal) → Changes {M = M} q old (Send Data now size true None queue frames)
       (Err refusal) then → Changes {M = M} q old (PollMtu now) (Err refusal) then
   probe_refused refusal sent =
-      let Told : P × M → Type 0 = λ carried. SendReply {Q = Q} (known.spaces Data) (current_in_flight known)
-      (number_in known Data) (probe_of carried) (Err refusal) in
-      let Out : Option ℕ → Type 0 = λ due. InSpace (known.spaces Data)
-      (Refuses NumbersExhausted (2 ^ 62 ≤ known.next_number) (MtuProbeReply q known now due)) (Err refusal) in
       let sent_as : Answer Q =
-      Sent (number_in known Data) (forgotten_by (known.spaces Data).sent (probe_of nothing_carried)) in
+      Sent (number_in known Data) (forgotten_by (known.spaces Data).sent (probe)) in
       record {
-        told = subst Out (sym due) (but_second _ _ _ (Over nothing_carried) _ _ (λ large. large)
+        told = rw due (but_second _ _ _ (Overflows (current_in_flight known) probe) _ _ (λ large. large)
             (refused_alike (Unit {0}) (λ answer. answer ≡ sent_as) (λ answer. answer ≡ Probe known.next_number size)
             refusal)
             (same_refusal refusal SpaceDiscarded) (same_refusal refusal NumberTooLarge)
             (same_refusal refusal NumbersExhausted) (same_refusal refusal Overflow)
-            (subst Told carries_nothing sent.told));
+            sent.told);
         steps = sent.steps;
         plain = sent.plain;
         marks = sent.marks;
@@ -151,12 +135,7 @@ module _ {K Q S M P : Type 0} (q : QueueMeaning Q S M P) (old then : Parts K P M
       → Changes {M = M} q old (PollMtu now) (Ok (Probe number size))
       (record then { paths = record then.paths { current = path } })
   probe_changes number discovery path answer is polled goes_on sent =
-      let Out : Option ℕ → Type 0 = λ due. MtuProbeReply q known now due (Ok (Probe number size)) in
-      let Fitting : P × M → Type 0 = λ carried. ¬ Over carried in
-      let Sending : P × M → Type 0 =
-      λ carried. Steps q.words (sending known Data now size true None carried.0 carried.1) old then in
-      let steps = subst Sending carries_nothing sent.steps in
-      let fits = sent.told.1.1.1 in
+      let steps = rw (empty, blank) at sent.steps in
       let told : OfPaths (PathKnown K) = paths_after (known_with old.settings) (known_following old.settings)
       (on_current (tells (sends_bytes now size (number_in known Data))) ∷ []) (paths_known old.paths) in
       let seen : Discovery → OfPaths (PathKnown K) → OfPaths (PathKnown K) = λ found all. record all
@@ -166,8 +145,8 @@ module _ {K Q S M P : Type 0} (q : QueueMeaning Q S M P) (old then : Parts K P M
           sent.told.0,
           (
             sent.told.1.1.0,
-            subst Out (sym due) (
-              subst Fitting carries_nothing fits.0,
+            rw due (
+              sent.told.1.1.1.0,
               ap (λ n. Probe n size) is,
             ),
           ),
@@ -176,11 +155,9 @@ module _ {K Q S M P : Type 0} (q : QueueMeaning Q S M P) (old then : Parts K P M
           settings = steps.settings;
           spaces = steps.spaces;
           skipping = steps.skipping;
-          paths = ap (λ (p : Path K). let all : OfPaths (Path K) = record then.paths { current = p } in paths_known all)
-              goes_on ∙ ap (seen discovery) steps.paths ∙ ap (λ found. seen found told) polled;
+          paths = rw goes_on (ap (seen discovery) steps.paths ∙ ap (λ found. seen found told) polled);
         };
         plain = sent.plain;
-        marks = ap (λ (p : Path K). let all : OfPaths (Path K) = record then.paths { current = p } in paths_marks all)
-            goes_on ∙ sent.marks;
+        marks = rw goes_on sent.marks;
         refused = tt;
       }

@@ -120,10 +120,9 @@ module _ {Q S M P : Type 0} (initial : List ℕ) where
 module _ {Q S M P : Type 0} (initial : List ℕ) (history : History Q S M P) (ids : RemoteIds)
     (same : AreHeld initial history ids) where
   -- a frame that may be accepted
-  record IsFine (frame : NewConnectionId) : Type 0 where
-    ordered : ¬ (frame.sequence < frame.retire_prior_to)
-    ahead : ¬ (frame.sequence < ids.active)
-    near : ¬ (max ids.active frame.retire_prior_to + active_connection_id_limit ≤ frame.sequence)
+  abbrev IsFine : NewConnectionId → Type 0
+  IsFine frame = (¬ (frame.sequence < frame.retire_prior_to)) × (¬ (frame.sequence < ids.active))
+      × (¬ (max ids.active frame.retire_prior_to + active_connection_id_limit ≤ frame.sequence))
 
   module _ (frame : NewConnectionId) (fine : IsFine frame) where
     -- the ids, where a frame is accepted and the active number is next
@@ -141,21 +140,19 @@ module _ {Q S M P : Type 0} (initial : List ℕ) (history : History Q S M P) (id
           same.0,
           same.1,
           same.2.within,
-          fine.ordered,
-          fine.ahead,
-          fine.near,
+          fine,
         )
 
     -- where the frame does not retire the active id, that stays
     stays_least : frame.retire_prior_to ≤ ids.active → IsLeastHeld (with_frame frame ids.held) 0 ids.active
-    stays_least kept = grind (arith, nat_tests, same.2.active_held, same.2.within, kept, fine.ahead)
+    stays_least kept = grind (arith, nat_tests, same.2.active_held, same.2.within, kept, fine)
 
   pub frame_step : (frame : NewConnectionId) (answer : Answer Q) → FrameReply ids frame (Ok answer)
       → AreHeld initial ((NewId frame, Ok answer) ∷ history) (remote_ids_with (given frame) ids)
   frame_step frame answer (small, (ordered, (ahead, (near, (unlike, told))))) = go answer told
     where
       fine : IsFine frame
-      fine = record { ordered = ordered; ahead = ahead; near = near }
+      fine = (ordered, ahead, near)
 
       again : Repeats frame ids.held
       again = grind (arith, unlike, repeats_decides frame (ids.held frame.sequence))
@@ -228,45 +225,29 @@ module _ {Q S M P : Type 0} (initial : List ℕ) (history : History Q S M P) (id
       grind (arith, nat_tests, less, starts, ends, found, new.0 next above, token.1)
   frame_accepted frame fine reply is = grind (arith, is)
 
-  -- a refusal that comes first, where a test decides its cause
-  first : (refusal : Refusal) → (refusal_number refusal == 17) ≡ false → (cause : Bool) (Cause : Type 0)
-      (Otherwise : Reply Q → Type 0) (rest : Reply Q) → Decides cause Cause
-      → ((reply : Reply Q) → ¬ Cause → Otherwise reply → reply ≡ rest) → (reply : Reply Q)
-      → Refuses refusal Cause Otherwise reply → reply ≡ (if cause then Err refusal else rest)
-  first refusal no_text = refused_by refusal (λ given. only_refusal given refusal no_text)
-
   frame_told : (frame : NewConnectionId) (reply : Reply Q) → FrameReply ids frame reply
       → reply ≡ frame_reply initial frame ids.active history
   frame_told frame =
-      let seq = frame.sequence in
-      let low = frame.retire_prior_to in
-      let limit = max ids.active low + active_connection_id_limit in
-      first NumberTooLarge refl _ _ _ _ (leb-true (2 ^ 62) seq, le-leb (2 ^ 62) seq) (λ reply small.
-      first BadRetirePriorTo refl _ _ _ _ (Decides-ltb seq low) (λ reply ordered.
-      first Retired refl _ _ _ _ (Decides-ltb seq ids.active) (λ reply ahead.
-      first ExceedsLimit refl _ _ _ _ (leb-true limit seq, le-leb limit seq) (λ reply near.
-      first Conflict refl (not (repeats frame (id_under initial seq history))) _ _ _
-      (conflicts frame (omega (arith, ahead))) (λ reply again.
-      frame_accepted frame (record { ordered = ordered; ahead = ahead; near = near }) reply)
+      let limit = max ids.active frame.retire_prior_to + active_connection_id_limit in
+      refused_by NumberTooLarge (λ given. only_refusal given _ refl) _ _ _ _ (leb-true _ _, le-leb _ _) (λ reply small.
+      refused_by BadRetirePriorTo (λ given. only_refusal given _ refl) _ _ _ _ (Decides-ltb _ _) (λ reply ordered.
+      refused_by Retired (λ given. only_refusal given _ refl) _ _ _ _ (Decides-ltb _ _) (λ reply ahead.
+      refused_by ExceedsLimit (λ given. only_refusal given _ refl) _ _ _ _ (leb-true limit _, le-leb limit _) (λ reply near.
+      refused_by Conflict (λ given. only_refusal given _ refl) (not (repeats frame (id_under initial frame.sequence history)))
+      (¬ Repeats frame ids.held) _ _
+      (grind (arith, same.0 frame.sequence, ahead, same.1, repeats_decides frame (ids.held frame.sequence)))
+      (λ reply again.
+      frame_accepted frame (ordered, ahead, near) reply)
       reply) reply) reply) reply)
-    where
-      conflicts : (frame : NewConnectionId) → ids.active ≤ frame.sequence
-          → Decides (not (repeats frame (id_under initial frame.sequence history))) (¬ Repeats frame ids.held)
-      conflicts frame ahead =
-          grind (
-            arith,
-            same.0 frame.sequence,
-            ahead,
-            same.1,
-            repeats_decides frame (ids.held frame.sequence),
-          )
 
   next_told : (reply : Reply Q) → AlwaysAnswers (IsNextAnswer ids) reply
       → reply ≡ moved initial ids.active (least_from (ids.active + 1) history) history
   next_told (Ok (Retire None)) none =
-      let nothing : least_from (ids.active + 1) history ≡ None = least_found initial (ids.active + 1) history None
-      (λ n above. grind (arith, same.0 n, same.1, none n)) in
-      grind (arith, nothing)
+      grind (
+        arith,
+        least_found initial (ids.active + 1) history None
+            (λ n above. grind (arith, same.0 n, same.1, none n)),
+      )
   next_told (Ok (Retire (Some told))) (starts, least, (id, token)) =
       let next = told.0.end in
       let found = least_held_found initial history ids same (ids.active + 1) next (omega (arith, same.1)) least in
@@ -292,37 +273,27 @@ module _ {F K Q S M P : Type 0} (beginning : Beginning F K Q S M P) where
   pub holds_first : HoldsIds []
   holds_first = grind (arith, nat_tests)
 
-  module _ (before : History Q S M P) (same : HoldsIds before) where
-    abbrev ids : RemoteIds
-    ids = ids_held initial_id before
+  follows : (after : History Q S M P) (new : RemoteIds) → AreHeld initial_id after new → HoldsIds after
+  follows after new held = subst (AreHeld initial_id after) (held_same initial_id after new held) held
 
-    follows : (event : Event Q S M P) (reply : Reply Q) (new : RemoteIds)
-        → AreHeld initial_id ((event, reply) ∷ before) new
-        → HoldsIds ((event, reply) ∷ before)
-    follows event reply new held =
-        subst (AreHeld initial_id ((event, reply) ∷ before)) (held_same initial_id ((event, reply) ∷ before) new held) held
+  -- an event that was told keeps that
+  keeps_ids : (before : History Q S M P) (event : Event Q S M P) (reply : Reply Q) → Told beginning before event reply
+      → HoldsIds before → HoldsIds ((event, reply) ∷ before)
+  keeps_ids before (NewId frame) (Ok answer) told same =
+      follows ((NewId frame, Ok answer) ∷ before) _ (frame_step initial_id before _ same frame answer told)
+  keeps_ids before NextId (Ok answer) told same = follows ((NextId, Ok answer) ∷ before) _ (next_step initial_id before _ same answer told)
+  keeps_ids before (InitialId id) (Ok answer) told same =
+      follows ((InitialId id, Ok answer) ∷ before) _ (initial_step initial_id before _ same id answer told)
+  keeps_ids before event reply told same = same
 
-    -- an event that was told keeps that
-    pub keeps_ids : (event : Event Q S M P) (reply : Reply Q) → Told beginning before event reply
-        → HoldsIds ((event, reply) ∷ before)
-    keeps_ids (NewId frame) (Ok answer) told = follows (NewId frame) (Ok answer) _ (frame_step initial_id before ids same frame answer told)
-    keeps_ids NextId (Ok answer) told = follows NextId (Ok answer) _ (next_step initial_id before ids same answer told)
-    keeps_ids (InitialId id) (Ok answer) told = follows (InitialId id) (Ok answer) _ (initial_step initial_id before ids same id answer told)
-    keeps_ids event reply told = same
-
-    -- what an event is told, it is told of the ids of the peer
-    pub accepts_told : (event : Event Q S M P) (reply : Reply Q) → Told beginning before event reply
-        → AcceptsIds initial_id before event reply
-    accepts_told (NewId frame) reply told =
-        frame_told initial_id before ids same frame reply told
-    accepts_told NextId reply told = next_told initial_id before ids same reply told
-    accepts_told (InitialId id) reply told =
-        initial_told initial_id before ids same reply told
-    accepts_told event reply told = tt
+  -- what an event is told, it is told of the ids of the peer
+  accepts_told : (before : History Q S M P) (event : Event Q S M P) (reply : Reply Q)
+      → Told beginning before event reply → HoldsIds before → AcceptsIds initial_id before event reply
+  accepts_told before (NewId frame) reply told same = frame_told initial_id before _ same frame reply told
+  accepts_told before NextId reply told same = next_told initial_id before _ same reply told
+  accepts_told before (InitialId id) reply told same = initial_told initial_id before _ same reply told
+  accepts_told before event reply told same = tt
 
   -- throughout a run
   pub accepts_ids : AllAlong beginning (AcceptsIds initial_id)
-  accepts_ids =
-      throughout_kept beginning HoldsIds (AcceptsIds initial_id)
-      (λ before event reply here same. keeps_ids before same event reply here)
-      (λ before event reply here same. accepts_told before same event reply here) holds_first
+  accepts_ids = throughout_kept beginning HoldsIds (AcceptsIds initial_id) keeps_ids accepts_told holds_first

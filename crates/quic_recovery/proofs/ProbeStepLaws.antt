@@ -1,5 +1,5 @@
 -- What probes, losses, queues and counts of ECN change leaves the balance of the paths. The calls for these rest on it.
-use Rattle.std.proofs.Common.{◌≡◌, ℕ, ◌≤◌, nat_le, Bool, false, ◌&&◌, IsTrue, Option, None, Some, Result, Ok, Err, OnOk, OnErr, refl, sym, ap, arith}
+use Rattle.std.proofs.Common.{◌∙◌, ◌≡◌, ℕ, ◌≤◌, nat_le, Bool, false, ◌&&◌, IsTrue, Option, None, Some, Result, Ok, Err, OnOk, OnErr, refl, sym, ap, arith}
 use Rattle.std.proofs.lemmas.Bool.Decides.{nat_tests}
 use Rattle.std.specs.Option.{IsSomeAnd}
 use Rattle.std.specs.declared.ops.RangeInclusive.{RangeInclusive}
@@ -49,6 +49,17 @@ module _ {K P M : Type 0} (spaces : Spaces P M) (paths : OfPaths (Path K)) (bala
       (come_kept (space_of space spaces) here (balanced.coherent space).received stays.acks stays.dedup)
       stays.tracking stays.next)
 
+  -- the ACKs change, and no packet comes or goes
+  pub acks_balanced : (space : SpaceId) (before here : Space P M) → before ≡ space_of space spaces
+      → tracking_of here ≡ tracking_of before → next_number_of here ≡ next_number_of before
+      → here.dedup ≡ before.dedup → (acks_of here).counts.greatest ≡ (acks_of before).counts.greatest
+      → AreBalanced (with_space spaces space here) paths
+  acks_balanced space before here is tracking next dedup greatest =
+      let was = balanced.coherent space in
+      kept spaces paths balanced space here (grind (arith, is, tracking))
+      (coherent_kept _ here was (λ n g. grind (arith, was.received n, is, dedup, greatest, g)) (tracking ∙ ap tracking_of is)
+      (next ∙ ap next_number_of is))
+
   -- a probe is asked for, unless memory is refused
   pub probe_balanced : {S A B : Type 0} (words : QueueWords P S) (space : SpaceId) (immediate : Bool)
       (found : ProbeFound) (result : Result A B) (here : Space P M)
@@ -64,24 +75,6 @@ pub fed_back_stays : {P M S A B : Type 0} (words : QueueWords P S) (counts : Ecn
     (old new : Space P M) → OnOk result (SpaceStep words (feeds_back counts) old new) → OnErr result (new ≡ old)
     → Stays old new
 fed_back_stays words counts result old new step same = grind (arith, step, same)
-
--- a refusal for which a space is put back as it was
-pub put_back : {K Q S M P : Type 0} (q : QueueMeaning Q S M P) (old : Parts K P M) (event : Event Q S M P)
-    (refusal : Refusal) (space : SpaceId) (there : Space P M) → there ≡ space_of space old.spaces
-    → PlainStep event (Err refusal) (plain_of old) (plain_of old)
-    → ToldBy q old.settings.words (heard_to old) (known_to old) event (Err refusal)
-    → Changes q old event (Err refusal) (record old { spaces = with_space old.spaces space there })
-put_back {K} {Q} {S} {M} {P} q old event refusal space there same plain told =
-    let new : Parts K P M = record old { spaces = with_space old.spaces space there } in
-    let kept : new ≡ old =
-    ap (λ (spaces : Spaces P M). record old { spaces = spaces }) (with_same_space old.spaces space there same) in
-    record {
-      told = told;
-      steps = nothing_changes q.words old new kept;
-      plain = plain;
-      marks = sym (marks_refused event refusal (paths_marks old.paths));
-      refused = kept;
-    }
 
 -- ---- acknowledgements of skipped numbers
 

@@ -1,5 +1,7 @@
 -- A packet that is sent: it may be tracked, the balance of the paths stays, and each part changes by its step. The call
 -- `send` rests on it.
+use Rattle.recovery_ledger.specs.SpaceLog.{sends}
+use Rattle.quic_recovery.specs.Entries.{here}
 use Rattle.std.proofs.Common.{◌≡◌, ℕ, ◌<◌, ◌≤◌, ◌^◌, Bool, false, Option, None, Some, option_map, Ok, refl, sym, ap, subst, ◌∙◌, arith}
 use Rattle.recovery_base.specs.declared.below.SpaceId.{SpaceId}
 use Rattle.recovery_congestion.specs.Calls.{sends as sends_bytes}
@@ -25,8 +27,8 @@ use Rattle.quic_recovery.specs.Known.{number_in}
 use Rattle.quic_recovery.specs.Numbers.{number_behind, skipping_behind}
 use Rattle.quic_recovery.specs.Parts.{Parts}
 use Rattle.quic_recovery.specs.State.{Changes, known_to}
-use Rattle.quic_recovery.proofs.AboveLaws.{both_marks}
-use Rattle.quic_recovery.proofs.DriverLaws.{sent_changes}
+use Rattle.quic_recovery.proofs.AboveLaws.{previous_same, both_marks}
+use Rattle.quic_recovery.proofs.DriverLaws.{space_changes}
 use Rattle.quic_recovery.proofs.NumberLaws.{number_above, number_known, number_skips}
 
 -- the paths where a packet was sent, and another is perhaps forgotten for it, as the controller is told
@@ -38,9 +40,6 @@ paths_telling packet there change paths =
 module _ {K P M : Type 0} (spaces : Spaces P M) (paths : OfPaths (Path K)) (balanced : AreBalanced spaces paths)
     (space : SpaceId) (number : ℕ) (packet : Packet P M) (own : packet.path_generation
     ≡ generation_of paths.current.ledger) (above : next_number_of (space_of space spaces) ≤ number) where
-  pub can_track_here : (here : Space P M) → here ≡ space_of space spaces → CanTrackOn paths number packet here
-  can_track_here here same = rw same (can_track spaces paths balanced space number packet own above)
-
   pub sent_balanced : (here : Space P M) (then : OfPaths (Path K)) → (¬ IsTooLarge packet.largest_acked)
       → here ≡ space_sends number packet (space_of space spaces)
       → then ≡ paths_after_sending packet (forgotten_entry packet (tracking_of (space_of space spaces))) paths
@@ -59,15 +58,10 @@ module _ {K P M : Type 0} (packet : Packet P M) (there : Space P M) (change : Pa
   known_as generation previous =
       record { current = record { generation = generation; state = change paths.current.state }; previous = previous }
 
-  previous_known : (previous : Option (Path K))
-      → option_map path_known (option_map (on_ledger (λ ledger. after_forgetting ledger forgotten)) previous)
-      ≡ option_map path_known previous
-  previous_known None = refl
-  previous_known (Some path) = refl
-
   pub telling_known : paths_known (paths_telling packet there change paths)
       ≡ known_as (generation_of paths.current.ledger) (option_map path_known paths.previous)
-  telling_known = ap (known_as (generation_of paths.current.ledger)) (previous_known paths.previous)
+  telling_known = ap (known_as (generation_of paths.current.ledger))
+      (previous_same path_known (on_ledger (λ ledger. after_forgetting ledger forgotten)) (λ path. refl) paths.previous)
 
   -- what the layer above keeps with the paths stays
   pub telling_marks : paths_marks (paths_telling packet there change paths) ≡ paths_marks paths
@@ -98,20 +92,25 @@ module _ {K Q S M P : Type 0} (q : QueueMeaning Q S M P) (old : Parts K P M)
       (after_telling old.settings.words (sends_bytes now size number)) old.paths
       → Changes q old (Send space now size ack_eliciting largest_acked queue frames) (Ok (Sent number forgotten))
       (record old { spaces = with_space old.spaces space there; skipping = skipping; paths = paths })
-  send_changes generation number there skipping paths forgotten own is left fits gone sends draws tells =
+  send_changes generation number there skipping paths forgotten own is left fits gone step draws told =
       let packet = packet_at_generation (generation_of old.paths.current.ledger) in
       let Fits : InFlight → Type 0 = λ f. ¬ Overflows f packet in
       let is_known = is ∙ number_known old space in
       let above = number_above old.skipping.filter space (next_number_of here_then) in
-      let told = ap (λ (p : OfPaths (Path K)). paths_known p) tells
-      ∙ telling_known packet here_then (after_telling old.settings.words (sends_bytes now size number)) old.paths
-      ∙ ap (λ (n : ℕ). known_as packet here_then (after_telling old.settings.words (sends_bytes now size n))
-      old.paths (generation_of old.paths.current.ledger) (option_map path_known old.paths.previous)) is_known in
-      sent_changes q old space now size ack_eliciting largest_acked queue frames there skipping paths number
-      forgotten live small (omega (arith, is_known, left)) (subst Fits balanced.current fits) is_known
-      (gone ∙ entry_number_of (tracking_of here_then).last_eliciting packet (packets_of here_then))
-      (omega (arith, above, is, is_known), (rw own at sends) ∙ ap (λ (n : ℕ). space_sends n packet here_then) is_known)
-      (number_skips old.spaces space (number_in (known_to old) space) packet old.skipping skipping
-      (sym (number_known old space)) draws) told
-      (ap (λ (p : OfPaths (Path K)). paths_marks p) tells
-      ∙ telling_marks packet here_then (after_telling old.settings.words (sends_bytes now size number)) old.paths)
+      let is_forgotten = gone ∙ entry_number_of (tracking_of here_then).last_eliciting packet (packets_of here_then) in
+      let fitting = subst Fits balanced.current fits in
+      record {
+        told = grind (arith, live, small, left, fitting, is_known, is_forgotten);
+        steps = space_changes q.words old space (sends (number_in (known_to old) space) packet) there skipping _ paths (
+          omega (arith, above, is, is_known),
+          (rw own at step) ∙ ap (λ (n : ℕ). space_sends n packet here_then) is_known,
+        )
+            (number_skips old.spaces space (number_in (known_to old) space) packet old.skipping skipping
+            (sym (number_known old space)) draws)
+            (rw (told, is_known) (telling_known (packet_at_generation generation) here_then
+            (after_telling old.settings.words (sends_bytes now size (number_in (known_to old) space))) old.paths));
+        plain = refl;
+        marks = ap (λ (p : OfPaths (Path K)). paths_marks p) told
+            ∙ telling_marks packet here_then (after_telling old.settings.words (sends_bytes now size number)) old.paths;
+        refused = tt;
+      }

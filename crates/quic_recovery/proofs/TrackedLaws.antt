@@ -41,10 +41,6 @@ use Rattle.quic_recovery.proofs.Runs.{AllAlong, throughout_kept}
 abbrev pub times : {P M : Type 0} → ℕ → Packets P M → ℕ
 times n packets = sum_by (λ entry. one_if_same entry.0 n) packets
 
--- the packet of a number is there
-abbrev IsTracked : {P M : Type 0} → Sent P M → ℕ → Type 0
-IsTracked {P} {M} sent number = (packet : Packet P M) × (packet_at sent.tracked number ≡ Some packet)
-
 pub at_itself : (n : ℕ) → is_at (nat_cmp n) n ≡ true
 at_itself n = ap is_eq (tied_itself nat_cmp_total n)
 
@@ -85,12 +81,6 @@ module _ {P M : Type 0} (n : ℕ) where
         stands packets,
       )
 
-  -- what is forgotten takes the number from a count where it is that one, and tracked
-  forgotten_counts : (packets : Packets P M) (forgotten : Option ℕ) (tracked : Bool)
-      → times n packets ≡ cond tracked 1 0
-      → gone counts (entry_at packets forgotten) ≡ cond (is_it n forgotten && tracked) 1 0
-  forgotten_counts packets forgotten tracked same = grind (arith, nat_tests, stands packets, same)
-
   -- what is forgotten stands there
   least_counts : (last : Option ℕ) (packets : Packets P M) → least_number (silent_above last packets) ≡ Some n
       → 1 ≤ times n packets
@@ -115,29 +105,13 @@ module _ {P M : Type 0} (n : ℕ) where
           arith,
           nat_tests,
           sum-sent_onto counts sent.last number packet sent.tracked,
-          forgotten_counts sent.tracked (forgotten_by sent packet) tracked here.same,
+          stands sent.tracked,
           least_counts sent.last sent.tracked,
           here.same,
           here.adds,
           here.once,
           here.late,
         )
-
-    -- a tracked packet leaves
-    taken_tracks : (number : ℕ) → IsTracked sent number
-        → Tracks (sent_less number sent) (not (number == n) && tracked) given (more_if (number == n) departed)
-    taken_tracks number there =
-        let sum = sum-without counts sent.tracked number there.0 there.1 in
-        grind (arith, nat_tests, sum, here.same, here.adds, here.once, here.late)
-
-    -- contents are moved out of a packet
-    moved_tracks : (empty : P) (moved : Option ℕ) → Tracks (sent_moved empty moved sent) tracked given departed
-    moved_tracks empty moved =
-        grind (arith, here, λ (number : ℕ). sum-carrying sent.tracked number counts empty (λ m packet. refl))
-
-    -- a look-up says the same
-    looked_up : is_some (packet_at sent.tracked n) ≡ tracked
-    looked_up = grind (arith, nat_tests, stands sent.tracked, here.same)
 
 -- ---- what an event does to it
 
@@ -204,7 +178,12 @@ module _ {F K Q S M P : Type 0} (beginning : Beginning F K Q S M P) (before : Hi
   unmoved : (entry : SpaceEntry P M) → keeps_packets (space_kind entry) ≡ true
       → After (Some entry) tracked_now given_now departed_now
   unmoved (probes immediate found) keeps =
-      moved_tracks n _ _ _ _ here beginning.queue.words.empty found.moved
+      grind (
+        arith,
+        here,
+        λ (number : ℕ). sum-carrying (sent_in beginning before space).tracked number (counts n)
+            beginning.queue.words.empty (λ m packet. refl),
+      )
   unmoved entry keeps = grind (arith, keeps, here)
 
   -- an entry in one space, by which a number may go out or leave
@@ -231,8 +210,10 @@ module _ {F K Q S M P : Type 0} (beginning : Beginning F K Q S M P) (before : Hi
       → Tracks n (sent_less number (sent_in beginning before space)) (not (number == n) && tracked_now) given_now
       (more_if (number == n) departed_now)
   leaves_told there number told is =
-      taken_tracks n _ _ _ _ here number
-      (is_there (packet_at (sent_in beginning before space).tracked number) (rw (← one_space there space is) told))
+      let found = is_there (packet_at (sent_in beginning before space).tracked number)
+      (rw (← one_space there space is) told) in
+      let sum = sum-without (counts n) (sent_in beginning before space).tracked number found.0 found.1 in
+      grind (arith, nat_tests, sum, here.same, here.adds, here.once, here.late)
 
   reply_tracks : (event : Event Q S M P) (reply : Reply Q) → Told beginning before event reply
       → TracksIn beginning ((event, reply) ∷ before) space n
@@ -284,13 +265,13 @@ module _ {F K Q S M P : Type 0} (beginning : Beginning F K Q S M P) where
       λ space n. reply_tracks beginning before space n (all space n) event reply told
 
   pub none_tracked : AllTracked []
-  none_tracked = λ space n. record { same = refl; adds = refl; once = omega arith; late = λ late. refl }
+  none_tracked = λ space n. grind arith
 
   -- a packet is found where its number is tracked
   pub tracked_found : (history : History Q S M P) → AllTracked history → (space : SpaceId) (n : ℕ)
       → is_some (packet_at (sent_in beginning history space).tracked n) ≡ is_tracked space n history
   tracked_found history all space n =
-      looked_up n (sent_in beginning history space) (is_tracked space n history) _ _ (all space n)
+      grind (arith, nat_tests, stands n (sent_in beginning history space).tracked, (all space n).same)
 
 -- ---- numbers rise
 

@@ -12,38 +12,28 @@ use Rattle.quic_recovery.proofs.driver.Recovery.acked.Goals as goal
 
 pub on_packet_acked-probe-requires : goal.on_packet_acked-probe-requires
 on_packet_acked-probe-requires g c =
-    let found = ap (λ (s : Space _ _). packet_at (packets_of s) c.args.number) (sym c.index_mut-here.ensures.value)
-    ∙ sym c.take.ensures.packet ∙ c.in-Some.is in
-    counted c.args.self.now.spaces c.args.self.now.paths c.args.self.now.balanced c.args.space c.args.number
-    c.in-Some.packet found
+    counted _ _ c.args.self.now.balanced _ _ _
+    (rw c.index_mut-here.ensures.value at (sym c.take.ensures.packet ∙ c.in-Some.is))
 
 pub on_acked-requires : goal.on_acked-requires
 on_acked-requires g c =
-    let found = ap (λ (s : Space _ _). packet_at (packets_of s) c.args.number) (sym c.index_mut-here.ensures.value)
-    ∙ sym c.take.ensures.packet ∙ c.in-Some.is in
-    acknowledging_found _ (c.args.self.now.balanced.coherent c.args.space).acknowledging c.args.number c.in-Some.packet
-    found
+    acknowledging_found _ (c.args.self.now.balanced.coherent c.args.space).acknowledging _ _
+    (rw c.index_mut-here.ensures.value at (sym c.take.ensures.packet ∙ c.in-Some.is))
 
 pub invariant_of-self-2 : goal.invariant_of-self-2
 invariant_of-self-2 g c =
     let balanced = c.args.self.now.balanced in
     let there = c.index_mut-here.ensures.value in
-    let found = ap (λ (s : Space _ _). packet_at (packets_of s) c.args.number) (sym there) ∙ sym c.take.ensures.packet
-    ∙ c.in-Some.is in
-    let tracking = ap tracking_of c.on_acked.ensures.others ∙ ap tracking_of c.take.ensures.after
-    ∙ ap (λ (s : Space _ _). after_taking c.args.number (tracking_of s)) there in
-    let next = ap next_number_of c.on_acked.ensures.others ∙ ap next_number_of c.take.ensures.after
-    ∙ ap next_number_of there in
-    let come = acked_greatest c.args.number c.in-Some.packet c.take.new.self c.on_acked.new.self
+    let found = rw there at (sym c.take.ensures.packet ∙ c.in-Some.is) in
+    let others = rw (c.take.ensures.after, there) at c.on_acked.ensures.others in
+    let tracking = ap tracking_of others in
+    let come = acked_greatest _ c.in-Some.packet c.take.new.self _
     (rw (c.take.ensures.after, there) (balanced.coherent c.args.space).received)
     c.on_acked.ensures.subtracts c.on_acked.ensures.others in
-    let coherent = coherent_taken (space_of c.args.space c.args.self.now.spaces) c.on_acked.new.self
-    (balanced.coherent c.args.space) come c.args.number tracking next in
+    let coherent = coherent_taken _ _ (balanced.coherent c.args.space) come _ tracking (ap next_number_of others) in
     record {
       balanced = rw c.on_packet_acked-probe.ensures.after
-          (paths_balanced_acked c.args.self.now.spaces c.args.self.now.paths balanced c.args.space c.args.number
-          c.in-Some.packet
-          c.on_acked.new.self found (ap (λ (t : Tracking _ _). t.packets) tracking) coherent
+          (paths_balanced_acked _ _ balanced _ _ _ _ found (ap (λ (t : Tracking _ _). t.packets) tracking) coherent
           g.F.Controller.Controller.words c.args.now c.args.app_limited);
       limited = c.args.self.now.limited;
     }
@@ -51,18 +41,14 @@ invariant_of-self-2 g c =
 pub returns : goal.returns
 returns g c =
     let there = c.index_mut-here.ensures.value in
-    let found = ap (λ (s : Space _ _). packet_at (packets_of s) c.args.number) (sym there) ∙ sym c.take.ensures.packet
-    ∙ c.in-Some.is in
+    let found = rw there at (sym c.take.ensures.packet ∙ c.in-Some.is) in
     let taken = c.take.ensures.after ∙ ap (space_takes c.args.number) there in
-    acked_changes (queue_meaning g.Q.RetransmitQueue.contents g.Q.RetransmitQueue.words g.Q.RetransmitQueue.blank)
-    (parts_of c.args.self.now) c.args.space c.args.number c.in-Some.packet c.on_acked.new.self
-    c.on_packet_acked-probe.new.self c.on_packet_acked-probe.result (sym c.if-contains.ensures) found
-    c.on_packet_acked-probe.ensures.probe c.args.now c.args.app_limited
+    acked_changes _ _ _ _ _ _ _ _ (sym c.if-contains.ensures) found
+    c.on_packet_acked-probe.ensures.probe _ _
     (record {
       packet = c.in-Some.packet;
       found = found;
       subtracts = rw taken at c.on_acked.ensures.subtracts;
-      others = c.on_acked.ensures.others ∙ ap (λ (s : Space _ _). with_acks (acks_of c.on_acked.new.self)
-          (after_acknowledging c.args.number c.in-Some.packet.time_sent s)) taken;
+      others = rw taken at c.on_acked.ensures.others;
     })
     c.on_packet_acked-probe.ensures.after

@@ -8,12 +8,11 @@ pub returns-in-Ok : goal.returns-in-Ok
 returns-in-Ok g c = (
   fails _ (sym c.if-contains.ensures),
   (
-    (λ large. absurd (omega (arith, large, c.if-high-ge-NUMBER_LIMIT.false))),
+    (λ large. omega arith),
     (
-      (λ less. absurd (omega (arith, less, c.if-low-high.false))),
+      (λ less. omega arith),
       (
-        (λ acked. c.in-Ok.ensures (acks_skip (known_to (parts_of c.args.self.now)) c.new.result c.args.low c.args.high
-            c.new.ensures.start c.new.ensures.end c.new.ensures.exhausted c.args.space acked)),
+        (λ acked. c.in-Ok.ensures (acks_skip (known_to (parts_of c.args.self.now)) _ _ _ c.new.ensures.start c.new.ensures.end c.new.ensures.exhausted c.args.space acked)),
         refl,
       ),
     ),
@@ -24,11 +23,10 @@ pub returns-in-Err : goal.returns-in-Err
 returns-in-Err g c = (
   fails _ (sym c.if-contains.ensures),
   (
-    (λ large. absurd (omega (arith, large, c.if-high-ge-NUMBER_LIMIT.false))),
+    (λ large. omega arith),
     (
-      (λ less. absurd (omega (arith, less, c.if-low-high.false))),
-      skip_acked (known_to (parts_of c.args.self.now)) c.new.result c.args.low c.args.high c.new.ensures.start
-          c.new.ensures.end c.new.ensures.exhausted c.args.space c.in-Err.ensures.0,
+      (λ less. omega arith),
+      skip_acked (known_to (parts_of c.args.self.now)) _ _ _ c.new.ensures.start c.new.ensures.end c.new.ensures.exhausted c.args.space c.in-Err.ensures.0,
     ),
   ),
 )

@@ -10,31 +10,19 @@ use Rattle.quic_recovery.proofs.driver.Recovery.discard.Goals as goal
 
 pub invariant_of-self-2 : goal.invariant_of-self-2
 invariant_of-self-2 g c =
-    let words = g.Q.RetransmitQueue.words in
-    let now = c.args.self.now in
-    let balanced = now.balanced in
-    let old = space_of c.args.space now.spaces in
-    let here = c.take_pending.new.self in
+    let balanced = c.args.self.now.balanced in
     let there = c.index_mut-here.ensures.value in
-    let empty : here ≡ space_discards words old = c.take_pending.ensures.step
-    ∙ ap (space_hands_out words) (c.forget_all.ensures.space ∙ ap (λ (s : Space _ _). space_empties s) there) in
-    let coherent = coherent_emptied old here (balanced.coherent c.args.space)
-    (rw empty (balanced.coherent c.args.space).received) (ap tracking_of empty)
-    (ap next_number_of empty) in
-    let left = c.forget_all.ensures.paths ∙ ap (λ (s : Space _ _). paths_without (packets_of s) now.paths) there in
+    let empty = rw (c.forget_all.ensures.space, there) at c.take_pending.ensures.step in
     record {
-      balanced = rw left (emptied now.spaces now.paths balanced c.args.space here (ap packets_of empty) coherent);
-      limited = now.limited;
+      balanced = rw (c.forget_all.ensures.paths, there) (emptied _ _ balanced _ _ (ap packets_of empty)
+          (coherent_emptied _ _ (balanced.coherent c.args.space)
+          (rw empty (balanced.coherent c.args.space).received) (ap tracking_of empty) (ap next_number_of empty)));
+      limited = c.args.self.now.limited;
     }
 
 pub returns : goal.returns
 returns g c =
-    let words = g.Q.RetransmitQueue.words in
-    let now = parts_of c.args.self.now in
     let there = c.index_mut-here.ensures.value in
-    let empty = c.take_pending.ensures.step
-    ∙ ap (space_hands_out words) (c.forget_all.ensures.space ∙ ap (λ (s : Space _ _). space_empties s) there) in
-    let left = c.forget_all.ensures.paths ∙ ap (λ (s : Space _ _). paths_without (packets_of s) now.paths) there in
-    discard_changes (queue_meaning g.Q.RetransmitQueue.contents words g.Q.RetransmitQueue.blank) now c.args.space
-    c.take_pending.new.self c.insert.new.self c.forget_all.new.self
-    (sym c.if-contains.ensures) empty c.insert.ensures left
+    discard_changes _ _ _ _ _ _ (sym c.if-contains.ensures)
+    (rw (c.forget_all.ensures.space, there) at c.take_pending.ensures.step) c.insert.ensures
+    (rw there at c.forget_all.ensures.paths)

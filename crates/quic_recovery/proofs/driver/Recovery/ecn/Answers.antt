@@ -7,10 +7,8 @@ pub invariant_of-self : goal.invariant_of-self
 invariant_of-self g c =
     let Kept : Space _ _ → Type 0 = λ there. Stays there c.detect_ecn.new.self in
     record {
-      balanced = stays_balanced c.args.self.now.spaces c.args.self.now.paths c.args.self.now.balanced c.args.space
-          c.detect_ecn.new.self
-          (subst Kept c.index_mut.ensures.value (fed_back_stays g.Q.RetransmitQueue.words c.args.counts
-          c.detect_ecn.result c.index_mut.result.now c.detect_ecn.new.self c.detect_ecn.ensures.step
+      balanced = stays_balanced _ _ c.args.self.now.balanced _ _
+          (subst Kept c.index_mut.ensures.value (fed_back_stays g.Q.RetransmitQueue.words _ _ _ _ c.detect_ecn.ensures.step
           c.detect_ecn.ensures.err));
       limited = c.args.self.now.limited;
     }

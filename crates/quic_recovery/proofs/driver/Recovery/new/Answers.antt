@@ -11,7 +11,7 @@ use Rattle.quic_recovery.proofs.driver.Recovery.new.Goals as goal
 
 pub invariant_of-result : goal.invariant_of-result
 invariant_of-result g c = record {
-  balanced = balanced_first c.new-2.result c.first_path.result c.new-4.result c.new-4.ensures c.new-2.ensures
+  balanced = balanced_first _ _ _ c.new-4.ensures c.new-2.ensures
       c.first_path.ensures.ledger;
   limited = λ limit is. absurd (none-some limit is);
 }
@@ -24,7 +24,7 @@ returns-clause-left g c =
     let beginning = begins g.F.ControllerFactory.built g.F.Controller.Controller.words queues c.args.config c.args.now
     random in
     let made = c.new-2.ensures in
-    let balanced = balanced_first c.new-2.result c.first_path.result c.new-4.result c.new-4.ensures made
+    let balanced = balanced_first _ _ _ c.new-4.ensures made
     c.first_path.ensures.ledger in
     let spaces : (space : SpaceId) → SpaceLeft words c.args.now [] (space_of space c.new-2.result) = λ space.
     fresh_space words c.args.now _ (made space) in
@@ -34,10 +34,10 @@ returns-clause-left g c =
       beside = λ space. beside_made _ _ _ (made space).ecn (made space).loss_time (made space).crypto_offset;
       discarded = search rules;
       skipping = c.with_skips-filter.ensures;
-      paths = paths_first beginning c.first_path.result c.new-4.result c.new-4.ensures c.first_path.ensures.ledger
+      paths = paths_first beginning _ _ c.new-4.ensures c.first_path.ensures.ledger
           (c.first_path.ensures.state random);
       peer_limit = refl;
-      in_flight = in_flight_law beginning [] c.new-2.result c.new-4.result spaces balanced;
+      in_flight = in_flight_law beginning [] _ _ spaces balanced;
       frequency = c.new-5.ensures;
       timers = search rules;
       remote_ids = search rules;
@@ -55,4 +55,4 @@ returns-clause-came g c = record {
 }
 
 pub returns-clause-marks : goal.returns-clause-marks
-returns-clause-marks g c = fresh_first c.first_path.result c.new-4.result c.new-4.ensures c.first_path.ensures.marks
+returns-clause-marks g c = fresh_first _ _ c.new-4.ensures c.first_path.ensures.marks

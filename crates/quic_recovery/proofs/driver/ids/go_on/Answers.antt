@@ -1,3 +1,4 @@
+use Rattle.std.proofs.lemmas.Bool.{false≢true}
 use Rattle.std.proofs.Common.{rules, ℕ, List, IsTrue, false, ◌≡◌, ◌+◌, ◌<◌, map, get_or, length, sym, ap, ◌∙◌, refl, arith}
 use Rattle.std.specs.List.{range_with_len}
 use Rattle.std.proofs.lemmas.List.{ext_get_or, get_or-map, length-map}
@@ -22,12 +23,9 @@ numbers_go_on first ids each =
     (λ i inside. let within : i < length ids = omega (arith, inside, long) in each i within
     ∙ sym (get_or-range_with_len first (length ids) i 0 within))
 
-false_fails : IsTrue false → ⊥
-false_fails holds = cc
-
 pub returns-then-id-next : goal.returns-then-id-next
 returns-then-id-next c = (
-  λ holds. absurd (false_fails holds),
+  λ holds. absurd (false≢true holds),
   λ run.
       let here = ap (λ (id : IssuedCid). id.sequence) c.id-item.is
       ∙ number_at c.args.first c.loop-id.id-index c.args.ids.now c.id-item.result c.loop-id-test.true run in
