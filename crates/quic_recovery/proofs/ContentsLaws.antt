@@ -142,8 +142,12 @@ module _ {F K Q S M P : Type 0} (beginning : Beginning F K Q S M P) (before : Hi
   unmoved : (entry : SpaceEntry P M) → keeps_contents (space_kind entry) ≡ true
       → outgoing_now ≡ held_by (entry ∷ log) + gone_now
   unmoved (loses number) keeps =
-      let waits = joins words measure adds pending (packet_at sent.tracked number) in
-      omega (arith, same, sum_leaves words measure adds sent.tracked number, waits)
+      omega (
+        arith,
+        same,
+        sum_leaves words measure adds sent.tracked number,
+        joins words measure adds pending (packet_at sent.tracked number),
+      )
   unmoved (probes immediate found) keeps =
       omega (arith, same, moves_none words measure adds pending found.moved sent)
   unmoved entry keeps = grind (arith, keeps, same)

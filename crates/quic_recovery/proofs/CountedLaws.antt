@@ -104,8 +104,7 @@ module _ {P M : Type 0} (weigh : ℕ → Bool → ℕ) (generation : ℕ) where
       → sum_in gone (sent_more number packet sent).tracked ≡ sum_in (λ n. gone_with true forgotten gone n) sent.tracked
       + weigh_in gone (number, packet)
   sum_sent sent gone number packet None is once =
-      let push = sum_by_push (weigh_in gone) (without_some sent.tracked None) (number, packet) in
-      rw (← is) push
+      rw (← is) (sum_by_push (weigh_in gone) (without_some sent.tracked None) (number, packet))
   sum_sent sent gone number packet (Some m) is once =
       let push = sum_by_push (weigh_in gone) (without_some sent.tracked (Some m)) (number, packet) in
       rw (← is) (omega (arith, push, sum_without gone m sent.tracked (once m)))

@@ -132,9 +132,6 @@ pub received_keeps : {P M S : Type 0} (words : QueueWords P S) (now number : ℕ
     (receipt : Result Receipt ReceiveError) (old new : Space P M) → HasGreatestCome old
     → IfOk receipt (λ r. SpaceStep words (arrives now number ack_eliciting r) old new) → OnErr receipt (new ≡ old)
     → (tracking_of new ≡ tracking_of old) × (next_number_of new ≡ next_number_of old) × HasGreatestCome new
-received_keeps words now number ack_eliciting (Ok (New arm)) old new come step kept = (
-  ap tracking_of step.others,
-  ap next_number_of step.others,
-  heard_greatest old new now number ack_eliciting come step,
-)
+received_keeps words now number ack_eliciting (Ok (New arm)) old new come step kept =
+    grind (arith, step.others, heard_greatest old new now number ack_eliciting come step)
 received_keeps words now number ack_eliciting receipt old new come step kept = grind (arith, step, kept, come)

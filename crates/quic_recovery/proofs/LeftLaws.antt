@@ -102,7 +102,8 @@ module _ {F K Q S M P : Type 0} (beginning : Beginning F K Q S M P) where
   left_after history event reply old new left changes balanced =
       let entries = entries_of beginning.queue (known_by beginning history) event reply in
       let steps = changes.steps in
-      let plain = plain_after beginning.queue old.settings.words (heard_to old) (known_by beginning history) beginning.config.max_ack_delay
+      let plain = plain_after beginning.queue old.settings.words (heard_to old) (known_by beginning history)
+      beginning.config.max_ack_delay
       beginning.config.initial_cid (first_ids beginning) history event reply _ _
       (left.discarded, left.frequency, left.timers, left.peer_limit, left.remote_ids, left.local_ids)
       (sym (held_same _ history _ left.remote_ids))
@@ -118,14 +119,16 @@ module _ {F K Q S M P : Type 0} (beginning : Beginning F K Q S M P) where
         beside = λ space. beside_stays beginning.queue.words (entries.spaces space) _ _ (steps.spaces space)
             ∙ left.beside space;
         discarded = plain.0;
-        skipping = skipping_law (entries.spaces Data) ((logs_of beginning history).spaces Data) _ _ _ (ap (λ (s : Sent P M). s.next) (left.spaces Data).sent) left.skipping
+        skipping = skipping_law (entries.spaces Data) ((logs_of beginning history).spaces Data) _ _ _
+            (ap (λ (s : Sent P M). s.next) (left.spaces Data).sent) left.skipping
             steps.skipping;
         frequency = plain.1;
         timers = plain.2;
         remote_ids = plain.4;
         local_ids = plain.5;
         paths =
-            paths_law (settings_of beginning) (first_path beginning) entries.paths _ _ _ left.paths (rw left.settings at steps.paths);
+            paths_law (settings_of beginning) (first_path beginning) entries.paths _ _ _ left.paths
+            (rw left.settings at steps.paths);
         peer_limit = plain.3;
         in_flight = in_flight_law beginning ((event, reply) ∷ history) new.spaces new.paths spaces balanced;
       }

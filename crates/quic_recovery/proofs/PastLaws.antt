@@ -80,7 +80,8 @@ module _ {F K Q S M P : Type 0} (beginning : Beginning F K Q S M P) where
       }
 
 module _ {F K Q S M P : Type 0} {built : F → ℕ → ℕ → K} {words : ControllerWords K} {queue : QueueMeaning Q S M P}
-    {old : Parts K P M} {event : Event Q S M P} {reply : Reply Q} {new : Parts K P M} (on : GoesOn built words queue old event reply new)
+    {old : Parts K P M} {event : Event Q S M P} {reply : Reply Q} {new : Parts K P M}
+    (on : GoesOn built words queue old event reply new)
   where
     -- from a past by which it came here it went on
     pub went_on : ∥ CameSomehow built words queue old ∥₁ → ∥ WentOn built words queue old event reply new ∥₁

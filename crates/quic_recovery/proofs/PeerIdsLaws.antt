@@ -232,8 +232,10 @@ module _ {Q S M P : Type 0} (initial : List ℕ) (history : History Q S M P) (id
       refused_by NumberTooLarge (λ given. only_refusal given _ refl) _ _ _ _ (leb-true _ _, le-leb _ _) (λ reply small.
       refused_by BadRetirePriorTo (λ given. only_refusal given _ refl) _ _ _ _ (Decides-ltb _ _) (λ reply ordered.
       refused_by Retired (λ given. only_refusal given _ refl) _ _ _ _ (Decides-ltb _ _) (λ reply ahead.
-      refused_by ExceedsLimit (λ given. only_refusal given _ refl) _ _ _ _ (leb-true limit _, le-leb limit _) (λ reply near.
-      refused_by Conflict (λ given. only_refusal given _ refl) (not (repeats frame (id_under initial frame.sequence history)))
+      refused_by ExceedsLimit (λ given. only_refusal given _ refl) _ _ _ _ (leb-true limit _, le-leb limit _)
+      (λ reply near.
+      refused_by Conflict (λ given. only_refusal given _ refl)
+      (not (repeats frame (id_under initial frame.sequence history)))
       (¬ Repeats frame ids.held) _ _
       (grind (arith, same.0 frame.sequence, ahead, same.1, repeats_decides frame (ids.held frame.sequence)))
       (λ reply again.
@@ -281,7 +283,8 @@ module _ {F K Q S M P : Type 0} (beginning : Beginning F K Q S M P) where
       → HoldsIds before → HoldsIds ((event, reply) ∷ before)
   keeps_ids before (NewId frame) (Ok answer) told same =
       follows ((NewId frame, Ok answer) ∷ before) _ (frame_step initial_id before _ same frame answer told)
-  keeps_ids before NextId (Ok answer) told same = follows ((NextId, Ok answer) ∷ before) _ (next_step initial_id before _ same answer told)
+  keeps_ids before NextId (Ok answer) told same =
+      follows ((NextId, Ok answer) ∷ before) _ (next_step initial_id before _ same answer told)
   keeps_ids before (InitialId id) (Ok answer) told same =
       follows ((InitialId id, Ok answer) ∷ before) _ (initial_step initial_id before _ same id answer told)
   keeps_ids before event reply told same = same

@@ -57,7 +57,8 @@ module _ {K P M : Type 0} (spaces : Spaces P M) (paths : OfPaths (Path K)) (bala
   acks_balanced space before here is tracking next dedup greatest =
       let was = balanced.coherent space in
       kept spaces paths balanced space here (grind (arith, is, tracking))
-      (coherent_kept _ here was (λ n g. grind (arith, was.received n, is, dedup, greatest, g)) (tracking ∙ ap tracking_of is)
+      (coherent_kept _ here was (λ n g. grind (arith, was.received n, is, dedup, greatest, g))
+      (tracking ∙ ap tracking_of is)
       (next ∙ ap next_number_of is))
 
   -- a probe is asked for, unless memory is refused

@@ -9,7 +9,8 @@ use Rattle.quic_recovery.proofs.driver.Recovery.acks_sent.Goals as goal
 
 pub invariant_of-self : goal.invariant_of-self
 invariant_of-self g c = record {
-  balanced = acks_balanced _ _ c.args.self.now.balanced _ _ _ (c.behind-self.view_is ∙ c.index_mut.ensures.value) refl refl refl
+  balanced = acks_balanced _ _ c.args.self.now.balanced _ _ _ (c.behind-self.view_is ∙ c.index_mut.ensures.value)
+      refl refl refl
       (ap (λ (a : Acks). a.counts.greatest) c.acks_sent.ensures.sends);
   limited = c.args.self.now.limited;
 }

@@ -12,7 +12,8 @@ returns-in-Ok g c = (
     (
       (λ less. omega arith),
       (
-        (λ acked. c.in-Ok.ensures (acks_skip (known_to (parts_of c.args.self.now)) _ _ _ c.new.ensures.start c.new.ensures.end c.new.ensures.exhausted c.args.space acked)),
+        (λ acked. c.in-Ok.ensures (acks_skip (known_to (parts_of c.args.self.now)) _ _ _ c.new.ensures.start
+            c.new.ensures.end c.new.ensures.exhausted c.args.space acked)),
         refl,
       ),
     ),
@@ -26,7 +27,8 @@ returns-in-Err g c = (
     (λ large. omega arith),
     (
       (λ less. omega arith),
-      skip_acked (known_to (parts_of c.args.self.now)) _ _ _ c.new.ensures.start c.new.ensures.end c.new.ensures.exhausted c.args.space c.in-Err.ensures.0,
+      skip_acked (known_to (parts_of c.args.self.now)) _ _ _ c.new.ensures.start c.new.ensures.end
+          c.new.ensures.exhausted c.args.space c.in-Err.ensures.0,
     ),
   ),
 )

@@ -8,7 +8,8 @@ invariant_of-self g c =
     let Kept : Space _ _ → Type 0 = λ there. Stays there c.detect_ecn.new.self in
     record {
       balanced = stays_balanced _ _ c.args.self.now.balanced _ _
-          (subst Kept c.index_mut.ensures.value (fed_back_stays g.Q.RetransmitQueue.words _ _ _ _ c.detect_ecn.ensures.step
+          (subst Kept c.index_mut.ensures.value (fed_back_stays g.Q.RetransmitQueue.words _ _ _ _
+          c.detect_ecn.ensures.step
           c.detect_ecn.ensures.err));
       limited = c.args.self.now.limited;
     }

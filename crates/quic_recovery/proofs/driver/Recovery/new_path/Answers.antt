@@ -20,7 +20,7 @@ returns-in-Err g c =
     let event : Event g.row.Q.Denot g.row.Q-Streams.Denot g.row.Q-Meta.Denot g.row.Q-Contents.Denot =
     NewPath c.args.now c.args.remote c.args.fresh in
     record {
-      told = ((λ most. absurd (omega (arith, most, room))), search (rules, c.if-fresh.false));
+      told = ((λ most. omega arith), search (rules, c.if-fresh.false));
       steps = nothing_changes g.Q.RetransmitQueue.words (parts_of now) (parts_of now) refl;
       plain = refl;
       marks = sym (marks_refused event NoMemory (paths_marks now.paths));

@@ -18,5 +18,6 @@ returns g c =
       | in-Ok w ↦ rw (w.result-is, w.self-is) (probe_changes _ _ _ _ _ _ _ c.empty-queue.ensures blank due _ _ _ _
           c.number_in-number.ensures polled w.search_on-in-Ok.ensures
           (rw (← c.self-2.view_is) at w.in-Ok.ensures))
-      | in-Err w ↦ rw (w.result-is, w.self-is) (probe_refused _ _ _ _ _ _ _ c.empty-queue.ensures blank due _ w.in-Err.ensures)
+      | in-Err w ↦ rw (w.result-is, w.self-is)
+          (probe_refused _ _ _ _ _ _ _ c.empty-queue.ensures blank due _ w.in-Err.ensures)
     ]
