@@ -12,7 +12,7 @@ pub drops_below : (old new : Window) → old.start ≤ new.start →
     ((m : ℕ) → new.start ≤ m → m < old.start + LEN
     → get_or new.entries (m % LEN) None ≡ get_or old.entries (m % LEN) None) →
     (n : ℕ) → held_at new n ≡ without_below new.start (held_at old) n
-drops_below old new ahead fresh kept n =
+drops_below _ _ ahead fresh kept n =
     let free = fresh n in
     let same = kept n in
-    grind (arith, nat_tests, free, same)
+    grind arith

@@ -10,5 +10,5 @@ use Rattle.recovery_ids.proofs.state.remove.Goals as goal
 pub returns : goal.returns
 returns c =
     ap keys_of c.take-removed.ensures.entries
-    ∙ keys-removed (is_at (nat_cmp c.args.number)) (entries_of c.args.numbers.now)
+    ∙ keys-removed _ (entries_of c.args.numbers.now)
     ∙ removes 0 (2 ^ 62) c.args.number (numbers_in c.args.numbers.now) c.requires
