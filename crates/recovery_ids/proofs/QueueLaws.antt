@@ -78,5 +78,6 @@ retires old new frame _ _ accepts ahead ordered =
       not_empty = omega (arith, told.begins, told.ends, reached, ahead);
       ends = omega (arith, told.ends);
       cut = omega (arith, told.ends);
-      dropped = λ n here gone. grind (arith, nat_tests, accepts.held n, gone, here, reached, told, entry_within old n here);
+      dropped = λ n here gone.
+          grind (arith, nat_tests, accepts.held n, gone, here, reached, told, entry_within old n here);
     }

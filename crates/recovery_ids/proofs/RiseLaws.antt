@@ -1,7 +1,6 @@
 -- Lists of numbers that rise. All that is said of the ids of this end rests on it.
 use Rattle.std.proofs.Common.{◌≡◌, ℕ, zero, suc, ◌+◌, ◌<◌, ◌≤◌, ◌==◌, ◌&&◌, nat_lt, nat_le, not, Bool, false, List, [], ◌∷◌, ◌++◌, filter, refl, arith}
 use Rattle.std.specs.List.{list_any, range_with_len}
-use Rattle.std.proofs.lemmas.Bool.Decides.{nat_tests}
 use Rattle.recovery_ids.specs.LocalIds.{Rise}
 
 pub Rise-bound : (low high : ℕ) (ns : List ℕ) → Rise low high ns → low ≤ high

@@ -43,13 +43,14 @@ module _ {ids : LocalIds} (sound : AreSound ids) where
 
   pub issued_sound : (count now : ℕ) → ids.issued + count ≤ 2 ^ 62 → AreSound (with_issued count now ids)
   issued_sound zero _ _ = sound
-  issued_sound (suc count) now small = let end : ids.issued + suc count ≡ ids.issued + count + 1 = omega arith in record {
-    small = small;
-    marks = sound.marks;
-    unretired = Rise-append _ _ (suc count) _ ids.unretired sound.unretired refl;
-    deadlines = rw end (deadlines_with-rise _ now _ _ ids.deadlines
-        (Rise-wider _ _ _ _ _ sound.deadlines (omega arith) (omega arith)));
-  }
+  issued_sound (suc count) now small =
+      let end : ids.issued + suc count ≡ ids.issued + count + 1 = omega arith in record {
+        small = small;
+        marks = sound.marks;
+        unretired = Rise-append _ _ (suc count) _ ids.unretired sound.unretired refl;
+        deadlines = rw end (deadlines_with-rise _ now _ _ ids.deadlines
+            (Rise-wider _ _ _ _ _ sound.deadlines (omega arith) (omega arith)));
+      }
 
   pub retired_sound : (number : ℕ) → AreSound (without_number number ids)
   retired_sound number = record {

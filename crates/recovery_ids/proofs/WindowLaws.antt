@@ -1,6 +1,5 @@
 -- What a window holds once its lowest numbers are dropped: `drop_below` rests on it.
 use Rattle.std.proofs.Common.{◌≡◌, ℕ, ◌+◌, ◌%◌, ◌<◌, ◌≤◌, max, None, get_or, arith}
-use Rattle.std.proofs.lemmas.Bool.Decides.{nat_tests}
 use Rattle.recovery_ids.specs.declared.window.TheConstants.{LEN}
 use Rattle.recovery_ids.specs.declared.window.Window.{Window}
 use Rattle.recovery_ids.specs.RemoteIds.{without_below}

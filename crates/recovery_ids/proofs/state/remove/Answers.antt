@@ -1,7 +1,5 @@
 use Rattle.std.proofs.Common.{◌^◌, ◌∙◌, ap}
 use Rattle.std.specs.Map.{keys_of}
-use Rattle.std.specs.Ordering.{nat_cmp}
-use Rattle.std.specs.BTreeMap.{is_at}
 use Rattle.recovery_slots.specs.Slots.{entries_of}
 use Rattle.recovery_ids.specs.CidState.{numbers_in}
 use Rattle.recovery_ids.proofs.SetLaws.{keys-removed, removes}
