@@ -43,7 +43,8 @@ few_ends low from (range ∷ others) apart ends (n ∷ numbers) up =
       | inr past ↦ omega (
         arith,
         few_ends (range.end + 1) n others apart.2
-            (λ m above p. behind m (omega arith) (ends m (omega (arith, up.0)) p)) (n ∷ numbers) (omega arith, up.1, up.2),
+            (λ m above p. behind m (omega arith) (ends m (omega (arith, up.0)) p)) (n ∷ numbers)
+            (omega arith, up.1, up.2),
       )
     ]
 

@@ -99,7 +99,8 @@ module _ {ranges : Ranges} {start end at : ℕ} (apart : AreApart 0 ranges) (som
         where
           all : (n : ℕ) → Cut n start end more 0 ranges (edit at ranges)
           all n = changed n (start + 1) more ⊥ (IsBetween start end n) (λ comes. absurd comes)
-              (λ between. omega (arith, between)) edit passes 0 at ranges apart place.below place.bound (rw rest (change n))
+              (λ between. omega (arith, between)) edit passes 0 at ranges apart place.below place.bound
+              (rw rest (change n))
 
       pub cut_at : {other : Range ℕ} → other ≡ get_or ranges at other → range.start < end
           → ((range.start < start) → other.end ≤ end) → Removes ranges start end true (cut_ranges start end ranges)
@@ -113,7 +114,8 @@ module _ {ranges : Ranges} {start end at : ℕ} (apart : AreApart 0 ranges) (som
 
       -- a range that holds numbers on both sides becomes two
       pub splits : {other : Range ℕ} → other ≡ get_or ranges at other → range.start < start → end < other.end
-          → Removes ranges start end true (set (insert ranges (at + 1) (span end other.end)) at (span range.start start))
+          → Removes ranges start end true
+          (set (insert ranges (at + 1) (span end other.end)) at (span range.start start))
       unfolding InRanges AreApart
       splits {other} also lower upper =
           let as_other = same_read ranges at inside is also in

@@ -15,22 +15,22 @@ numbers_of deadlines = map (λ deadline. deadline.sequence) deadlines
 
 with_deadline-rise : (low number moment : ℕ) (deadlines : List CidTimestamp) → Rise low number (numbers_of deadlines)
     → Rise low (number + 1) (numbers_of (with_deadline (made number moment) deadlines))
-with_deadline-rise low number moment [] rise = grind (arith, rise)
-with_deadline-rise low number moment (last ∷ []) rise = grind (arith, nat_tests, rise)
-with_deadline-rise low number moment (first ∷ next ∷ later) rise =
+with_deadline-rise _ _ _ [] rise = grind arith
+with_deadline-rise _ _ _ (_ ∷ []) rise = grind arith
+with_deadline-rise _ number moment (first ∷ next ∷ later) rise =
     (rise.0, with_deadline-rise (first.sequence + 1) number moment (next ∷ later) rise.1)
 
 -- a number above all others keeps the numbers rising
 pub deadlines_with-rise : (lifetime : Option ℕ) (now low number : ℕ) (deadlines : List CidTimestamp)
     → Rise low number (numbers_of deadlines)
     → Rise low (number + 1) (numbers_of (deadlines_with lifetime now number deadlines))
-deadlines_with-rise None now low number deadlines rise =
+deadlines_with-rise None _ _ _ _ rise =
     Rise-wider _ _ _ _ _ rise (omega arith) (omega arith)
 deadlines_with-rise (Some lifetime) now low number deadlines rise = grind (
   arith,
   nat_tests,
-  Rise-wider low number low (number + 1) (numbers_of deadlines) rise,
-  with_deadline-rise low number (now + lifetime) deadlines rise,
+  Rise-wider low _ low (number + 1) (numbers_of deadlines) rise,
+  with_deadline-rise low _ (now + lifetime) deadlines rise,
 )
 
 -- ---- the last deadline by its place
@@ -38,8 +38,8 @@ deadlines_with-rise (Some lifetime) now low number deadlines rise = grind (
 pub last_at : (moment : ℕ) (deadlines : List CidTimestamp) (place : ℕ) (last : CidTimestamp)
     → place + 1 ≡ length deadlines → last ≡ get_or deadlines place last →
     without_last_at moment deadlines ≡ cond (nat_eq last.timestamp moment) (take place deadlines) deadlines
-last_at moment [] place last ends there = absurd (omega arith)
-last_at moment (only ∷ []) zero last ends there = rw there refl
+last_at _ [] _ last ends there = absurd (omega arith)
+last_at _ (_ ∷ []) zero _ _ there = rw there refl
 last_at moment (only ∷ []) (suc place) last ends there = absurd (omega arith)
 last_at moment (first ∷ next ∷ later) zero last ends there = absurd (omega arith)
 last_at moment (first ∷ next ∷ later) (suc place) last ends there =

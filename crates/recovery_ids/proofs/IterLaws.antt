@@ -6,19 +6,19 @@ use Rattle.recovery_ids.specs.RemoteIds.{HeldId, RemoteIds, active_connection_id
 
 step_first : (ids : RemoteIds) (step : ℕ) → step < active_connection_id_limit
     → items_from step ids ≡ cons_option (item_at ids step) (items_from (step + 1) ids)
-step_first ids step below =
+step_first _ step below =
     let one_more : active_connection_id_limit - step ≡ suc (active_connection_id_limit - (step + 1)) = omega arith in
     rw one_more refl
 
 pub items_where_held : (ids : RemoteIds) (step : ℕ) (entry : HeldId) → step < active_connection_id_limit
     → ids.held (ids.active + step) ≡ Some entry →
     items_from step ids ≡ (step, entry) ∷ items_from (step + 1) ids
-items_where_held ids step entry below held = step_first ids step below ∙ rw held refl
+items_where_held ids step _ below held = step_first ids _ below ∙ rw held refl
 
 pub items_where_none : (ids : RemoteIds) (step : ℕ) → step < active_connection_id_limit
     → ids.held (ids.active + step) ≡ None →
     items_from step ids ≡ items_from (step + 1) ids
-items_where_none ids step below none = step_first ids step below ∙ rw none refl
+items_where_none ids step below none = step_first ids _ below ∙ rw none refl
 
 length-filter_map : {X Y : Type 0} (h : X → Option Y) (xs : List X) → length (filter_map h xs) ≤ length xs
 length-filter_map h [] = omega arith

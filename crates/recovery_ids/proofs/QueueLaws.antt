@@ -15,7 +15,7 @@ frame_table : (frame : NewConnectionId) (low least : ℕ) (old lower mid new : T
     → ((n : ℕ) → mid n ≡ with_id frame.sequence (frame.id, Some frame.reset_token) lower n) → IsLeastHeld mid low least
     → ((n : ℕ) → new n ≡ without_below least mid n)
     → (n : ℕ) → (new n ≡ with_frame frame old n) × (least ≤ n → new n ≡ mid n) × (n < least → new n ≡ None)
-frame_table frame low least old lower mid new is_low ordered drops adds is_least moves n =
+frame_table frame _ _ _ _ _ _ is_low ordered drops adds is_least moves n =
     let at_most = is_least.least frame.sequence in
     let none = is_least.least n in
     let bound = is_least.bound in
@@ -23,7 +23,7 @@ frame_table frame low least old lower mid new is_low ordered drops adds is_least
 
 -- what the window holds lies in it
 entry_within : (window : Window) (n : ℕ) → IsSome (held_at window n) → (window.start ≤ n) × (n < window.start + LEN)
-entry_within window n here = grind (arith, nat_tests, here)
+entry_within _ n here = grind arith
 
 -- the code's steps: numbers below low are dropped, the frame's id is added, and the start moves to the least number
 -- held
@@ -39,17 +39,17 @@ module _ (old lower mid new : Window) (frame : NewConnectionId) (token : List �
 
   after : (n : ℕ) → (held_at new n ≡ with_frame frame (held_at old) n)
       × (new.start ≤ n → held_at new n ≡ held_at mid n) × (n < new.start → held_at new n ≡ None)
-  after = frame_table frame low new.start (held_at old) (held_at lower) (held_at mid) (held_at new) low_is
-      (omega (arith, low_is)) drops adds moves.least moves.held
+  after = frame_table _ low _ _ _ (held_at mid) (held_at new) low_is
+      (omega arith) drops adds moves.least moves.held
 
   start_held : held_at new new.start ≡ held_at mid new.start
-  start_held = (after new.start).1 (omega arith)
+  start_held = (after _).1 (omega arith)
 
   pub accepts_move : Repeats frame (held_at old) → (range : Range ℕ) → range.start ≡ old.start →
       range.end ≡ min new.start (old.start + LEN) →
       AcceptsFrame (remote_ids old) frame (Some (range, token)) (remote_ids new)
-  accepts_move repeats range begins ends = record {
-    in_window = (above, omega (arith, low_is));
+  accepts_move repeats _ begins ends = record {
+    in_window = (above, omega arith);
     repeats = repeats;
     held = λ n. (after n).0;
     active = record {
@@ -57,7 +57,7 @@ module _ (old lower mid new : Window) (frame : NewConnectionId) (token : List �
       is_held = rw start_held moves.least.is_held;
       least = λ n above. (after n).2;
     };
-    stays = λ stays. absurd (omega (arith, low_is));
+    stays = λ stays. absurd (omega arith);
     moves = λ _. record {
       begins = begins;
       ends = ends;
@@ -69,7 +69,7 @@ module _ (old lower mid new : Window) (frame : NewConnectionId) (token : List �
 pub retires : (old new : Window) (frame : NewConnectionId) (range : Range ℕ) (token : List ℕ)
     → AcceptsFrame (remote_ids old) frame (Some (range, token)) (remote_ids new) → old.start < frame.retire_prior_to
     → frame.retire_prior_to ≤ frame.sequence → IsRetirement (remote_ids old) range (remote_ids new)
-retires old new frame range token accepts ahead ordered =
+retires old new frame _ _ accepts ahead ordered =
     let told = accepts.moves ahead in
     let reached : frame.retire_prior_to ≤ new.start =
     grind (arith, nat_tests, accepts.held new.start, accepts.active.is_held, ordered) in
@@ -78,5 +78,6 @@ retires old new frame range token accepts ahead ordered =
       not_empty = omega (arith, told.begins, told.ends, reached, ahead);
       ends = omega (arith, told.ends);
       cut = omega (arith, told.ends);
-      dropped = λ n here gone. grind (arith, nat_tests, accepts.held n, gone, here, reached, told, entry_within old n here);
+      dropped = λ n here gone.
+          grind (arith, nat_tests, accepts.held n, gone, here, reached, told, entry_within old n here);
     }

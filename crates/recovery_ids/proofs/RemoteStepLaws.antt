@@ -14,7 +14,7 @@ use Rattle.recovery_ids.specs.RemoteStep.{given, used, replaced, first_held, rem
 first_held_is : (held : Table) (least low more : ℕ) → IsSome (held least) → low ≤ least → least < low + more
     → ((n : ℕ) → low ≤ n → n < least → held n ≡ None) → first_held held low more ≡ Some least
 unfolding first_held
-first_held_is held least low zero there from far none = absurd (omega arith)
+first_held_is _ _ _ zero _ from far none = absurd (omega arith)
 first_held_is held least low (suc more) there from far none = grind (
   arith,
   there,
@@ -26,9 +26,9 @@ first_held_is held least low (suc more) there from far none = grind (
 -- where nothing is held from a number on, it finds none
 none_held : (held : Table) (low more : ℕ) → ((n : ℕ) → low ≤ n → held n ≡ None) → first_held held low more ≡ None
 unfolding first_held
-none_held held low zero none = refl
+none_held _ _ zero _ = refl
 none_held held low (suc more) none =
-    grind (arith, none low, none_held held (low + 1) more (λ n above. none n (omega arith)))
+    grind (arith, none_held held (low + 1) more (λ n above. none n (omega arith)))
 
 -- ---- what a call is to them
 
@@ -42,13 +42,13 @@ pub gives : (old new : RemoteIds) (frame : NewConnectionId) (answer : Option (Ra
     → frame.retire_prior_to ≤ frame.sequence →
     AcceptsFrame old frame answer new → AreInWindow old → new ≡ remote_ids_with (given frame) old
 unfolding remote_ids_with
-gives old new frame answer ordered accepts window =
+gives old new frame _ ordered accepts window =
     let low = max old.active frame.retire_prior_to in
     let held = with_frame frame old.held in
     let is_held : IsSome (held new.active) = rw (sym (accepts.held new.active)) accepts.active.is_held in
     let none = accepts.active.least frame.sequence (omega arith) in
     let reached : new.active ≤ frame.sequence =
-    grind (arith, nat_tests, none, accepts.held frame.sequence) in
+    grind (arith, accepts.held frame.sequence) in
     let from : low ≤ new.active =
     grind (arith, nat_tests, is_held, ordered, accepts.in_window.0, window.within new.active) in
     rw (first_held_is held new.active low active_connection_id_limit is_held from
@@ -58,19 +58,19 @@ gives old new frame answer ordered accepts window =
 pub uses : (old new : RemoteIds) (token : List ℕ) (range : Range ℕ) → TakesNext old token range new → AreInWindow old
     → new ≡ remote_ids_with used old
 unfolding remote_ids_with
-uses old new token range takes window = let next = takes.active in
-    rw (first_held_is old.held new.active (old.active + 1) active_connection_id_limit next.is_held next.bound
-    (omega (arith, window.within new.active next.is_held)) next.least)
+uses old new _ _ takes window = let next = takes.active in
+    rw (first_held_is _ _ (old.active + 1) active_connection_id_limit next.is_held next.bound
+    (omega arith) next.least)
     (same_ids new.active (without_id old.active old.held) new refl takes.held)
 
 pub uses_none : (old new : RemoteIds) → ((n : ℕ) → old.active < n → old.held n ≡ None) → new ≡ old
     → new ≡ remote_ids_with used old
 unfolding remote_ids_with
-uses_none old new none same =
-    rw (none_held old.held (old.active + 1) active_connection_id_limit (λ n above. none n (omega arith))) same
+uses_none old _ none same =
+    rw (none_held _ (old.active + 1) active_connection_id_limit (λ n above. none n (omega arith))) same
 
 pub replaces : (old new : RemoteIds) (id : List ℕ) → old.active ≡ 0 → new.active ≡ 0
     → ((n : ℕ) → new.held n ≡ with_id 0 (id, None) old.held n) →
     new ≡ remote_ids_with (replaced id) old
 unfolding remote_ids_with
-replaces old new id was is adds = same_ids old.active (with_id 0 (id, None) old.held) new (is ∙ sym was) adds
+replaces old new id was is adds = same_ids _ _ new (is ∙ sym was) adds

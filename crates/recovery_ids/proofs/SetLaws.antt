@@ -13,8 +13,8 @@ use Rattle.recovery_ids.proofs.RiseLaws.{Rise-bound, Rise-wider, absent_below, l
 -- a removal takes a number out by its value
 pub removes : (low high x : ℕ) (ns : List ℕ) → Rise low high ns
     → remove_key (is_at (nat_cmp x)) ns ≡ filter (λ n. not (n == x)) ns
-removes low high x [] rise = refl
-removes low high x (n ∷ ns) rise = grind (
+removes _ _ x [] _ = refl
+removes _ high x (n ∷ ns) rise = grind (
   arith,
   nat_tests,
   removes (n + 1) high x ns rise.1,
@@ -26,18 +26,18 @@ removes low high x (n ∷ ns) rise = grind (
 
 module _ {T : Type 0} where
   pub keys-append : (es others : List (ℕ × T)) → keys_of (es ++ others) ≡ keys_of es ++ keys_of others
-  keys-append [] others = refl
-  keys-append (e ∷ es) others = ap (λ later. e.0 ∷ later) (keys-append es others)
+  keys-append [] _ = refl
+  keys-append (e ∷ es) others = ap (λ later. e.0 ∷ later) (keys-append es _)
 
   -- what is taken out by its number takes the number out
   pub keys-removed : (test : ℕ → Bool) (es : List (ℕ × T))
       → keys_of (remove_entry test es) ≡ remove_key test (keys_of es)
-  keys-removed test [] = refl
+  keys-removed _ [] = refl
   keys-removed test (e ∷ es) = grind (arith, keys-removed test es)
 
   -- numbers that rise up to another are below it
   pub is_above : (low number : ℕ) (es : List (ℕ × T)) → Rise low number (keys_of es) → IsAboveAll es number
-  is_above low number [] rise other item found = absurd cc
+  is_above _ _ [] _ _ _ found = absurd cc
   is_above low number (e ∷ es) rise other item found = grind (
     arith,
     nat_tests,
@@ -50,21 +50,21 @@ module _ {T : Type 0} where
   pub least_decides : (low high end least : ℕ) (es : List (ℕ × T)) → Rise low high (keys_of es)
       → Some least ≡ first_number (filter (is_from 0) es)
       → nat_lt least end ≡ list_any (λ n. nat_lt n end) (keys_of es)
-  least_decides low high end least [] rise there = absurd cc
+  least_decides _ _ _ _ [] _ there = absurd cc
   least_decides low high end least (e ∷ es) rise there =
       grind (arith, nat_tests, there, list_any-front low high e.0 end (keys_of es) rise)
 
   pub none_decides : (end : ℕ) (es : List (ℕ × T)) → None ≡ first_number (filter (is_from 0) es)
       → false ≡ list_any (λ n. nat_lt n end) (keys_of es)
-  none_decides end [] none = refl
-  none_decides end (e ∷ es) none = grind (arith, nat_tests, none)
+  none_decides _ [] _ = refl
+  none_decides _ (e ∷ es) none = grind arith
 
 -- a number behind lower ones leaves those that stand around it
 pub removed_behind : (low x : ℕ) (before later : List ℕ) → Rise low x before
     → remove_key (is_at (nat_cmp x)) (before ++ x ∷ later) ≡ before ++ later
-removed_behind low x [] later rise = grind (arith, nat_tests)
-removed_behind low x (n ∷ ns) later rise =
-    grind (arith, nat_tests, Rise-bound (n + 1) x ns rise.1, removed_behind (n + 1) x ns later rise.1)
+removed_behind _ x [] _ _ = grind arith
+removed_behind _ x (n ∷ ns) later rise =
+    grind (arith, Rise-bound (n + 1) x ns rise.1, removed_behind (n + 1) x ns later rise.1)
 
 -- numbers that were put to the end leave it again, the lowest first
 pub one_back : (before : List ℕ) (first number end : ℕ) → first ≤ number → number < end → Rise 0 first before

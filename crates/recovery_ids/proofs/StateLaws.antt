@@ -17,7 +17,7 @@ mark_rises : (mark issued : ℕ) (deadlines : List CidTimestamp)
     (mark ≤ next_mark mark deadlines)
     × Rise mark issued (map (λ deadline. deadline.sequence) (drop 1 deadlines))
     × Rise (next_mark mark deadlines) issued (map (λ deadline. deadline.sequence) (drop 1 deadlines))
-mark_rises mark issued [] rise = (omega arith, rise, rise)
+mark_rises _ _ [] rise = (omega arith, rise, rise)
 mark_rises mark issued (oldest ∷ later) rise = grind (
   arith,
   rise,
@@ -42,14 +42,15 @@ module _ {ids : LocalIds} (sound : AreSound ids) where
   -- ---- numbers issued and retired
 
   pub issued_sound : (count now : ℕ) → ids.issued + count ≤ 2 ^ 62 → AreSound (with_issued count now ids)
-  issued_sound zero now small = sound
-  issued_sound (suc count) now small = let end : ids.issued + suc count ≡ ids.issued + count + 1 = omega arith in record {
-    small = small;
-    marks = sound.marks;
-    unretired = Rise-append _ _ (suc count) _ ids.unretired sound.unretired refl;
-    deadlines = rw end (deadlines_with-rise ids.cid_lifetime now _ _ ids.deadlines
-        (Rise-wider _ _ _ _ _ sound.deadlines (omega arith) (omega arith)));
-  }
+  issued_sound zero _ _ = sound
+  issued_sound (suc count) now small =
+      let end : ids.issued + suc count ≡ ids.issued + count + 1 = omega arith in record {
+        small = small;
+        marks = sound.marks;
+        unretired = Rise-append _ _ (suc count) _ ids.unretired sound.unretired refl;
+        deadlines = rw end (deadlines_with-rise _ now _ _ ids.deadlines
+            (Rise-wider _ _ _ _ _ sound.deadlines (omega arith) (omega arith)));
+      }
 
   pub retired_sound : (number : ℕ) → AreSound (without_number number ids)
   retired_sound number = record {
@@ -61,4 +62,4 @@ module _ {ids : LocalIds} (sound : AreSound ids) where
 
 -- before any is issued
 pub none_sound : (cid_len : ℕ) (lifetime : Option ℕ) → AreSound (no_ids cid_len lifetime)
-none_sound cid_len lifetime = grind arith
+none_sound _ _ = grind arith

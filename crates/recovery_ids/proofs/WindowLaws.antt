@@ -1,6 +1,5 @@
 -- What a window holds once its lowest numbers are dropped: `drop_below` rests on it.
 use Rattle.std.proofs.Common.{◌≡◌, ℕ, ◌+◌, ◌%◌, ◌<◌, ◌≤◌, max, None, get_or, arith}
-use Rattle.std.proofs.lemmas.Bool.Decides.{nat_tests}
 use Rattle.recovery_ids.specs.declared.window.TheConstants.{LEN}
 use Rattle.recovery_ids.specs.declared.window.Window.{Window}
 use Rattle.recovery_ids.specs.RemoteIds.{without_below}
@@ -12,7 +11,7 @@ pub drops_below : (old new : Window) → old.start ≤ new.start →
     ((m : ℕ) → new.start ≤ m → m < old.start + LEN
     → get_or new.entries (m % LEN) None ≡ get_or old.entries (m % LEN) None) →
     (n : ℕ) → held_at new n ≡ without_below new.start (held_at old) n
-drops_below old new ahead fresh kept n =
+drops_below _ _ ahead fresh kept n =
     let free = fresh n in
     let same = kept n in
-    grind (arith, nat_tests, free, same)
+    grind arith

@@ -1,5 +1,5 @@
--- What was delayed until a moment passes from that moment on, whoever asks in between. The clause `named` of `run` rests
--- on it.
+-- What was delayed until a moment passes from that moment on, whoever asks in between. The clause `named` of `run`
+-- rests on it.
 use Rattle.std.proofs.lemmas.Bool.Decides.{nat_tests}
 use Rattle.std.proofs.Common.{◌≡◌, ℕ, suc, ◌*◌, ◌<◌, ◌≤◌, List, [], ◌∷◌, ◌++◌, map, length, cond, Bool, true, false, ap, refl, arith, inl, inr}
 use Rattle.std.proofs.Math.Nat.{mul-le-mul_left}

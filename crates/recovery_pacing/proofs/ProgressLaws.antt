@@ -19,13 +19,6 @@ paced-knows call old =
     let sized : Knows call (resized call.rtt call.window call.mtu old) = grind arith in
     grind arith
 
--- a credit is rounded down by less than one byte
-credit_comes : (rtt window elapsed : ℕ) → 0 < rtt
-    → 5 * window * elapsed + 1 ≤ 4 * rtt * (credit_of rtt window elapsed + 1)
-credit_comes rtt window elapsed some =
-    let lt : 5 * window * elapsed % (4 * rtt) < 4 * rtt = mod-lt (5 * window * elapsed) (omega arith) in
-    omega arith
-
 -- a wait is rounded down by less than four nanoseconds
 wait_comes : (rtt window short : ℕ) → 0 < window → rtt * short ≤ longest_span
     → 4 * (rtt * short) + 4 ≤ 5 * window * wait_of rtt window short + 20 * window
@@ -91,8 +84,8 @@ module _ (call : PacerCall) (first : Bucket) where
         | inr enough ↦ enough
       ]
 
--- what was delayed until a moment passes as much later as the roundings take: a call that is delayed is paced, the tokens
--- do not cover it, and a bucket that was refilled holds no more than it takes
+-- what was delayed until a moment passes as much later as the roundings take: a call that is delayed is paced, the
+-- tokens do not cover it, and a bucket that was refilled holds no more than it takes
 pub passes : (call later : PacerCall) (old bucket : Bucket) (until questions slack : ℕ) → (let first = paced call old in
     delay_of call first ≡ Some until → later ≡ record call { now = later.now } → IsInReach call first
     → until < 2 ^ 64 - 1 → until + slack ≤ later.now

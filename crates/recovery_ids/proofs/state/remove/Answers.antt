@@ -1,7 +1,5 @@
 use Rattle.std.proofs.Common.{◌^◌, ◌∙◌, ap}
 use Rattle.std.specs.Map.{keys_of}
-use Rattle.std.specs.Ordering.{nat_cmp}
-use Rattle.std.specs.BTreeMap.{is_at}
 use Rattle.recovery_slots.specs.Slots.{entries_of}
 use Rattle.recovery_ids.specs.CidState.{numbers_in}
 use Rattle.recovery_ids.proofs.SetLaws.{keys-removed, removes}
@@ -10,5 +8,5 @@ use Rattle.recovery_ids.proofs.state.remove.Goals as goal
 pub returns : goal.returns
 returns c =
     ap keys_of c.take-removed.ensures.entries
-    ∙ keys-removed (is_at (nat_cmp c.args.number)) (entries_of c.args.numbers.now)
+    ∙ keys-removed _ (entries_of c.args.numbers.now)
     ∙ removes 0 (2 ^ 62) c.args.number (numbers_in c.args.numbers.now) c.requires

@@ -28,7 +28,8 @@ returns-then-x-end-clause-inserts c = inserts_known c.requires.apart (rw c.deref
     (omega arith) c.index.ensures c.index-2.ensures (omega arith) (omega arith)
 
 pub returns-then-x-start-2-clause-inserts : goal.returns-then-x-start-2-clause-inserts
-returns-then-x-start-2-clause-inserts c = inserts_below c.requires.apart (rw c.deref.ensures.value at c.place-at.ensures)
+returns-then-x-start-2-clause-inserts c = inserts_below c.requires.apart
+    (rw c.deref.ensures.value at c.place-at.ensures)
     (omega arith) c.index_mut.ensures.value c.index.ensures (omega arith)
 
 pub returns-then-index-x-clause-inserts : goal.returns-then-index-x-clause-inserts

@@ -10,7 +10,8 @@ returns-then-at-len-clause-removes c =
     none_at_end c.requires (omega arith) (rw c.deref.ensures.value at c.place-at.ensures) (omega arith)
 
 pub returns-then-end-first-clause-removes : goal.returns-then-end-first-clause-removes
-returns-then-end-first-clause-removes c = none_before c.requires (omega arith) (rw c.deref.ensures.value at c.place-at.ensures)
+returns-then-end-first-clause-removes c = none_before c.requires (omega arith)
+    (rw c.deref.ensures.value at c.place-at.ensures)
     (omega arith) c.index.ensures (omega arith)
 
 pub returns-in_ok-insert-clause-removes : goal.returns-in_ok-insert-clause-removes

@@ -8,7 +8,7 @@ pub returns-then-low-active-clause-step : goal.returns-then-low-active-clause-st
 returns-then-low-active-clause-step c =
     record {
       same =
-          gives (remote_ids c.args.self.now) (remote_ids c.set.new.self) c.args.cid None c.requires.ordered
+          gives _ _ c.args.cid None c.requires.ordered
           (search rules) (search rules);
       window = search rules;
     }
