@@ -97,7 +97,6 @@ module _ {F K Q S M P : Type 0} (beginning : Beginning F K Q S M P) (before : Hi
       space_kept beginning.queue known space (λ entry. After entry waiting running) is_silent here
       (λ entry is. grind (arith, is, here)) event (Ok answer) refl
   reply_attends (Received there now number true) (Err refusal) told = here
-  reply_attends (Received there now number false) (Err refusal) told = here
   reply_attends event (Err refusal) told = here
 
 -- ---- throughout a run

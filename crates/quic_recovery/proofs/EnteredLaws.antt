@@ -75,5 +75,4 @@ module _ {F K Q S M P : Type 0} (beginning : Beginning F K Q S M P) (past : Hist
       paths_kept beginning.queue known (λ entries. entries_with entries ≡ before) is_unseen refl
       (λ entry earlier is kept. unseen_one (settings_of beginning) (first_path beginning) entry (earlier ++ log) is
       ∙ kept) event (Ok given) refl
-  entered_one (NewPath now remote true) (Err refusal) told = refl
   entered_one event (Err refusal) told = refl

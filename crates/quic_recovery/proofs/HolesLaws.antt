@@ -67,9 +67,6 @@ module _ {F K Q S M P : Type 0} (beginning : Beginning F K Q S M P) where
   abbrev least : ℕ
   least = beginning.config.transport.min_mtu
 
-  abbrev Tied : History Q S M P → Type 0
-  Tied history = TiedTo least history (entered_so_far beginning history)
-
   -- ---- what is kept
 
   -- the path in use was made with the least MTU
@@ -82,7 +79,7 @@ module _ {F K Q S M P : Type 0} (beginning : Beginning F K Q S M P) where
   made_least history event reply is = is
 
   pub record Kept (history : History Q S M P) : Type 0 where
-    pub tied : Tied history
+    pub tied : TiedTo least history (entered_so_far beginning history)
     pub made : IsMadeLeast history
     tracked : AllTracked beginning history
 

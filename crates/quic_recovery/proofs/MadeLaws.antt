@@ -36,8 +36,4 @@ module _ {F K Q S M P : Type 0} (beginning : Beginning F K Q S M P) where
   is_made past (NewPath now remote true) (Ok given) = refl
   is_made past (NewPath now remote false) (Ok given) = refl
   is_made past DropPrevious (Ok given) = refl
-  is_made past (NewPath now remote true) (Err refusal) =
-      stays_seen beginning made_of still still_on past (NewPath now remote true) (Err refusal)
-  is_made past (NewPath now remote false) (Err refusal) =
-      stays_seen beginning made_of still still_on past (NewPath now remote false) (Err refusal)
   is_made past event reply = stays_seen beginning made_of still still_on past event reply

@@ -126,7 +126,6 @@ module _ {F K Q S M P : Type 0} (beginning : Beginning F K Q S M P) where
   left_after history (NewPath now remote true) (Ok given) is left = λ size found. cc
   left_after history (NewPath now remote false) (Ok given) is left = λ size found. cc
   left_after history DropPrevious (Ok given) is left = λ size found. absurd (cc)
-  left_after history (NewPath now remote true) (Err refusal) is left = left
   left_after history event reply is left =
       subst (λ o. ForSome o (λ size. size ≡ mtu_in_use beginning (before_move history)))
       (sym (stays_seen beginning mtu_before still still_on history event reply)) left

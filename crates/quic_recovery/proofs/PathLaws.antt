@@ -50,7 +50,6 @@ module _ {F K Q S M P : Type 0} (beginning : Beginning F K Q S M P) where
       ap (λ (g : OfPaths ℕ). both (g.current + 1) (Some g.current)) (all_made earlier)
   all_made ((DropPrevious, Ok answer) ∷ earlier) =
       ap (λ (g : OfPaths ℕ). both g.current None) (all_made earlier)
-  all_made ((NewPath now remote is_fresh, Err refusal) ∷ earlier) = all_made earlier
   all_made ((event, reply) ∷ earlier) =
       stays_seen beginning generations still still_on earlier event reply ∙ all_made earlier
 

@@ -91,11 +91,10 @@ module _ {Q S M P : Type 0} (first least : ℕ) (history : History Q S M P) (ent
 
 module _ {F K Q S M P : Type 0} (beginning : Beginning F K Q S M P) (history : History Q S M P)
     (G : Reply Q → List MtuEntry → Type 0) where
-  abbrev before : List MtuEntry
-  before = entered_so_far beginning history
-
   abbrev Shows : Event Q S M P → Reply Q → Type 0
-  Shows = let settings = settings_of beginning in Step settings.mtu settings.min_mtu history before G
+  Shows =
+      let settings = settings_of beginning in
+      Step settings.mtu settings.min_mtu history (entered_so_far beginning history) G
 
   -- the packet of a number is there, and has the size that the history says
   found : (number : ℕ) → Sized beginning history → ¬ (data_packet beginning history number ≡ None)

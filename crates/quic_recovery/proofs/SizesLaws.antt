@@ -28,12 +28,6 @@ use Rattle.quic_recovery.proofs.Runs.{throughout_by}
 use Rattle.quic_recovery.proofs.Runs.{AllAlong}
 
 module _ {F K Q S M P : Type 0} (beginning : Beginning F K Q S M P) where
-  abbrev first : ℕ
-  first = initial_mtu_of beginning.config.transport
-
-  abbrev least : ℕ
-  least = beginning.config.transport.min_mtu
-
   module _ (history : History Q S M P) (now number size : ℕ) (kept : Kept beginning history)
       (known : Facts beginning history (PollMtu now) (Ok (answer.Probe number size))) where
     -- the probe that goes out is the one in flight
@@ -54,7 +48,8 @@ module _ {F K Q S M P : Type 0} (beginning : Beginning F K Q S M P) where
         → IsSomeAnd by (λ settings. ProbesInSearch settings
         (probed now number size ∷ entered_so_far beginning history))
         → (size ≤ limit_or_greatest (limit history))
-        × IsSomeAnd by (λ settings. size ≤ max settings.upper_bound (start first least history))
+        × IsSomeAnd by (λ settings. size ≤ max settings.upper_bound (start (initial_mtu_of beginning.config.transport)
+        beginning.config.transport.min_mtu history))
     upper_within None is inside = absurd inside
     upper_within (Some settings) is inside =
         grind (arith, (between settings is).0, upper_is beginning settings is history (kept.searched settings is))
