@@ -136,6 +136,7 @@ module _ {K Q S M P : Type 0} (q : QueueMeaning Q S M P) (old then : Parts K P M
       (record then { paths = record then.paths { current = path } })
   probe_changes number discovery path answer is polled goes_on sent =
       let steps = rw (empty, blank) at sent.steps in
+      let fits = sent.told.1.1.1 in
       let told : OfPaths (PathKnown K) = paths_after (known_with old.settings) (known_following old.settings)
       (on_current (tells (sends_bytes now size (number_in known Data))) ∷ []) (paths_known old.paths) in
       let seen : Discovery → OfPaths (PathKnown K) → OfPaths (PathKnown K) = λ found all. record all
@@ -146,7 +147,7 @@ module _ {K Q S M P : Type 0} (q : QueueMeaning Q S M P) (old then : Parts K P M
           (
             sent.told.1.1.0,
             rw due (
-              sent.told.1.1.1.0,
+              fits.0,
               ap (λ n. Probe n size) is,
             ),
           ),

@@ -173,8 +173,20 @@ module _ {Q S M P : Type 0} (q : QueueMeaning Q S M P) where
     decides : (event : Event Q S M P) → Decides (ToldBy q words heard known event)
     decides DropPrevious = on_path Previous _ (λ there. is_decided _)
     decides event =
-        search (refuses, answers, is_agree, on_path, received_agree, frame_agree, next_agree, flag_agree, ecn_decides,
-        probe_agree, pending_agree, probe_out) depth 12
+        search (
+          refuses,
+          answers,
+          is_agree,
+          on_path,
+          received_agree,
+          frame_agree,
+          next_agree,
+          flag_agree,
+          ecn_decides,
+          probe_agree,
+          pending_agree,
+          probe_out,
+        ) depth 12
 
 -- ---- what a history decides
 

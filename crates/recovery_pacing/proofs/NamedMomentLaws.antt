@@ -44,7 +44,7 @@ pub passes_at_moment : (made : Bucket) (entries : List PacerEntry) (later : Pace
     → PassesAtMoment made entries later (delay_of later (paced later (bucket_by made entries)))
 passes_at_moment made _ later between call earlier until is alike delays like room before_end late =
     let reach : IsInReach call (paced call (bucket_by made earlier)) =
-    record { fits = fits (length between) (paced call (bucket_by made earlier)) room; uncut = room.1; window = room.0 } in
+    record { fits = fits (length between) (paced call _) room; uncut = room.1; window = room.0 } in
     rw is (passes _ _ _ _ _ _ 0 delays like reach before_end (omega arith) (omega (arith, room.2))
     (λ some. fills_by call made earlier some between alike))
   where
