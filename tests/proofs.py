@@ -14,7 +14,7 @@ IMPORT = re.compile(r"(ghost )?(pub )?use ")
 COUNTED = re.compile(r"[\w)]((?:\.[01]){4,})(?!\w)")
 COLUMNS = 120
 MOST_COUNTED = 2  # terms that count four fields or more: those two take a fact out of what the toolchain says of a value, without names
-MOST_TIMES = 1.62  # proofs to code and definitions
+MOST_TIMES = 1.3  # proofs to code and definitions
 
 
 def sources(room, kind):
