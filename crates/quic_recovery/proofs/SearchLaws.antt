@@ -79,7 +79,8 @@ module _ {F K Q S M P : Type 0} (beginning : Beginning F K Q S M P) where
   fresh_is limit = first_searched beginning.config.allow_mtud limit beginning.config.transport
 
   -- so is the first one
-  pub first_is : OnEachPath (IsPathSearchedBy (discovery_settings beginning)) (pasts_by (settings_of beginning) (first_path beginning) [])
+  pub first_is : OnEachPath (IsPathSearchedBy (discovery_settings beginning))
+      (pasts_by (settings_of beginning) (first_path beginning) [])
   first_is = searched_at_first (settings_of beginning) (discovery_settings beginning) fresh_is (first_path beginning)
       (fresh_is None)
 

@@ -48,7 +48,8 @@ module _ {F K Q S M P : Type 0} (beginning : Beginning F K Q S M P) where
   abbrev pub entered_so_far : History Q S M P → List MtuEntry
   entered_so_far history = entries_on (pasts_of beginning history).current
 
-  -- and after an event, read off its answer: what the event is to the search, and what was before; a fresh path has none
+  -- and after an event, read off its answer: what the event is to the search, and what was before; a fresh path has
+  -- none
   abbrev pub entered : History Q S M P → Event Q S M P → Reply Q → List MtuEntry
   entered history event (Err refusal) = entered_so_far history
   entered history (PollMtu now) (Ok (Probe number size)) = probed now number size ∷ entered_so_far history
