@@ -117,14 +117,7 @@ module _ {F K Q S M P : Type 0} (beginning : Beginning F K Q S M P) (earlier : H
         let happened : Event Q S M P × Reply Q = (DatagramIn Previous bytes, Ok answer) in
         let before = datagrams_on Previous earlier in (
           same.0,
-          grind (
-            arith,
-            told,
-            same.1,
-            sum_by-cons bytes_in happened before,
-            sum_by-cons bytes_out happened
-                before,
-          ),
+          grind (arith, told, same.1, sum_by-cons bytes_in happened before, sum_by-cons bytes_out happened before),
         )
     reply_flows (Validated Current) (Ok answer) told =
         ((ap (λ (f : Flow). flow true f.came f.went) same.0.0, λ unproved. absurd cc), same.1)

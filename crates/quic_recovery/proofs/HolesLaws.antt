@@ -107,8 +107,10 @@ module _ {F K Q S M P : Type 0} (beginning : Beginning F K Q S M P) where
       let is = least_known history kept in
       let tied = kept.tied in
       let Needed : Reply Q → Type 0 = λ r. NeedsFourBursts beginning history (LossesDone now) r in (
-        λ reports. let needs = subst Needed reports (needs_one beginning history (LossesDone now) reply known.told
-            kept.tracked) in grind (arith, is, tied, needs),
+        λ reports.
+            let needs = subst Needed reports
+            (needs_one beginning history (LossesDone now) reply known.told kept.tracked) in
+            grind (arith, is, tied, needs),
         λ four. comes_one beginning history (LossesDone now) reply known.told (grind (arith, is, tied)),
       )
   holes_one history event reply known kept = tt
