@@ -19,13 +19,13 @@ MORE = {"Send": 1}  # what is read of its line may have taken memory
 
 # promises, and files of proofs, that may name each event, and the means
 BOUNDS = """
-Received 4 9, Send 7 12, Acked 10 18, Lost 7 16, NewId 2 3, NextId 2 3, InitialId 3 4, IssueIds 1 4, IdTimeout 0 2,
-PeerRetired 1 3, AckFrequencyIn 1 4, AcksSent 2 4, AckDelayTimeout 2 4, SetTimer 1 1, StopTimer 1 1, NextTimeout 1 1,
-DiscardSpace 5 8, InFlight 2 3, Sample 0 1, DatagramIn 2 4, Validated 2 4, Transmit 4 6, PacerCheck 1 2,
-Congestion 0 1, EndAcks 0 1, PollMtu 10 19, PeerLimit 2 13, LossesDone 5 9, Ecn 1 3, CheckAck 1 2, QueueProbe 1 5,
-TakePending 2 4, NewPath 5 15, ResetPath 2 8, DropPrevious 3 9
+Received 4 7, Send 7 10, Acked 10 16, Lost 7 13, NewId 2 2, NextId 2 2, InitialId 3 3, IssueIds 1 2, IdTimeout 0 1,
+PeerRetired 1 1, AckFrequencyIn 1 2, AcksSent 2 2, AckDelayTimeout 2 2, SetTimer 1 1, StopTimer 1 1, NextTimeout 1 1,
+DiscardSpace 5 5, InFlight 2 1, Sample 0 1, DatagramIn 2 2, Validated 2 2, Transmit 4 5, PacerCheck 1 2,
+Congestion 0 1, EndAcks 0 1, PollMtu 10 18, PeerLimit 2 8, LossesDone 5 7, Ecn 1 1, CheckAck 1 0, QueueProbe 1 2,
+TakePending 2 2, NewPath 5 14, ResetPath 2 6, DropPrevious 3 9
 """
-MEANS = (5.0, 2.7, 5.9)
+MEANS = (5.0, 2.7, 4.4)
 
 
 def room_of(path):

@@ -1,17 +1,15 @@
 -- What each event may be to the paths. `ThreefoldLaws`, `PacingLaws` and `SearchLaws` rest on it.
-use Rattle.std.proofs.Common.{arith, ℕ, ◌≡◌, Bool, true, false, cond, Option, None, Some, Ok, Err, refl}
+use Rattle.std.proofs.Common.{arith, ℕ, ◌≡◌, Bool, true, false, cond, Option, None, Ok, Err, refl}
 use Rattle.std.proofs.lemmas.Bool.{false_from_ne_true}
 use Rattle.recovery_base.specs.declared.below.SpaceId.{SpaceId}
 use Rattle.recovery_congestion.specs.Controllers.{ControllerWords}
 use Rattle.recovery_ledger.specs.Acks.{Heard}
-use Rattle.recovery_mtud.specs.Discovery.{Discovery, is_searching_of}
-use Rattle.recovery_mtud.specs.DiscoveryLog.{MtuCall, is_limited}
-use Rattle.recovery_mtud.proofs.SearchRunLaws.{IsInTurn}
+use Rattle.recovery_mtud.specs.Discovery.{is_searching_of}
+use Rattle.recovery_mtud.specs.DiscoveryLog.{is_limited}
 use Rattle.recovery_paths.specs.declared.live_paths.PathName.TheVariants.{Current, Previous}
-use Rattle.recovery_paths.specs.PathLog.{OfPaths, PathEntry, PathKnown, PathsEntry, paths_after, known_with, known_following, on, moves, drops_previous, receives, is_validated, searches, passes}
+use Rattle.recovery_paths.specs.PathLog.{OfPaths, PathKnown, PathsEntry, paths_after, known_with, known_following, on, receives, searches}
 use Rattle.recovery_paths.specs.PathMaking.{PathSettings}
-use Rattle.recovery_paths.specs.PathStates.{PathState, is_blocked, path_delay}
-use Rattle.recovery_paths.proofs.AllowedLaws.{AreAllowed, IsAllowed, IsAllowedOn}
+use Rattle.recovery_paths.proofs.AllowedLaws.{AreAllowed, IsAllowedOn}
 use Rattle.recovery_events.specs.declared.event.Event.{Event}
 use Rattle.recovery_events.specs.declared.event.Event.TheVariants.{PeerLimit, Transmit}
 use Rattle.recovery_events.specs.declared.event.Answer.{Answer}
@@ -20,7 +18,7 @@ use Rattle.quic_recovery.specs.Table.{answered, entries_of, ToldBy}
 use Rattle.quic_recovery.specs.History.{QueueMeaning, Reply}
 use Rattle.quic_recovery.specs.Known.{Known}
 use Rattle.quic_recovery.specs.PartReplies.{delayed_or}
-use Rattle.quic_recovery.proofs.EntryKinds.{PathKind, passing, limiting, elsewhere, call_kind, path_kind, paths_kept}
+use Rattle.quic_recovery.proofs.EntryKinds.{PathKind, passing, limiting, elsewhere, path_kind, paths_kept}
 
 -- what was transmitted was neither blocked nor delayed
 pub sent_freely : {K Q : Type 0} (words : ControllerWords K) (blocked : Bool) (delay : Option ℕ)

@@ -1,22 +1,20 @@
 -- A datagram is blocked exactly where the events and answers before it say so: the clause `blocked` of `run`.
-use Rattle.std.proofs.Common.{arith, ℕ, ◌≡◌, ◌≤◌, ◌+◌, ◌^◌, nat_le, Bool, true, false, cond, None, Some, Option, Ok, Err, refl}
+use Rattle.std.proofs.Common.{arith, ℕ, ◌≡◌, ◌≤◌, ◌+◌, ◌^◌, Bool, true, false, Ok, Err, refl}
 use Rattle.std.proofs.lemmas.Bool.{leb-true, le-leb}
 use Rattle.recovery_congestion.specs.Controllers.{ControllerWords}
 use Rattle.recovery_paths.specs.PathLog.{state_of}
-use Rattle.recovery_paths.specs.PathStates.{PathState, is_blocked, path_delay}
-use Rattle.recovery_events.specs.declared.event.Event.{Event}
+use Rattle.recovery_paths.specs.PathStates.{PathState, is_blocked}
 use Rattle.recovery_events.specs.declared.event.Event.TheVariants.{Transmit}
 use Rattle.recovery_events.specs.declared.event.Answer.{Answer}
-use Rattle.recovery_events.specs.declared.event.Answer.TheVariants.{Transmitted, Blocked}
 use Rattle.recovery_events.specs.declared.event.Refusal.TheVariants.{Overflow}
 use Rattle.quic_recovery.specs.Told.{pasts_of, Told}
-use Rattle.quic_recovery.specs.History.{Beginning, History, Reply}
+use Rattle.quic_recovery.specs.History.{Beginning, Reply}
 use Rattle.quic_recovery.specs.Replies.{Refuses, AlwaysAnswers}
-use Rattle.quic_recovery.specs.PartReplies.{Is, delayed_or, transmit_answer}
+use Rattle.quic_recovery.specs.PartReplies.{Is, transmit_answer}
 use Rattle.quic_recovery.specs.Promises.Blocked.{IsPassage, BlocksExactly}
 use Rattle.quic_recovery.proofs.Runs.{AllAlong, throughout_kept}
 use Rattle.quic_recovery.proofs.DatagramLaws.{FlowsAgree, flows_at_first, flows_after}
-use Rattle.quic_recovery.proofs.SearchSaid.{Follows, Keeps}
+use Rattle.quic_recovery.proofs.SearchSaid.{Follows}
 
 -- what the table answers is one of what the promise allows
 module _ {K : Type 0} (Q : Type 0) (words : ControllerWords K) where

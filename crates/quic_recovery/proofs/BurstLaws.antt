@@ -15,11 +15,10 @@ use Rattle.recovery_events.specs.declared.event.Refusal.TheVariants.{NoMemory}
 use Rattle.quic_recovery.specs.Told.{logs_of, pasts_of, first_path, settings_of, Told}
 use Rattle.quic_recovery.specs.History.{Beginning, History, Reply}
 use Rattle.quic_recovery.specs.Promises.Once.{departures_of}
-use Rattle.quic_recovery.proofs.SearchSaid.{ComesAtFourBursts, NeedsFourBursts, Follows, Keeps}
-use Rattle.quic_recovery.proofs.Runs.{AllAlong, throughout_kept}
+use Rattle.quic_recovery.proofs.SearchSaid.{ComesAtFourBursts, NeedsFourBursts, Follows}
 use Rattle.quic_recovery.proofs.FateLaws.{fates_depart}
 use Rattle.quic_recovery.proofs.OneFateLaws.{leave_once, one_fate}
-use Rattle.quic_recovery.proofs.TrackedLaws.{AllTracked, keeps_tracked, none_tracked}
+use Rattle.quic_recovery.proofs.TrackedLaws.{AllTracked}
 
 -- ---- the search of the path in use was told nothing as it was made
 

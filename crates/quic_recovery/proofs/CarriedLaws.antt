@@ -1,28 +1,19 @@
 -- Each tracked packet carries the ACK of the numbers that the history says, up to a largest one. `AcknowledgedLaws`
 -- rest on it.
-use Rattle.std.proofs.lemmas.Bool.Decides.{nat_tests}
-use Rattle.std.proofs.Common.{◌≡◌, ◌≤◌, ℕ, ◌==◌, ◌&&◌, Bool, true, false, cond, List, [], ◌∷◌, Option, None, Some, Ok, Err, refl, sym, ap, subst, ◌∙◌, arith}
+use Rattle.std.proofs.Common.{◌≡◌, ℕ, true, [], ◌∷◌, Option, None, Ok, refl, ap, ◌∙◌}
 use Rattle.recovery_base.specs.declared.below.SpaceId.{SpaceId}
-use Rattle.recovery_base.specs.declared.below.SpaceId.TheVariants.{Data}
 use Rattle.recovery_base.specs.Spaces.{same_space}
 use Rattle.recovery_ledger.specs.Packets.{Packet, packet_at, largest_acked_by}
-use Rattle.recovery_ledger.specs.SpaceLog.{SpaceEntry, sends}
-use Rattle.recovery_ledger.specs.Tracked.{Sent, sent_by}
 use Rattle.recovery_events.specs.declared.event.Event.{Event}
 use Rattle.recovery_events.specs.declared.event.Event.TheVariants.{Send, PollMtu}
 use Rattle.recovery_events.specs.declared.event.Answer.TheVariants as answers
 use Rattle.recovery_events.specs.declared.event.Answer.TheVariants.{Probe}
-use Rattle.quic_recovery.specs.Table.{entries_of}
-use Rattle.quic_recovery.specs.Told.{logs_of, known_by, Told}
+use Rattle.quic_recovery.specs.Told.{Told}
 use Rattle.quic_recovery.specs.History.{Beginning, History, Reply}
-use Rattle.quic_recovery.specs.Known.{Known, number_in, packet_now}
-use Rattle.quic_recovery.specs.Logs.{onto}
 use Rattle.quic_recovery.specs.Promises.Acknowledged.{largest_in}
-use Rattle.quic_recovery.proofs.EntryKinds.{sends_none, space_kept}
-use Rattle.quic_recovery.proofs.AnswerLaws.{past_four}
 use Rattle.quic_recovery.proofs.SearchSteps.{found_packet as is_there}
 use Rattle.quic_recovery.proofs.FieldLaws.{IsSaid, said_found, said_then, said_told}
-use Rattle.quic_recovery.proofs.TrackedLaws.{is_new, one_space, probe_number, sent_in}
+use Rattle.quic_recovery.proofs.TrackedLaws.{one_space, sent_in}
 
 -- the largest number whose ACK a packet carries
 abbrev carried_by : {P M : Type 0} → Packet P M → Option ℕ

@@ -1,7 +1,7 @@
 -- Contents are neither lost nor doubled: what was sent is what is tracked and waits, and what is gone. The clause
 -- `contents` of `run` rests on it.
 use Rattle.std.proofs.lemmas.Bool.Decides.{nat_tests}
-use Rattle.std.proofs.Common.{◌≡◌, ◌+◌, ℕ, Bool, true, false, cond, List, [], ◌∷◌, Option, None, Some, Ok, Err, refl, ap, arith}
+use Rattle.std.proofs.Common.{◌≡◌, ◌+◌, ℕ, Bool, true, false, cond, List, [], ◌∷◌, Option, None, Some, Ok, Err, refl, arith}
 use Rattle.std.specs.Prelude.{sum_by}
 use Rattle.std.proofs.lemmas.List.Sums.{sum_by-cons}
 use Rattle.recovery_base.specs.declared.below.SpaceId.{SpaceId}
@@ -10,7 +10,7 @@ use Rattle.recovery_base.specs.Spaces.{same_space}
 use Rattle.recovery_ledger.specs.Packets.{Packet, Packets, packet_at, without, with_contents, replaced, contents_or}
 use Rattle.std.specs.Option.{option_and_then}
 use Rattle.recovery_ledger.specs.Queued.{joined_with, queued_by}
-use Rattle.recovery_ledger.specs.SpaceLog.{SpaceEntry, sends, acknowledged, loses, probes, takes_pending, emptied}
+use Rattle.recovery_ledger.specs.SpaceLog.{SpaceEntry, sends, loses, probes}
 use Rattle.recovery_ledger.specs.Tracked.{Sent, sent_by, sent_moved, forgotten_by}
 use Rattle.recovery_ledger.proofs.LedgerLaws.{sum-sent_onto}
 use Rattle.recovery_ledger.proofs.PacketLaws.{sum-without, without-absent, none_found}

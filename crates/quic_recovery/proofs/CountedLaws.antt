@@ -19,7 +19,7 @@ use Rattle.recovery_events.specs.declared.event.Event.{Event}
 use Rattle.recovery_events.specs.declared.event.Event.TheVariants.{Send, Acked, Lost, DiscardSpace, PollMtu, InFlight}
 use Rattle.recovery_events.specs.declared.event.Answer.TheVariants as answers
 use Rattle.recovery_events.specs.declared.event.Answer.TheVariants.{Probe}
-use Rattle.recovery_events.specs.declared.event.Refusal.TheVariants.{NoMemory, NoSuchPath}
+use Rattle.recovery_events.specs.declared.event.Refusal.TheVariants.{NoSuchPath}
 use Rattle.quic_recovery.specs.Entries.{here}
 use Rattle.quic_recovery.specs.Table.{answered, entries_of}
 use Rattle.quic_recovery.specs.Told.{logs_of, known_by, Told}

@@ -6,32 +6,24 @@ use Rattle.recovery_events.specs.declared.event.Refusal.{Refusal}
 use Rattle.quic_recovery.specs.Table.{PlainStep, ToldBy}
 use Rattle.quic_recovery.specs.Plain.{plain_of}
 use Rattle.quic_recovery.proofs.AboveLaws.{marks_refused}
-use Rattle.std.proofs.Common.{◌≡◌, ℕ, ◌<◌, ◌^◌, arith, Bool, false, List, [], ◌∷◌, Option, Some, Result, IfOk, OnErr, Ok, Err, refl, ap, sym}
+use Rattle.std.proofs.Common.{◌≡◌, ℕ, arith, Bool, false, List, Some, Result, IfOk, OnErr, Ok, Err, refl, ap, sym}
 use Rattle.recovery_base.specs.declared.below.SpaceId.{SpaceId}
 use Rattle.recovery_base.specs.declared.below.SpaceId.TheVariants.{Initial, Handshake, Data}
 use Rattle.recovery_ledger.specs.declared.spaces.ReceiveError.{ReceiveError}
 use Rattle.recovery_ledger.specs.declared.spaces.ReceiveError.TheVariants.{NumberTooLarge, NoMemory}
 use Rattle.recovery_ledger.specs.declared.spaces.Receipt.{Receipt}
 use Rattle.recovery_ledger.specs.declared.spaces.Receipt.TheVariants.{New, Duplicate}
-use Rattle.recovery_congestion.specs.Calls.{sends as sends_bytes}
 use Rattle.recovery_ledger.specs.Discarded.{is_discarded}
-use Rattle.recovery_ledger.specs.InFlight.{Overflows}
-use Rattle.recovery_ledger.specs.Ledger.{tracked_by}
-use Rattle.recovery_ledger.specs.Packets.{Packet, forgotten_number, IsTooLarge}
-use Rattle.recovery_ledger.specs.Paths.{generation_of}
-use Rattle.recovery_ledger.specs.Tracked.{packet_sent}
-use Rattle.recovery_ledger.specs.SpaceLog.{SpaceEntry, heard, heard_again, sends}
+use Rattle.recovery_ledger.specs.SpaceLog.{SpaceEntry}
 use Rattle.recovery_ledger.specs.Spaces.{Space, Spaces, space_of, with_space, tracking_of, acks_of, next_number_of, HasGreatestCome, ReceiveReply, heard_of, SpaceStep, arrives}
 use Rattle.recovery_ledger.proofs.AckLaws.{heard_greatest}
-use Rattle.recovery_paths.specs.PathLog.{PathsEntry, OfPaths, PathsStep, paths_known, paths_marks, on_current, tells}
+use Rattle.recovery_paths.specs.PathLog.{PathsEntry, OfPaths, PathsStep, paths_known, paths_marks}
 use Rattle.recovery_paths.specs.PathStates.{Path}
 use Rattle.recovery_queue.specs.Queues.{QueueWords}
 use Rattle.recovery_skips.specs.Filters.{Skipping}
-use Rattle.recovery_events.specs.declared.event.Event.TheVariants.{Received, Send}
-use Rattle.recovery_events.specs.declared.event.Answer.TheVariants.{Sent}
+use Rattle.recovery_events.specs.declared.event.Event.TheVariants.{Received}
 use Rattle.quic_recovery.specs.Entries.{here, in_space, nothing}
 use Rattle.quic_recovery.specs.History.{QueueMeaning}
-use Rattle.quic_recovery.specs.Known.{number_in, current_in_flight}
 use Rattle.quic_recovery.specs.Logs.{StepBy}
 use Rattle.quic_recovery.specs.Parts.{Parts}
 use Rattle.quic_recovery.specs.Replies.{reply_to}

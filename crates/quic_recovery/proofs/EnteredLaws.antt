@@ -1,12 +1,12 @@
 -- What each event is to the search on the path in use is read off its answer. `SearchSteps` go on from it.
-use Rattle.std.proofs.Common.{arith, ℕ, ◌≡◌, Bool, true, false, List, [], ◌∷◌, ◌++◌, Option, None, Some, Ok, Err, refl, ap, ◌∙◌}
+use Rattle.std.proofs.Common.{arith, ℕ, ◌≡◌, Bool, true, false, List, [], ◌∷◌, ◌++◌, Option, Ok, Err, refl, ◌∙◌}
 use Rattle.std.proofs.lemmas.Bool.{false≢true}
 use Rattle.recovery_base.specs.declared.below.SpaceId.TheVariants as space
 use Rattle.recovery_mtud.specs.Discovery.{poll_of}
 use Rattle.recovery_mtud.specs.DiscoveryLog.{loses_probe}
-use Rattle.recovery_mtud.specs.MtuEntries.{MtuEntry, poll_entry}
+use Rattle.recovery_mtud.specs.MtuEntries.{MtuEntry}
 use Rattle.recovery_paths.specs.PathMaking.{PathSettings}
-use Rattle.recovery_paths.specs.PathLog.{PathsEntry, on, pasts_by, searches, is_reset}
+use Rattle.recovery_paths.specs.PathLog.{PathsEntry, on, pasts_by, searches}
 use Rattle.recovery_events.specs.declared.event.Event.{Event}
 use Rattle.recovery_events.specs.declared.event.Event.TheVariants.{PollMtu, Acked, Lost, LossesDone, PeerLimit, ResetPath, NewPath}
 use Rattle.recovery_events.specs.declared.event.Answer.{Answer}
@@ -18,7 +18,6 @@ use Rattle.quic_recovery.specs.Known.{Known}
 use Rattle.quic_recovery.specs.PartReplies.{MtuProbeReply}
 use Rattle.quic_recovery.proofs.EntryKinds.{PathKind, departing, limiting, searching, resetting, moving, elsewhere, path_kind, paths_kept}
 use Rattle.quic_recovery.proofs.SearchSaid.{EntersAsTold, entries_on}
-use Rattle.quic_recovery.proofs.Runs.{AllAlong, throughout_kept}
 
 -- the search sees nothing of it, nor does it begin anew
 abbrev is_unseen : PathKind → Bool

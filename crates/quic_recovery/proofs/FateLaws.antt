@@ -1,25 +1,23 @@
 -- What the search of the path in use is told of a number happened to that number in the space of 1-RTT packets.
 -- `BurstLaws` rest on it.
 use Rattle.std.proofs.lemmas.Bool.Decides.{nat_tests}
-use Rattle.std.proofs.Common.{◌≡◌, ℕ, ◌+◌, ◌≤◌, ◌==◌, ◌&&◌, Bool, true, false, if◌then◌else◌, List, [], ◌∷◌, ◌++◌, Option, None, Some, Ok, Err, refl, arith}
+use Rattle.std.proofs.Common.{◌≡◌, ℕ, ◌+◌, ◌≤◌, ◌==◌, ◌&&◌, Bool, true, false, if◌then◌else◌, List, [], ◌∷◌, ◌++◌, Option, Some, Ok, Err, refl, arith}
 use Rattle.recovery_base.specs.declared.below.SpaceId.{SpaceId}
 use Rattle.recovery_base.specs.declared.below.SpaceId.TheVariants.{Data}
 use Rattle.recovery_base.specs.Spaces.{same_space}
 use Rattle.recovery_ledger.specs.Packets.{Packet, packet_at}
-use Rattle.recovery_mtud.specs.DiscoveryLog.{MtuCall, loses as loses_packet, acks as acks_packet}
 use Rattle.recovery_paths.specs.declared.live_paths.PathName.TheVariants.{Current}
-use Rattle.recovery_paths.specs.PathLog.{PathEntry, PathsEntry, on, searches}
-use Rattle.recovery_paths.specs.PathStates.{is_path_probe, loss_call}
-use Rattle.recovery_paths.proofs.FateLaws.{fate, fates, told_in, told-append, fates_by}
+use Rattle.recovery_paths.specs.PathLog.{PathsEntry, on, searches}
+use Rattle.recovery_paths.proofs.FateLaws.{fates, told_in, told-append, fates_by}
 use Rattle.recovery_events.specs.declared.event.Event.{Event}
 use Rattle.recovery_events.specs.declared.event.Event.TheVariants.{Acked, Lost}
-use Rattle.quic_recovery.specs.Entries.{Entries, acked_entry, acked_search, lost_search, searched}
+use Rattle.quic_recovery.specs.Entries.{Entries, acked_entry, acked_search, lost_search}
 use Rattle.quic_recovery.specs.Table.{entries_of}
 use Rattle.quic_recovery.specs.Told.{logs_of, pasts_of, known_by, first_path, settings_of}
 use Rattle.quic_recovery.specs.History.{Beginning, History, QueueMeaning, Reply}
 use Rattle.quic_recovery.specs.Known.{Known, tracked_known}
 use Rattle.quic_recovery.specs.Promises.Once.{departures_of}
-use Rattle.quic_recovery.proofs.EntryKinds.{PathKind, departing, elsewhere, call_kind, path_kind, paths_kept}
+use Rattle.quic_recovery.proofs.EntryKinds.{PathKind, departing, elsewhere, path_kind, paths_kept}
 
 -- how often a number leaves the space of 1-RTT packets, where it is this one
 abbrev leaves_data : SpaceId → ℕ → ℕ → ℕ

@@ -1,22 +1,20 @@
 -- By the history alone a search takes few probes, as its entries say: the clause `few` of `run`.
-use Rattle.std.proofs.Common.{ℕ, ◌≡◌, ◌<◌, ◌^◌, true, List, ◌∷◌, Option, Ok, Err, refl, ap, is_some, arith}
-use Rattle.std.specs.Option.{IfSome, ForSome}
+use Rattle.std.proofs.Common.{ℕ, ◌≡◌, true, List, ◌∷◌, Option, Ok, Err, refl, ap, is_some, arith}
+use Rattle.std.specs.Option.{IfSome}
 use Rattle.recovery_base.specs.declared.below.SpaceId.TheVariants as space
 use Rattle.recovery_mtud.specs.MtuEntries.{MtuEntry, MtuProbe, probe_in_flight}
 use Rattle.recovery_mtud.specs.SearchRuns.{probed_sizes, search_of}
 use Rattle.recovery_mtud.proofs.SearchRunLaws.{idle_search}
 use Rattle.recovery_events.specs.declared.event.Event.{Event}
-use Rattle.recovery_events.specs.declared.event.Event.TheVariants.{PollMtu, Acked, Lost, LossesDone, PeerLimit, ResetPath, NewPath}
+use Rattle.recovery_events.specs.declared.event.Event.TheVariants.{PollMtu, Acked, Lost, NewPath}
 use Rattle.recovery_events.specs.declared.event.Answer.TheVariants as answer
 use Rattle.quic_recovery.specs.Told.{settings_of}
 use Rattle.quic_recovery.specs.History.{Beginning, History, Reply}
-use Rattle.quic_recovery.specs.Search.{discovery_settings}
 use Rattle.quic_recovery.specs.Promises.Few.{ProbesFew, is_in_flight, probed}
 use Rattle.quic_recovery.specs.Promises.Probes.{last_probe}
-use Rattle.quic_recovery.proofs.SearchSaid.{entered_so_far, Follows, Keeps, IsSmall}
+use Rattle.quic_recovery.proofs.SearchSaid.{entered_so_far, Keeps, IsSmall}
 use Rattle.quic_recovery.proofs.SearchLaws.{few_one}
 use Rattle.quic_recovery.proofs.SearchSteps.{Facts, Step, stepped, throughout_facts}
-use Rattle.quic_recovery.proofs.Runs.{throughout_by}
 use Rattle.quic_recovery.proofs.Runs.{AllAlong}
 
 -- ---- the sizes probed by the search that runs

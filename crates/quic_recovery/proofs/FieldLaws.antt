@@ -2,9 +2,9 @@
 -- by each event. `SizeLaws` and `CarriedLaws` rest on it.
 use Rattle.std.proofs.lemmas.Bool.Decides.{nat_tests}
 use Rattle.std.proofs.Math.Path.{fun_ext}
-use Rattle.std.proofs.Common.{ℕ, ◌≡◌, ◌+◌, ◌<◌, ◌≤◌, true, List, [], ◌∷◌, ◌++◌, Option, None, Some, refl, ◌∙◌, arith, ◌==◌, ◌&&◌, Bool, false, cond, Ok, Err, sym, ap, subst}
+use Rattle.std.proofs.Common.{ℕ, ◌≡◌, ◌+◌, ◌<◌, ◌≤◌, true, List, [], ◌∷◌, ◌++◌, Option, None, Some, refl, ◌∙◌, arith, ◌==◌, ◌&&◌, Bool, false, cond, Ok, Err, subst}
 use Rattle.std.specs.Prelude.{option_map}
-use Rattle.recovery_ledger.specs.Packets.{Packet, Packets, packet_at, without, without_some, replaced, carrying, with_contents, forgotten_number, sent_onto, largest_acked_by}
+use Rattle.recovery_ledger.specs.Packets.{Packet, Packets, packet_at, without, without_some, replaced, carrying, with_contents, forgotten_number, sent_onto}
 use Rattle.recovery_ledger.specs.SpaceLog.{SpaceEntry, acknowledged, loses, probes, sends}
 use Rattle.recovery_ledger.specs.Tracked.{Sent, sent_by}
 use Rattle.recovery_ledger.proofs.PacketLaws.{number_at, none_found}
@@ -23,7 +23,6 @@ use Rattle.quic_recovery.specs.History.{Beginning, History, Reply}
 use Rattle.quic_recovery.specs.Known.{Known, number_in, packet_now}
 use Rattle.quic_recovery.specs.Logs.{onto}
 use Rattle.quic_recovery.proofs.AnswerLaws.{past_four}
-use Rattle.quic_recovery.proofs.SearchSteps.{found_packet as is_there}
 use Rattle.quic_recovery.proofs.TrackedLaws.{is_new, one_space, probe_number, sent_in}
 
 module _ {P M A : Type 0} (says : Packet P M → A) where

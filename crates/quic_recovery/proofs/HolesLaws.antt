@@ -1,26 +1,21 @@
 -- By the history alone reports of black holes need four bursts and come at four, as the entries of the search say: the
 -- clause `holes` of `run`.
-use Rattle.std.proofs.Common.{ℕ, ◌≡◌, true, List, [], ◌∷◌, Some, Ok, Err, refl, ap, subst, ◌∙◌, arith}
+use Rattle.std.proofs.Common.{ℕ, ◌≡◌, true, List, [], ◌∷◌, Ok, Err, refl, ap, subst, ◌∙◌, arith}
 use Rattle.recovery_base.specs.declared.below.SpaceId.TheVariants as space
-use Rattle.recovery_ledger.specs.Packets.{Packet}
-use Rattle.recovery_ledger.specs.Tracked.{sent_by}
 use Rattle.recovery_mtud.specs.BurstRuns as entries_
 use Rattle.recovery_mtud.specs.Discovery.{Discovery}
 use Rattle.recovery_mtud.specs.MtuEntries.{MtuEntry, reset, min_mtu_in_use}
 use Rattle.recovery_events.specs.declared.event.Event.{Event}
-use Rattle.recovery_events.specs.declared.event.Event.TheVariants.{PollMtu, Acked, Lost, LossesDone, PeerLimit, ResetPath, NewPath}
+use Rattle.recovery_events.specs.declared.event.Event.TheVariants.{PollMtu, Acked, Lost, LossesDone, ResetPath, NewPath}
 use Rattle.recovery_events.specs.declared.event.Answer.TheVariants as answer
-use Rattle.quic_recovery.specs.Told.{logs_of, settings_of}
+use Rattle.quic_recovery.specs.Told.{settings_of}
 use Rattle.quic_recovery.specs.History.{Beginning, History, Reply}
-use Rattle.quic_recovery.specs.Promises.Bursts.{size_of, open_run}
+use Rattle.quic_recovery.specs.Promises.Bursts.{open_run}
 use Rattle.quic_recovery.specs.Promises.Holes.{ReportsAtFour, larger_acked, standing, unanswered}
-use Rattle.quic_recovery.proofs.SearchSaid.{NeedsFourBursts, data_packet, entered_so_far, Follows, Keeps}
+use Rattle.quic_recovery.proofs.SearchSaid.{NeedsFourBursts, entered_so_far, Follows, Keeps}
 use Rattle.quic_recovery.proofs.BurstLaws.{comes_one, needs_one}
-use Rattle.quic_recovery.proofs.FieldLaws.{said_found}
 use Rattle.quic_recovery.proofs.MadeLaws.{is_made, made_after, made_in}
 use Rattle.quic_recovery.proofs.SearchSteps.{Facts, Step, stepped, throughout_facts}
-use Rattle.quic_recovery.proofs.Runs.{throughout_by}
-use Rattle.quic_recovery.proofs.SizeLaws.{Sized, sized_after, size_in}
 use Rattle.quic_recovery.proofs.Runs.{AllAlong}
 use Rattle.quic_recovery.proofs.TrackedLaws.{AllTracked, keeps_tracked, none_tracked}
 

@@ -1,6 +1,6 @@
 -- What the parts know is what their logs say, and one event more leaves what its entries say. The loop of `run` and
 -- `PastLaws` carry it from event to event.
-use Rattle.std.proofs.Common.{arith, ◌≡◌, ℕ, List, [], ◌∷◌, Option, None, Some, sym, subst, ap, ◌∙◌}
+use Rattle.std.proofs.Common.{arith, ◌≡◌, ℕ, List, [], ◌∷◌, Option, None, Some, sym, ap, ◌∙◌}
 use Rattle.std.proofs.Math.Path.{fun_ext}
 use Rattle.recovery_base.specs.declared.below.SpaceId.{SpaceId}
 use Rattle.recovery_base.specs.declared.below.SpaceId.TheVariants.{Data}
@@ -10,13 +10,12 @@ use Rattle.recovery_ledger.specs.Packets.{no_packets}
 use Rattle.recovery_ledger.specs.Paths.{counters_of, fresh_ledger}
 use Rattle.recovery_ledger.specs.SpaceLog.{SpaceEntry, sends}
 use Rattle.recovery_queue.specs.Queues.{QueueWords}
-use Rattle.recovery_ledger.specs.Spaces.{Spaces, space_of, tracking_of, next_number_of, SpaceStep, SpaceLeft, IsMade}
+use Rattle.recovery_ledger.specs.Spaces.{Spaces, space_of, tracking_of, SpaceStep, SpaceLeft, IsMade}
 use Rattle.recovery_ledger.specs.Tracked.{Sent, sent_by}
 use Rattle.recovery_ledger.proofs.CoherentLaws.{fresh_coherent}
 use Rattle.recovery_ledger.proofs.SpaceLaws.{space_law}
 use Rattle.recovery_paths.specs.Balance.{AreBalanced}
-use Rattle.recovery_paths.specs.PathLog.{OfPaths, PathsLeft, PathsStep, paths_known}
-use Rattle.recovery_paths.specs.PathMaking.{PathSettings}
+use Rattle.recovery_paths.specs.PathLog.{OfPaths, PathsLeft, paths_known}
 use Rattle.recovery_paths.specs.PathStates.{Path}
 use Rattle.recovery_paths.proofs.BalanceLaws.{fresh}
 use Rattle.recovery_paths.proofs.PathLogLaws.{paths_law}
@@ -29,7 +28,6 @@ use Rattle.quic_recovery.specs.History.{Beginning, History, Reply}
 use Rattle.quic_recovery.specs.Known.{tracked_known}
 use Rattle.quic_recovery.specs.Logs.{onto}
 use Rattle.quic_recovery.specs.Parts.{Parts}
-use Rattle.quic_recovery.specs.Plain.{plain_of}
 use Rattle.quic_recovery.specs.State.{InFlightLeft, Left, heard_to, SkippingStep, ChangesBy, Changes, known_to}
 use Rattle.quic_recovery.proofs.AboveLaws.{beside_stays}
 use Rattle.quic_recovery.proofs.LogLaws.{left_by_entry}

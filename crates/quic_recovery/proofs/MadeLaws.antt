@@ -1,9 +1,8 @@
 -- The discovery that the path in use was made with stays until a fresh path. The laws of searches by events alone
 -- (`NearLaws`, `HolesLaws`, `MtuLaws`) rest on it.
-use Rattle.std.proofs.Common.{◌≡◌, true, false, ◌∷◌, Ok, Err, refl}
+use Rattle.std.proofs.Common.{◌≡◌, true, false, ◌∷◌, Ok, refl}
 use Rattle.recovery_mtud.specs.Discovery.{Discovery}
 use Rattle.recovery_paths.specs.PathLog.{OfPaths, PathPast, receives}
-use Rattle.recovery_paths.specs.declared.live_paths.PathName.TheVariants.{Current, Previous}
 use Rattle.recovery_events.specs.declared.event.Event.{Event}
 use Rattle.recovery_events.specs.declared.event.Event.TheVariants.{NewPath, DropPrevious}
 use Rattle.quic_recovery.specs.Told.{pasts_of, settings_of}

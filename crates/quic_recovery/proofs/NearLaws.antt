@@ -1,14 +1,12 @@
 -- By the history alone a search ends near the best size of an honest link, as its entries say: the clause `near` of
 -- `run`.
-use Rattle.std.proofs.Common.{ℕ, ◌≡◌, ◌<◌, ◌^◌, ◌||◌, min, max, Bool, true, false, if◌then◌else◌, List, [], ◌∷◌, Option, None, Some, Ok, Err, refl, sym, ap, ap₂, subst, ◌∙◌, is_some, arith}
-use Rattle.std.specs.Option.{ForSome}
+use Rattle.std.proofs.Common.{ℕ, ◌≡◌, ◌||◌, min, max, Bool, true, false, if◌then◌else◌, List, [], ◌∷◌, Option, None, Some, Ok, Err, refl, sym, ap, ap₂, subst, ◌∙◌, is_some, arith}
 use Rattle.std.specs.Prelude.{nat_le, nat_lt, length}
 use Rattle.std.proofs.lemmas.Bool.Decides.{nat_tests}
 use Rattle.recovery_base.specs.declared.below.SpaceId.TheVariants as space
-use Rattle.recovery_config.specs.declared.config.TransportConfig.{TransportConfig}
 use Rattle.recovery_config.specs.Settings.{initial_mtu_of}
 use Rattle.recovery_mtud.specs.declared.config.MtuDiscoveryConfig.{MtuDiscoveryConfig}
-use Rattle.recovery_mtud.specs.Discovery.{Discovery, discovery_made, limit_or_greatest, within}
+use Rattle.recovery_mtud.specs.Discovery.{Discovery, limit_or_greatest, within}
 use Rattle.recovery_mtud.specs.DiscoveryLog.{kept_limit}
 use Rattle.recovery_mtud.specs.MtuEntries.{MtuEntry, unprobed, probe_in_flight, limit_in_use, min_mtu_in_use, mtu_in_use}
 use Rattle.recovery_mtud.specs.SearchRuns.{AreLimitsOutside, EndsNearBest, start_upper, acked_sizes, before_search, lost_sizes, next_activation, probed_sizes, search_of, search_runs}
@@ -30,7 +28,7 @@ use Rattle.quic_recovery.proofs.HolesLaws as holes
 use Rattle.quic_recovery.proofs.MadeLaws.{is_made, made_in}
 use Rattle.quic_recovery.proofs.SearchLaws.{ends_one}
 use Rattle.quic_recovery.proofs.SearchSteps.{Facts, Step, stepped, throughout_facts}
-use Rattle.quic_recovery.proofs.Runs.{AllAlong, throughout_by}
+use Rattle.quic_recovery.proofs.Runs.{AllAlong}
 
 -- ---- the limit that the peer told last
 

@@ -1,13 +1,12 @@
 -- Numbers that are given out, and the skips behind them. `SendLaws` and the call `send` rest on it.
 use Rattle.std.proofs.lemmas.Bool.Decides.{nat_tests}
-use Rattle.std.proofs.Common.{◌≡◌, ℕ, ◌+◌, ◌≤◌, Bool, true, false, cond, refl, arith}
+use Rattle.std.proofs.Common.{◌≡◌, ℕ, ◌≤◌, refl, arith}
 use Rattle.recovery_base.specs.declared.below.SpaceId.{SpaceId}
-use Rattle.recovery_base.specs.declared.below.SpaceId.TheVariants.{Initial, Handshake, Data}
+use Rattle.recovery_base.specs.declared.below.SpaceId.TheVariants.{Data}
 use Rattle.recovery_ledger.specs.Packets.{Packet}
 use Rattle.recovery_ledger.specs.SpaceLog.{sends}
 use Rattle.recovery_ledger.specs.Spaces.{Spaces, space_of, next_number_of}
 use Rattle.recovery_skips.specs.Filters.{Filter, Skipping}
-use Rattle.recovery_skips.specs.Skips.{is_at}
 use Rattle.quic_recovery.specs.Entries.{here}
 use Rattle.quic_recovery.specs.Known.{number_in}
 use Rattle.quic_recovery.specs.Numbers.{number_behind, skipping_behind}

@@ -1,6 +1,6 @@
 -- Each pacer delays by its balance and keeps its rate, throughout a run: the clauses `delayed`, `rate`, `soon` and
 -- `named` of `run`.
-use Rattle.std.proofs.Common.{arith, ℕ, true, false, ◌∷◌, Option, Ok, Err, refl}
+use Rattle.std.proofs.Common.{arith, ℕ, true, ◌∷◌, Option, Ok, refl}
 use Rattle.recovery_pacing.specs.PacerLog.{AreChecked, KeepsRate}
 use Rattle.recovery_pacing.specs.Pacing.{PacerCall}
 use Rattle.recovery_pacing.specs.NamedMoment.{PassesAtMoment}
@@ -13,7 +13,6 @@ use Rattle.recovery_paths.specs.PathStates.{pacer_call, path_delay}
 use Rattle.recovery_paths.proofs.PassedLaws.{HavePassedOn, passed_after, passed_at_first}
 use Rattle.recovery_events.specs.declared.event.Event.{Event}
 use Rattle.recovery_events.specs.declared.event.Event.TheVariants.{Transmit, PacerCheck}
-use Rattle.quic_recovery.specs.Table.{entries_of}
 use Rattle.quic_recovery.specs.Told.{logs_of, pasts_of, known_by, first_path, settings_of, Told}
 use Rattle.quic_recovery.specs.History.{Beginning, History, Reply}
 use Rattle.quic_recovery.specs.Pacing.{IsByBalance, OnCall, AtCalls, DelaysByBalance, PassesSoon, PassesWhenNamed, KeepsPace}

@@ -1,21 +1,14 @@
 -- The paths that live, and the generation of each, are those that the history says. `RefusedLaws` and `CountedLaws`
 -- rest on it.
-use Rattle.std.proofs.Common.{◌≡◌, ◌+◌, ℕ, Bool, true, false, List, [], ◌∷◌, ◌++◌, Option, None, Some, Ok, Err, refl, ap, ◌∙◌}
+use Rattle.std.proofs.Common.{◌≡◌, ◌+◌, ℕ, true, false, [], ◌∷◌, Option, None, Some, Ok, refl, ap, ◌∙◌}
 use Rattle.std.specs.Prelude.{option_map}
 use Rattle.recovery_paths.specs.declared.live_paths.PathName.{PathName}
 use Rattle.recovery_paths.specs.declared.live_paths.PathName.TheVariants.{Current, Previous}
-use Rattle.recovery_paths.specs.PathLog.{OfPaths, PathEntry, PathsEntry, PathPast, each_path, path_of, pasts_by, past_with, on, receives, moves, drops_previous, known_of, is_validated}
-use Rattle.recovery_paths.specs.PathMaking.{PathSettings}
-use Rattle.recovery_paths.specs.PathStates.{PathState}
-use Rattle.recovery_events.specs.declared.event.Event.{Event}
+use Rattle.recovery_paths.specs.PathLog.{OfPaths, PathPast, each_path, path_of, past_with, receives, known_of, is_validated}
 use Rattle.recovery_events.specs.declared.event.Event.TheVariants.{NewPath, DropPrevious}
-use Rattle.quic_recovery.specs.Table.{entries_of}
-use Rattle.quic_recovery.specs.Entries.{following}
-use Rattle.quic_recovery.specs.Told.{logs_of, pasts_of, known_by, first_path, settings_of}
-use Rattle.quic_recovery.specs.History.{Beginning, History, QueueMeaning, Reply}
-use Rattle.quic_recovery.specs.Known.{Known}
+use Rattle.quic_recovery.specs.Told.{pasts_of, known_by, settings_of}
+use Rattle.quic_recovery.specs.History.{Beginning, History}
 use Rattle.quic_recovery.specs.Promises.Paths.{paths_made, generation_of}
-use Rattle.quic_recovery.proofs.EntryKinds.{PathKind, moving, dropping, path_kind, paths_kept}
 use Rattle.quic_recovery.proofs.SeenLaws.{IsStill, IsStillOn, map_kept, stays_seen}
 
 abbrev both : ℕ → Option ℕ → OfPaths ℕ

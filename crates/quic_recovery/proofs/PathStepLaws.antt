@@ -1,6 +1,6 @@
 -- What an event does to the paths that live, and to the search on the one in use, is a step of them. The calls
 -- `poll_mtu` and `discard` rest on it.
-use Rattle.std.proofs.Common.{◌≡◌, ℕ, ◌≤◌, ◌^◌, arith, ap, ◌∙◌, refl, sym, subst, Bool, true, false, MatchBool, [], ◌∷◌, Option, None, Some, Ok, Err}
+use Rattle.std.proofs.Common.{◌≡◌, ℕ, arith, ap, ◌∙◌, refl, Bool, true, false, MatchBool, [], ◌∷◌, None, Some, Ok, Err}
 use Rattle.recovery_base.specs.declared.below.SpaceId.{SpaceId}
 use Rattle.recovery_base.specs.declared.below.SpaceId.TheVariants.{Data}
 use Rattle.recovery_ledger.specs.declared.discarded.DiscardedSpaces.{DiscardedSpaces}
@@ -25,13 +25,11 @@ use Rattle.recovery_congestion.specs.Calls.{sends as sends_bytes}
 use Rattle.recovery_events.specs.declared.event.Answer.TheVariants.{Done, Sent, Probe}
 use Rattle.recovery_events.specs.declared.event.Refusal.{Refusal}
 use Rattle.recovery_events.specs.declared.event.Refusal.TheVariants.{NoMemory, NumberTooLarge, NumbersExhausted, SpaceDiscarded, Overflow}
-use Rattle.quic_recovery.specs.Entries.{sending}
 use Rattle.quic_recovery.specs.History.{QueueMeaning}
 use Rattle.quic_recovery.specs.Known.{Known, current_in_flight, number_in, packet_now}
 use Rattle.quic_recovery.specs.Parts.{Parts}
-use Rattle.quic_recovery.specs.Replies.{Answers, Refuses, same_refusal}
-use Rattle.quic_recovery.specs.State.{Changes, Steps, known_to}
-use Rattle.quic_recovery.specs.PartReplies.{InSpace, SendReply, MtuProbeReply}
+use Rattle.quic_recovery.specs.Replies.{Answers, same_refusal}
+use Rattle.quic_recovery.specs.State.{Changes, known_to}
 use Rattle.quic_recovery.proofs.AboveLaws.{previous_same, both_marks}
 use Rattle.quic_recovery.proofs.DriverLaws.{spaces_step, skips_nothing}
 

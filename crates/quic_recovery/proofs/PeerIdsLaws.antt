@@ -1,5 +1,5 @@
 -- Ids of the peer are taken, refused and moved to as the history itself says: the clause `peer_ids` of `run`.
-use Rattle.std.proofs.Common.{◌≡◌, ◌≤◌, ◌<◌, ◌+◌, ◌^◌, ℕ, ◌==◌, max, min, nat_lt, nat_le, not, Bool, false, List, [], ◌∷◌, Option, None, Some, IsSome, Ok, Err, refl, ap, subst, arith, leb-true, le-leb}
+use Rattle.std.proofs.Common.{◌≡◌, ◌≤◌, ◌<◌, ◌+◌, ℕ, ◌==◌, max, min, nat_lt, nat_le, not, List, [], ◌∷◌, Option, None, Some, IsSome, Ok, Err, refl, ap, subst, arith, leb-true, le-leb}
 use Rattle.std.specs.Prelude.{◌≢◌, IfSome, option_map, unwrap_or, if◌then◌else◌}
 use Rattle.std.specs.Bool.{Decides}
 use Rattle.std.proofs.Math.Path.{fun_ext}
@@ -13,9 +13,7 @@ use Rattle.recovery_events.specs.declared.event.Event.{Event}
 use Rattle.recovery_events.specs.declared.event.Event.TheVariants.{NewId, NextId, InitialId}
 use Rattle.recovery_events.specs.declared.event.Answer.{Answer}
 use Rattle.recovery_events.specs.declared.event.Answer.TheVariants.{Retire, Done}
-use Rattle.recovery_events.specs.declared.event.Refusal.{Refusal}
 use Rattle.recovery_events.specs.declared.event.Refusal.TheVariants.{NumberTooLarge, BadRetirePriorTo, Retired, ExceedsLimit, Conflict, NotInitialId}
-use Rattle.recovery_events.specs.Refusals.{refusal_number}
 use Rattle.quic_recovery.specs.History.{Beginning, History, Reply}
 use Rattle.quic_recovery.specs.IdReplies.{FrameReply, IsFrameAnswer, IsNextAnswer}
 use Rattle.quic_recovery.specs.Replies.{AlwaysAnswers, Refuses}

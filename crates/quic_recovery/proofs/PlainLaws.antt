@@ -1,16 +1,15 @@
 -- The parts of which no log is kept, one event at a time: what they hold is what the history says. `LeftLaws` rest on
 -- it.
-use Rattle.std.proofs.Common.{arith, ◌≡◌, ℕ, true, List, ◌∷◌, Ok, Err, refl, ap}
+use Rattle.std.proofs.Common.{arith, ◌≡◌, ℕ, true, List, ◌∷◌, Ok, Err, ap}
 use Rattle.recovery_base.specs.declared.below.SpaceId.{SpaceId}
 use Rattle.recovery_base.specs.declared.timer.Timer.{Timer}
 use Rattle.recovery_base.specs.Timers.{moment}
 use Rattle.recovery_congestion.specs.Controllers.{ControllerWords}
 use Rattle.recovery_ids.specs.LocalIds.{LocalIds}
-use Rattle.recovery_ids.specs.RemoteIds.{RemoteIds}
 use Rattle.recovery_ledger.specs.Acks.{Heard}
 use Rattle.recovery_ledger.specs.Discarded.{is_discarded}
 use Rattle.recovery_events.specs.declared.event.Event.{Event}
-use Rattle.recovery_events.specs.declared.event.Event.TheVariants.{AckFrequencyIn, DiscardSpace, IdTimeout, InitialId, IssueIds, NewId, NextId, NextTimeout, PeerLimit, PeerRetired, SetTimer, StopTimer}
+use Rattle.recovery_events.specs.declared.event.Event.TheVariants.{AckFrequencyIn, InitialId, NewId, NextId, NextTimeout, SetTimer, StopTimer}
 use Rattle.recovery_events.specs.declared.event.Answer.{Answer}
 use Rattle.recovery_events.specs.declared.event.Answer.TheVariants.{Done, Flag}
 use Rattle.recovery_events.specs.declared.event.Refusal.TheVariants.{DelayTooSmall, NoMemory}
@@ -19,7 +18,7 @@ use Rattle.quic_recovery.specs.IdReplies.{FrameReply}
 use Rattle.quic_recovery.specs.Known.{Known}
 use Rattle.quic_recovery.specs.Plain.{Plain}
 use Rattle.quic_recovery.specs.Table.{PlainStep, frequency_by, limit, own_ids, ToldBy}
-use Rattle.quic_recovery.specs.Promises.GivenIds.{AreHeld, id_under, retired_below}
+use Rattle.quic_recovery.specs.Promises.GivenIds.{AreHeld}
 use Rattle.quic_recovery.specs.Promises.NewNumbers.{is_discarded as was_discarded}
 use Rattle.quic_recovery.specs.Promises.Timeouts.{TellsTimers, moment_of}
 use Rattle.quic_recovery.specs.Replies.{AlwaysAnswers}

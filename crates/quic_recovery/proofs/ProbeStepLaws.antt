@@ -1,5 +1,5 @@
 -- What probes, losses, queues and counts of ECN change leaves the balance of the paths. The calls for these rest on it.
-use Rattle.std.proofs.Common.{◌∙◌, ◌≡◌, ℕ, ◌≤◌, nat_le, Bool, false, ◌&&◌, IsTrue, Option, None, Some, Result, Ok, Err, OnOk, OnErr, refl, sym, ap, arith}
+use Rattle.std.proofs.Common.{◌∙◌, ◌≡◌, ℕ, ◌≤◌, nat_le, Bool, false, ◌&&◌, IsTrue, Option, None, Some, Result, Ok, Err, OnOk, OnErr, refl, ap, arith}
 use Rattle.std.proofs.lemmas.Bool.Decides.{nat_tests}
 use Rattle.std.specs.Option.{IsSomeAnd}
 use Rattle.std.specs.declared.ops.RangeInclusive.{RangeInclusive}
@@ -13,22 +13,14 @@ use Rattle.recovery_ledger.specs.SpaceLog.{probes, feeds_back}
 use Rattle.recovery_ledger.specs.Spaces.{Space, Spaces, space_of, with_space, tracking_of, acks_of, next_number_of, SpaceStep}
 use Rattle.recovery_ledger.proofs.CoherentLaws.{coherent_kept, come_kept}
 use Rattle.recovery_paths.specs.Balance.{AreBalanced}
-use Rattle.recovery_paths.specs.PathLog.{OfPaths, paths_marks}
+use Rattle.recovery_paths.specs.PathLog.{OfPaths}
 use Rattle.recovery_paths.specs.PathStates.{Path}
 use Rattle.recovery_paths.proofs.BalanceLaws.{kept, probed}
 use Rattle.recovery_queue.specs.Queues.{QueueWords}
 use Rattle.recovery_skips.specs.Filters.{AcksSkip, range_holds}
-use Rattle.recovery_events.specs.declared.event.Event.{Event}
-use Rattle.recovery_events.specs.declared.event.Refusal.{Refusal}
-use Rattle.quic_recovery.specs.History.{QueueMeaning}
 use Rattle.quic_recovery.specs.Known.{Known}
-use Rattle.quic_recovery.specs.Parts.{Parts}
-use Rattle.quic_recovery.specs.Table.{PlainStep, ToldBy}
-use Rattle.quic_recovery.specs.Plain.{plain_of}
-use Rattle.quic_recovery.specs.State.{Changes, heard_to, known_to}
 use Rattle.quic_recovery.specs.PartReplies.{skipped_in}
-use Rattle.quic_recovery.proofs.AboveLaws.{marks_refused}
-use Rattle.quic_recovery.proofs.DriverLaws.{nothing_changes, with_same_space}
+use Rattle.quic_recovery.proofs.DriverLaws.{with_same_space}
 
 -- nothing that is tracked or was received changes
 pub record Stays {P M : Type 0} (old new : Space P M) : Type 0 where

@@ -1,15 +1,14 @@
 -- Refusals that follow from the history are given exactly where it says so: the clause `refused` of `run`.
-use Rattle.std.proofs.Common.{◌≡◌, ℕ, ◌==◌, Bool, true, false, Option, None, Some, Ok, Err, refl, sym, ap, ◌∙◌, arith}
-use Rattle.std.specs.Prelude.{is_some, option_map, MatchBool}
+use Rattle.std.proofs.Common.{◌≡◌, ℕ, ◌==◌, Bool, false, Option, None, Some, Ok, Err, refl, sym, ap, ◌∙◌, arith}
+use Rattle.std.specs.Prelude.{is_some, option_map}
 use Rattle.std.proofs.lemmas.Bool.Decides.{nat_tests}
 use Rattle.recovery_base.specs.declared.below.SpaceId.{SpaceId}
-use Rattle.recovery_base.specs.declared.below.SpaceId.TheVariants.{Data}
 use Rattle.recovery_base.specs.declared.below.frames.EcnCounts.{EcnCounts}
 use Rattle.recovery_paths.specs.declared.live_paths.PathName.{PathName}
 use Rattle.recovery_paths.specs.declared.live_paths.PathName.TheVariants.{Previous}
 use Rattle.recovery_paths.specs.PathLog.{PathKnown, path_of}
 use Rattle.recovery_events.specs.declared.event.Event.{Event}
-use Rattle.recovery_events.specs.declared.event.Event.TheVariants.{Received, Send, Acked, Lost, InitialId, AckFrequencyIn, AcksSent, AckDelayTimeout, DiscardSpace, InFlight, DatagramIn, Validated, PollMtu, Ecn, CheckAck, QueueProbe, TakePending, DropPrevious}
+use Rattle.recovery_events.specs.declared.event.Event.TheVariants.{InitialId, DropPrevious}
 use Rattle.recovery_events.specs.declared.event.Answer.{Answer}
 use Rattle.recovery_events.specs.declared.event.Refusal.{Refusal}
 use Rattle.recovery_events.specs.declared.event.Refusal.TheVariants as refusal
@@ -18,7 +17,7 @@ use Rattle.recovery_events.specs.Refusals.{refusal_number}
 use Rattle.quic_recovery.specs.Told.{known_by, Told}
 use Rattle.quic_recovery.specs.History.{Beginning, History, Reply}
 use Rattle.quic_recovery.specs.Known.{SpaceKnown, Known}
-use Rattle.quic_recovery.specs.Replies.{same_refusal, Refuses, Answers}
+use Rattle.quic_recovery.specs.Replies.{Refuses, Answers}
 use Rattle.quic_recovery.specs.PartReplies.{EcnAnswer, InSpace, Is, LeaveReply, OnPath, MtuProbeReply}
 use Rattle.quic_recovery.specs.Promises.Paths.{generation_of}
 use Rattle.quic_recovery.specs.Promises.Refused.{unless, in_space, RefusesRightly, first_cause}

@@ -1,5 +1,5 @@
 -- One reply, by two tellings of the same causes and answers. `PeerIdsLaws`, `OwnIdsLaws` and `ToldLaws` rest on it.
-use Rattle.std.proofs.Common.{◌≡◌, ◌==◌, ◌↔◌, Bool, true, false, MatchBool, Ok, Err, refl, ap, arith, if◌then◌else◌}
+use Rattle.std.proofs.Common.{◌≡◌, ◌==◌, ◌↔◌, Bool, true, false, Ok, Err, arith, if◌then◌else◌}
 use Rattle.std.proofs.lemmas.Bool.Decides.{nat_tests}
 use Rattle.std.specs.Bool.{Decides}
 use Rattle.recovery_events.specs.declared.event.Answer.{Answer}

@@ -1,14 +1,14 @@
 -- Whether an ACK is required at once can be decided from the log of its space: a gap is sought between two numbers.
 -- `DutyLaws` rest on it.
-use Rattle.std.proofs.Common.{◌≡◌, ◌≤◌, ◌<◌, ◌+◌, ◌-◌, ℕ, zero, suc, Bool, List, [], ◌∷◌, Option, None, Some, ◌⊎◌, inl, inr, IsTrue, max, subst, arith}
+use Rattle.std.proofs.Common.{◌≤◌, ◌<◌, ◌+◌, ◌-◌, ℕ, zero, suc, List, [], ◌∷◌, Option, None, Some, ◌⊎◌, inl, inr, max, arith}
 use Rattle.std.proofs.lemmas.Bool.{cases_eq, cases_lt}
-use Rattle.recovery_acks.specs.Acks.{AckCounts, AsksAtOnce, counted, IsOutOfOrder, IsReported}
+use Rattle.recovery_acks.specs.Acks.{AckCounts, AsksAtOnce, IsOutOfOrder, IsReported}
 use Rattle.std.specs.Option.{unwrap_or}
 use Rattle.recovery_base.specs.Numbers.{With, IsInWindow, IsLeastMissing, IsMissing}
 use Rattle.recovery_base.proofs.WindowLaws.{HasGreatest}
 use Rattle.recovery_ledger.specs.Acks.{IsRequired, counts_by}
 use Rattle.recovery_ledger.specs.Received.{CameIn}
-use Rattle.recovery_ledger.specs.SpaceLog.{SpaceEntry, heard, heard_again, ack_goes, ack_is_late}
+use Rattle.recovery_ledger.specs.SpaceLog.{SpaceEntry, heard, heard_again}
 use Rattle.recovery_ledger.proofs.ReceivedLaws.{came_greatest}
 
 -- ---- what can be decided

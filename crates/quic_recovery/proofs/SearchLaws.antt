@@ -12,7 +12,6 @@ use Rattle.recovery_base.specs.declared.below.SpaceId.{SpaceId}
 use Rattle.recovery_base.specs.declared.below.SpaceId.TheVariants.{Data}
 use Rattle.recovery_base.specs.Spaces.{same_space}
 use Rattle.recovery_mtud.specs.declared.config.MtuDiscoveryConfig.{MtuDiscoveryConfig}
-use Rattle.recovery_mtud.specs.Discovery.{poll_of}
 use Rattle.recovery_mtud.specs.DiscoveryLog.{polls}
 use Rattle.recovery_mtud.specs.MtuEntries.{MtuEntry, poll_entry, probed, unprobed, mtu_in_use}
 use Rattle.recovery_mtud.specs.SearchRuns.{EndsNearBest, ProbesInSearch, TakesFew}
@@ -22,14 +21,12 @@ use Rattle.recovery_mtud.proofs.UnsearchedLaws.{unsearched}
 use Rattle.recovery_paths.specs.PathLog.{OnEachPath, PathPast, pasts_by, state_of}
 use Rattle.recovery_paths.specs.PathStates.{is_path_probe}
 use Rattle.recovery_paths.proofs.SearchedLaws.{IsSearchedBy, IsPathSearchedBy, first_searched, searched_over, searched_at_first}
-use Rattle.recovery_events.specs.declared.event.Event.{Event}
 use Rattle.recovery_events.specs.declared.event.Event.TheVariants.{Acked, Lost, PeerLimit, PollMtu}
 use Rattle.recovery_events.specs.declared.event.Answer.TheVariants.{Probe, NoProbe}
 use Rattle.recovery_events.specs.declared.event.Answer.TheVariants as answer
 use Rattle.recovery_events.specs.declared.event.Refusal.TheVariants.{Searching}
-use Rattle.quic_recovery.specs.Table.{entries_of}
 use Rattle.quic_recovery.specs.Told.{logs_of, pasts_of, known_by, first_path, settings_of, Told}
-use Rattle.quic_recovery.specs.History.{Beginning, History, QueueMeaning, Reply}
+use Rattle.quic_recovery.specs.History.{Beginning, History, QueueMeaning}
 use Rattle.quic_recovery.specs.Known.{Known}
 use Rattle.quic_recovery.specs.Search.{WhereSearched, discovery_settings}
 use Rattle.quic_recovery.specs.PartReplies.{MtuProbeReply}

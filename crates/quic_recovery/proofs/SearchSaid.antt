@@ -11,7 +11,6 @@ use Rattle.recovery_mtud.specs.SearchRuns.{EndsNearBest, ProbesInSearch, search_
 use Rattle.recovery_paths.specs.PathLog.{PathPast}
 use Rattle.recovery_events.specs.declared.event.Event.{Event}
 use Rattle.recovery_events.specs.declared.event.Event.TheVariants.{Acked, Lost, PollMtu, PeerLimit, LossesDone, NewPath, ResetPath}
-use Rattle.recovery_events.specs.declared.event.Answer.{Answer}
 use Rattle.recovery_events.specs.declared.event.Answer.TheVariants as answer
 use Rattle.recovery_events.specs.declared.event.Answer.TheVariants.{Probe, NoProbe, BlackHole}
 use Rattle.recovery_events.specs.declared.event.Refusal.TheVariants.{Searching}

@@ -10,7 +10,7 @@ use Rattle.recovery_events.specs.declared.event.Event.{Event}
 use Rattle.recovery_events.specs.declared.event.Event.TheVariants.{PollMtu, Acked, Lost, LossesDone, PeerLimit, ResetPath, NewPath}
 use Rattle.recovery_events.specs.declared.event.Answer.TheVariants as answer
 use Rattle.quic_recovery.specs.Told.{known_by, settings_of, Told, logs_of}
-use Rattle.quic_recovery.specs.History.{AtEach, Beginning, History, Reply}
+use Rattle.quic_recovery.specs.History.{Beginning, History, Reply}
 use Rattle.quic_recovery.proofs.Runs.{AllAlong, throughout_by, throughout_kept}
 use Rattle.quic_recovery.proofs.SearchSaid.{EntersAsTold, LimitsOutside, TellsProbes, data_packet, entered_so_far, Follows, Keeps, ProbesInTurn}
 use Rattle.quic_recovery.proofs.EnteredLaws.{entered_one}

@@ -2,7 +2,7 @@
 -- `send` rests on it.
 use Rattle.recovery_ledger.specs.SpaceLog.{sends}
 use Rattle.quic_recovery.specs.Entries.{here}
-use Rattle.std.proofs.Common.{◌≡◌, ℕ, ◌<◌, ◌≤◌, ◌^◌, Bool, false, Option, None, Some, option_map, Ok, refl, sym, ap, subst, ◌∙◌, arith}
+use Rattle.std.proofs.Common.{◌≡◌, ℕ, ◌<◌, ◌≤◌, ◌^◌, Bool, false, Option, option_map, Ok, refl, sym, ap, subst, ◌∙◌, arith}
 use Rattle.recovery_base.specs.declared.below.SpaceId.{SpaceId}
 use Rattle.recovery_congestion.specs.Calls.{sends as sends_bytes}
 use Rattle.recovery_ledger.specs.Discarded.{is_discarded}
@@ -14,11 +14,11 @@ use Rattle.recovery_ledger.specs.Tracked.{packet_sent}
 use Rattle.recovery_ledger.specs.declared.paths.InFlight.{InFlight}
 use Rattle.recovery_ledger.proofs.PacketLaws.{entry_number_of}
 use Rattle.recovery_paths.specs.Balance.{AreBalanced}
-use Rattle.recovery_paths.specs.LivePaths.{on_ledger, CanTrackOn, paths_after_sending}
+use Rattle.recovery_paths.specs.LivePaths.{on_ledger, paths_after_sending}
 use Rattle.recovery_paths.specs.PathLog.{OfPaths, PathKnown, on_path_of, path_known, paths_known, paths_marks}
 use Rattle.recovery_paths.specs.PathStates.{PathState, Path, on_state, after_telling}
 use Rattle.recovery_paths.specs.declared.live_paths.PathName.TheVariants.{Current}
-use Rattle.recovery_paths.proofs.BalanceLaws.{can_track, paths_balanced_sent}
+use Rattle.recovery_paths.proofs.BalanceLaws.{paths_balanced_sent}
 use Rattle.recovery_skips.specs.Filters.{Skipping}
 use Rattle.recovery_events.specs.declared.event.Answer.TheVariants.{Sent}
 use Rattle.recovery_events.specs.declared.event.Event.TheVariants.{Send}

@@ -1,29 +1,18 @@
 -- Each packet of 1-RTT keys that is tracked has the size with which the history says that it went out. `HolesLaws` rest
 -- on it.
-use Rattle.std.proofs.Common.{ℕ, ◌≡◌, ◌+◌, ◌≤◌, ◌==◌, true, if◌then◌else◌, List, ◌∷◌, Option, None, Some, Ok, Err, refl, arith}
+use Rattle.std.proofs.Common.{ℕ, ◌≡◌, ◌∷◌, Ok, refl, arith}
 use Rattle.std.proofs.lemmas.Bool.Decides.{nat_tests}
 use Rattle.recovery_base.specs.declared.below.SpaceId.TheVariants.{Data}
-use Rattle.recovery_ledger.specs.Packets.{Packet, Packets, sent_onto}
-use Rattle.recovery_ledger.specs.SpaceLog.{SpaceEntry}
-use Rattle.recovery_ledger.specs.Tracked.{sent_by}
-use Rattle.recovery_queue.specs.Queues.{QueueWords}
-use Rattle.recovery_skips.proofs.SkipLaws.{number_from_above}
+use Rattle.recovery_ledger.specs.Packets.{Packet}
 use Rattle.recovery_events.specs.declared.event.Event.{Event}
 use Rattle.recovery_events.specs.declared.event.Event.TheVariants.{Send, PollMtu}
 use Rattle.recovery_events.specs.declared.event.Answer.TheVariants.{Probe}
-use Rattle.recovery_mtud.specs.Discovery.{poll_of}
-use Rattle.quic_recovery.specs.Table.{entries_of}
-use Rattle.quic_recovery.specs.Told.{logs_of, known_by, Told}
+use Rattle.quic_recovery.specs.Told.{Told}
 use Rattle.quic_recovery.specs.History.{Beginning, History, Reply}
-use Rattle.quic_recovery.specs.Known.{Known, packet_now}
-use Rattle.quic_recovery.specs.Logs.{onto}
 use Rattle.quic_recovery.specs.Promises.Bursts.{size_of}
-use Rattle.quic_recovery.specs.PartReplies.{MtuProbeReply}
-use Rattle.quic_recovery.proofs.EntryKinds.{sends_none, space_kept}
 use Rattle.quic_recovery.proofs.FieldLaws.{IsSaid, said_then, said_told}
 use Rattle.quic_recovery.proofs.TrackedLaws.{sent_in}
 use Rattle.recovery_events.specs.declared.event.Answer.TheVariants as answers
-use Rattle.quic_recovery.proofs.AnswerLaws.{past_four}
 
 abbrev pub size_in : {P M : Type 0} → Packet P M → ℕ
 size_in packet = packet.size

@@ -1,18 +1,16 @@
 -- By the history alone the size of a probe lies within the bounds of its search, as its entries say: the clause `sizes`
 -- of `run`.
-use Rattle.std.proofs.Common.{ℕ, ◌≡◌, ◌<◌, ◌≤◌, ◌^◌, min, max, ◌∷◌, Option, None, Some, Ok, arith, refl, ◌∙◌}
+use Rattle.std.proofs.Common.{ℕ, ◌≡◌, ◌<◌, ◌≤◌, max, ◌∷◌, Option, None, Some, Ok, arith, refl, ◌∙◌}
 use Rattle.std.specs.Prelude.{IsSomeAnd}
-use Rattle.std.specs.Option.{ForSome}
 use Rattle.recovery_config.specs.Settings.{initial_mtu_of}
 use Rattle.recovery_mtud.specs.declared.config.MtuDiscoveryConfig.{MtuDiscoveryConfig}
 use Rattle.recovery_mtud.specs.Discovery.{limit_or_greatest}
 use Rattle.recovery_mtud.specs.MtuEntries.{probed, mtu_in_use as by_entries}
 use Rattle.recovery_mtud.specs.SearchRuns.{ProbesInSearch, start_upper}
-use Rattle.recovery_events.specs.declared.event.Event.{Event}
 use Rattle.recovery_events.specs.declared.event.Event.TheVariants.{PollMtu}
 use Rattle.recovery_events.specs.declared.event.Answer.TheVariants as answer
 use Rattle.quic_recovery.specs.Told.{pasts_of}
-use Rattle.quic_recovery.specs.History.{Beginning, History, Reply}
+use Rattle.quic_recovery.specs.History.{Beginning, History}
 use Rattle.quic_recovery.specs.Table.{limit}
 use Rattle.quic_recovery.specs.Promises.Mtu.{mtu_in_use}
 use Rattle.quic_recovery.specs.Promises.Near.{start}
@@ -21,10 +19,9 @@ use Rattle.quic_recovery.specs.Search.{discovery_settings}
 use Rattle.recovery_mtud.proofs.SearchRunLaws.{flight_within}
 use Rattle.quic_recovery.proofs.MadeLaws.{is_made, made_in}
 use Rattle.quic_recovery.proofs.NearLaws.{Kept, kept_by, kept_first, upper_is}
-use Rattle.quic_recovery.proofs.SearchLaws.{probes_one, searched_one}
-use Rattle.quic_recovery.proofs.SearchSaid.{entered_so_far, Follows, Keeps, IsSmall}
+use Rattle.quic_recovery.proofs.SearchLaws.{searched_one}
+use Rattle.quic_recovery.proofs.SearchSaid.{entered_so_far, Follows, IsSmall}
 use Rattle.quic_recovery.proofs.SearchSteps.{Facts, throughout_facts}
-use Rattle.quic_recovery.proofs.Runs.{throughout_by}
 use Rattle.quic_recovery.proofs.Runs.{AllAlong}
 
 module _ {F K Q S M P : Type 0} (beginning : Beginning F K Q S M P) where

@@ -4,7 +4,6 @@ use Rattle.std.specs.Prelude.{◌==◌, ◌≢◌, option_map}
 use Rattle.std.specs.Option.{ForSome}
 use Rattle.std.proofs.lemmas.Option.{same_Some}
 use Rattle.recovery_base.specs.declared.below.SpaceId.{SpaceId}
-use Rattle.recovery_base.specs.declared.below.SpaceId.TheVariants.{Data}
 use Rattle.recovery_base.specs.declared.below.frames.EcnCounts.{EcnCounts}
 use Rattle.recovery_base.specs.declared.below.ids.NewConnectionId.{NewConnectionId}
 use Rattle.recovery_acks.specs.Acks.{AckCounts, Acks}
@@ -12,7 +11,6 @@ use Rattle.recovery_congestion.specs.Controllers.{ControllerWords}
 use Rattle.recovery_ids.specs.RemoteIds.{Table, RemoteIds, IsLeastHeld, with_frame}
 use Rattle.recovery_ledger.specs.Acks.{Heard, heard_by}
 use Rattle.recovery_ledger.specs.Probes.{ProbeFound}
-use Rattle.recovery_mtud.specs.Discovery.{poll_of}
 use Rattle.recovery_ledger.specs.Paths.{counters_of}
 use Rattle.recovery_ledger.specs.Spaces.{AcksLeft}
 use Rattle.recovery_ledger.specs.declared.paths.InFlight.{InFlight as Counters}
@@ -26,8 +24,7 @@ use Rattle.recovery_events.specs.declared.event.Refusal.TheVariants.{NoMemory, S
 use Rattle.recovery_paths.specs.declared.live_paths.PathName.{PathName}
 use Rattle.recovery_paths.specs.declared.live_paths.PathName.TheVariants.{Previous}
 use Rattle.recovery_events.specs.declared.event.Event.{Event}
-use Rattle.recovery_events.specs.declared.event.Event.TheVariants.{Received, Send, Acked, Lost, NewId, NextId, InitialId, IssueIds, PeerRetired, AckFrequencyIn, AcksSent, AckDelayTimeout, DiscardSpace, InFlight, DatagramIn, Validated, Transmit, PollMtu, PeerLimit, Ecn, CheckAck, QueueProbe, TakePending, NewPath, DropPrevious}
-use Rattle.quic_recovery.specs.Entries.{found_in}
+use Rattle.recovery_events.specs.declared.event.Event.TheVariants.{DropPrevious}
 use Rattle.quic_recovery.specs.Told.{logs_of, known_by, Told}
 use Rattle.quic_recovery.specs.History.{Beginning, History, QueueMeaning, Reply}
 use Rattle.quic_recovery.specs.IdReplies.{IsFrameAnswer, IsNextAnswer}
@@ -39,7 +36,7 @@ use Rattle.quic_recovery.specs.Same.{AcksAlike, LooksAlike, SameRefusal, SameAns
 use Rattle.quic_recovery.specs.State.{InFlightLeft, Left}
 use Rattle.quic_recovery.proofs.PeerIdsLaws.{held_same}
 use Rattle.quic_recovery.proofs.ReplyLaws.{only_refusal}
-use Rattle.quic_recovery.specs.PartReplies.{EcnAnswer, InSpace, Is, IsPending, IsQueueProbeAnswer, OnPath, MtuProbeReply, ReceivedAnswer}
+use Rattle.quic_recovery.specs.PartReplies.{EcnAnswer, Is, IsPending, IsQueueProbeAnswer, OnPath, MtuProbeReply, ReceivedAnswer}
 use Rattle.quic_recovery.specs.Table.{ToldBy}
 
 -- ---- refusals, by their numbers

@@ -12,11 +12,11 @@ use Rattle.recovery_base.specs.declared.below.SpaceId.{SpaceId}
 use Rattle.recovery_base.specs.declared.below.SpaceId.TheVariants.{Initial, Data}
 use Rattle.recovery_base.specs.Spaces.{same_space}
 use Rattle.recovery_ledger.specs.Departures.{one_if_same}
-use Rattle.recovery_ledger.specs.Packets.{Packet, Packets, packet_at, entry_at, least_number, silent_above}
+use Rattle.recovery_ledger.specs.Packets.{Packet, Packets, packet_at, least_number, silent_above}
 use Rattle.recovery_ledger.specs.SpaceLog.{SpaceEntry, sends, acknowledged, loses, probes, emptied}
-use Rattle.recovery_ledger.specs.Tracked.{Sent, sent_by, sent_less, sent_more, sent_moved, forgotten_by}
+use Rattle.recovery_ledger.specs.Tracked.{Sent, sent_by, sent_less, sent_more, forgotten_by}
 use Rattle.recovery_ledger.proofs.CarryLaws.{sum-carrying}
-use Rattle.recovery_ledger.proofs.LedgerLaws.{gone, sum-sent_onto}
+use Rattle.recovery_ledger.proofs.LedgerLaws.{sum-sent_onto}
 use Rattle.recovery_ledger.proofs.PacketLaws.{number_at, sum-without}
 use Rattle.recovery_skips.proofs.SkipLaws.{number_from_above}
 use Rattle.recovery_events.specs.declared.event.Event.{Event}

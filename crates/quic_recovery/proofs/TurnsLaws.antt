@@ -1,7 +1,6 @@
 -- By the history alone the search for the MTU goes on in turn, as its entries say: the clause `turns` of `run`.
-use Rattle.std.proofs.Common.{ℕ, ◌≡◌, ◌<◌, ◌^◌, ◌||◌, true, false, List, ◌∷◌, Option, None, Some, Ok, Err, refl, ap, ◌∙◌, is_some, arith}
+use Rattle.std.proofs.Common.{ℕ, ◌≡◌, ◌||◌, true, false, List, ◌∷◌, Option, None, Some, Ok, Err, refl, ap, ◌∙◌, is_some, arith}
 use Rattle.std.specs.Prelude.{nat_le, IsSomeAnd}
-use Rattle.std.specs.Option.{ForSome}
 use Rattle.std.proofs.lemmas.Bool.Decides.{nat_tests}
 use Rattle.recovery_base.specs.declared.below.SpaceId.{SpaceId}
 use Rattle.recovery_base.specs.declared.below.SpaceId.TheVariants as space
@@ -11,7 +10,7 @@ use Rattle.recovery_mtud.specs.SearchRuns.{ProbesInSearch}
 use Rattle.recovery_events.specs.declared.event.Event.{Event}
 use Rattle.recovery_events.specs.declared.event.Event.TheVariants.{PollMtu, Acked, Lost, PeerLimit}
 use Rattle.recovery_events.specs.declared.event.Answer.TheVariants as answer
-use Rattle.recovery_events.specs.declared.event.Refusal.TheVariants.{Searching, ZeroMtu}
+use Rattle.recovery_events.specs.declared.event.Refusal.TheVariants.{Searching}
 use Rattle.quic_recovery.specs.History.{Beginning, History, Reply}
 use Rattle.quic_recovery.specs.Search.{discovery_settings}
 use Rattle.quic_recovery.specs.Promises.Few.{is_in_flight as flies}
@@ -20,9 +19,7 @@ use Rattle.quic_recovery.specs.Promises.Probes.{runs}
 use Rattle.quic_recovery.specs.Promises.Turns.{SearchesInTurn, is_probe}
 use Rattle.quic_recovery.proofs.SearchSaid.{entered_so_far, is_in_flight, IsSmall}
 use Rattle.quic_recovery.proofs.NearLaws.{Kept, kept_by, kept_first, runs_same}
-use Rattle.quic_recovery.proofs.SearchLaws.{probes_one}
 use Rattle.quic_recovery.proofs.SearchSteps.{Facts, throughout_facts}
-use Rattle.quic_recovery.proofs.Runs.{throughout_by}
 use Rattle.quic_recovery.proofs.Runs.{AllAlong}
 
 module _ {F K Q S M P : Type 0} (beginning : Beginning F K Q S M P) where

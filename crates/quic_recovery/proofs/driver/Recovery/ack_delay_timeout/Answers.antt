@@ -1,10 +1,7 @@
 use Rattle.std.proofs.Common.{refl}
 use Rattle.quic_recovery.proofs.ProbeStepLaws.{acks_balanced}
-use Rattle.std.proofs.Common.{sym, ap, subst, ◌∙◌}
+use Rattle.std.proofs.Common.{ap, ◌∙◌}
 use Rattle.recovery_acks.specs.Acks.{Acks}
-use Rattle.recovery_ledger.specs.Spaces.{Space, space_of, tracking_of, packets_of, next_number_of, HasGreatestCome}
-use Rattle.recovery_ledger.proofs.CoherentLaws.{coherent_kept}
-use Rattle.recovery_paths.proofs.BalanceLaws.{kept}
 use Rattle.quic_recovery.proofs.driver.Recovery.ack_delay_timeout.Goals as goal
 
 pub invariant_of-self : goal.invariant_of-self

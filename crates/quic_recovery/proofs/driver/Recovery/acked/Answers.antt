@@ -1,12 +1,10 @@
 use Rattle.std.proofs.Common.{sym, ap, ◌∙◌}
-use Rattle.recovery_ledger.specs.Packets.{Tracking, packet_at, after_taking}
-use Rattle.recovery_ledger.specs.Spaces.{Space, space_of, tracking_of, packets_of, next_number_of, acks_of, with_acks, after_acknowledging, space_takes}
+use Rattle.recovery_ledger.specs.Packets.{Tracking}
+use Rattle.recovery_ledger.specs.Spaces.{tracking_of, next_number_of, space_takes}
 use Rattle.recovery_ledger.proofs.AckLaws.{acked_greatest}
 use Rattle.recovery_ledger.proofs.AmongLaws.{acknowledging_found}
 use Rattle.recovery_ledger.proofs.CoherentLaws.{coherent_taken}
 use Rattle.recovery_paths.proofs.BalanceLaws.{counted, paths_balanced_acked}
-use Rattle.quic_recovery.specs.History.{queue_meaning}
-use Rattle.quic_recovery.specs.State.{parts_of}
 use Rattle.quic_recovery.proofs.AckedLostLaws.{acked_changes}
 use Rattle.quic_recovery.proofs.driver.Recovery.acked.Goals as goal
 

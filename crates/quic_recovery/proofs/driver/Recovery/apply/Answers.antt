@@ -1,5 +1,3 @@
-use Rattle.quic_recovery.specs.History.{begins, queue_meaning}
-use Rattle.quic_recovery.specs.State.{parts_of}
 use Rattle.quic_recovery.proofs.PastLaws.{goes_on}
 use Rattle.quic_recovery.proofs.driver.Recovery.apply.Goals as goal
 

@@ -1,10 +1,7 @@
-use Rattle.std.proofs.Common.{◌≡◌, sym, ap, ◌∙◌}
-use Rattle.recovery_ledger.specs.Spaces.{Space, space_of, tracking_of, packets_of, next_number_of, space_empties, space_hands_out, space_discards}
+use Rattle.std.proofs.Common.{sym, ap}
+use Rattle.recovery_ledger.specs.Spaces.{tracking_of, packets_of, next_number_of}
 use Rattle.recovery_ledger.proofs.CoherentLaws.{coherent_emptied}
-use Rattle.recovery_paths.specs.LivePaths.{paths_without}
 use Rattle.recovery_paths.proofs.BalanceLaws.{emptied}
-use Rattle.quic_recovery.specs.History.{queue_meaning}
-use Rattle.quic_recovery.specs.State.{parts_of}
 use Rattle.quic_recovery.proofs.PathStepLaws.{discard_changes}
 use Rattle.quic_recovery.proofs.driver.Recovery.discard.Goals as goal
 

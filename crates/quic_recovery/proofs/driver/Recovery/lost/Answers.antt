@@ -1,13 +1,8 @@
-use Rattle.std.proofs.Common.{option_map, refl, sym, ap, ◌∙◌}
-use Rattle.recovery_ledger.specs.Packets.{packet_at, with_contents}
-use Rattle.recovery_ledger.specs.Spaces.{Space, space_of, packets_of, space_loses}
+use Rattle.std.proofs.Common.{refl, sym, ap, ◌∙◌}
+use Rattle.recovery_ledger.specs.Spaces.{packets_of}
 use Rattle.recovery_ledger.proofs.CoherentLaws.{coherent_lost}
 use Rattle.recovery_ledger.proofs.ReceivedLaws.{fails}
 use Rattle.recovery_paths.proofs.BalanceLaws.{paths_balanced_lost, lost_counted_on}
-use Rattle.recovery_events.specs.declared.event.Event.TheVariants.{Lost}
-use Rattle.recovery_events.specs.declared.event.Refusal.TheVariants.{NoMemory}
-use Rattle.quic_recovery.specs.History.{queue_meaning}
-use Rattle.quic_recovery.specs.State.{parts_of}
 use Rattle.quic_recovery.proofs.DriverLaws.{put_back}
 use Rattle.quic_recovery.proofs.driver.Recovery.lost.Goals as goal
 

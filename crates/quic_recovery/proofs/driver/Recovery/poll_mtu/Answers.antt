@@ -1,8 +1,6 @@
 use Rattle.std.proofs.Common.{◌≡◌, Some, rules}
 use Rattle.recovery_mtud.specs.Discovery.{poll_of}
 use Rattle.recovery_mtud.specs.DiscoveryLog.{polls, discovery_after}
-use Rattle.quic_recovery.specs.History.{queue_meaning}
-use Rattle.quic_recovery.specs.State.{parts_of}
 use Rattle.quic_recovery.proofs.PathStepLaws.{probe_refused, probe_changes}
 use Rattle.quic_recovery.proofs.driver.Recovery.poll_mtu.Goals.{in-Ok, in-Err}
 use Rattle.quic_recovery.proofs.driver.Recovery.poll_mtu.Goals as goal

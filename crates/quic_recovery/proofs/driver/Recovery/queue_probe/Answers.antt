@@ -2,10 +2,6 @@ use Rattle.std.proofs.Common.{refl, sym, ◌∙◌}
 use Rattle.recovery_ledger.specs.Probes.{probe_found}
 use Rattle.recovery_ledger.specs.Spaces.{space_of, packets_of}
 use Rattle.recovery_ledger.proofs.ReceivedLaws.{fails}
-use Rattle.recovery_events.specs.declared.event.Event.TheVariants.{QueueProbe}
-use Rattle.recovery_events.specs.declared.event.Refusal.TheVariants.{NoMemory}
-use Rattle.quic_recovery.specs.History.{queue_meaning}
-use Rattle.quic_recovery.specs.State.{parts_of}
 use Rattle.quic_recovery.proofs.ProbeStepLaws.{probe_balanced}
 use Rattle.quic_recovery.proofs.DriverLaws.{put_back}
 use Rattle.quic_recovery.proofs.driver.Recovery.queue_probe.Goals as goal

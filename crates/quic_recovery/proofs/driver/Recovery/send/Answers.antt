@@ -2,16 +2,13 @@ use Rattle.recovery_paths.proofs.BalanceLaws.{can_track}
 use Rattle.std.proofs.Common.{◌≡◌, ℕ, Option, Ok, Err, refl, sym, ap, ◌∙◌, arith}
 use Rattle.recovery_congestion.specs.Calls.{sends as sends_bytes}
 use Rattle.recovery_ledger.specs.declared.paths.LedgerError.{LedgerError}
-use Rattle.recovery_ledger.specs.Packets.{Packet, entry_number, forgotten_entry}
-use Rattle.recovery_ledger.specs.Spaces.{Space, space_of, with_space, tracking_of, next_number_of, after_number, after_eliciting, space_sends}
+use Rattle.recovery_ledger.specs.Packets.{Packet, entry_number}
+use Rattle.recovery_ledger.specs.Spaces.{next_number_of}
 use Rattle.recovery_ledger.specs.Tracked.{packet_sent}
 use Rattle.recovery_ledger.proofs.ReceivedLaws.{fails}
-use Rattle.recovery_paths.specs.LivePaths.{paths_after_sending}
-use Rattle.recovery_paths.specs.PathLog.{OfPaths, on_path_of}
-use Rattle.recovery_paths.specs.PathStates.{Path, on_state, after_telling}
+use Rattle.recovery_paths.specs.PathStates.{after_telling}
 use Rattle.recovery_paths.specs.declared.live_paths.PathName.TheVariants.{Current}
 use Rattle.recovery_paths.proofs.BalanceLaws.{on_state_kept}
-use Rattle.quic_recovery.specs.History.{queue_meaning}
 use Rattle.quic_recovery.specs.Numbers.{number_behind, skipping_behind}
 use Rattle.quic_recovery.specs.State.{parts_of}
 use Rattle.quic_recovery.proofs.NumberLaws.{number_above}

@@ -1,5 +1,3 @@
-use Rattle.quic_recovery.specs.History.{queue_meaning}
-use Rattle.quic_recovery.specs.State.{parts_of}
 use Rattle.quic_recovery.proofs.PastLaws.{still_came, went_on}
 use Rattle.quic_recovery.proofs.live.LiveRecovery.apply.Goals as goal
 

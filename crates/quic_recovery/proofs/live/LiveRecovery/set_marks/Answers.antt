@@ -1,5 +1,3 @@
-use Rattle.quic_recovery.specs.History.{queue_meaning}
-use Rattle.quic_recovery.specs.State.{parts_of}
 use Rattle.quic_recovery.proofs.PastLaws.{stays_come}
 use Rattle.quic_recovery.proofs.live.LiveRecovery.set_marks.Goals as goal
 
