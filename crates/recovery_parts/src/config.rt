@@ -1,5 +1,6 @@
 //! Settings of a connection.
-ghost use Rattle.std.specs.Prelude.{◌≡◌, ◌<◌, max};
+ghost use Rattle.std.specs.Prelude.{◌≡◌, ◌<◌, ◌^◌, max};
+ghost use Rattle.std.specs.Option.{ForSome};
 ghost use Rattle.recovery_congestion.specs.RenoSettings.{default_reno};
 ghost use Rattle.recovery_parts.specs.Settings.{settings_with, initial_mtu_of};
 
@@ -278,6 +279,15 @@ impl<F> TransportConfig<F> {
     {
         self.persistent_congestion_threshold = value;
         self
+    }
+
+    /// A law, for the proofs of callers: the largest size that is probed is below 2^16, as its type says.
+    pub fn upper_bound_fits(&self)
+        ensures { ForSome self.now.mtu_discovery_config (λ config. config.upper_bound < 2 ^ 16) }
+    {
+        if let Some(config) = &self.mtu_discovery_config {
+            config.upper_bound_fits();
+        }
     }
 
     /// The size of datagrams that a path begins with, in bytes: the greater of `initial_mtu` and `min_mtu`.
