@@ -1,9 +1,9 @@
 //! Rows of losses and timeouts, worked out by hand from RFC 9002. Six packets are sent 10 ms apart, the first at 0.
-use crate::{
-    Answer, Call, LossDetector, Sent, TrackError, loss_delay, next_timeout, probe_timeout, run,
-};
 use recovery_base::below::NoMemory;
 use recovery_base::time::{Duration, Instant};
+use recovery_detection::{
+    Answer, Call, LossDetector, Sent, TrackError, loss_delay, next_timeout, probe_timeout, run,
+};
 use std::alloc::Global;
 use std::process::Abort;
 
