@@ -49,7 +49,8 @@ pub returns-clause-came : goal.returns-clause-came
 returns-clause-came g c = record {
   told = tt;
   left = returns-clause-left g c;
-  small = where_allowed (λ settings. settings.upper_bound < 2 ^ 16) c.args.config.allow_mtud _ c.upper_bound_fits.ensures;
+  small = where_allowed (λ settings. settings.upper_bound < 2 ^ 16) c.args.config.allow_mtud _
+      c.upper_bound_fits.ensures;
 }
 
 pub returns-clause-marks : goal.returns-clause-marks
