@@ -20,6 +20,8 @@ mod ecn;
 #[cfg(test)]
 mod ids;
 #[cfg(test)]
+mod in_flight;
+#[cfg(test)]
 mod items;
 #[cfg(test)]
 mod mtud;
