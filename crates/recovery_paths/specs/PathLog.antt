@@ -185,8 +185,7 @@ module _ {K : Type 0} (settings : PathSettings K) where
 
   -- the past of each path, where the first is made so
   abbrev pub pasts_by : PathState K → List PathsEntry → OfPaths (PathPast K)
-  pasts_by first log =
-      paths_after (past_with settings) (past_following settings) log
+  pasts_by first log = paths_after (past_with settings) (past_following settings) log
       (record { current = past_made 0 first; previous = None })
 
   abbrev pub paths_known_by : PathState K → List PathsEntry → OfPaths (PathKnown K)
