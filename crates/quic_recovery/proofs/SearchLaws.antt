@@ -1,5 +1,5 @@
 -- Searches for the MTU take few probes and end near the best size, throughout a run. The promises on searches by events
--- alone (`FewLaws`, `NearLaws`, `TurnsLaws`, `MtuLaws`, `SizesLaws`) rest on it.
+-- alone (`FewLaws`, `NearLaws`, `MtuLaws`, `SizesLaws`, by `SearchSteps` the others) rest on it.
 use Rattle.std.proofs.Common.{arith, ℕ, ◌≡◌, Bool, true, false, ◌&&◌, if◌then◌else◌, List, [], ◌∷◌, Option, None, Some, Ok, Err, refl, sym, ap, ◌∙◌}
 use Rattle.std.specs.Prelude.{IsSomeAnd}
 use Rattle.std.specs.Option.{ForSome}

@@ -6,7 +6,7 @@ use Rattle.recovery_ledger.specs.InFlight.{with_packet, without_packet, IsCounte
 use Rattle.recovery_ledger.specs.Packets.{Packet, AreBelow, IsAboveLast, forgotten_entry}
 use Rattle.recovery_ledger.specs.Spaces.{Space, tracking_of}
 
--- what contracts see of it
+-- its counters with its generation, as contracts see them
 pub record PathLedger : Type 0 where
   pub generation : ℕ
   pub in_flight : InFlight

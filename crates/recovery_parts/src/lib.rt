@@ -1,5 +1,5 @@
-//! The parts of QUIC loss recovery that stand by themselves, under one name, and the settings of a connection, which stand here. The
-//! other parts are crates of their own, round-trip time and pacing beside congestion control.
+//! The settings of a connection, and under one name the parts of QUIC loss recovery that stand by themselves. Those are crates of their
+//! own, round-trip time and pacing beside congestion control; packet numbers that are skipped are handed out by `recovery_skips` alone.
 #![tactic(auto)]
 
 pub mod acks;

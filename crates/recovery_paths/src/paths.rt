@@ -65,7 +65,7 @@ impl Model for PathMarks {
 
 /// What is kept for one path, with a congestion controller `C`.
 ///
-/// Contracts see it as its ledger and its state; the MTU and the controller's window are above zero.
+/// Contracts see it as its ledger, its state and its marks; the MTU and the controller's window are above zero.
 #[derive(Drop)]
 pub struct PathData<C: Controller> {
     /// The address of the peer.
