@@ -1,19 +1,19 @@
 #!/usr/bin/env python3
 """Reads the proofs as a reader would: no line of an .antt file but an import is longer than 120 columns, each file of lemmas begins with what it
-shows, few terms count fields (as `told.1.1.1.1`), and proofs are so many times code and definitions by characters, without imports, blanks,
-comments, tests and worked rows. The last two have bounds that may only fall."""
+shows, no term counts fields (as `told.1.1.1.1`), and proofs are so many times code and definitions by characters, without imports, blanks,
+comments, tests and worked rows. The last has a bound that may only fall."""
 import pathlib
 import re
 import sys
 
 ROOT = pathlib.Path(__file__).resolve().parent.parent
-APART = re.compile(r"_tests$|^recovery_(rows|refused_memory|embedding|plot|pictures|detection|ffi|trace|trace_program)$")
+APART = re.compile(r"_tests$|^recovery_(rows|refused_memory|embedding|pictures|detection|ffi|trace)$")
 ROWS = re.compile(r"Rows$|^Row(Start|Laws)$")
 OF_FUNCTIONS = {"Answers", "Invariants", "Lib"}
 IMPORT = re.compile(r"(ghost )?(pub )?use ")
 COUNTED = re.compile(r"[\w)]((?:\.[01]){4,})(?!\w)")
 COLUMNS = 120
-MOST_COUNTED = 2  # terms that count four fields or more: those two take a fact out of what the toolchain says of a value, without names
+MOST_COUNTED = 0  # terms that count four fields or more
 MOST_TIMES = 1.3  # proofs to code and definitions
 
 

@@ -12,7 +12,7 @@ import sys
 import threading
 
 ROOT = pathlib.Path(__file__).resolve().parent.parent
-PROGRAM = ROOT / "crates" / "recovery_trace_program" / "out" / "recovery_trace_program"
+PROGRAM = ROOT / "crates" / "recovery_trace" / "out" / "recovery_trace"
 REPLAY = ROOT / "crates" / "recovery_program" / "out" / "recovery_program"
 METRICS = {"bytes_in_flight", "packets_in_flight", "congestion_window", "smoothed_rtt", "rtt_variance", "min_rtt", "latest_rtt", "mtu", "pacer_tokens"}
 GOOD, ANSWER = "next-timeout", "timeout none"

@@ -1,4 +1,4 @@
--- What each event may be to the paths. `ThreefoldLaws`, `PacingLaws` and `SearchLaws` rest on it.
+-- What each event may be to the paths. `DatagramLaws`, `PacingLaws` and `SearchLaws` rest on it.
 use Rattle.std.proofs.Common.{arith, ℕ, ◌≡◌, Bool, true, false, cond, Option, None, Ok, Err, refl}
 use Rattle.std.proofs.lemmas.Bool.{false_from_ne_true}
 use Rattle.recovery_base.specs.declared.below.SpaceId.{SpaceId}

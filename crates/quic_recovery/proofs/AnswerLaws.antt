@@ -1,4 +1,5 @@
--- What the table says of an answer, behind its causes of refusal. Laws of packets and of the peer's ids rest on it.
+-- What the table says of an answer, behind its causes of refusal. Laws of packets rest on it.
+
 -- behind four causes
 pub past_four : {One Two Three Four Rest : Type 0} → One × (Two × (Three × (Four × Rest))) → Rest
 past_four told =

@@ -1,5 +1,4 @@
--- A number is called new exactly where the history itself says so: the clause `new` of `run`, and `RefusedLaws` rest on
--- it.
+-- A number is called new exactly where the history itself says so: the clause `new` of `run` rests on it.
 use Rattle.std.proofs.lemmas.Bool.Decides.{nat_tests}
 use Rattle.std.proofs.Common.{arith, ◌≡◌, ◌≤◌, ◌+◌, ◌^◌, ℕ, Bool, true, false, cond, nat_eq, nat_lt, nat_le, List, [], ◌∷◌, None, Some, Ok, Err, ◌⊎◌, inl, inr, ◌↔◌, refl}
 use Rattle.std.specs.List.{list_all, list_any}

@@ -1,13 +1,13 @@
 -- Each pacer delays by its balance and keeps its rate, throughout a run: the clauses `delayed`, `rate`, `soon` and
 -- `named` of `run`.
 use Rattle.std.proofs.Common.{arith, ℕ, true, ◌∷◌, Option, Ok, refl}
-use Rattle.recovery_pacing.specs.PacerLog.{AreChecked, KeepsRate}
-use Rattle.recovery_pacing.specs.Pacing.{PacerCall}
-use Rattle.recovery_pacing.specs.NamedMoment.{PassesAtMoment}
-use Rattle.recovery_pacing.specs.Progress.{PassesBehind}
-use Rattle.recovery_pacing.proofs.PacerLogLaws.{delays_by, keeps_rate}
-use Rattle.recovery_pacing.proofs.NamedMomentLaws.{passes_at_moment}
-use Rattle.recovery_pacing.proofs.ProgressLaws.{passes_behind}
+use Rattle.recovery_congestion.specs.PacerLog.{AreChecked, KeepsRate}
+use Rattle.recovery_congestion.specs.Pacing.{PacerCall}
+use Rattle.recovery_congestion.specs.NamedMoment.{PassesAtMoment}
+use Rattle.recovery_congestion.specs.Progress.{PassesBehind}
+use Rattle.recovery_congestion.proofs.PacerLogLaws.{delays_by, keeps_rate}
+use Rattle.recovery_congestion.proofs.NamedMomentLaws.{passes_at_moment}
+use Rattle.recovery_congestion.proofs.ProgressLaws.{passes_behind}
 use Rattle.recovery_paths.specs.PathLog.{OnEachPath, PathPast, state_of}
 use Rattle.recovery_paths.specs.PathStates.{pacer_call, path_delay}
 use Rattle.recovery_paths.proofs.PassedLaws.{HavePassedOn, passed_after, passed_at_first}

@@ -4,12 +4,11 @@ use Rattle.std.proofs.Common.{◌≡◌, ℕ, arith, ap, ◌∙◌, refl, Bool, 
 use Rattle.recovery_base.specs.declared.below.SpaceId.{SpaceId}
 use Rattle.recovery_base.specs.declared.below.SpaceId.TheVariants.{Data}
 use Rattle.recovery_ledger.specs.declared.discarded.DiscardedSpaces.{DiscardedSpaces}
-use Rattle.recovery_ledger.specs.declared.paths.PathLedger.{PathLedger}
 use Rattle.recovery_ledger.specs.Discarded.{is_discarded, DiscardedStep}
 use Rattle.recovery_ledger.specs.InFlight.{Overflows}
 use Rattle.recovery_ledger.specs.Ledger.{tracked_by}
 use Rattle.recovery_ledger.specs.Packets.{Packet, Packets}
-use Rattle.recovery_ledger.specs.Paths.{generation_of, after_leaving}
+use Rattle.recovery_ledger.specs.Paths.{PathLedger, generation_of, after_leaving}
 use Rattle.recovery_ledger.specs.SpaceLog.{emptied}
 use Rattle.recovery_ledger.specs.Spaces.{Space, space_of, with_space, space_discards}
 use Rattle.recovery_ledger.specs.Tracked.{forgotten_by}

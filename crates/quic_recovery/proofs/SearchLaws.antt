@@ -1,13 +1,8 @@
 -- Searches for the MTU take few probes and end near the best size, throughout a run. The promises on searches by events
--- alone (`FewLaws`, `NearLaws`, `TurnsLaws`, `MtuLaws`, `SizesLaws`) rest on it.
-use Rattle.std.proofs.Common.{arith, ℕ, ◌≡◌, ◌<◌, ◌^◌, Bool, true, false, ◌&&◌, if◌then◌else◌, List, [], ◌∷◌, Option, None, Some, Ok, Err, refl, sym, ap, ◌∙◌}
+-- alone (`FewLaws`, `NearLaws`, `MtuLaws`, `SizesLaws`, by `SearchSteps` the others) rest on it.
+use Rattle.std.proofs.Common.{arith, ℕ, ◌≡◌, Bool, true, false, ◌&&◌, if◌then◌else◌, List, [], ◌∷◌, Option, None, Some, Ok, Err, refl, sym, ap, ◌∙◌}
 use Rattle.std.specs.Prelude.{IsSomeAnd}
 use Rattle.std.specs.Option.{ForSome}
-use Rattle.std.specs.contracts.option.Option.{the_type}
-use Rattle.recovery_mtud.specs.contracts.config.MtuDiscoveryConfig.{the_row}
-use denote.Enum.Declared.{row}
-use denote.Laws.{Is}
-use mir.Val.{Val}
 use Rattle.recovery_base.specs.declared.below.SpaceId.{SpaceId}
 use Rattle.recovery_base.specs.declared.below.SpaceId.TheVariants.{Data}
 use Rattle.recovery_base.specs.Spaces.{same_space}
@@ -32,13 +27,6 @@ use Rattle.quic_recovery.specs.Search.{WhereSearched, discovery_settings}
 use Rattle.quic_recovery.specs.PartReplies.{MtuProbeReply}
 use Rattle.quic_recovery.proofs.SearchSaid.{EndsNear, LimitsOutside, ProbesInTurn, TellsProbes, entered_so_far, entries_on, is_in_flight, Follows, Keeps, IsSmall}
 use Rattle.quic_recovery.proofs.AmplificationLaws.{is_allowed}
-
--- an upper bound is a `u16`
-pub bound_in : (o : Option MtuDiscoveryConfig) (values : List Val) → Is (row (the_type the_row)) o values
-    → ForSome o (λ settings. settings.upper_bound < 2 ^ 16)
-bound_in None values is = λ settings none. absurd cc
-bound_in (Some own) values is =
-    λ settings some. let same : own ≡ settings = cc in rw (← same) (search (is))
 
 -- what holds of the settings holds where they are used
 pub where_allowed : {A : Type 0} (P : A → Type 0) (allowed : Bool) (o : Option A) → ForSome o P

@@ -1,5 +1,5 @@
--- Each packet of 1-RTT keys that is tracked has the size with which the history says that it went out. `HolesLaws` rest
--- on it.
+-- Each packet of 1-RTT keys that is tracked has the size with which the history says that it went out. `SearchSteps`
+-- rests on it.
 use Rattle.std.proofs.Common.{ℕ, ◌≡◌, ◌∷◌, Ok, refl, arith}
 use Rattle.std.proofs.lemmas.Bool.Decides.{nat_tests}
 use Rattle.recovery_base.specs.declared.below.SpaceId.TheVariants.{Data}

@@ -2,10 +2,10 @@
 -- are said of a pacer as long as all transmissions since it was made were checked, at windows within 32 bits and RTTs
 -- above zero.
 use Rattle.std.specs.Prelude.{ℕ, true, ◌∷◌, Option, None, Some, Ok}
-use Rattle.recovery_pacing.specs.PacerLog.{asked, AreChecked, DelaysBy, KeepsRate}
-use Rattle.recovery_pacing.specs.Pacing.{PacerCall}
-use Rattle.recovery_pacing.specs.NamedMoment.{PassesAtMoment}
-use Rattle.recovery_pacing.specs.Progress.{PassesBehind}
+use Rattle.recovery_congestion.specs.PacerLog.{asked, AreChecked, DelaysBy, KeepsRate}
+use Rattle.recovery_congestion.specs.Pacing.{PacerCall}
+use Rattle.recovery_congestion.specs.NamedMoment.{PassesAtMoment}
+use Rattle.recovery_congestion.specs.Progress.{PassesBehind}
 use Rattle.recovery_paths.specs.PathLog.{OnEachPath, PathPast, state_of}
 use Rattle.recovery_paths.specs.PathStates.{pacer_call}
 use Rattle.recovery_events.specs.declared.event.Event.{Event}

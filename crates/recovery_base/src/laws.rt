@@ -12,7 +12,8 @@ use crate::timer::Timer;
 
 /// Spaces are ordered as a handshake goes through them: Initial, Handshake, Data.
 pub fn spaces_in_order()
-    ensures places { (space_index Initial ≡ 0) × (space_index Handshake ≡ 1) × (space_index Data ≡ 2) }
+    ensures places { (space_index Initial ≡ 0) × (space_index Handshake ≡ 1)
+        × (space_index Data ≡ 2) }
     ensures order { (space other : SpaceId) →
         ⟦<SpaceId as Ord>⟧.cmp space other ≡ nat_cmp (space_index space) (space_index other) }
 {}

@@ -1,2 +1,9 @@
+mod BalanceLaws
+pub mod NamedMomentLaws
+mod NamedMomentRows
+pub mod PacerLogLaws
+mod PacerLogRows
+mod PacingRows
+pub mod ProgressLaws
 pub mod RenoCounts
 pub mod RttLaws

@@ -1,7 +1,13 @@
 pub mod Calls
 pub mod Controllers
 pub mod EstimatorView
+pub mod Halving
+pub mod NamedMoment
 pub mod NewReno
+pub mod PacerLog
+pub mod PacerView
+pub mod Pacing
+pub mod Progress
 pub mod RenoConfigView
 pub mod RenoLaws
 pub mod RenoSettings

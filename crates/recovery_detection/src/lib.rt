@@ -6,8 +6,6 @@ mod calls;
 mod detector;
 pub mod laws;
 mod packets;
-#[cfg(test)]
-mod tests;
 mod timeouts;
 
 pub use calls::{Answer, Call, Reply, run};

@@ -1,4 +1,4 @@
--- What the ids of the peer become when the active number moves. `insert` and `RemoteStepLaws` rest on it.
+-- What the ids of the peer become when the active number moves. `insert` rests on it.
 use Rattle.std.proofs.Common.{◌≡◌, ℕ, ◌+◌, ◌-◌, ◌<◌, ◌≤◌, ◌≢◌, max, min, List, Some, None, IsSome, arith, ◌∙◌}
 use Rattle.std.specs.declared.ops.Range.{Range}
 use Rattle.std.proofs.lemmas.Bool.Decides.{nat_tests}

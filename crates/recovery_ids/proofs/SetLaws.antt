@@ -6,7 +6,7 @@ use Rattle.std.specs.Map.{keys_of, remove_entry}
 use Rattle.std.specs.Set.{remove_key}
 use Rattle.std.specs.List.{list_any, range_with_len}
 use Rattle.std.proofs.lemmas.Bool.Decides.{nat_tests}
-use Rattle.recovery_slots.specs.Slots.{IsAboveAll, first_number, is_from}
+use Rattle.recovery_queue.specs.Slots.{IsAboveAll, first_number, is_from}
 use Rattle.recovery_ids.specs.LocalIds.{Rise}
 use Rattle.recovery_ids.proofs.RiseLaws.{Rise-bound, Rise-wider, absent_below, list_any-front}
 

@@ -1,8 +1,8 @@
 -- What a `CidState` holds.
 use Rattle.std.specs.Prelude.{ℕ, List}
 use Rattle.std.specs.Map.{keys_of}
-use Rattle.recovery_slots.specs.declared.slots.Slot.{Slot}
-use Rattle.recovery_slots.specs.Slots.{entries_of}
+use Rattle.recovery_queue.specs.declared.slots.Slot.{Slot}
+use Rattle.recovery_queue.specs.Slots.{entries_of}
 use Rattle.recovery_ids.specs.LocalIds.{LocalIds}
 use Rattle.recovery_ids.specs.declared.state.CidState.TheInside.{Inside}
 

@@ -7,7 +7,7 @@ ghost use Rattle.recovery_ids.specs.CidState.{numbers_in};
 
 use recovery_base::below::{IssuedCid, NoMemory, TransportError};
 use recovery_base::time::{Duration, Instant};
-use recovery_slots::slots::SlotQueue;
+use recovery_queue::slots::SlotQueue;
 use std::alloc::Global;
 use std::collections::VecDeque;
 use std::marker::Model;

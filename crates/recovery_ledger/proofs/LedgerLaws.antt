@@ -6,11 +6,10 @@ use Rattle.std.specs.Prelude.{sum_by, option_map}
 use Rattle.std.proofs.lemmas.List.Sums.{sum_by_push, sum_by-cons}
 use Rattle.recovery_base.specs.declared.below.SpaceId.{SpaceId}
 use Rattle.recovery_base.specs.declared.below.SpaceId.TheVariants.{Initial, Handshake, Data}
-use Rattle.recovery_ledger.specs.declared.paths.PathLedger.{PathLedger}
 use Rattle.recovery_ledger.specs.InFlight.{size_in, eliciting_in, IsCountedIn}
 use Rattle.recovery_ledger.specs.Ledger.{tracked_by, IsBalancedOn}
 use Rattle.recovery_ledger.specs.Packets.{Packet, Packets, packet_at, without, with_contents, carrying, without_some, forgotten_number, sent_onto, entry_at, IsAmong}
-use Rattle.recovery_ledger.specs.Paths.{generation_of, counters_of, after_leaving, after_forgetting, path_after_sending, IsCountedOn}
+use Rattle.recovery_ledger.specs.Paths.{PathLedger, generation_of, counters_of, after_leaving, after_forgetting, path_after_sending, IsCountedOn}
 use Rattle.recovery_ledger.specs.Spaces.{Space, Spaces, with_space, packets_of}
 use Rattle.recovery_ledger.proofs.CarryLaws.{sum-carrying}
 use Rattle.recovery_ledger.proofs.PacketLaws.{sum-without, without-absent}

@@ -3,9 +3,9 @@
 use Rattle.std.proofs.lemmas.Bool.Decides.{nat_tests}
 use Rattle.std.proofs.Common.{◌≡◌, Bool, MatchOption, ℕ, ◌+◌, ◌-◌, ◌^◌, ◌<◌, ◌≤◌, min, max, true, false, [], ◌∷◌, ◌++◌, length, filter, Option, None, Some, refl, arith, length-append, IfSome}
 use Rattle.recovery_queue.specs.Queues.{QueueWords, IsVoid}
-use Rattle.recovery_slots.specs.Slots.{Divides, entries_of, item_at, Finds, IsHeldAt, first_number, is_from, AreFrom, IsClosedUp}
-use Rattle.recovery_slots.proofs.EntryLaws.{entries_fit, taken, item_held, filed}
-use Rattle.recovery_slots.proofs.SlotLaws.{Slots, slot_within}
+use Rattle.recovery_queue.specs.Slots.{Divides, entries_of, item_at, Finds, IsHeldAt, first_number, is_from, AreFrom, IsClosedUp}
+use Rattle.recovery_queue.proofs.EntryLaws.{entries_fit, taken, item_held, filed}
+use Rattle.recovery_queue.proofs.SlotLaws.{Slots, slot_within}
 use Rattle.recovery_ledger.specs.Probes.{first_filled}
 use Rattle.recovery_ledger.specs.Places.{HasSlots, IsPlaceOf, FindsPacket}
 use Rattle.recovery_ledger.specs.Packets.{Packet, Packets, AreBelow, packet_at, without, replaced, with_contents, is_above, least_number, IsAboveLast}

@@ -1,7 +1,7 @@
 -- The counts that are kept beside the tracked packets.
 use Rattle.std.specs.Prelude.{◌≡◌, ℕ, ◌^◌, ◌<◌, ◌≤◌, ◌==◌, ◌&&◌, sum_by, List, [], ◌∷◌, true, Option, if◌then◌else◌}
-use Rattle.recovery_slots.specs.declared.slots.Slot.{Slot}
-use Rattle.recovery_slots.specs.Slots.{entries_of, IsClosedUp}
+use Rattle.recovery_queue.specs.declared.slots.Slot.{Slot}
+use Rattle.recovery_queue.specs.Slots.{entries_of, IsClosedUp}
 use Rattle.recovery_queue.specs.Queues.{QueueWords, IsVoid}
 use Rattle.recovery_ledger.specs.Packets.{Packet, Packets, AreBelow, is_above, is_silent_above}
 

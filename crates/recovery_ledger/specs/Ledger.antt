@@ -1,10 +1,9 @@
 -- What ties the ledgers of the paths to what the spaces track.
 use Rattle.std.specs.Prelude.{◌≡◌, ◌≤◌, ℕ}
 use Rattle.recovery_base.specs.declared.below.SpaceId.{SpaceId}
-use Rattle.recovery_ledger.specs.declared.paths.PathLedger.{PathLedger}
 use Rattle.recovery_ledger.specs.InFlight.{in_flight}
 use Rattle.recovery_ledger.specs.Packets.{Packet, Packets, IsAmong}
-use Rattle.recovery_ledger.specs.Paths.{generation_of, counters_of}
+use Rattle.recovery_ledger.specs.Paths.{PathLedger, generation_of, counters_of}
 use Rattle.recovery_ledger.specs.Spaces.{Spaces, space_of, packets_of, IsCoherent}
 
 abbrev pub tracked_by : {P M : Type 0} → Spaces P M → SpaceId → Packets P M

@@ -2,10 +2,14 @@
 use Rattle.std.specs.Prelude.{ℕ, ◌≡◌, ◌==◌, Option, if◌then◌else◌}
 use Rattle.std.specs.Option.{ForSome, option_map_or}
 use Rattle.recovery_ledger.specs.declared.paths.InFlight.{InFlight}
-use Rattle.recovery_ledger.specs.declared.paths.PathLedger.{PathLedger}
 use Rattle.recovery_ledger.specs.InFlight.{with_packet, without_packet, IsCounted}
 use Rattle.recovery_ledger.specs.Packets.{Packet, AreBelow, IsAboveLast, forgotten_entry}
 use Rattle.recovery_ledger.specs.Spaces.{Space, tracking_of}
+
+-- its counters with its generation, as contracts see them
+pub record PathLedger : Type 0 where
+  pub generation : ℕ
+  pub in_flight : InFlight
 
 abbrev pub generation_of : PathLedger → ℕ
 generation_of path = path.generation

@@ -1,6 +1,6 @@
 -- Where tracked packets stand, in slots of which some are empty, and what it takes to find one.
 use Rattle.std.specs.Prelude.{◌≡◌, ◌≢◌, ℕ, ◌+◌, ◌*◌, ◌^◌, ◌<◌, ◌≤◌, length, filter, Option, None, MatchOption}
-use Rattle.recovery_slots.specs.Slots.{is_below, is_from}
+use Rattle.recovery_queue.specs.Slots.{is_below, is_from}
 use Rattle.recovery_ledger.specs.Packets.{Packets, packet_at}
 
 -- each packet has a slot, and beside as many as there are packets at most 64 are empty

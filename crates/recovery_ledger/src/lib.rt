@@ -1,5 +1,4 @@
-//! What is kept of packets: the three packet number spaces, which of them were discarded, and the paths with what is in
-//! flight on them.
+//! What is kept of packets: the three packet number spaces, which of them were discarded, and what is in flight on a path.
 #![tactic(auto)]
 
 pub mod discarded;

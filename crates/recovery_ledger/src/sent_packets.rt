@@ -3,7 +3,7 @@ ghost use Rattle.std.specs.Prelude.{◌≡◌, Decides, ◌^◌, ◌<◌, ◌≤
 ghost use Rattle.std.specs.Option.{is_some};
 ghost use Rattle.recovery_ledger.specs.Packets.{Tracking, no_packets, packet_at, AreBelow, IsAboveLast, HasSize, is_above, least_number, silent_in, forgotten_number, forgotten_entry, after_sending, after_taking, after_carrying, contents_or};
 ghost use Rattle.recovery_queue.specs.Queues.{IsVoid};
-ghost use Rattle.recovery_slots.specs.Slots.{entries_of};
+ghost use Rattle.recovery_queue.specs.Slots.{entries_of};
 ghost use Rattle.recovery_ledger.specs.Places.{HasSlots, FindsPacket};
 ghost use Rattle.recovery_ledger.specs.Probes.{first_filled};
 ghost use Rattle.recovery_ledger.specs.Counts.{silent_count, size_count, AreAboveFrom, AreVoidBelow};
@@ -11,7 +11,7 @@ ghost use Rattle.recovery_ledger.specs.Counts.{silent_count, size_count, AreAbov
 use crate::spaces::SentPacket;
 use recovery_base::below::NoMemory;
 use recovery_queue::queue::RetransmitQueue;
-use recovery_slots::slots::SlotQueue;
+use recovery_queue::slots::SlotQueue;
 use std::alloc::Global;
 use std::marker::Model;
 use std::mem;
@@ -37,7 +37,7 @@ pub struct SentPackets<Q: RetransmitQueue> {
 }
 
 impl<Q: RetransmitQueue> Model for SentPackets<Q> {
-    ghost use Rattle.recovery_slots.specs.Slots.{entries_of};
+    ghost use Rattle.recovery_queue.specs.Slots.{entries_of};
     ghost use Rattle.recovery_ledger.specs.Packets.{Tracking};
     ghost use Rattle.recovery_ledger.specs.Counts.{AreTracked};
 

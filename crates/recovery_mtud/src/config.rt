@@ -1,5 +1,5 @@
 //! Settings of MTU discovery.
-ghost use Rattle.std.specs.Prelude.{◌≡◌, min, max};
+ghost use Rattle.std.specs.Prelude.{◌≡◌, ◌<◌, ◌^◌, min, max};
 ghost use Rattle.recovery_mtud.specs.Settings.{default_settings};
 
 use recovery_base::time::Duration;
@@ -57,6 +57,13 @@ impl MtuDiscoveryConfig {
     {
         self.minimum_change = value.max(1);
         self
+    }
+
+    /// A law, for the proofs of callers: the largest size that is probed is below 2^16, as its type says.
+    pub fn upper_bound_fits(&self)
+        ensures { self.now.upper_bound < 2 ^ 16 }
+    {
+        let _upper_bound = self.upper_bound;
     }
 }
 

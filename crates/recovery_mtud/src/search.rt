@@ -203,7 +203,8 @@ impl Search {
     pub(crate) fn on_acked(&mut self, number: u64) -> Option<u16>
         ensures size { result ≡ probed_size number self.old }
         ensures positive { IfSome result (λ size. 0 < size) }
-        ensures after { self.new ≡ (if is_some result then search_with probing_acked self.old else self.old) }
+        ensures after { self.new
+            ≡ (if is_some result then search_with probing_acked self.old else self.old) }
     {
         let Some(probing) = &mut self.probing else {
             return None;

@@ -1,3 +1,3 @@
 //! Pacing (RFC 9002, 7.7).
 
-pub use recovery_pacing::pacing::Pacer;
+pub use recovery_congestion::pacing::Pacer;

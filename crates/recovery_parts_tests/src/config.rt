@@ -1,11 +1,12 @@
-//! Settings of a connection: each default by its name, each setter once, and idle timeouts.
+//! Settings of a connection: the defaults, each setter once, and idle timeouts.
+use crate::rows::all_hold;
 use recovery_base::below::{VarInt, VarIntBoundsExceeded};
 use recovery_base::config::AckFrequencyConfig;
 use recovery_base::time::{Duration, Instant};
-use recovery_config::config::{IdleTimeout, TransportConfig};
-use recovery_config::laws::idle_timeouts_agree;
 use recovery_congestion::congestion::{Controller, ControllerFactory, NewRenoConfig};
-use recovery_halving::HalvingConfig;
+use recovery_congestion::halving::HalvingConfig;
+use recovery_parts::config::{IdleTimeout, TransportConfig};
+use recovery_parts::laws::idle_timeouts_agree;
 use std::hash::{DefaultHasher, Hash, Hasher};
 use std::process::Abort;
 
@@ -13,109 +14,43 @@ fn settings() -> TransportConfig<NewRenoConfig> {
     TransportConfig::default()
 }
 
+/// The defaults of streams and of what they may send, setting by setting.
 #[test]
-fn default_max_concurrent_bidi_streams(rt: HostRuntime) {
-    assert!(rt; settings().max_concurrent_bidi_streams.into_inner() == 100);
+fn defaults_of_streams(rt: HostRuntime) {
+    let config = settings();
+    let are_right = [
+        config.max_concurrent_bidi_streams.into_inner() == 100,
+        config.max_concurrent_uni_streams.into_inner() == 100,
+        config.max_idle_timeout == Some(VarInt::from_u32(30_000)),
+        config.stream_receive_window.into_inner() == 1_250_000,
+        config.receive_window == VarInt::MAX,
+        config.send_window == 10_000_000,
+        config.send_fairness,
+        config.keep_alive_interval.is_none(),
+        config.crypto_buffer_size == 16_384,
+        config.allow_spin,
+        config.datagram_receive_buffer_size == Some(1_250_000),
+        config.datagram_send_buffer_size == 1_048_576,
+    ];
+    all_hold(&rt, &are_right);
 }
 
+/// Those of loss recovery and paths.
 #[test]
-fn default_max_concurrent_uni_streams(rt: HostRuntime) {
-    assert!(rt; settings().max_concurrent_uni_streams.into_inner() == 100);
-}
-
-#[test]
-fn default_max_idle_timeout(rt: HostRuntime) {
-    assert!(rt; settings().max_idle_timeout == Some(VarInt::from_u32(30_000)));
-}
-
-#[test]
-fn default_stream_receive_window(rt: HostRuntime) {
-    assert!(rt; settings().stream_receive_window.into_inner() == 1_250_000);
-}
-
-#[test]
-fn default_receive_window(rt: HostRuntime) {
-    assert!(rt; settings().receive_window == VarInt::MAX);
-}
-
-#[test]
-fn default_send_window(rt: HostRuntime) {
-    assert!(rt; settings().send_window == 10_000_000);
-}
-
-#[test]
-fn default_send_fairness(rt: HostRuntime) {
-    assert!(rt; settings().send_fairness);
-}
-
-#[test]
-fn default_packet_threshold(rt: HostRuntime) {
-    assert!(rt; settings().packet_threshold == 3);
-}
-
-#[test]
-fn default_time_threshold(rt: HostRuntime) {
-    assert!(rt; settings().get_time_threshold() == (9, 8));
-}
-
-#[test]
-fn default_initial_rtt(rt: HostRuntime) {
-    assert!(rt; settings().initial_rtt == Duration::from_millis(333));
-}
-
-#[test]
-fn default_initial_mtu(rt: HostRuntime) {
-    assert!(rt; settings().get_initial_mtu() == 1200);
-}
-
-#[test]
-fn default_min_mtu(rt: HostRuntime) {
-    assert!(rt; settings().get_min_mtu() == 1200);
-}
-
-#[test]
-fn default_mtu_discovery_config(rt: HostRuntime) {
-    assert!(rt; settings().mtu_discovery_config.is_some());
-}
-
-#[test]
-fn default_pad_to_mtu(rt: HostRuntime) {
-    assert!(rt; !settings().pad_to_mtu);
-}
-
-#[test]
-fn default_ack_frequency_config(rt: HostRuntime) {
-    assert!(rt; settings().ack_frequency_config.is_none());
-}
-
-#[test]
-fn default_persistent_congestion_threshold(rt: HostRuntime) {
-    assert!(rt; settings().persistent_congestion_threshold == 3);
-}
-
-#[test]
-fn default_keep_alive_interval(rt: HostRuntime) {
-    assert!(rt; settings().keep_alive_interval.is_none());
-}
-
-#[test]
-fn default_crypto_buffer_size(rt: HostRuntime) {
-    assert!(rt; settings().crypto_buffer_size == 16_384);
-}
-
-#[test]
-fn default_allow_spin(rt: HostRuntime) {
-    assert!(rt; settings().allow_spin);
-}
-
-#[test]
-fn default_datagram_receive_buffer_size(rt: HostRuntime) {
-    assert!(rt; settings().datagram_receive_buffer_size == Some(1_250_000));
-}
-
-#[test]
-fn default_datagram_send_buffer_size(rt: HostRuntime) {
-    assert!(rt; settings().datagram_send_buffer_size == 1_048_576);
+fn defaults_of_loss_recovery(rt: HostRuntime) {
+    let config = settings();
+    let are_right = [
+        config.packet_threshold == 3,
+        config.get_time_threshold() == (9, 8),
+        config.initial_rtt == Duration::from_millis(333),
+        config.get_initial_mtu() == 1200,
+        config.get_min_mtu() == 1200,
+        config.mtu_discovery_config.is_some(),
+        !config.pad_to_mtu,
+        config.ack_frequency_config.is_none(),
+        config.persistent_congestion_threshold == 3,
+    ];
+    all_hold(&rt, &are_right);
 }
 
 #[test]
@@ -135,12 +70,15 @@ fn setters_of_streams_and_windows(rt: HostRuntime) {
         .receive_window(VarInt::from_u32(4))
         .send_window(5)
         .send_fairness(false);
-    assert!(rt; config.max_concurrent_bidi_streams.into_inner() == 1);
-    assert!(rt; config.max_concurrent_uni_streams.into_inner() == 2);
-    assert!(rt; config.stream_receive_window.into_inner() == 3);
-    assert!(rt; config.receive_window.into_inner() == 4);
-    assert!(rt; config.send_window == 5);
-    assert!(rt; !config.send_fairness);
+    let are_right = [
+        config.max_concurrent_bidi_streams.into_inner() == 1,
+        config.max_concurrent_uni_streams.into_inner() == 2,
+        config.stream_receive_window.into_inner() == 3,
+        config.receive_window.into_inner() == 4,
+        config.send_window == 5,
+        !config.send_fairness,
+    ];
+    all_hold(&rt, &are_right);
 }
 
 #[test]
@@ -154,12 +92,15 @@ fn setters_of_buffers_and_silence(rt: HostRuntime) {
         .allow_spin(false)
         .datagram_receive_buffer_size(None)
         .datagram_send_buffer_size(0);
-    assert!(rt; config.max_idle_timeout.is_none());
-    assert!(rt; config.keep_alive_interval == Some(second));
-    assert!(rt; config.crypto_buffer_size == 1);
-    assert!(rt; !config.allow_spin);
-    assert!(rt; config.datagram_receive_buffer_size.is_none());
-    assert!(rt; config.datagram_send_buffer_size == 0);
+    let are_right = [
+        config.max_idle_timeout.is_none(),
+        config.keep_alive_interval == Some(second),
+        config.crypto_buffer_size == 1,
+        !config.allow_spin,
+        config.datagram_receive_buffer_size.is_none(),
+        config.datagram_send_buffer_size == 0,
+    ];
+    all_hold(&rt, &are_right);
     config.max_idle_timeout(Some(IdleTimeout::from(VarInt::from_u32(7))));
     assert!(rt; config.max_idle_timeout == Some(VarInt::from_u32(7)));
 }
@@ -174,12 +115,15 @@ fn setters_of_loss_recovery(rt: HostRuntime) {
         .mtu_discovery_config(None)
         .pad_to_mtu(true)
         .ack_frequency_config(Some(AckFrequencyConfig::default()));
-    assert!(rt; config.packet_threshold == 4);
-    assert!(rt; config.get_time_threshold() == (5, 4));
-    assert!(rt; config.persistent_congestion_threshold == 2);
-    assert!(rt; config.mtu_discovery_config.is_none());
-    assert!(rt; config.pad_to_mtu);
-    assert!(rt; config.ack_frequency_config.is_some());
+    let are_right = [
+        config.packet_threshold == 4,
+        config.get_time_threshold() == (5, 4),
+        config.persistent_congestion_threshold == 2,
+        config.mtu_discovery_config.is_none(),
+        config.pad_to_mtu,
+        config.ack_frequency_config.is_some(),
+    ];
+    all_hold(&rt, &are_right);
 }
 
 /// Asserts the RTT at first, and the MTUs: the one that a path begins with, and the least.
@@ -269,8 +213,11 @@ fn idle_timeouts_are_ordered_by_milliseconds(rt: HostRuntime) {
     idle_timeouts_agree();
     let none = IdleTimeout::default();
     let one = IdleTimeout::from(VarInt::from_u32(1));
-    assert!(rt; none < one);
-    assert!(rt; none == IdleTimeout::from(VarInt::from_u32(0)));
-    assert!(rt; none != one);
-    assert!(rt; hash_of(&none) == hash_of(&IdleTimeout::from(VarInt::default())));
+    let are_right = [
+        none < one,
+        none == IdleTimeout::from(VarInt::from_u32(0)),
+        none != one,
+        hash_of(&none) == hash_of(&IdleTimeout::from(VarInt::default())),
+    ];
+    all_hold(&rt, &are_right);
 }

@@ -6,8 +6,8 @@ use recovery_base::time::{Duration, Instant};
 use recovery_congestion::congestion::{
     Controller, ControllerFactory, ControllerMetrics, NewRenoConfig,
 };
+use recovery_congestion::halving::HalvingConfig;
 use recovery_congestion::rtt::RttEstimator;
-use recovery_halving::HalvingConfig;
 use std::process::Abort;
 
 /// What a controller is told.

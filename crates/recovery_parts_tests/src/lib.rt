@@ -1,6 +1,6 @@
 //! Tests of the parts, over their public calls: of ids, ACKs, skipped numbers and what is below them; of what controls the sending, from
-//! RTT to settings; of tracked packets in their slots, a queue of item numbers, and responses to path challenges. They stand here and
-//! not in the parts, so that none of them is proved a second time for its tests.
+//! RTT to settings; of tracked packets in their slots and in flight, a queue of item numbers, and responses to path challenges; and of
+//! the detector of losses. They stand here and not in the parts, so that none of them is proved a second time for its tests.
 #![tactic(auto)]
 
 #[cfg(test)]
@@ -14,9 +14,13 @@ mod conflicts;
 #[cfg(test)]
 mod congestion;
 #[cfg(test)]
+mod detection;
+#[cfg(test)]
 mod ecn;
 #[cfg(test)]
 mod ids;
+#[cfg(test)]
+mod in_flight;
 #[cfg(test)]
 mod items;
 #[cfg(test)]

@@ -1,7 +1,7 @@
 //! The pacer. Rows are what a path has and what is asked or sent at a moment, and the moment that is told, if one is.
 use crate::rows::holds;
 use recovery_base::time::{Duration, Instant};
-use recovery_pacing::pacing::Pacer;
+use recovery_congestion::pacing::Pacer;
 use std::process::Abort;
 
 /// RTT in nanoseconds, congestion window and MTU.

@@ -30,7 +30,7 @@ impl Order {
     }
 }
 
-fn packet(alloc: Global) -> SentPacket<ItemQueue> {
+pub(crate) fn packet(alloc: Global) -> SentPacket<ItemQueue> {
     SentPacket {
         path_generation: 0,
         time_sent: Instant::from_nanos(0),

@@ -5,10 +5,9 @@ use Rattle.std.proofs.lemmas.Iterator.Adapters.{option_map_id}
 use Rattle.std.proofs.lemmas.Option.{none-some}
 use Rattle.recovery_base.specs.declared.below.SpaceId.{SpaceId}
 use Rattle.recovery_congestion.specs.Controllers.{ControllerWords}
-use Rattle.recovery_ledger.specs.declared.paths.PathLedger.{PathLedger}
 use Rattle.recovery_ledger.specs.Ledger.{tracked_by, IsBalancedOn, AreCoherent}
 use Rattle.recovery_ledger.specs.Packets.{IsAmong, Packet, Packets, Tracking, no_packets, packet_at, without, with_contents, forgotten_entry, IsTooLarge, after_sending}
-use Rattle.recovery_ledger.specs.Paths.{generation_of, counters_of, fresh_ledger, after_leaving, after_forgetting}
+use Rattle.recovery_ledger.specs.Paths.{PathLedger, generation_of, counters_of, fresh_ledger, after_leaving, after_forgetting}
 use Rattle.recovery_ledger.specs.Probes.{ProbeFound}
 use Rattle.recovery_ledger.specs.Spaces.{Space, Spaces, space_of, with_space, tracking_of, packets_of, next_number_of, HasGreatestCome, IsCoherent, one_probe_more, space_finds, space_probes}
 use Rattle.recovery_ledger.proofs.AmongLaws.{OfAll, all_without, all_sent, all_carrying}

@@ -2,7 +2,7 @@
 use Rattle.std.proofs.Common.{arith, ◌≡◌, List, [], ◌++◌, refl}
 use Rattle.std.proofs.lemmas.Bool.{false≢true}
 use Rattle.std.proofs.lemmas.Option.{none-some}
-use Rattle.recovery_pacing.proofs.PacerLogLaws.{HavePassed}
+use Rattle.recovery_congestion.proofs.PacerLogLaws.{HavePassed}
 use Rattle.recovery_paths.specs.PathMaking.{PathSettings}
 use Rattle.recovery_paths.specs.PathLog.{OnEachPath, PathsEntry, PathEntry, PathPast, Following, pasts_by, each_path, state_of, known_of, past_with, past_following, transmits, passes, is_reset}
 use Rattle.recovery_paths.specs.PathStates.{PathState}

@@ -3,10 +3,9 @@ use Rattle.std.specs.Prelude.{ℕ, Bool, [], ◌∷◌, Option, option_map}
 use Rattle.std.specs.Option.{ForSome}
 use Rattle.recovery_base.specs.declared.below.SpaceId.{SpaceId}
 use Rattle.recovery_congestion.specs.Controllers.{ControllerWords}
-use Rattle.recovery_ledger.specs.declared.paths.PathLedger.{PathLedger}
 use Rattle.recovery_ledger.specs.InFlight.{IsCountedIn}
 use Rattle.recovery_ledger.specs.Packets.{Packet, Packets, forgotten_entry}
-use Rattle.recovery_ledger.specs.Paths.{generation_of, counters_of, after_leaving, after_forgetting, path_after_sending, IsCountedOn, CanTrack}
+use Rattle.recovery_ledger.specs.Paths.{PathLedger, generation_of, counters_of, after_leaving, after_forgetting, path_after_sending, IsCountedOn, CanTrack}
 use Rattle.recovery_ledger.specs.Spaces.{Space, tracking_of}
 use Rattle.recovery_paths.specs.PathLog.{OfPaths, OnEachPath, each_path}
 use Rattle.recovery_paths.specs.PathStates.{Path, path_acked, path_lost}

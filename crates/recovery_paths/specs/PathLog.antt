@@ -4,7 +4,7 @@ use Rattle.std.specs.Option.{ForSome}
 use Rattle.std.specs.declared.net.socket_addr.SocketAddr.{SocketAddr}
 use Rattle.recovery_congestion.specs.Calls.{ControllerCall}
 use Rattle.recovery_mtud.specs.DiscoveryLog.{MtuCall, resets, discovery_by}
-use Rattle.recovery_pacing.specs.PacerLog.{PacerEntry, asked, took, bucket_by}
+use Rattle.recovery_congestion.specs.PacerLog.{PacerEntry, asked, took, bucket_by}
 use Rattle.recovery_paths.specs.declared.live_paths.PathName.{PathName}
 use Rattle.recovery_paths.specs.declared.live_paths.PathName.TheVariants.{Current, Previous}
 use Rattle.recovery_paths.specs.PathMaking.{PathSettings, begun_anew, state_fresh, state_going_on, state_reset}
@@ -185,8 +185,7 @@ module _ {K : Type 0} (settings : PathSettings K) where
 
   -- the past of each path, where the first is made so
   abbrev pub pasts_by : PathState K → List PathsEntry → OfPaths (PathPast K)
-  pasts_by first log =
-      paths_after (past_with settings) (past_following settings) log
+  pasts_by first log = paths_after (past_with settings) (past_following settings) log
       (record { current = past_made 0 first; previous = None })
 
   abbrev pub paths_known_by : PathState K → List PathsEntry → OfPaths (PathKnown K)

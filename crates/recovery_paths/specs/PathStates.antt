@@ -6,12 +6,11 @@ use Rattle.recovery_base.specs.declared.below.SpaceId.TheVariants.{Data}
 use Rattle.recovery_base.specs.Spaces.{same_space}
 use Rattle.recovery_congestion.specs.Calls.{ControllerCall, acks, takes_mtu}
 use Rattle.recovery_congestion.specs.Controllers.{ControllerWords}
-use Rattle.recovery_ledger.specs.declared.paths.PathLedger.{PathLedger}
 use Rattle.recovery_ledger.specs.Packets.{Packet}
-use Rattle.recovery_ledger.specs.Paths.{generation_of, after_leaving}
+use Rattle.recovery_ledger.specs.Paths.{PathLedger, generation_of, after_leaving}
 use Rattle.recovery_mtud.specs.Discovery.{Discovery, is_probe}
 use Rattle.recovery_mtud.specs.DiscoveryLog.{MtuCall, acks as acks_packet, loses_probe, loses, discovery_after}
-use Rattle.recovery_pacing.specs.Pacing.{Bucket, PacerCall, paced, delay_of, less_tokens}
+use Rattle.recovery_congestion.specs.Pacing.{Bucket, PacerCall, paced, delay_of, less_tokens}
 use Rattle.recovery_paths.specs.declared.responses.PathResponse.{PathResponse}
 use Rattle.recovery_congestion.specs.Rtt.{Rtt, rtt_updated, rtt_get}
 

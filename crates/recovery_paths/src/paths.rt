@@ -16,14 +16,13 @@ ghost use Rattle.recovery_paths.specs.PathStates.{after_telling, after_search, p
 pub use crate::responses::PathResponses;
 use recovery_base::below::{NoMemory, SpaceId};
 use recovery_base::time::{Duration, Instant};
-use recovery_config::config::TransportConfig;
 use recovery_congestion::congestion::{Controller, ControllerFactory};
+use recovery_congestion::pacing::Pacer;
 use recovery_congestion::rtt::RttEstimator;
-use recovery_ledger::paths::PathLedger;
 pub use recovery_ledger::paths::{InFlight, LedgerError};
 use recovery_ledger::spaces::{PacketSpace, SentPacket};
 use recovery_mtud::mtud::MtuDiscovery;
-use recovery_pacing::pacing::Pacer;
+use recovery_parts::config::TransportConfig;
 use recovery_queue::queue::RetransmitQueue;
 use std::marker::Model;
 use std::mem;
@@ -66,7 +65,7 @@ impl Model for PathMarks {
 
 /// What is kept for one path, with a congestion controller `C`.
 ///
-/// Contracts see it as its ledger and its state; the MTU and the controller's window are above zero.
+/// Contracts see it as its ledger, its state and its marks; the MTU and the controller's window are above zero.
 #[derive(Drop)]
 pub struct PathData<C: Controller> {
     /// The address of the peer.
@@ -96,7 +95,8 @@ pub struct PathData<C: Controller> {
     pub path_responses: PathResponses,
     /// Space and number of the first packet that was sent after a sample of the round-trip time (RFC 9002, 7.6.2).
     pub first_packet_after_rtt_sample: Option<(SpaceId, u64)>,
-    ledger: PathLedger,
+    generation: u64,
+    in_flight: InFlight,
 }
 
 impl<C: Controller> Model for PathData<C> {
@@ -105,7 +105,7 @@ impl<C: Controller> Model for PathData<C> {
     ghost Value = { Path C.Content };
 
     ghost view = { λ path. record {
-      ledger = path.ledger;
+      ledger = record { generation = path.generation; in_flight = path.in_flight };
       state = record {
         remote = path.remote;
         validated = path.validated;
@@ -162,7 +162,8 @@ impl<C: Controller + Drop> PathData<C> {
             challenge_pending: false,
             path_responses: PathResponses::new(),
             first_packet_after_rtt_sample: None,
-            ledger: PathLedger::new(generation),
+            generation,
+            in_flight: InFlight::default(),
         }
     }
 
@@ -198,7 +199,8 @@ impl<C: Controller + Drop> PathData<C> {
             challenge_pending: false,
             path_responses: PathResponses::new(),
             first_packet_after_rtt_sample: previous.first_packet_after_rtt_sample,
-            ledger: PathLedger::new(generation),
+            generation,
+            in_flight: InFlight::default(),
         })
     }
 
@@ -229,14 +231,14 @@ impl<C: Controller + Drop> PathData<C> {
     pub fn generation(&self) -> u64
         ensures { result ≡ generation_of self.now.ledger }
     {
-        self.ledger.generation()
+        self.generation
     }
 
     /// What is in flight on the path (RFC 9002, B.2).
     pub fn in_flight(&self) -> InFlight
         ensures { result ≡ counters_of self.now.ledger }
     {
-        self.ledger.in_flight()
+        self.in_flight
     }
 
     /// The bytes of a datagram that the path carries, above zero.
@@ -280,7 +282,18 @@ impl<C: Controller + Drop> PathData<C> {
         ensures err_path { OnErr result (self.new ≡ self.old) }
         ensures err_space { OnErr result (space.new ≡ space.old) }
     {
-        self.ledger.sent(number, packet, space)
+        let Some(in_flight) = self.in_flight.checked_insert(&packet) else {
+            return Err(LedgerError::Overflow);
+        };
+        let forgotten = match space.sent(number, packet) {
+            Ok(forgotten) => forgotten,
+            Err(NoMemory) => return Err(LedgerError::NoMemory),
+        };
+        self.in_flight = in_flight;
+        if let Some((_, packet)) = &forgotten {
+            self.remove_in_flight(packet);
+        }
+        Ok(forgotten)
     }
 
     /// Counts a packet no more: false, and nothing, for a packet of another path.
@@ -289,7 +302,11 @@ impl<C: Controller + Drop> PathData<C> {
         ensures own { Decides result (packet.now.path_generation ≡ generation_of self.old.ledger) }
         ensures after { self.new ≡ record self.old { ledger = after_leaving self.old.ledger packet.now } }
     {
-        self.ledger.remove_in_flight(packet)
+        if packet.path_generation != self.generation {
+            return false;
+        }
+        self.in_flight = self.in_flight.remove(packet);
+        true
     }
 
     /// A datagram came in on the path, of so many bytes.
@@ -378,7 +395,7 @@ impl<C: Controller + Drop> PathData<C> {
             self.new ≡ on_state (after_telling C.words (ends_acks now bytes app_limited largest)) self.old }
     {
         self.congestion
-            .on_end_acks(now, self.ledger.in_flight().bytes, app_limited, largest);
+            .on_end_acks(now, self.in_flight.bytes, app_limited, largest);
     }
 
     /// The controller is told of packets that were lost or marked, the last of them sent at `sent`.

@@ -5,6 +5,7 @@ mod burst;
 mod connection;
 mod failure;
 mod panels;
+mod plot;
 mod start;
 mod tunnel;
 

@@ -1,8 +1,8 @@
 //! What the pictures have in common: a high panel above a low one, and what their axes count.
 
+use crate::plot::axis::{Axis, Panel, Point};
+use crate::plot::picture::Picture;
 use quic_recovery::time::Duration;
-use recovery_plot::axis::{Axis, Panel, Point};
-use recovery_plot::picture::Picture;
 use std::alloc::Global;
 
 /// In nanoseconds.

@@ -9,7 +9,7 @@ use quic_recovery::below::NoMemory;
 use quic_recovery::config::TransportConfig;
 use quic_recovery::driver::{Recovery, RecoveryConfig};
 use quic_recovery::time::Instant;
-use recovery_halving::HalvingConfig;
+use recovery_congestion::halving::HalvingConfig;
 use recovery_rows::config::{settings_with, words};
 use recovery_skips::Skips;
 use std::alloc::Global;

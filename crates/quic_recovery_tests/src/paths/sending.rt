@@ -3,7 +3,7 @@ use super::*;
 use quic_recovery::config::TransportConfig;
 use rand_core::SeedableRng;
 use rand_pcg::Pcg64;
-use recovery_halving::HalvingConfig;
+use recovery_congestion::halving::HalvingConfig;
 use recovery_rows::config::settings_with;
 use recovery_skips::Skips;
 

@@ -4,9 +4,9 @@ use super::bound::{Asked, Bound};
 use super::link::{Link, SIZE};
 use super::sender::{BEGIN, Sender};
 use crate::failure::Failure;
+use crate::plot::axis::Point;
 use quic_recovery::below::NoMemory;
 use quic_recovery::congestion::ControllerFactory;
-use recovery_plot::axis::Point;
 use std::alloc::Global;
 
 /// How many steps a run has at most.

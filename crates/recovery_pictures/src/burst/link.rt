@@ -1,7 +1,7 @@
 //! The bottleneck: 10 Mbit/s, a queue of 20 packets, and 25 ms there and back.
 
+use crate::plot::axis::Point;
 use quic_recovery::below::NoMemory;
-use recovery_plot::axis::Point;
 use std::alloc::Global;
 
 /// The bytes of each packet.

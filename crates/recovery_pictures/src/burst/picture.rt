@@ -4,9 +4,9 @@ use super::closed_loop::Log;
 use super::link::Link;
 use super::settings::Settings;
 use crate::panels::{KILOBYTE, MILLISECOND, highest, lower, sheet, up_to, upper};
+use crate::plot::axis::{Axis, Point};
+use crate::plot::picture::{Mark, Picture, Style};
 use crate::start::Window;
-use recovery_plot::axis::{Axis, Point};
-use recovery_plot::picture::{Mark, Picture, Style};
 use std::alloc::{AllocError, Global};
 
 /// The picture of a run.

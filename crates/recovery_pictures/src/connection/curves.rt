@@ -1,13 +1,13 @@
 //! What is gathered while events go in.
 
 use crate::panels::nanos;
+use crate::plot::axis::Point;
 use quic_recovery::LiveRecovery;
 use quic_recovery::below::NoMemory;
 use quic_recovery::congestion::{Controller, ControllerFactory};
 use quic_recovery::event::Event;
 use quic_recovery::time::Instant;
 use rand_pcg::Pcg32;
-use recovery_plot::axis::Point;
 use recovery_queue::items::ItemQueue;
 use std::alloc::Global;
 

@@ -2,8 +2,8 @@
 
 use super::curves::Curves;
 use crate::panels::{KILOBYTE, MILLISECOND, highest, lower, sheet, up_to, upper};
-use recovery_plot::axis::{Axis, Panel, Point};
-use recovery_plot::picture::{Mark, Picture, Style};
+use crate::plot::axis::{Axis, Panel, Point};
+use crate::plot::picture::{Mark, Picture, Style};
 use std::alloc::{AllocError, Global};
 
 /// The picture of the curves of a run over controllers of this name.

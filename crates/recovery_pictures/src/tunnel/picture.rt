@@ -2,8 +2,8 @@
 
 use super::rounds::{LARGEST, Tunnel};
 use crate::panels::{MILLISECOND, SECOND, highest, lower, sheet, up_to, upper};
-use recovery_plot::axis::Axis;
-use recovery_plot::picture::{Mark, Picture, Style};
+use crate::plot::axis::Axis;
+use crate::plot::picture::{Mark, Picture, Style};
 use std::alloc::{AllocError, Global};
 
 /// The picture of what happened in a tunnel.

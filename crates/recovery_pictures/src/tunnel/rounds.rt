@@ -1,12 +1,12 @@
 //! One end of a tunnel: rounds of probes and bursts, and what is drawn of them.
 
 use super::link::Link;
+use crate::plot::axis::Point;
 use recovery_base::below::{NoMemory, SpaceId};
 use recovery_base::time::{Duration, Instant};
+use recovery_congestion::pacing::Pacer;
 use recovery_mtud::config::MtuDiscoveryConfig;
 use recovery_mtud::mtud::MtuDiscovery;
-use recovery_pacing::pacing::Pacer;
-use recovery_plot::axis::Point;
 use std::alloc::Global;
 
 /// What every path carries, in bytes (RFC 9000, 14).

@@ -1,5 +1,5 @@
 use Rattle.std.proofs.Common.{◌^◌}
-use Rattle.recovery_slots.specs.Slots.{entries_of}
+use Rattle.recovery_queue.specs.Slots.{entries_of}
 use Rattle.recovery_ids.proofs.SetLaws.{least_decides, none_decides}
 use Rattle.recovery_ids.proofs.state.is_any_below.Goals as goal
 

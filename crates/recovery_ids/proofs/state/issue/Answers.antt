@@ -1,6 +1,6 @@
 use Rattle.std.proofs.Common.{◌+◌, ◌-◌, ◌≡◌, ◌∙◌, ◌∷◌, [], append_assoc, suc, ap, arith}
 use Rattle.std.specs.Map.{keys_of}
-use Rattle.recovery_slots.specs.Slots.{entries_of}
+use Rattle.recovery_queue.specs.Slots.{entries_of}
 use Rattle.recovery_ids.specs.CidState.{numbers_in}
 use Rattle.recovery_ids.specs.LocalIds.{Rise}
 use Rattle.recovery_ids.proofs.RiseLaws.{range_more, Rise-append}

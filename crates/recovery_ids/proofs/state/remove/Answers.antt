@@ -1,6 +1,6 @@
 use Rattle.std.proofs.Common.{◌^◌, ◌∙◌, ap}
 use Rattle.std.specs.Map.{keys_of}
-use Rattle.recovery_slots.specs.Slots.{entries_of}
+use Rattle.recovery_queue.specs.Slots.{entries_of}
 use Rattle.recovery_ids.specs.CidState.{numbers_in}
 use Rattle.recovery_ids.proofs.SetLaws.{keys-removed, removes}
 use Rattle.recovery_ids.proofs.state.remove.Goals as goal

@@ -1,7 +1,7 @@
 use Rattle.std.proofs.Common.{sym, ap, subst, ◌∙◌}
 use Rattle.recovery_queue.specs.Queues.{IsVoid}
-use Rattle.recovery_slots.specs.Slots.{entries_of}
-use Rattle.recovery_slots.proofs.EntryLaws.{not_both, drop_slot, entries_dropped, divided}
+use Rattle.recovery_queue.specs.Slots.{entries_of}
+use Rattle.recovery_queue.proofs.EntryLaws.{not_both, drop_slot, entries_dropped, divided}
 use Rattle.recovery_ledger.specs.Packets.{Packet}
 use Rattle.recovery_ledger.proofs.TrackedLaws.{passes_below, void_here, passes_next}
 use Rattle.recovery_ledger.proofs.sent_packets.first_filled.Goals as goal

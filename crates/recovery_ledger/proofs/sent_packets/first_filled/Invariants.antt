@@ -1,5 +1,5 @@
 use Rattle.std.proofs.Common.{◌≡◌, true, drop}
-use Rattle.recovery_slots.specs.Slots.{entries_of}
+use Rattle.recovery_queue.specs.Slots.{entries_of}
 use Rattle.recovery_ledger.proofs.TrackedLaws.{Passes}
 use Rattle.recovery_ledger.proofs.sent_packets.first_filled.Given as goal
 

@@ -6,7 +6,7 @@ use Rattle.recovery_ledger.proofs.SpaceLaws.{fresh_space}
 use Rattle.quic_recovery.specs.History.{begins, queue_meaning}
 use Rattle.quic_recovery.proofs.AboveLaws.{beside_made, fresh_first}
 use Rattle.quic_recovery.proofs.LeftLaws.{balanced_first, in_flight_law, paths_first}
-use Rattle.quic_recovery.proofs.SearchLaws.{bound_in, where_allowed}
+use Rattle.quic_recovery.proofs.SearchLaws.{where_allowed}
 use Rattle.quic_recovery.proofs.driver.Recovery.new.Goals as goal
 
 pub invariant_of-result : goal.invariant_of-result
@@ -44,14 +44,13 @@ returns-clause-left g c =
       local_ids = c.in_ok-local_cid_state.ensures.ids;
     }
 
--- by no event; the upper bound of a search is a `u16`
+-- by no event
 pub returns-clause-came : goal.returns-clause-came
 returns-clause-came g c = record {
   told = tt;
   left = returns-clause-left g c;
-  small = let o = c.args.config.transport.mtu_discovery_config in
-      where_allowed (λ settings. settings.upper_bound < 2 ^ 16) c.args.config.allow_mtud o
-      (bound_in o _ c.well_formed.1.0.1.1.1.0.1.1.1.1.1.1.1.1.1.1.1.1.1.1.0);
+  small = where_allowed (λ settings. settings.upper_bound < 2 ^ 16) c.args.config.allow_mtud _
+      c.upper_bound_fits.ensures;
 }
 
 pub returns-clause-marks : goal.returns-clause-marks

@@ -1,6 +1,6 @@
 use Rattle.std.proofs.Common.{arith}
 use Rattle.std.proofs.lemmas.Bool.Decides.{nat_tests}
-use Rattle.recovery_slots.specs.Slots.{entries_of}
+use Rattle.recovery_queue.specs.Slots.{entries_of}
 use Rattle.recovery_ledger.proofs.PacketLaws.{sized_counted}
 use Rattle.recovery_ledger.proofs.sent_packets.SentPackets.has_size.Goals as goal
 

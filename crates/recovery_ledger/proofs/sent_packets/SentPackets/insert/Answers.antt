@@ -1,4 +1,4 @@
-use Rattle.recovery_slots.specs.Slots.{entries_of}
+use Rattle.recovery_queue.specs.Slots.{entries_of}
 use Rattle.std.proofs.Common.{ap, arith}
 use Rattle.recovery_ledger.specs.Packets.{entry_at}
 use Rattle.recovery_ledger.proofs.CountLaws.{IsForgotten, silent_bound, silent_few, forgotten_found}

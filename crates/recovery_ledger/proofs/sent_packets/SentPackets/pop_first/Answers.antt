@@ -1,5 +1,5 @@
 use Rattle.std.proofs.Common.{arith}
-use Rattle.recovery_slots.proofs.SlotLaws.{at_itself}
+use Rattle.recovery_queue.proofs.SlotLaws.{at_itself}
 use Rattle.recovery_ledger.proofs.TrackedLaws.{tracked_taken}
 use Rattle.recovery_ledger.proofs.sent_packets.SentPackets.pop_first.Goals as goal
 

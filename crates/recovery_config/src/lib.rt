@@ -1,5 +1,0 @@
-//! Settings of a connection.
-#![tactic(auto)]
-
-pub mod config;
-pub mod laws;

@@ -1,0 +1,197 @@
+//! Spreads packets over time, so that a window is not sent in one burst (RFC 9002, 7.7).
+ghost use Rattle.std.specs.Prelude.{◌≡◌, ℕ, ◌+◌, ◌-◌, ◌*◌, ◌/◌, ◌^◌, ◌<◌, ◌≤◌, min, max};
+ghost use Rattle.recovery_congestion.specs.Pacing.{capacity_of, credit_of, wait_of, bucket_made, resized, refilled, paced, delay_of, less_tokens, IsBucketSound};
+
+use recovery_base::time::{Duration, Instant};
+use std::marker::Model;
+
+/// A full bucket lasts this long: timers of user space are good to a millisecond, and longer bursts would undo the pacing.
+const BURST_INTERVAL_NANOS: u128 = 2_000_000;
+
+/// This many packets may go out at once at any rate: the first flight is not held up, and several packets are handed to the
+/// kernel by one call.
+const MIN_BURST_SIZE: u128 = 10;
+
+/// No more packets go out at once: nothing else is done while they are made.
+const MAX_BURST_SIZE: u128 = 256;
+
+/// A bucket of tokens, one a byte: sending takes tokens, and time brings them at 5/4 of a window in each RTT
+/// (RFC 9002, 7.7).
+///
+/// Contracts see a `Bucket`. It holds at most its capacity, which is 10 to 256 times the MTU of the last call.
+#[derive(Drop)]
+pub struct Pacer {
+    capacity: u64,
+    last_window: u64,
+    last_mtu: u16,
+    tokens: u64,
+    prev: Instant,
+}
+
+impl Model for Pacer {
+    ghost use Rattle.recovery_congestion.specs.Pacing.{Bucket, IsBucketSound};
+    ghost use Rattle.recovery_congestion.specs.PacerView.{bucket_in};
+
+    ghost Value = { Bucket };
+
+    ghost view = { bucket_in };
+
+    ghost invariant = { λ pacer. IsBucketSound (bucket_in pacer) };
+}
+
+impl Pacer {
+    /// A full bucket at the moment `now`. The congestion window and the MTU are in bytes, and neither is 0.
+    pub fn new(rtt: Duration, window: u64, mtu: u16, now: Instant) -> Self
+        requires window { 0 < window }
+        requires mtu { 0 < mtu }
+        ensures made { result ≡ bucket_made rtt window mtu now }
+        ensures sound { IsBucketSound result }
+    {
+        let capacity = optimal_capacity(rtt, window, mtu);
+        Pacer {
+            capacity,
+            last_window: window,
+            last_mtu: mtu,
+            tokens: capacity,
+            prev: now,
+        }
+    }
+
+    /// The most bytes that may go out at once, as the last call of `delay` had it: 10 to 256 times its MTU.
+    pub fn capacity(&self) -> u64
+        ensures { result ≡ self.now.capacity }
+    {
+        self.capacity
+    }
+
+    /// The bytes in the bucket, as the last call left them: what time has brought since is not among them.
+    pub fn tokens(&self) -> u64
+        ensures value { result ≡ self.now.tokens }
+        ensures within { result ≤ self.now.capacity }
+    {
+        self.tokens
+    }
+
+    /// A packet of so many bytes was sent. Where fewer tokens are left, none are.
+    pub fn on_transmit(&mut self, packet_length: u16)
+        ensures leaves { self.new ≡ less_tokens packet_length self.old }
+        ensures sound { IsBucketSound self.new }
+    {
+        self.tokens = self.tokens.saturating_sub(u64::from(packet_length));
+    }
+
+    /// When to ask again whether so many bytes may be sent, or `None` where they may be sent now.
+    ///
+    /// The RTT, the MTU and the congestion window (bytes, neither is 0) are those of the moment `now`, which may be earlier
+    /// than that of a call before: then no time has passed. Nothing is delayed at an RTT of 0 or a window above
+    /// `u32::MAX`. The answer stops at `u64::MAX` nanoseconds.
+    pub fn delay(
+        &mut self,
+        rtt: Duration,
+        bytes: u64,
+        mtu: u16,
+        window: u64,
+        now: Instant,
+    ) -> Option<Instant>
+        requires window { 0 < window }
+        requires mtu { 0 < mtu }
+        ensures leaves { self.new
+            ≡ paced (record { bytes = bytes; rtt = rtt; mtu = mtu; window = window; now = now })
+            self.old }
+        ensures delays { result
+            ≡ delay_of (record { bytes = bytes; rtt = rtt; mtu = mtu; window = window; now = now })
+            self.new }
+        ensures sound { IsBucketSound self.new }
+    {
+        self.resize(rtt, window, mtu);
+        if self.tokens >= bytes || window > u64::from(u32::MAX) || rtt.as_nanos() == 0 {
+            return None;
+        }
+        self.refill(rtt, window, now);
+        if self.tokens >= bytes {
+            return None;
+        }
+        let short = bytes.max(self.capacity) - self.tokens;
+        Some(later_by(self.prev, wait(rtt, window, short)))
+    }
+
+    fn resize(&mut self, rtt: Duration, window: u64, mtu: u16)
+        requires window { 0 < window }
+        requires mtu { 0 < mtu }
+        ensures { self.new ≡ resized rtt window mtu self.old }
+    {
+        if window != self.last_window || mtu != self.last_mtu {
+            self.capacity = optimal_capacity(rtt, window, mtu);
+            self.tokens = self.tokens.min(self.capacity);
+            self.last_window = window;
+            self.last_mtu = mtu;
+        }
+    }
+
+    fn refill(&mut self, rtt: Duration, window: u64, now: Instant)
+        requires window { window < 2 ^ 32 }
+        requires rtt { 0 < rtt }
+        ensures { self.new ≡ refilled rtt window now self.old }
+    {
+        let elapsed = now.as_nanos().saturating_sub(self.prev.as_nanos());
+        let tokens = u128::from(self.tokens) + credit(rtt, window, elapsed);
+        self.tokens = tokens.min(u128::from(self.capacity)) as u64;
+        if self.prev < now {
+            self.prev = now;
+        }
+    }
+}
+
+fn optimal_capacity(rtt: Duration, window: u64, mtu: u16) -> u64
+    ensures { result ≡ capacity_of rtt window mtu }
+{
+    let capacity = quotient(
+        u128::from(window) * BURST_INTERVAL_NANOS,
+        rtt.as_nanos().max(1),
+    );
+    let mtu = u128::from(mtu);
+    capacity.clamp(MIN_BURST_SIZE * mtu, MAX_BURST_SIZE * mtu) as u64
+}
+
+/// The bytes that time brings. They may be more than 64 bits hold.
+fn credit(rtt: Duration, window: u64, elapsed: u64) -> u128
+    requires window { window < 2 ^ 32 }
+    requires rtt { 0 < rtt }
+    ensures value { result ≡ credit_of rtt window elapsed }
+    ensures bound { result < 2 ^ 99 }
+{
+    quotient(
+        5 * u128::from(window) * u128::from(elapsed),
+        4 * rtt.as_nanos(),
+    )
+}
+
+/// Nanoseconds until so many bytes have come. The division by 5 goes before the product with 4, so that no product wraps.
+fn wait(rtt: Duration, window: u64, short: u64) -> u128
+    requires { 0 < window }
+    ensures value { result ≡ wait_of rtt window short }
+    ensures bound { result < 2 ^ 64 * 10 ^ 9 }
+{
+    let product = rtt.as_nanos().saturating_mul(u128::from(short));
+    let product = product.min(Duration::MAX.as_nanos());
+    4 * (quotient(product, u128::from(window)) / 5)
+}
+
+fn later_by(moment: Instant, nanos: u128) -> Instant
+    requires { nanos < 2 ^ 64 * 10 ^ 9 }
+    ensures { result ≡ min (moment + nanos) (2 ^ 64 - 1) }
+{
+    let sum = u128::from(moment.as_nanos()) + nanos;
+    Instant::from_nanos(sum.min(u128::from(u64::MAX)) as u64)
+}
+
+/// Operands of 64 bits are divided as such: a division of 128 bits is a call.
+fn quotient(dividend: u128, divisor: u128) -> u128
+    requires { 0 < divisor }
+    ensures { result ≡ dividend / divisor }
+{
+    match (u64::try_from(dividend), u64::try_from(divisor)) {
+        (Ok(dividend), Ok(divisor)) => u128::from(dividend / divisor),
+        _ => dividend / divisor,
+    }
+}

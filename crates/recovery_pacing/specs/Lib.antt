@@ -1,5 +1,0 @@
-pub mod Pacing
-pub mod PacerView
-pub mod PacerLog
-pub mod NamedMoment
-pub mod Progress

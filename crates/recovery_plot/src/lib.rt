@@ -1,5 +1,0 @@
-//! Charts as SVG in whole numbers: frames with axes, and in them lines, steps, bars, dots and marks.
-#![tactic(auto)]
-
-pub mod axis;
-pub mod picture;

@@ -1,0 +1,6 @@
+use Rattle.std.proofs.Common.{arith}
+use Rattle.recovery_queue.proofs.EntryLaws.{entries_fit}
+use Rattle.recovery_queue.proofs.slots.SlotQueue.filled.Goals as goal
+
+pub returns-clause-few : goal.returns-clause-few
+returns-clause-few g c = rw (← c.self.view_is) (omega (arith, entries_fit c.self.inside.slots.items))

@@ -1,0 +1,140 @@
+-- A queue of slots in the order of their numbers: what is filed in it, and what is found in it.
+use Rattle.std.specs.Prelude.{◌≡◌, ℕ, ◌+◌, ◌*◌, ◌^◌, ◌<◌, ◌≤◌, zero, suc, List, [], ◌∷◌, ◌++◌, length, Option, None, Some, MatchOption, IfSome, filter, set, Bool, not, nat_lt}
+use Rattle.std.specs.Ordering.{nat_cmp}
+use Rattle.std.specs.BTreeMap.{is_at}
+use Rattle.std.specs.Map.{lookup}
+use Rattle.std.specs.Option.{is_some}
+use Rattle.recovery_queue.specs.declared.slots.Slot.{Slot}
+
+-- a slot adds what is filed in it, under its number
+abbrev pub filed : {T : Type 0} → ℕ → Option T → List (ℕ × T) → List (ℕ × T)
+filed number None entries = entries
+filed number (Some item) entries = (number, item) ∷ entries
+
+-- what is filed, in the order of the numbers
+abbrev pub entries_of : {T : Type 0} → List (Slot T) → List (ℕ × T)
+entries_of [] = []
+entries_of (slot ∷ slots) = filed slot.number slot.item (entries_of slots)
+
+-- what is filed under a number
+abbrev pub item_at : {T : Type 0} → List (Slot T) → ℕ → Option T
+item_at slots number = lookup (is_at (nat_cmp number)) (entries_of slots)
+
+-- the numbers rise, from the first on and below the end
+abbrev pub AreRising : {T : Type 0} → ℕ → List (Slot T) → ℕ → Type 0
+AreRising first [] end = Unit {0}
+AreRising first (slot ∷ slots) end =
+    (first ≤ slot.number) × (slot.number < end) × AreRising (slot.number + 1) slots end
+
+abbrev pub Rises : {T : Type 0} → List (Slot T) → Type 0
+Rises slots = (first : ℕ) × (end : ℕ) × AreRising first slots end
+
+-- so many slots are filled, and the numbers rise from the first to the last
+abbrev pub IsSound : {T : Type 0} → List (Slot T) → ℕ → ℕ → ℕ → Type 0
+IsSound slots filled first last =
+    (filled ≡ length (entries_of slots)) × AreRising first slots (last + 1)
+
+-- numbers between two bounds still rise between them
+abbrev pub StaysRising : {T : Type 0} → List (Slot T) → List (Slot T) → Type 0
+StaysRising old new = (first end : ℕ) → AreRising first old end → AreRising first new end
+
+-- the slot at a place
+abbrev pub IsSlotAt : {T : Type 0} → List (Slot T) → ℕ → Slot T → Type 0
+IsSlotAt [] place slot = ⊥
+IsSlotAt (first ∷ slots) zero slot = first ≡ slot
+IsSlotAt (first ∷ slots) (suc place) slot = IsSlotAt slots place slot
+
+-- an item is filed under a number in the slot at a place
+abbrev pub IsFiledAt : {T : Type 0} → List (Slot T) → ℕ → ℕ → T → Type 0
+IsFiledAt slots number place item =
+    IsSlotAt slots place (record { number = number; item = Some item })
+
+-- numbers below another stand before a place, and the others from it on
+pub record Divides {T : Type 0} (slots : List (Slot T)) (number place : ℕ) : Type 0 where
+  pub below : (p : ℕ) (slot : Slot T) → IsSlotAt slots p slot → p < place → slot.number < number
+  pub above : (p : ℕ) (slot : Slot T) → IsSlotAt slots p slot → place ≤ p → number ≤ slot.number
+
+-- slots before a place have lower numbers, and from another on higher ones
+pub record Encloses {T : Type 0} (slots : List (Slot T)) (number low high : ℕ) : Type 0 where
+  pub within : high ≤ length slots
+  pub below : (p : ℕ) (slot : Slot T) → IsSlotAt slots p slot → p < low → slot.number < number
+  pub above : (p : ℕ) (slot : Slot T) → IsSlotAt slots p slot → high ≤ p → number < slot.number
+
+-- an item is filed under a number at a place, and nothing is filed under the number before it
+pub record IsHeldAt {T : Type 0} (slots : List (Slot T)) (number place : ℕ) (item : T) : Type 0 where
+  pub before : List (Slot T)
+  pub after : List (Slot T)
+  pub is : slots ≡ before ++ record { number = number; item = Some item } ∷ after
+  pub place_is : length before ≡ place
+  pub none : item_at before number ≡ None
+
+-- no more slots were looked at than their count has binary digits
+abbrev pub IsWithinDigits : ℕ → ℕ → Type 0
+IsWithinDigits looks slots = (digits : ℕ) → slots < 2 ^ digits → looks ≤ digits
+
+-- a number's place among the slots, and how many were looked at for it: one at least, where it was found
+pub record Finds {T : Type 0} (slots : List (Slot T)) (number : ℕ) (found : Option ℕ × ℕ) : Type 0 where
+  pub place : MatchOption found.0 (item_at slots number ≡ None)
+      (λ place. (item : T) × IsHeldAt slots number place item)
+  pub divides : IfSome found.0 (Divides slots number)
+  pub looks : IsWithinDigits found.1 (length slots)
+  pub seen : IfSome found.0 (λ _. 0 < found.1)
+
+-- the slot at a place is empty
+abbrev pub IsEmptyAt : {T : Type 0} → List (Slot T) → ℕ → Type 0
+IsEmptyAt {T} slots place = (slot : Slot T) × IsSlotAt slots place slot × (slot.item ≡ None)
+
+-- ---- what changes
+
+-- another item, or none, is put into the slot at a place
+pub record Replaces {T : Type 0} (old : List (Slot T)) (place : ℕ) (item found : Option T)
+    (new : List (Slot T)) : Type 0 where
+  pub slot : Slot T
+  pub at : IsSlotAt old place slot
+  pub found_is : found ≡ slot.item
+  pub left : new ≡ set old place (record { number = slot.number; item = item })
+
+-- every number is below this one
+abbrev pub IsAboveAll : {T : Type 0} → List (ℕ × T) → ℕ → Type 0
+IsAboveAll {T} entries number =
+    (other : ℕ) (item : T) → lookup (is_at (nat_cmp other)) entries ≡ Some item → other < number
+
+-- at most 64 slots are empty beside as many as are filled
+abbrev pub IsClosedUp : {T : Type 0} → List (Slot T) → Type 0
+IsClosedUp slots = length slots ≤ 2 * length (entries_of slots) + 64
+
+abbrev pub IsFrontEmpty : {T : Type 0} → List (Slot T) → Type 0
+IsFrontEmpty [] = ⊥
+IsFrontEmpty (slot ∷ slots) = slot.item ≡ None
+
+-- the last slot has this number or one above
+abbrev pub IsBackFrom : {T : Type 0} → ℕ → List (Slot T) → Type 0
+IsBackFrom {T} number slots =
+    (before : List (Slot T)) × (slot : Slot T) × (slots ≡ before ++ slot ∷ [])
+    × (number ≤ slot.number)
+
+abbrev pub is_filled : {T : Type 0} → Slot T → Bool
+is_filled slot = is_some slot.item
+
+-- ---- from a number on
+
+-- the number is below another
+abbrev pub is_below : {T : Type 0} → ℕ → ℕ × T → Bool
+is_below number entry = nat_lt entry.0 number
+
+-- the number is not below another
+abbrev pub is_from : {T : Type 0} → ℕ → ℕ × T → Bool
+is_from number entry = not (nat_lt entry.0 number)
+
+-- what is filed from a number on
+abbrev pub entries_from : {T : Type 0} → ℕ → List (Slot T) → List (ℕ × T)
+entries_from number slots = filter (is_from number) (entries_of slots)
+
+abbrev pub first_number : {T : Type 0} → List (ℕ × T) → Option ℕ
+first_number [] = None
+first_number (entry ∷ entries) = Some entry.0
+
+-- no number is below another
+abbrev pub AreFrom : {T : Type 0} → ℕ → List (ℕ × T) → Type 0
+AreFrom limit [] = Unit {0}
+AreFrom limit (entry ∷ entries) = (limit ≤ entry.0) × AreFrom limit entries

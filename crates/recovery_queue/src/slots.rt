@@ -1,0 +1,345 @@
+//! A queue of slots in the order of their numbers.
+ghost use Rattle.std.specs.Prelude.{◌≡◌, ℕ, ◌+◌, ◌*◌, ◌^◌, ◌<◌, ◌≤◌, ◌∷◌, ◌++◌, [], length, drop, filter, set, slice_index_or, Some, None, Decides, IfSome, IfNone, IfOk, OnOk, OnErr, MatchOption, MatchResult};
+ghost use Rattle.std.specs.VecDeque.{deque_len, deque_capacity};
+ghost use Rattle.std.specs.Ordering.{nat_cmp};
+ghost use Rattle.std.specs.BTreeMap.{is_at};
+ghost use Rattle.std.specs.Map.{remove_entry};
+ghost use Rattle.recovery_queue.specs.Slots.{entries_of, item_at, AreRising, IsFiledAt, Divides, Encloses, IsHeldAt, IsEmptyAt, IsAboveAll, IsClosedUp, IsFrontEmpty, IsBackFrom, Replaces, Rises, Finds, IsWithinDigits, AreFrom, StaysRising, entries_from, first_number, is_filled, is_from};
+
+use std::alloc::{AllocError, Global};
+use std::collections::VecDeque;
+use std::marker::Model;
+use std::mem;
+
+/// How many empty slots may stand beside as many as are filled.
+const SLACK: usize = 64;
+
+/// A place of the queue: what is filed under its number, or nothing once that was taken.
+#[derive(Drop)]
+struct Slot<T> {
+    number: u64,
+    item: Option<T>,
+}
+
+/// How many slots a search looked at.
+#[derive(Drop)]
+struct Looks {
+    count: u32,
+}
+
+/// What is filed under rising numbers.
+///
+/// Contracts see the slots. What is taken leaves its slot empty, until empty slots are closed up.
+#[derive(Drop)]
+pub struct SlotQueue<T> {
+    slots: VecDeque<Slot<T>>,
+    filled: usize,
+    first: u64,
+    last: u64,
+}
+
+impl<T> Model for SlotQueue<T> {
+    ghost use Rattle.std.specs.Prelude.{List};
+    ghost use Rattle.recovery_queue.specs.declared.slots.Slot.{Slot};
+    ghost use Rattle.recovery_queue.specs.Slots.{IsSound};
+
+    ghost Value = { List (Slot T) };
+
+    ghost view = { λ a. a.slots.items };
+
+    ghost invariant = { λ a. IsSound a.slots.items a.filled a.first a.last };
+}
+
+impl<T: Drop> SlotQueue<T> {
+    pub fn new(alloc: Global) -> Self
+        ensures { result ≡ [] }
+    {
+        SlotQueue {
+            slots: VecDeque::new(alloc),
+            filled: 0,
+            first: 0,
+            last: 0,
+        }
+    }
+
+    /// How many slots there are, filled and empty.
+    pub fn len(&self) -> usize
+        ensures { result ≡ length self.now }
+    {
+        self.slots.len()
+    }
+
+    /// How many slots are filled.
+    pub fn filled(&self) -> usize
+        ensures count { result ≡ length (entries_of self.now) }
+        ensures few { length (entries_of self.now) < 2 ^ 63 }
+    {
+        self.filled
+    }
+
+    /// What is filed in the slot at a place, under which number.
+    pub fn get(&self, place: usize) -> Option<(u64, &T)>
+        requires { place < length self.now }
+        ensures slot { MatchOption result (IsEmptyAt self.now place)
+            (λ found. IsFiledAt self.now found.0 place found.1.now) }
+        ensures divides { IfSome result (λ found. Divides self.now found.0 place) }
+    {
+        let slot = &self.slots[place];
+        match &slot.item {
+            Some(item) => Some((slot.number, item)),
+            None => None,
+        }
+    }
+
+    /// Reads a slot, and counts that.
+    fn look(&self, place: usize, looks: &mut Looks) -> &Slot<T>
+        requires within { place < length self.now }
+        requires few { looks.old.count < 64 }
+        ensures slot { result.now ≡ slice_index_or self.now place result.now }
+        ensures counted { looks.new.count ≡ looks.old.count + 1 }
+    {
+        looks.count += 1;
+        &self.slots[place]
+    }
+
+    /// Between which places a number stands, if it does: slots before the first have lower numbers, and from the second
+    /// on higher ones. Where no number is left out these are one place.
+    fn range_of(&self, number: u64) -> (usize, usize)
+        ensures encloses { Encloses self.now number result.0 result.1 }
+        ensures rises { Rises self.now }
+        ensures few { length self.now < 2 ^ 63 }
+    {
+        let len = self.len();
+        if number < self.first {
+            return (0, 0);
+        }
+        if number > self.last {
+            return (len, len);
+        }
+        let above = (number - self.first) as usize;
+        let below = (self.last - number) as usize;
+        let low = len.saturating_sub(below.saturating_add(1));
+        let high = above.saturating_add(1).min(len);
+        (low, high)
+    }
+
+    /// The place of what is filed under a number, or, in `Err`, the first place whose number is not below it.
+    #[inline(always)]
+    fn search(&self, number: u64, looks: &mut Looks) -> Result<usize, usize>
+        requires { looks.old.count ≡ 0 }
+        ensures held { MatchResult result
+            (λ place. (item : T) × IsHeldAt self.now number place item)
+            (λ place. item_at self.now number ≡ None) }
+        ensures divides { MatchResult result (Divides self.now number) (Divides self.now number) }
+        ensures looks { IsWithinDigits looks.new.count (length self.now) }
+        ensures seen { IfOk result (λ _. 0 < looks.new.count) }
+    {
+        let (mut low, mut high) = self.range_of(number);
+        while low < high {
+            let middle = low + (high - low) / 2;
+            let slot = self.look(middle, looks);
+            if slot.number < number {
+                low = middle + 1;
+            } else if slot.number > number {
+                high = middle;
+            } else if slot.item.is_some() {
+                return Ok(middle);
+            } else {
+                return Err(middle);
+            }
+        }
+        Err(low)
+    }
+
+    /// The place of what is filed under a number, and how many slots were looked at for it: at most as many as the count
+    /// of slots has binary digits.
+    pub fn find(&self, number: u64) -> (Option<usize>, u32)
+        ensures { Finds self.now number result }
+    {
+        let mut looks = Looks { count: 0 };
+        let place = self.search(number, &mut looks).ok();
+        (place, looks.count)
+    }
+
+    /// The first place whose number is not below this one; where there is none, how many slots there are, or more.
+    pub fn place_from(&self, number: u64) -> usize
+        ensures entries { entries_of (drop result self.now) ≡ entries_from number self.now }
+        ensures divides { Divides self.now number result }
+    {
+        let mut looks = Looks { count: 0 };
+        match self.search(number, &mut looks) {
+            Ok(place) => place,
+            Err(place) => place,
+        }
+    }
+
+    /// Puts another item, or none, into the slot at a place, and hands out what was in it.
+    #[inline(always)]
+    pub fn replace(&mut self, place: usize, item: Option<T>) -> Option<T>
+        requires { place < length self.old }
+        ensures { Replaces self.old place item result self.new }
+    {
+        self.filled += usize::from(item.is_some());
+        let slot = &mut self.slots[place];
+        let old = mem::replace(&mut slot.item, item);
+        self.filled -= usize::from(old.is_some());
+        old
+    }
+
+    /// Files an item under a number above all others.
+    pub fn push(&mut self, number: u64, item: T) -> Result<(), AllocError>
+        requires { IsAboveAll (entries_of self.old) number }
+        ensures ok { OnOk result
+            (entries_of self.new ≡ entries_of self.old ++ (number, item) ∷ []) }
+        ensures one_more { OnOk result (length self.new ≤ length self.old + 1) }
+        ensures err { OnErr result (self.new ≡ self.old) }
+    {
+        self.slots.reserve(1)?;
+        cut(&mut self.slots, self.last, number);
+        self.first = first_with(&self.slots, self.first, number);
+        self.slots.push_back_reserved(Slot {
+            number,
+            item: Some(item),
+        });
+        self.last = number;
+        self.filled += 1;
+        Ok(())
+    }
+
+    /// Takes out what is filed under a number. Empty slots are closed up where they are too many.
+    #[inline(always)]
+    pub fn take(&mut self, number: u64) -> Option<T>
+        ensures value { result ≡ item_at self.old number }
+        ensures entries { entries_of self.new
+            ≡ remove_entry (is_at (nat_cmp number)) (entries_of self.old) }
+        ensures bound { IfSome result (λ _. IsClosedUp self.new) }
+        ensures none { IfNone result (self.new ≡ self.old) }
+    {
+        let (place, _) = self.find(number);
+        let item = self.replace(place?, None);
+        self.close_up();
+        item
+    }
+
+    /// Takes out what is filed under the lowest number. Empty slots are closed up where they are too many.
+    pub fn pop_first(&mut self) -> Option<(u64, T)>
+        ensures entries { MatchOption result (entries_of self.old ≡ [])
+            (λ entry. entries_of self.old ≡ entry ∷ entries_of self.new) }
+        ensures bound { IfSome result (λ _. IsClosedUp self.new) }
+        ensures none { IfNone result (self.new ≡ self.old) }
+    {
+        let number = self.first_from(0)?;
+        let item = self.take(number)?;
+        Some((number, item))
+    }
+
+    /// The first number under which something is filed, from another on.
+    pub fn first_from(&self, number: u64) -> Option<u64>
+        ensures first { result ≡ first_number (entries_from number self.now) }
+        ensures lowest { IfSome result (λ found. AreFrom found (entries_from number self.now)) }
+    {
+        for place in self.place_from(number)..self.len() {
+            if let Some((found, _)) = self.get(place) {
+                return Some(found);
+            }
+        }
+        None
+    }
+
+    /// Closes up empty slots: those before the first filled one always, the others where they are too many.
+    #[inline(always)]
+    fn close_up(&mut self)
+        ensures entries { entries_of self.new ≡ entries_of self.old }
+        ensures bound { IsClosedUp self.new }
+    {
+        trim(&mut self.slots);
+        self.first = first_of(&self.slots, self.first);
+        if self.slots.len() - self.filled > self.filled + SLACK {
+            keep_filled(&mut self.slots);
+        }
+    }
+}
+
+/// Drops the empty slots before the first filled one.
+fn trim<T: Drop>(slots: &mut VecDeque<Slot<T>>)
+    ensures entries { entries_of slots.new.items ≡ entries_of slots.old.items }
+    ensures rising { StaysRising slots.old.items slots.new.items }
+{
+    while is_front_empty(slots) {
+        slots.pop_front();
+    }
+}
+
+/// Whether there is a first slot, and it is empty.
+fn is_front_empty<T>(slots: &VecDeque<Slot<T>>) -> bool
+    ensures { Decides result (IsFrontEmpty slots.now.items) }
+{
+    match slots.front() {
+        Some(slot) => slot.item.is_none(),
+        None => false,
+    }
+}
+
+/// Drops the empty slots. It takes no memory.
+fn keep_filled<T: Drop>(slots: &mut VecDeque<Slot<T>>)
+    ensures { slots.new.items ≡ filter is_filled slots.old.items }
+{
+    slots.retain(|slot| slot.item.is_some());
+}
+
+/// The number of the first slot; another, where there is none.
+fn first_of<T>(slots: &VecDeque<Slot<T>>, first: u64) -> u64
+    ensures { (end : ℕ) → AreRising first slots.now.items end
+        → AreRising result slots.now.items end }
+{
+    match slots.front() {
+        Some(slot) => slot.number,
+        None => first,
+    }
+}
+
+/// From which number on slots stand, once one more stands behind them.
+fn first_with<T>(slots: &VecDeque<Slot<T>>, first: u64, number: u64) -> u64
+    ensures { AreRising first slots.now.items number
+        → (result ≤ number) × AreRising result slots.now.items number }
+{
+    if slots.is_empty() { number } else { first }
+}
+
+/// Drops the slots from a number on, all of which are empty. None has a number above the last.
+fn cut<T: Drop>(slots: &mut VecDeque<Slot<T>>, last: u64, number: u64)
+    requires { IsAboveAll (entries_of slots.old.items) number }
+    ensures entries { entries_of slots.new.items ≡ entries_of slots.old.items }
+    ensures rising { (first : ℕ) → AreRising first slots.old.items (last + 1)
+        → AreRising first slots.new.items number }
+    ensures fewer { deque_len slots.new ≤ deque_len slots.old }
+    ensures capacity { deque_capacity slots.new ≡ deque_capacity slots.old }
+{
+    if number <= last {
+        cut_back(slots, number);
+    }
+}
+
+/// Drops the slots from a number on, all of which are empty.
+fn cut_back<T: Drop>(slots: &mut VecDeque<Slot<T>>, number: u64)
+    requires { IsAboveAll (entries_of slots.old.items) number }
+    ensures entries { entries_of slots.new.items ≡ entries_of slots.old.items }
+    ensures rising { (first end : ℕ) → AreRising first slots.old.items end
+        → AreRising first slots.new.items number }
+    ensures fewer { deque_len slots.new ≤ deque_len slots.old }
+    ensures capacity { deque_capacity slots.new ≡ deque_capacity slots.old }
+{
+    while is_back_from(slots, number) {
+        slots.pop_back();
+    }
+}
+
+/// Whether the last slot has this number or one above.
+fn is_back_from<T>(slots: &VecDeque<Slot<T>>, number: u64) -> bool
+    ensures { Decides result (IsBackFrom number slots.now.items) }
+{
+    match slots.back() {
+        Some(slot) => slot.number >= number,
+        None => false,
+    }
+}

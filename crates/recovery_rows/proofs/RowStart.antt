@@ -1,0 +1,78 @@
+-- How the runs of worked rows begin: with the settings of the replay program, over NewReno and queues of numbered
+-- items. The rows of the table of replies begin so.
+use Rattle.std.proofs.Common.{ℕ, ◌*◌, ◌^◌, ◌++◌, false, true, List, [], ◌∷◌, ◌==◌, length, replicate, Some}
+use Rattle.std.specs.declared.net.socket_addr.SocketAddr.{SocketAddr}
+use Rattle.rand_core.specs.Stream.{Stream}
+use Rattle.recovery_base.specs.declared.below.frames.AckFrequency.{AckFrequency}
+use Rattle.recovery_parts.specs.Settings.{settings_with}
+use Rattle.recovery_congestion.specs.declared.congestion.new_reno.NewReno.{NewReno}
+use Rattle.recovery_congestion.specs.NewReno.{reno_made, reno_words}
+use Rattle.recovery_congestion.specs.RenoSettings.{RenoSettings, default_reno}
+use Rattle.recovery_queue.specs.Queues.{QueueWords}
+use Rattle.recovery_skips.specs.declared.filter.Skips.{Skips}
+use Rattle.quic_recovery.specs.declared.driver.RecoveryConfig.{RecoveryConfig}
+use Rattle.recovery_events.specs.declared.event.Event.{Event}
+use Rattle.quic_recovery.specs.History.{Beginning, History, QueueMeaning, Reply, begins, queue_meaning}
+use Rattle.quic_recovery.specs.Told.{Told}
+
+-- numbered items; those that come are put behind those that were there
+abbrev pub item_words : QueueWords (List ℕ) (Unit {0})
+item_words = record {
+  empty = [];
+  joined = λ items others. items ++ others;
+  is_empty = λ items streams.
+      length items == 0;
+}
+
+abbrev pub items : QueueMeaning (List ℕ) (Unit {0}) (Unit {0}) (List ℕ)
+items = queue_meaning (λ queue. queue) item_words tt
+
+abbrev pub RowEvent : Type 0
+RowEvent = Event (List ℕ) (Unit {0}) (Unit {0}) (List ℕ)
+
+abbrev pub RowReply : Type 0
+RowReply = Reply (List ℕ)
+
+abbrev pub RowHistory : Type 0
+RowHistory = History (List ℕ) (Unit {0}) (Unit {0}) (List ℕ)
+
+-- ACKs may wait for three packets, and for a gap of two
+abbrev pub ack_frame : ℕ → ℕ → AckFrequency
+ack_frame sequence delay = record {
+  sequence = sequence;
+  ack_eliciting_threshold = 3;
+  request_max_ack_delay = delay;
+  reordering_threshold = 2;
+}
+
+-- a run begins with ids of so many bytes, and with these skips
+abbrev pub row_config : SocketAddr → ℕ → Skips → RecoveryConfig RenoSettings
+row_config remote cid_len skips = record {
+  transport = settings_with default_reno;
+  remote = remote;
+  validated = false;
+  allow_mtud = true;
+  max_ack_delay = 25 * 10 ^ 6;
+  initial_cid = replicate 8 255;
+  cid_len = cid_len;
+  cid_lifetime = Some (10 * 10 ^ 9);
+  issued = 1;
+  skips = skips;
+}
+
+abbrev pub RowStart : Type 0
+RowStart = Beginning RenoSettings NewReno (List ℕ) (Unit {0}) (Unit {0}) (List ℕ)
+
+-- whatever the address of the peer and the words that skips are drawn from
+abbrev pub row_start : SocketAddr → Stream → ℕ → Skips → RowStart
+row_start remote random cid_len skips = begins reno_made reno_words items (row_config remote cid_len skips) 0 random
+
+-- each event of a history was told what those before it say
+abbrev pub AllTold : RowStart → RowHistory → Type 0
+AllTold start [] = Unit {0}
+AllTold start (happened ∷ earlier) = AllTold start earlier × Told start earlier happened.0 happened.1
+
+-- what came before, and behind it what comes next
+infixl 5 ◌⊳◌
+pub ◌⊳◌ : {A B : Type 0} → A → B → A × B
+before ⊳ next = (before, next)

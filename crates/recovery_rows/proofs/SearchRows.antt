@@ -1,0 +1,270 @@
+-- Worked rows of the promises of searches for the MTU and of black holes, computed: with the right answer each holds,
+-- and with a wrong one it does not. Nothing rests on them.
+use Rattle.std.proofs.Common.{◌≡◌, ℕ, ◌<◌, ◌≤◌, zero, suc, true, false, [], ◌∷◌, None, Some, Ok, Err, refl, arith}
+use Rattle.std.specs.Prelude.{All}
+use Rattle.std.specs.declared.net.socket_addr.SocketAddr.{SocketAddr}
+use Rattle.rand_core.specs.Stream.{Stream}
+use Rattle.recovery_base.specs.declared.below.SpaceId.TheVariants.{Data, Handshake}
+use Rattle.recovery_mtud.specs.declared.config.MtuDiscoveryConfig.{MtuDiscoveryConfig}
+use Rattle.recovery_skips.specs.declared.filter.Skips.TheVariants.{Disabled}
+use Rattle.recovery_events.specs.declared.event.Event.{Event}
+use Rattle.recovery_events.specs.declared.event.Event.TheVariants as event
+use Rattle.recovery_events.specs.declared.event.Answer.TheVariants as answer
+use Rattle.recovery_events.specs.declared.event.Refusal.TheVariants as refusal
+use Rattle.quic_recovery.specs.History.{Beginning, History, Reply}
+use Rattle.quic_recovery.specs.Promises.Bursts.{open_run, size_of}
+use Rattle.quic_recovery.specs.Promises.Few.{ProbesFew, is_in_flight, probed}
+use Rattle.quic_recovery.specs.Promises.Holes.{ReportsAtFour}
+use Rattle.quic_recovery.specs.Promises.Mtu.{mtu}
+use Rattle.quic_recovery.specs.Promises.Near.{IsNear, next, start}
+use Rattle.quic_recovery.specs.Promises.Probes.{acked_probes, lost_probes}
+use Rattle.quic_recovery.specs.Promises.Sizes.{ProbesWithin}
+use Rattle.quic_recovery.specs.Promises.Turns.{SearchesInTurn}
+use Rattle.quic_recovery.specs.Search.{discovery_settings}
+use Rattle.recovery_rows.proofs.RowStart.{RowHistory, row_start}
+
+-- ---- too many probes, and too many sizes
+
+module _ {F K Q S M P : Type 0} (beginning : Beginning F K Q S M P) (settings : MtuDiscoveryConfig)
+    (is : discovery_settings beginning ≡ Some settings) (change : 3 ≤ settings.minimum_change) where
+  -- so many probes, each of them lost, of these sizes
+  abbrev polls : ℕ → (ℕ → ℕ) → History Q S M P
+  polls zero size = []
+  polls (suc n) size = (event.Lost Data n, Ok (answer.Lost true)) ∷
+      (event.PollMtu n, Ok (answer.Probe n (size n))) ∷ polls n size
+
+  one_more_fits : ProbesFew beginning (polls 47 (λ n. 1300)) (event.PollMtu 60) (Ok (answer.Probe 60 1301))
+  one_more_fits = λ own same wide. (omega arith, omega arith)
+
+  probe_49 : ¬ ProbesFew beginning (polls 48 (λ n. 1300)) (event.PollMtu 60) (Ok (answer.Probe 60 1301))
+  probe_49 = λ few. let many = (few settings is change).0 in omega (arith, many)
+
+  size_17 : ¬ ProbesFew beginning (polls 16 (λ n. n)) (event.PollMtu 60) (Ok (answer.Probe 60 1301))
+  size_17 = λ few. let many = (few settings is change).1 in omega (arith, many)
+
+  -- a search that ended counts no more
+  after_its_end : ProbesFew beginning ((event.PollMtu 50, Ok answer.NoProbe) ∷ polls 48 (λ n. 1300)) (event.PollMtu 60)
+      (Ok (answer.Probe 60 1301))
+  after_its_end = λ own same wide. (omega arith, omega arith)
+
+one_all : (Holds : ℕ → Type 0) (n : ℕ) → Holds n → All Holds (n ∷ [])
+one_all Holds n holds zero d below = holds
+one_all Holds n holds (suc k) d below = absurd (omega (arith, below))
+
+-- ---- how near searches end: 1326 got through, and 1389 did not, by steps of 20 up to 1452
+
+module _ (Q S M P : Type 0) where
+  abbrev by : MtuDiscoveryConfig
+  by = record { interval = 600; upper_bound = 1452; minimum_change = 20; black_hole_cooldown = 60 }
+
+  abbrev ended : History Q S M P
+  ended =
+      (event.Lost Data 1, Ok (answer.Lost true))
+      ∷ (event.PollMtu 2, Ok (answer.Probe 1 1389))
+      ∷ (event.Acked Data 1 0 false, Ok (answer.Acked true))
+      ∷ (event.PollMtu 0, Ok (answer.Probe 0 1326))
+      ∷ []
+
+  in_use : mtu true 1200 1200 ended ≡ 1326
+  in_use = refl
+
+  at_start : start 1200 1200 ended ≡ 1200
+  at_start = refl
+
+  got_through : acked_probes ended ≡ 1326 ∷ []
+  got_through = refl
+
+  did_not : lost_probes ended ≡ 1389 ∷ []
+  did_not = refl
+
+  -- 1350 is near enough
+  near_enough : IsNear 1200 1200 by 1350 ended
+  near_enough = λ starts acks losses. (omega arith, omega arith)
+
+  -- to end here is too far from 1380, which may get through
+  too_early : ¬ IsNear 1200 1200 by 1380 ended
+  too_early = λ near. let far = (near (omega arith) (one_all (λ size. size ≤ 1380) 1326 (omega arith))
+      (one_all (λ size. 1380 < size) 1389 (omega arith))).1 in omega (arith, far)
+
+  -- no probe at the first poll ends a search at once: too far from 1452
+  never_probed : ¬ IsNear {Q = Q} {S = S} {M = M} {P = P} 1200 1200 by 1452 []
+  never_probed = λ near. let far = (near (omega arith) (λ k d below. absurd (omega (arith, below)))
+      (λ k d below. absurd (omega (arith, below)))).1 in omega (arith, far)
+
+  -- what the peer takes is a bound too
+  at_its_limit : IsNear {Q = Q} {S = S} {M = M} {P = P} 1200 1200 by 1452 ((event.PeerLimit 1210, Ok answer.Done) ∷ [])
+  at_its_limit = λ starts acks losses. (omega arith, omega arith)
+
+  -- a report lowers what is in use, and the next search waits for the cooldown
+  lowered : mtu true 1300 1200 ((event.LossesDone 7, Ok (answer.BlackHole true)) ∷ ended) ≡ 1200
+  lowered = refl
+
+  cooled : next by ((event.LossesDone 7, Ok (answer.BlackHole true)) ∷ ended) ≡ 67
+  cooled = refl
+
+-- ---- the size of a probe: from 1200, by steps of 20 up to 1452
+
+module _ (remote : SocketAddr) (random : Stream) where
+  abbrev Fits : RowHistory → ℕ → Type 0
+  Fits history size =
+      ProbesWithin (row_start remote random 8 Disabled) history (event.PollMtu 9) (Ok (answer.Probe 9 size))
+
+  up_to_the_bound : Fits [] 1452
+  up_to_the_bound = (omega arith, omega arith, λ settings is wide. grind arith)
+
+  above_the_bound : ¬ Fits [] 1453
+  above_the_bound = λ fits. let within = fits.1 in omega (arith, within)
+
+  -- the peer takes 1400
+  abbrev told : RowHistory
+  told = (event.PeerLimit 1400, Ok answer.Done) ∷ []
+
+  up_to_the_limit : Fits told 1400
+  up_to_the_limit = (omega arith, omega arith, λ settings is wide. grind arith)
+
+  above_the_limit : ¬ Fits told 1401
+  above_the_limit = λ fits. let within = fits.0 in omega (arith, within)
+
+  -- a limit that is refused is none
+  refused_limit_is_none : Fits ((event.PeerLimit 1400, Err refusal.Searching) ∷ []) 1401
+  refused_limit_is_none = (omega arith, omega arith, λ settings is wide. grind arith)
+
+  -- 1326 got through
+  abbrev through : RowHistory
+  through = (event.Acked Data 1 0 false, Ok (answer.Acked true)) ∷ (event.PollMtu 0, Ok (answer.Probe 0 1326)) ∷ []
+
+  above_what_is_in_use : Fits through 1327
+  above_what_is_in_use = (omega arith, omega arith, λ settings is wide. grind arith)
+
+  what_is_in_use : ¬ Fits through 1326
+  what_is_in_use = λ fits. let above = (fits.2 _ refl (omega arith)).0 in omega (arith, above)
+
+-- ---- in turn: a probe is in flight as packet 7
+
+module _ {F K Q S M P : Type 0} (beginning : Beginning F K Q S M P) where
+  abbrev one_out : History Q S M P
+  one_out = (event.PollMtu 2, Ok (answer.Probe 7 1389)) ∷ []
+
+  its_own_number : SearchesInTurn beginning one_out (event.Acked Data 5 7 false) (Ok (answer.Acked true))
+  its_own_number = refl
+
+  another_number : SearchesInTurn beginning one_out (event.Lost Data 6) (Ok (answer.Lost false))
+  another_number = refl
+
+  not_another_number : ¬ SearchesInTurn beginning one_out (event.Lost Data 6) (Ok (answer.Lost true))
+  not_another_number = λ told. cc
+
+  not_in_another_space : ¬ SearchesInTurn beginning one_out (event.Acked Handshake 5 7 false) (Ok (answer.Acked true))
+  not_in_another_space = λ told. cc
+
+  no_second : ¬ SearchesInTurn beginning one_out (event.PollMtu 3) (Ok (answer.Probe 8 1400))
+  no_second = λ told. let quiet : true ≡ false = told.0 in cc
+
+  no_limit_now : SearchesInTurn beginning one_out (event.PeerLimit 1300) (Err refusal.Searching)
+  no_limit_now = refl
+
+  not_taken : ¬ SearchesInTurn beginning one_out (event.PeerLimit 1300) (Ok answer.Done)
+  not_taken = λ told. cc
+
+  taken_before : SearchesInTurn beginning [] (event.PeerLimit 1300) (Ok answer.Done)
+  taken_before = refl
+
+  not_refused_before : ¬ SearchesInTurn beginning [] (event.PeerLimit 1300) (Err refusal.Searching)
+  not_refused_before = λ told. cc
+
+  -- a limit of nothing is no limit, and no other one is refused so
+  none_at_all : SearchesInTurn beginning one_out (event.PeerLimit 0) (Err refusal.ZeroMtu)
+  none_at_all = refl
+
+  not_for_nothing : ¬ SearchesInTurn beginning [] (event.PeerLimit 1300) (Err refusal.ZeroMtu)
+  not_for_nothing = λ told. cc
+
+module _ (Q S M P : Type 0) (queue : Q) (frames : M) where
+  -- ---- searches: 1326 got through, and 1389 is in flight
+
+  abbrev search_so_far : History Q S M P
+  search_so_far =
+      (event.PollMtu 2, Ok (answer.Probe 1 1389))
+      ∷ (event.Acked Data 1 0 false, Ok (answer.Acked true))
+      ∷ (event.PollMtu 0, Ok (answer.Probe 0 1326))
+      ∷ []
+
+  two_sizes : probed search_so_far ≡ 1389 ∷ 1326 ∷ []
+  two_sizes = refl
+
+  still_two : probed ((event.PollMtu 3, Ok answer.NoProbe) ∷ search_so_far) ≡ 1389 ∷ 1326 ∷ []
+  still_two = refl
+
+  none_after_reset : probed ((event.ResetPath 3, Ok answer.Done) ∷ search_so_far) ≡ []
+  none_after_reset = refl
+
+  another_is_no_end : is_in_flight ((event.Acked Data 3 9 false, Ok (answer.Acked false)) ∷ search_so_far) ≡ true
+  another_is_no_end = refl
+
+  -- ---- black holes: four bursts of large packets, each a number apart
+
+  abbrev row_sent : ℕ → Event Q S M P × Reply Q
+  row_sent n = (event.Send Data 5 1400 true None queue frames, Ok (answer.Sent n None))
+
+  abbrev lost : ℕ → Event Q S M P × Reply Q
+  lost n = (event.Lost Data n, Ok (answer.Lost false))
+
+  abbrev all_sent : History Q S M P
+  all_sent = row_sent 6 ∷ row_sent 5 ∷ row_sent 4 ∷ row_sent 2 ∷ row_sent 0 ∷ []
+
+  abbrev three_lost : History Q S M P
+  three_lost = lost 4 ∷ lost 2 ∷ lost 0 ∷ all_sent
+
+  abbrev four_lost : History Q S M P
+  four_lost = lost 6 ∷ three_lost
+
+  large : size_of four_lost 2 ≡ 1400
+  large = refl
+
+  one_run : open_run (lost 5 ∷ three_lost)
+      ≡ record { number = 5; bytes = 1400 } ∷ record { number = 4; bytes = 1400 } ∷ []
+  one_run = refl
+
+  reported : ReportsAtFour 1200 four_lost (event.LossesDone 9) (Ok (answer.BlackHole true))
+  reported = (λ is. omega arith, λ four. refl)
+
+  never_is_wrong : ¬ ReportsAtFour 1200 four_lost (event.LossesDone 9) (Ok (answer.BlackHole false))
+  never_is_wrong = λ e. let is = e.1 refl in cc
+
+  three_are_none : ReportsAtFour 1200 three_lost (event.LossesDone 9) (Ok (answer.BlackHole false))
+  three_are_none = (λ is. cc, λ four. absurd (cc))
+
+  three_is_wrong : ¬ ReportsAtFour 1200 three_lost (event.LossesDone 9) (Ok (answer.BlackHole true))
+  three_is_wrong = λ e. let four = e.0 refl in omega (arith, four)
+
+  -- numbers that follow on one another are one burst
+  joined_is_wrong : ¬ ReportsAtFour 1200 (lost 5 ∷ three_lost) (event.LossesDone 9) (Ok (answer.BlackHole true))
+  joined_is_wrong = λ e. let four = e.0 refl in omega (arith, four)
+
+  -- a packet no smaller that was acknowledged refutes those before it
+  refuted_is_wrong : ¬ ReportsAtFour 1200 (lost 6 ∷ (event.Acked Data 8 5 false, Ok (answer.Acked false)) ∷ three_lost)
+      (event.LossesDone 9) (Ok (answer.BlackHole true))
+  refuted_is_wrong = λ e. let four = e.0 refl in omega (arith, four)
+
+  -- a refused acknowledgement refutes none
+  refused_is_none : ¬ ReportsAtFour 1200 (lost 6 ∷ (event.Acked Data 8 9 false, Err refusal.NotTracked) ∷ three_lost)
+      (event.LossesDone 9) (Ok (answer.BlackHole false))
+  refused_is_none = λ e. let is = e.1 refl in cc
+
+  -- ---- small packets may be acknowledged in between
+
+  abbrev small : ℕ → Event Q S M P × Reply Q
+  small n = (event.Send Data 5 1200 true None queue frames, Ok (answer.Sent n None))
+
+  abbrev acked : ℕ → Event Q S M P × Reply Q
+  acked n = (event.Acked Data 8 n false, Ok (answer.Acked false))
+
+  abbrev small_between : History Q S M P
+  small_between = lost 6 ∷ acked 3 ∷ lost 4 ∷ acked 1 ∷ lost 2 ∷ lost 0 ∷ small 3 ∷ small 1 ∷ all_sent
+
+  found_is_told : ¬ ReportsAtFour 1200 small_between (event.LossesDone 9) (Ok (answer.BlackHole false))
+  found_is_told = λ e. let is = e.1 refl in cc
+
+  -- a large one in between leaves nothing to report
+  large_between : ReportsAtFour 1200 (lost 6 ∷ acked 5 ∷ three_lost) (event.LossesDone 9) (Ok (answer.BlackHole false))
+  large_between = (λ is. cc, λ four. absurd (cc))

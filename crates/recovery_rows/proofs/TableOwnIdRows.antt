@@ -1,0 +1,148 @@
+-- Worked rows of the table of replies, computed: ids of this end, and timers. Nothing rests on them.
+use Rattle.std.proofs.Common.{ℕ, ◌<◌, ◌^◌, true, false, List, [], ◌∷◌, drop, map, length, replicate, None, Some, Ok, Err, refl, arith}
+use Rattle.std.specs.declared.net.socket_addr.SocketAddr.{SocketAddr}
+use Rattle.std.specs.Global.{Vec}
+use Rattle.rand_core.specs.Stream.{Stream}
+use Rattle.recovery_base.specs.declared.below.ids.IssuedCid.{IssuedCid}
+use Rattle.recovery_base.specs.declared.timer.Timer.TheVariants.{Idle, Pacing}
+use Rattle.recovery_skips.specs.declared.filter.Skips.TheVariants.{Disabled}
+use Rattle.recovery_events.specs.declared.event.Event.TheVariants as event
+use Rattle.recovery_events.specs.declared.event.Answer.TheVariants as answer
+use Rattle.recovery_events.specs.declared.event.Refusal.TheVariants as refusal
+use Rattle.quic_recovery.specs.Told.{Told}
+use Rattle.recovery_rows.proofs.RowStart.{RowEvent, RowReply, RowHistory, row_start, AllTold, ◌⊳◌}
+use Rattle.recovery_rows.proofs.RowLaws.{small, starts, stays, differ, unlike}
+
+module _ (remote : SocketAddr) (random : Stream) (given : Vec IssuedCid) where
+  abbrev RowTold : RowHistory → RowEvent → RowReply → Type 0
+  RowTold = Told (row_start remote random 8 Disabled)
+
+  abbrev TellsAll : RowHistory → Type 0
+  TellsAll = AllTold (row_start remote random 8 Disabled)
+
+  -- ---- ids of this end, whatever memory they lie in
+
+  abbrev numbered : List ℕ → List IssuedCid
+  numbered numbers = map (λ n. record { sequence = n; id = replicate 8 0; reset_token = replicate 16 0 }) numbers
+
+  abbrev issued : ℕ → (numbers : List ℕ) → length (numbered numbers) < 2 ^ 63 → RowEvent
+  issued now numbers few = event.IssueIds now (record given {
+    len = length (numbered numbers);
+    cap = length (numbered numbers);
+    items = numbered numbers;
+    ok = (refl, omega arith);
+    small = few;
+  })
+
+  abbrev own : RowHistory
+  own =
+      (issued 5 (4 ∷ []) (omega arith), Err refusal.BadRange)
+      ∷ (event.IdTimeout, Ok (answer.Flag false))
+      ∷ (event.PeerRetired 3 5, Err refusal.UnissuedCid)
+      ∷ (event.PeerRetired 0 5, Ok (answer.Flag true))
+      ∷ (event.IdTimeout, Ok (answer.Flag true))
+      ∷ (issued 0 (1 ∷ 2 ∷ []) (omega arith), Ok answer.Done)
+      ∷ []
+
+  own_told : TellsAll own
+  own_told =
+      tt
+      ⊳ (small refl, (λ other. other refl, refl))
+      ⊳ refl
+      ⊳ (λ h. omega (arith, h), (small refl, starts (omega arith)))
+      ⊳ (λ h. omega (arith, h), omega arith)
+      ⊳ refl
+      ⊳ (small refl, differ refl)
+
+  unretired_is_asked_for : ¬ RowTold (drop 5 own) (event.IdTimeout) (Ok (answer.Flag false))
+  unretired_is_asked_for = λ told. unlike told refl
+
+  asked_again_is_wrong : ¬ RowTold (drop 2 own) (event.IdTimeout) (Ok (answer.Flag true))
+  asked_again_is_wrong = λ told. unlike told refl
+
+  room_for_one_is_wrong : ¬ RowTold (drop 4 own) (event.PeerRetired 0 2) (Ok (answer.Flag true))
+  room_for_one_is_wrong = λ told. omega (arith, told.1.1.0 refl)
+
+  unissued_is_retired_is_wrong : ¬ RowTold (drop 3 own) (event.PeerRetired 3 5) (Ok (answer.Flag true))
+  unissued_is_retired_is_wrong = λ told. told.1.0 (omega arith)
+
+  ids_are_in_use : ¬ RowTold [] (event.PeerRetired 0 5) (Err refusal.CidsNotInUse)
+  ids_are_in_use = λ told. omega (arith, told)
+
+  in_order_is_refused_is_wrong : ¬ RowTold (drop 1 own) (issued 5 (3 ∷ []) (omega arith)) (Err refusal.BadRange)
+  in_order_is_refused_is_wrong = λ told. told.1 refl
+
+  ids_take_memory : RowTold [] (issued 0 (1 ∷ []) (omega arith)) (Err refusal.NoMemory)
+  ids_take_memory = (small refl, (λ other. other refl, λ none. cc))
+
+  no_ids_take_none : ¬ RowTold [] (issued 0 [] (omega arith)) (Err refusal.NoMemory)
+  no_ids_take_none = λ told. told.1.1 refl
+
+  no_ids_are_issued : RowTold [] (issued 0 [] (omega arith)) (Ok answer.Done)
+  no_ids_are_issued = (small refl, (λ other. other refl, refl))
+
+  -- where ids have no bytes none is retired
+  none_in_use : Told (row_start remote random 0 Disabled) [] (event.PeerRetired 9 5) (Err refusal.CidsNotInUse)
+  none_in_use = refl
+
+  -- ---- ids of one moment have one deadline
+
+  abbrev deadlines : RowHistory
+  deadlines =
+      (event.IdTimeout, Ok (answer.Flag false))
+      ∷ (event.IdTimeout, Ok (answer.Flag true))
+      ∷ (issued 0 (3 ∷ []) (omega arith), Ok answer.Done)
+      ∷ (issued 0 (1 ∷ 2 ∷ []) (omega arith), Ok answer.Done)
+      ∷ []
+
+  deadlines_told : TellsAll deadlines
+  deadlines_told =
+      tt
+      ⊳ (small refl, (λ other. other refl, refl))
+      ⊳ (small refl, (λ other. other refl, refl))
+      ⊳ refl
+      ⊳ refl
+
+  -- ---- a number may be retired again
+
+  abbrev retired_twice : RowHistory
+  retired_twice =
+      (event.PeerRetired 0 0, Ok (answer.Flag false))
+      ∷ (event.PeerRetired 0 1, Ok (answer.Flag true))
+      ∷ []
+
+  retired_twice_told : TellsAll retired_twice
+  retired_twice_told =
+      tt
+      ⊳ (λ h. omega (arith, h), (small refl, starts (omega arith)))
+      ⊳ (λ h. omega (arith, h), (small refl, stays (small refl)))
+
+  -- ---- timers: Pacing is set to 20 and Idle to 50, and then Pacing is stopped
+
+  abbrev timers : RowHistory
+  timers =
+      (event.NextTimeout, Ok (answer.Timeout (Some 50)))
+      ∷ (event.StopTimer Pacing, Ok answer.Done)
+      ∷ (event.NextTimeout, Ok (answer.Timeout (Some 20)))
+      ∷ (event.SetTimer Pacing 20, Ok answer.Done)
+      ∷ (event.SetTimer Idle 50, Ok answer.Done)
+      ∷ (event.NextTimeout, Ok (answer.Timeout None))
+      ∷ []
+
+  timers_told : TellsAll timers
+  timers_told = tt ⊳ refl ⊳ refl ⊳ refl ⊳ refl ⊳ refl ⊳ refl
+
+  later_is_wrong : ¬ RowTold (drop 3 timers) (event.NextTimeout) (Ok (answer.Timeout (Some 50)))
+  later_is_wrong = λ told. cc
+
+  stopped_is_wrong : ¬ RowTold (drop 1 timers) (event.NextTimeout) (Ok (answer.Timeout (Some 20)))
+  stopped_is_wrong = λ told. cc
+
+  none_is_wrong : ¬ RowTold (drop 1 timers) (event.NextTimeout) (Ok (answer.Timeout None))
+  none_is_wrong = λ told. cc
+
+  set_is_done : ¬ RowTold [] (event.SetTimer Idle 50) (Ok (answer.Timeout (Some 50)))
+  set_is_done = λ told. unlike told refl
+
+  stop_is_done : ¬ RowTold [] (event.StopTimer Idle) (Err refusal.NoMemory)
+  stop_is_done = λ told. told

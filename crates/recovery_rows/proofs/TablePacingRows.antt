@@ -1,0 +1,186 @@
+-- Worked rows of the table of replies, computed: pacing. Nothing rests on them.
+use Rattle.std.proofs.Common.{◌-◌, ◌^◌, true, [], ◌∷◌, drop, Ok, refl, arith}
+use Rattle.std.specs.declared.net.socket_addr.SocketAddr.{SocketAddr}
+use Rattle.rand_core.specs.Stream.{Stream}
+use Rattle.recovery_paths.specs.declared.live_paths.PathName.TheVariants.{Current, Previous}
+use Rattle.recovery_skips.specs.declared.filter.Skips.TheVariants.{Disabled}
+use Rattle.recovery_events.specs.declared.event.Event.TheVariants as event
+use Rattle.recovery_events.specs.declared.event.Answer.TheVariants as answer
+use Rattle.quic_recovery.specs.Told.{Told}
+use Rattle.recovery_rows.proofs.RowStart.{RowEvent, RowReply, RowHistory, row_start, AllTold, ◌⊳◌}
+use Rattle.recovery_rows.proofs.RowLaws.{unrefused, small, unlike, uneven}
+
+module _ (remote : SocketAddr) (random : Stream) where
+  abbrev RowTold : RowHistory → RowEvent → RowReply → Type 0
+  RowTold = Told (row_start remote random 8 Disabled)
+
+  abbrev TellsAll : RowHistory → Type 0
+  TellsAll = AllTold (row_start remote random 8 Disabled)
+
+  -- ---- pacing: ten packets at once, and the next at the moment that is named
+
+  abbrev paced : RowHistory
+  paced =
+      (event.Transmit 0 1200 true, Ok (answer.Delayed 266400000))
+      ∷ (event.Transmit 0 1200 true, Ok answer.Transmitted)
+      ∷ (event.Transmit 0 1200 true, Ok answer.Transmitted)
+      ∷ (event.Transmit 0 1200 true, Ok answer.Transmitted)
+      ∷ (event.Transmit 0 1200 true, Ok answer.Transmitted)
+      ∷ (event.Transmit 0 1200 true, Ok answer.Transmitted)
+      ∷ (event.Transmit 0 1200 true, Ok answer.Transmitted)
+      ∷ (event.Transmit 0 1200 true, Ok answer.Transmitted)
+      ∷ (event.Transmit 0 1200 true, Ok answer.Transmitted)
+      ∷ (event.Transmit 0 1200 true, Ok answer.Transmitted)
+      ∷ (event.Transmit 0 1200 true, Ok answer.Transmitted)
+      ∷ (event.Validated Current, Ok answer.Done)
+      ∷ []
+
+  paced_told : TellsAll paced
+  paced_told =
+      tt
+      ⊳ refl
+      ⊳ (small refl, refl)
+      ⊳ (small refl, refl)
+      ⊳ (small refl, refl)
+      ⊳ (small refl, refl)
+      ⊳ (small refl, refl)
+      ⊳ (small refl, refl)
+      ⊳ (small refl, refl)
+      ⊳ (small refl, refl)
+      ⊳ (small refl, refl)
+      ⊳ (small refl, refl)
+      ⊳ (small refl, refl)
+
+  eleventh_passes_is_wrong : ¬ RowTold (drop 1 paced) (event.Transmit 0 1200 true) (Ok answer.Transmitted)
+  eleventh_passes_is_wrong = λ told. unlike told.1 refl
+
+  another_moment_is_wrong : ¬ RowTold (drop 1 paced) (event.Transmit 0 1200 true) (Ok (answer.Delayed 266400001))
+  another_moment_is_wrong = λ told. uneven told.1 refl
+
+  not_validated_there : ¬ RowTold [] (event.Validated Previous) (Ok answer.Done)
+  not_validated_there = λ told. told.0 tt
+
+  -- ---- no time counts twice
+
+  abbrev checks : RowHistory
+  checks =
+      (event.PacerCheck 0 12001, Ok (answer.Delayed 333022200))
+      ∷ (event.PacerCheck 333000000 12001, Ok (answer.Delayed 333022200))
+      ∷ (event.PacerCheck 0 12001, Ok (answer.Delayed 22200))
+      ∷ []
+
+  checks_told : TellsAll checks
+  checks_told =
+      tt
+      ⊳ refl
+      ⊳ refl
+      ⊳ refl
+
+  earlier_is_wrong : ¬ RowTold (drop 1 checks) (event.PacerCheck 0 12001) (Ok (answer.Delayed 22200))
+  earlier_is_wrong = λ told. uneven told refl
+
+  -- ---- the clock steps back, and the bucket fills from the moment when it was made
+
+  abbrev backwards : RowHistory
+  backwards =
+      (event.Transmit 1266400000 12000 true, Ok (answer.Delayed 1293040000))
+      ∷ (event.Transmit 1266399999 1200 true, Ok answer.Transmitted)
+      ∷ (event.Transmit 0 1200 true, Ok (answer.Delayed 266400000))
+      ∷ (event.Transmit 1000000000 1200 true, Ok answer.Transmitted)
+      ∷ (event.Transmit 1000000000 1200 true, Ok answer.Transmitted)
+      ∷ (event.Transmit 1000000000 1200 true, Ok answer.Transmitted)
+      ∷ (event.Transmit 1000000000 1200 true, Ok answer.Transmitted)
+      ∷ (event.Transmit 1000000000 1200 true, Ok answer.Transmitted)
+      ∷ (event.Transmit 1000000000 1200 true, Ok answer.Transmitted)
+      ∷ (event.Transmit 1000000000 1200 true, Ok answer.Transmitted)
+      ∷ (event.Transmit 1000000000 1200 true, Ok answer.Transmitted)
+      ∷ (event.Transmit 1000000000 1200 true, Ok answer.Transmitted)
+      ∷ (event.Transmit 1000000000 1200 true, Ok answer.Transmitted)
+      ∷ (event.Validated Current, Ok answer.Done)
+      ∷ []
+
+  backwards_told : TellsAll backwards
+  backwards_told =
+      tt
+      ⊳ refl
+      ⊳ (small refl, refl)
+      ⊳ (small refl, refl)
+      ⊳ (small refl, refl)
+      ⊳ (small refl, refl)
+      ⊳ (small refl, refl)
+      ⊳ (small refl, refl)
+      ⊳ (small refl, refl)
+      ⊳ (small refl, refl)
+      ⊳ (small refl, refl)
+      ⊳ (small refl, refl)
+      ⊳ (small refl, refl)
+      ⊳ (small refl, refl)
+      ⊳ (small refl, refl)
+
+  -- ---- a fresh path where the peer takes datagrams of 600 bytes
+
+  abbrev small_path : RowHistory
+  small_path =
+      (event.PacerCheck 0 6001, Ok (answer.Delayed 22200))
+      ∷ (event.PacerCheck 0 6000, Ok answer.Ready)
+      ∷ (event.NewPath 0 remote true, Ok answer.Done)
+      ∷ (event.PeerLimit 600, Ok answer.Done)
+      ∷ []
+
+  small_path_told : TellsAll small_path
+  small_path_told =
+      tt
+      ⊳ (λ h. omega (arith, h), (unrefused, refl))
+      ⊳ (small refl, refl)
+      ⊳ refl
+      ⊳ refl
+
+  -- ---- no moment is named behind the last one
+
+  abbrev last_moment : RowHistory
+  last_moment =
+      (event.PacerCheck 0 12001, Ok (answer.Delayed (2 ^ 64 - 1)))
+      ∷ (event.PacerCheck (2 ^ 64 - 1) 12001, Ok (answer.Delayed (2 ^ 64 - 1)))
+      ∷ []
+
+  last_moment_told : TellsAll last_moment
+  last_moment_told =
+      tt
+      ⊳ refl
+      ⊳ refl
+
+  -- ---- what is delayed brings the pacer the tokens of half an RTT
+
+  abbrev brings_tokens : RowHistory
+  brings_tokens =
+      (event.PacerCheck 0 1200, Ok answer.Ready)
+      ∷ (event.Transmit 133200000 12000 true, Ok (answer.Delayed 266400000))
+      ∷ (event.Transmit 0 1200 true, Ok answer.Transmitted)
+      ∷ (event.Transmit 0 1200 true, Ok answer.Transmitted)
+      ∷ (event.Transmit 0 1200 true, Ok answer.Transmitted)
+      ∷ (event.Transmit 0 1200 true, Ok answer.Transmitted)
+      ∷ (event.Transmit 0 1200 true, Ok answer.Transmitted)
+      ∷ (event.Transmit 0 1200 true, Ok answer.Transmitted)
+      ∷ (event.Transmit 0 1200 true, Ok answer.Transmitted)
+      ∷ (event.Transmit 0 1200 true, Ok answer.Transmitted)
+      ∷ (event.Transmit 0 1200 true, Ok answer.Transmitted)
+      ∷ (event.Transmit 0 1200 true, Ok answer.Transmitted)
+      ∷ (event.Validated Current, Ok answer.Done)
+      ∷ []
+
+  brings_tokens_told : TellsAll brings_tokens
+  brings_tokens_told =
+      tt
+      ⊳ refl
+      ⊳ (small refl, refl)
+      ⊳ (small refl, refl)
+      ⊳ (small refl, refl)
+      ⊳ (small refl, refl)
+      ⊳ (small refl, refl)
+      ⊳ (small refl, refl)
+      ⊳ (small refl, refl)
+      ⊳ (small refl, refl)
+      ⊳ (small refl, refl)
+      ⊳ (small refl, refl)
+      ⊳ (small refl, refl)
+      ⊳ refl

@@ -1,6 +1,0 @@
-use Rattle.std.proofs.Common.{arith}
-use Rattle.recovery_slots.proofs.EntryLaws.{entries_fit}
-use Rattle.recovery_slots.proofs.slots.SlotQueue.filled.Goals as goal
-
-pub returns-clause-few : goal.returns-clause-few
-returns-clause-few g c = rw (← c.self.view_is) (omega (arith, entries_fit c.self.inside.slots.items))

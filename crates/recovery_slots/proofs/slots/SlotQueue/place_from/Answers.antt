@@ -1,8 +1,0 @@
-use Rattle.recovery_slots.proofs.EntryLaws.{divided}
-use Rattle.recovery_slots.proofs.slots.SlotQueue.place_from.Goals as goal
-
-pub returns-in-Ok-clause-entries : goal.returns-in-Ok-clause-entries
-returns-in-Ok-clause-entries g c = divided _ _ _ c.in-Ok.ensures.divides
-
-pub returns-in-Err-clause-entries : goal.returns-in-Err-clause-entries
-returns-in-Err-clause-entries g c = divided _ _ _ c.in-Err.ensures.divides

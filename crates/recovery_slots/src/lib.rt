@@ -1,4 +1,0 @@
-//! What is filed under rising numbers, found by halving and taken without memory.
-#![tactic(auto)]
-
-pub mod slots;
