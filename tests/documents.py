@@ -17,7 +17,7 @@ OTHERS = {
     "DIFFERENCES.md": "first_packet crypto crypto_stream tinyvec Trait non_exhaustive Box dyn clone_box into_any Arc f32 Retransmits ThinRetransmits stats",
     "EMBEDDING.md": "rand_chacha Retransmits max_data handshake_done reset_stream max_stream_data crypto Box",
     "PROVED.md": "Display",
-    "PROVING.md": "_alike same-self- answer_x refusal_x reply_x plant After-from-2 After-self-3-1 fmt helper",
+    "PROVING.md": "incremental stage-times _alike same-self- answer_x refusal_x reply_x plant After-from-2 After-self-3-1 fmt helper",
 }
 
 
