@@ -1,8 +1,7 @@
 #!/usr/bin/env python3
-"""Counts in how many files of the library each event is named: in its code and definitions, at most five, and one for the event whose line
-may hold items; in the promises that speak of it; and in its proofs. Tests, rows and the example are apart, and so is the file that declares
-it. What does not speak of an event should not name it: no event may exceed its bound here, nor the mean its own; where fewer files name one,
-lower them."""
+"""Counts in how many files of the library each event is named: in its code and definitions, at most five; in the promises that
+speak of it; and in its proofs. Tests, rows and the example are apart, and so is the file that declares it. What does not speak of
+an event should not name it: no event may exceed its bound here, nor the mean its own; where fewer files name one, lower them."""
 import pathlib
 import re
 import sys
@@ -15,7 +14,6 @@ RENAMED = re.compile(r"\bEvent\.TheVariants as (\w+)")
 COMMENT = re.compile(r"^\s*(//|--).*$", re.M)
 
 MOST = 5  # files of code and definitions that an event needs: two of the driver, the table, and two of lines
-MORE = {"Send": 1}  # what is read of its line may have taken memory
 
 # promises, and files of proofs, that may name each event, and the means
 BOUNDS = """
@@ -64,7 +62,7 @@ def main():
     for room, text in sources:
         for event in named_in(text, events):
             counts[event][room] += 1
-    bounds = {name: (MOST + MORE.get(name, 0), int(promises), int(proofs))
+    bounds = {name: (MOST, int(promises), int(proofs))
               for name, promises, proofs in re.findall(r"(\w+) (\d+) (\d+)", BOUNDS)}
     means = [round(sum(it) / len(events), 1) for it in zip(*counts.values())]
     wrong = [f"{name}: {found} files, and not at most {bounds.get(name)}" for name, found in counts.items()

@@ -53,8 +53,7 @@ module _ {Q P M : Type 0} (here : SpaceKnown P M) where
 
   -- a packet that is sent is given this number, and a silent packet may be forgotten for it
   abbrev pub SendReply : Counters → ℕ → Packet P M → Reply Q → Type 0
-  SendReply counters number packet = InSpace
-      (Refuses refusal.NumberTooLarge (IsTooLarge packet.largest_acked)
+  SendReply counters number packet = InSpace (Refuses refusal.NumberTooLarge (IsTooLarge packet.largest_acked)
       (Refuses refusal.NumbersExhausted (2 ^ 62 ≤ number)
       (Refuses refusal.Overflow (Overflows counters packet)
       (Answers (Unit {0}) (Is (answer.Sent number (forgotten_by here.sent packet)))))))

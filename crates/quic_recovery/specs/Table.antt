@@ -86,13 +86,11 @@ module _ {K Q S M P : Type 0} (q : QueueMeaning Q S M P) (words : ControllerWord
     (known : Known K P M) where
   abbrev pub ToldBy : Event Q S M P → Reply Q → Type 0
   ToldBy (Received space now number eliciting) = ReceivedReply (known.spaces space) (heard space) number eliciting
-  ToldBy (Send space now size eliciting largest queue frames) =
-      SendReply (known.spaces space) (current_in_flight known) (number_in known space)
-      (packet_now known now size eliciting largest (q.contents queue) frames)
+  ToldBy (Send space now size eliciting largest queue frames) = SendReply (known.spaces space) (current_in_flight known)
+      (number_in known space) (packet_now known now size eliciting largest (q.contents queue) frames)
   ToldBy (Acked space now number app_limited) =
       LeaveReply (known.spaces space) ⊥ number (answers.Acked (is_path_probe space number known.paths.current.state))
-  ToldBy (Lost space number) =
-      LeaveReply (known.spaces space) (Unit {0}) number
+  ToldBy (Lost space number) = LeaveReply (known.spaces space) (Unit {0}) number
       (answers.Lost (is_path_probe space number known.paths.current.state))
   ToldBy (NewId frame) = FrameReply known.remote_ids frame
   ToldBy NextId = AlwaysAnswers (IsNextAnswer known.remote_ids)
@@ -129,8 +127,7 @@ module _ {K Q S M P : Type 0} (q : QueueMeaning Q S M P) (words : ControllerWord
       AlwaysAnswers (Is (delayed_or words answers.Ready (path_delay words now bytes known.paths.current.state)))
   ToldBy (Congestion now sent persistent bytes) = IsDone
   ToldBy (EndAcks now app_limited largest) = IsDone
-  ToldBy (PollMtu now) = InSpace (known.spaces Data)
-      (Refuses refusals.NumbersExhausted (2 ^ 62 ≤ known.next_number)
+  ToldBy (PollMtu now) = InSpace (known.spaces Data) (Refuses refusals.NumbersExhausted (2 ^ 62 ≤ known.next_number)
       (MtuProbeReply q known now (poll_of now known.paths.current.state.discovery)))
   -- a limit is taken while no search runs
   ToldBy (PeerLimit size) = Refuses refusals.ZeroMtu (size ≡ 0)

@@ -353,6 +353,11 @@ pub record SendsItems (line : List ℕ) : Type 0 where
   pub some : 0 < length values.1.1.1.1.1
   pub short : length line ≤ 4096
 
+-- what was read of a line has one item at least, for which memory was taken
+abbrev pub TookMemory : Line → Type 0
+TookMemory (Said (Send space now size ack_eliciting largest items none)) = 0 < length items
+TookMemory line = ⊥
+
 -- the line's event holds a list, of one id or item at least
 abbrev pub HoldsList : List ℕ → Type 0
 HoldsList line = IssuesIds line ⊎ SendsItems line

@@ -11,7 +11,6 @@ use Rattle.recovery_base.specs.declared.below.SpaceId.{SpaceId}
 use Rattle.recovery_base.specs.declared.below.SpaceId.TheVariants.{Initial, Handshake, Data}
 use Rattle.recovery_base.specs.declared.timer.Timer.{Timer}
 use Rattle.recovery_base.specs.declared.timer.Timer.TheVariants.{LossDetection, Idle, Close, KeyDiscard, PathValidation, KeepAlive, Pacing, PushNewCid, MaxAckDelay}
-use Rattle.recovery_events.specs.declared.event.Event.TheVariants.{Send}
 use Rattle.recovery_events.specs.declared.event.PathName.{PathName}
 use Rattle.recovery_events.specs.declared.event.PathName.TheVariants.{Current, Previous}
 use Rattle.recovery_lines.specs.declared.lines.Line.{Line}
@@ -21,7 +20,7 @@ use Rattle.recovery_lines.specs.Fields.{Field, Value, Values}
 use Rattle.recovery_lines.specs.Fields.{Tail, TailValue, no_tail, an_item_tail}
 use Rattle.recovery_lines.specs.Fields.{a_space, a_timer, a_path, a_flag, a_largest}
 use Rattle.recovery_lines.specs.Fields.{a_u64, a_span, a_u16, a_var_int, a_byte, a_count}
-use Rattle.recovery_lines.specs.Lines.{Form, forms, ItemEvent, Means, Spells}
+use Rattle.recovery_lines.specs.Lines.{Form, forms, ItemEvent, Means, Spells, TookMemory}
 use Rattle.recovery_lines.specs.Words.{words_of}
 
 -- ---- a field
@@ -206,12 +205,7 @@ TakesMemory (Said said) = ⊥
 TakesMemory (Ids now first count) = (0 < count) × (first + count ≤ 2 ^ 64)
 TakesMemory (Path now port fresh) = ⊥
 
--- items were read, one at least, for which memory was taken
-abbrev pub TookMemory : Line → Type 0
-TookMemory (Said (Send space now size ack_eliciting largest items none)) = 0 < length items
-TookMemory line = ⊥
-
--- the same of all that is left to read
+-- memory was taken for items, with nothing left to read
 abbrev pub TookAll : Line × List (List ℕ) → Type 0
 TookAll read = TookMemory read.0 × (read.1 ≡ [])
 
