@@ -14,7 +14,7 @@ use Rattle.recovery_ledger.specs.Spaces.{Space, space_of, with_space, SpaceAcked
 use Rattle.recovery_ledger.proofs.ReceivedLaws.{fails}
 use Rattle.recovery_mtud.specs.DiscoveryLog.{MtuCall, acks as acks_packet}
 use Rattle.recovery_paths.specs.LivePaths.{path_left_by, paths_acking}
-use Rattle.recovery_paths.specs.PathLog.{OfPaths, PathKnown, PathsStep, paths_after, known_with, known_following, paths_known, path_known, paths_marks, on_current, tells, searches}
+use Rattle.recovery_paths.specs.PathLog.{OfPaths, PathKnown, PathsStep, paths_after, path_known_with, known_following, paths_known, path_known, paths_marks, on_current, tells, searches}
 use Rattle.recovery_paths.specs.PathStates.{Path, PathState, after_telling, after_searching, is_path_probe}
 use Rattle.recovery_events.specs.declared.event.Event.TheVariants.{Acked}
 use Rattle.recovery_events.specs.declared.event.Answer.TheVariants as answer
@@ -61,7 +61,7 @@ module _ {K P M : Type 0} (old : Parts K P M) (space : SpaceId) (number : ℕ) (
                 record { generation = generation_of path.ledger; state = cond own (told searched) searched };
             previous = option_map path_known old.paths.previous;
           } in
-          known ≡ paths_after (known_with old.settings) (known_following old.settings)
+          known ≡ paths_after (path_known_with old.settings) (known_following old.settings)
           (cond own (on_current (tells (acks now packet.time_sent packet.size app_limited path.state.rtt)) ∷ []) []
           ++ cond in_data (cond probe (on_current (tells (takes_mtu seen.discovery.mtu)) ∷ on_current (searches call) ∷
           []) (on_current (searches call) ∷ [])) []) (paths_known old.paths)

@@ -5,7 +5,7 @@ use Rattle.std.proofs.Common.{◌≡◌, ◌≤◌, ℕ, ◌==◌, ◌&&◌, Boo
 use Rattle.std.proofs.lemmas.Bool.{cases_lt}
 use Rattle.recovery_acks.specs.Runs.{AtMost, EndsRun, IsInHighest}
 use Rattle.recovery_base.proofs.WindowLaws.{iff_trans}
-use Rattle.recovery_acks.proofs.RunLaws.{highest_alike}
+use Rattle.recovery_acks.proofs.HighestRunLaws.{highest_alike}
 use Rattle.recovery_base.specs.declared.below.SpaceId.{SpaceId}
 use Rattle.recovery_base.specs.Numbers.{With}
 use Rattle.recovery_base.specs.Spaces.{same_space}

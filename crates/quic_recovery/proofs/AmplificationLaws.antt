@@ -7,7 +7,7 @@ use Rattle.recovery_ledger.specs.Acks.{Heard}
 use Rattle.recovery_mtud.specs.Discovery.{is_searching_of}
 use Rattle.recovery_mtud.specs.DiscoveryLog.{is_limited}
 use Rattle.recovery_paths.specs.declared.live_paths.PathName.TheVariants.{Current, Previous}
-use Rattle.recovery_paths.specs.PathLog.{OfPaths, PathKnown, PathsEntry, paths_after, known_with, known_following, on, receives, searches}
+use Rattle.recovery_paths.specs.PathLog.{OfPaths, PathKnown, PathsEntry, paths_after, path_known_with, known_following, on, receives, searches}
 use Rattle.recovery_paths.specs.PathMaking.{PathSettings}
 use Rattle.recovery_paths.proofs.AllowedLaws.{AreAllowed, IsAllowedOn}
 use Rattle.recovery_events.specs.declared.event.Event.{Event}
@@ -54,7 +54,8 @@ module _ {K Q S M P : Type 0} (q : QueueMeaning Q S M P) (settings : PathSetting
   answer_allowed event answer told =
       paths_kept q known (AreAllowed settings known.paths) is_free tt
       (λ entry earlier free allowed. (
-        free_on settings entry free (paths_after (known_with settings) (known_following settings) earlier known.paths),
+        free_on settings entry free
+            (paths_after (path_known_with settings) (known_following settings) earlier known.paths),
         allowed,
       ))
       event (Ok answer) refl

@@ -5,8 +5,8 @@ use Rattle.recovery_mtud.specs.Discovery.{reports}
 use Rattle.recovery_mtud.specs.DiscoveryLog.{discovery_by}
 use Rattle.recovery_mtud.specs.MtuEntries.{IsUntold}
 use Rattle.recovery_mtud.proofs.BurstRunLaws.{four_report, four_stand}
-use Rattle.recovery_mtud.proofs.EntryLaws.{discovery_made_untold}
-use Rattle.recovery_paths.proofs.FateLaws.{apart_once}
+use Rattle.recovery_mtud.proofs.MtuEntryLaws.{discovery_made_untold}
+use Rattle.recovery_paths.proofs.PathFateLaws.{apart_once}
 use Rattle.recovery_paths.proofs.UntoldLaws.{WasUntold, untold_by}
 use Rattle.recovery_events.specs.declared.event.Event.{Event}
 use Rattle.recovery_events.specs.declared.event.Event.TheVariants.{LossesDone}

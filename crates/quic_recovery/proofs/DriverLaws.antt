@@ -16,7 +16,7 @@ use Rattle.recovery_ledger.specs.declared.spaces.Receipt.TheVariants.{New, Dupli
 use Rattle.recovery_ledger.specs.Discarded.{is_discarded}
 use Rattle.recovery_ledger.specs.SpaceLog.{SpaceEntry}
 use Rattle.recovery_ledger.specs.Spaces.{Space, Spaces, space_of, with_space, tracking_of, acks_of, next_number_of, HasGreatestCome, ReceiveReply, heard_of, SpaceStep, arrives}
-use Rattle.recovery_ledger.proofs.AckLaws.{heard_greatest}
+use Rattle.recovery_ledger.proofs.SpaceAckLaws.{heard_greatest}
 use Rattle.recovery_paths.specs.PathLog.{PathsEntry, OfPaths, PathsStep, paths_known, paths_marks}
 use Rattle.recovery_paths.specs.PathStates.{Path}
 use Rattle.recovery_queue.specs.Queues.{QueueWords}

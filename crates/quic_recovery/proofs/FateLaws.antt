@@ -8,7 +8,7 @@ use Rattle.recovery_base.specs.Spaces.{same_space}
 use Rattle.recovery_ledger.specs.Packets.{Packet, packet_at}
 use Rattle.recovery_paths.specs.declared.live_paths.PathName.TheVariants.{Current}
 use Rattle.recovery_paths.specs.PathLog.{PathsEntry, on, searches}
-use Rattle.recovery_paths.proofs.FateLaws.{fates, told_in, told-append, fates_by}
+use Rattle.recovery_paths.proofs.PathFateLaws.{fates, told_in, told-append, fates_by}
 use Rattle.recovery_events.specs.declared.event.Event.{Event}
 use Rattle.recovery_events.specs.declared.event.Event.TheVariants.{Acked, Lost}
 use Rattle.quic_recovery.specs.Entries.{Entries, acked_entry, acked_search, lost_search}

@@ -10,7 +10,7 @@ use Rattle.recovery_events.specs.declared.event.Event.TheVariants.{PollMtu, Acke
 use Rattle.recovery_events.specs.declared.event.Answer.TheVariants as answer
 use Rattle.quic_recovery.specs.Told.{settings_of}
 use Rattle.quic_recovery.specs.History.{Beginning, History, Reply}
-use Rattle.quic_recovery.specs.Promises.Few.{ProbesFew, is_in_flight, probed}
+use Rattle.quic_recovery.specs.Promises.Few.{ProbesFew, is_in_flight, sizes_probed}
 use Rattle.quic_recovery.specs.Promises.Probes.{last_probe}
 use Rattle.quic_recovery.proofs.SearchSaid.{entered_so_far, Keeps, IsSmall}
 use Rattle.quic_recovery.proofs.SearchLaws.{few_one}
@@ -27,7 +27,8 @@ module _ {Q S M P : Type 0} where
   -- the history tells whether a probe is in flight, and which, and the sizes probed
   abbrev pub TiedTo : History Q S M P → List MtuEntry → Type 0
   TiedTo history entries = (is_in_flight history ≡ is_some (probe_in_flight entries))
-      × (probed history ≡ probed_sizes (search_of entries)) × IsLast (last_probe history) (probe_in_flight entries)
+      × (sizes_probed history ≡ probed_sizes (search_of entries))
+      × IsLast (last_probe history) (probe_in_flight entries)
 
   module _ (first least : ℕ) (history : History Q S M P) (entries : List MtuEntry) (tied : TiedTo history entries)
     where

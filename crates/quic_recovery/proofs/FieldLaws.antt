@@ -1,5 +1,5 @@
 -- What each tracked packet says of itself, as its size, goes with its number: so it stays as packets come and go, and
--- by each event. `SizeLaws` and `CarriedLaws` rest on it.
+-- by each event. `PacketSizeLaws` and `CarriedLaws` rest on it.
 use Rattle.std.proofs.lemmas.Bool.Decides.{nat_tests}
 use Rattle.std.proofs.Math.Path.{fun_ext}
 use Rattle.std.proofs.Common.{ℕ, ◌≡◌, ◌+◌, ◌<◌, ◌≤◌, true, List, [], ◌∷◌, ◌++◌, Option, None, Some, refl, ◌∙◌, arith, ◌==◌, ◌&&◌, Bool, false, cond, Ok, Err, subst}

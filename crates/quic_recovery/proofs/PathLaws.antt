@@ -8,7 +8,7 @@ use Rattle.recovery_paths.specs.PathLog.{OfPaths, PathPast, each_path, path_of, 
 use Rattle.recovery_events.specs.declared.event.Event.TheVariants.{NewPath, DropPrevious}
 use Rattle.quic_recovery.specs.Told.{pasts_of, known_by, settings_of}
 use Rattle.quic_recovery.specs.History.{Beginning, History}
-use Rattle.quic_recovery.specs.Promises.Paths.{paths_made, generation_of}
+use Rattle.quic_recovery.specs.Promises.Paths.{paths_made, generation_by}
 use Rattle.quic_recovery.proofs.SeenLaws.{IsStill, IsStillOn, map_kept, stays_seen}
 
 abbrev both : ℕ → Option ℕ → OfPaths ℕ
@@ -16,7 +16,7 @@ both current previous = record { current = current; previous = previous }
 
 -- what the history says of them
 abbrev made_by : {Q S M P : Type 0} → History Q S M P → OfPaths ℕ
-made_by history = both (paths_made history) (generation_of Previous history)
+made_by history = both (paths_made history) (generation_by Previous history)
 
 module _ {F K Q S M P : Type 0} (beginning : Beginning F K Q S M P) where
   -- the generations of the paths
@@ -49,7 +49,7 @@ module _ {F K Q S M P : Type 0} (beginning : Beginning F K Q S M P) where
   -- a path that lives has the generation that the history says, and one that does not has none
   pub generation_told : (history : History Q S M P) (name : PathName)
       → option_map (λ path. path.generation) (path_of name (known_by beginning history).paths)
-      ≡ generation_of name history
+      ≡ generation_by name history
   generation_told history Current = ap (λ (g : OfPaths ℕ). Some g.current) (all_made history)
   generation_told history Previous =
       twice (pasts_of beginning history).previous ∙ ap (λ (g : OfPaths ℕ). g.previous) (all_made history)

@@ -16,7 +16,7 @@ use Rattle.recovery_ledger.proofs.ReceivedLaws.{fails}
 use Rattle.recovery_mtud.specs.Discovery.{Discovery, poll_of}
 use Rattle.recovery_mtud.specs.DiscoveryLog.{polls, discovery_after}
 use Rattle.recovery_paths.specs.LivePaths.{on_ledger, ledger_without, paths_without}
-use Rattle.recovery_paths.specs.PathLog.{OfPaths, PathKnown, path_known, paths_known, paths_marks, paths_after, known_with, known_following, on_current, tells}
+use Rattle.recovery_paths.specs.PathLog.{OfPaths, PathKnown, path_known, paths_known, paths_marks, paths_after, path_known_with, known_following, on_current, tells}
 use Rattle.recovery_paths.specs.PathStates.{Path, on_state, with_discovery}
 use Rattle.recovery_events.specs.declared.event.Event.TheVariants.{DiscardSpace, PollMtu, Send}
 use Rattle.recovery_events.specs.declared.event.Answer.{Answer}
@@ -134,7 +134,7 @@ module _ {K Q S M P : Type 0} (q : QueueMeaning Q S M P) (old then : Parts K P M
   probe_changes number discovery path answer is polled goes_on sent =
       let steps = rw (empty, blank) at sent.steps in
       let fits = sent.told.1.1.1 in
-      let told : OfPaths (PathKnown K) = paths_after (known_with old.settings) (known_following old.settings)
+      let told : OfPaths (PathKnown K) = paths_after (path_known_with old.settings) (known_following old.settings)
       (on_current (tells (sends_bytes now size (number_in known Data))) ∷ []) (paths_known old.paths) in
       let seen : Discovery → OfPaths (PathKnown K) → OfPaths (PathKnown K) = λ found all. record all
       { current = record all.current { state = with_discovery found all.current.state } } in

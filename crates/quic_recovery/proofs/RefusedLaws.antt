@@ -19,7 +19,7 @@ use Rattle.quic_recovery.specs.History.{Beginning, History, Reply}
 use Rattle.quic_recovery.specs.Known.{SpaceKnown, Known}
 use Rattle.quic_recovery.specs.Replies.{Refuses, Answers}
 use Rattle.quic_recovery.specs.PartReplies.{EcnAnswer, InSpace, Is, LeaveReply, OnPath, MtuProbeReply}
-use Rattle.quic_recovery.specs.Promises.Paths.{generation_of}
+use Rattle.quic_recovery.specs.Promises.Paths.{generation_by}
 use Rattle.quic_recovery.specs.Promises.Refused.{unless, in_space, RefusesRightly, first_cause}
 use Rattle.quic_recovery.specs.Promises.Tracked.{is_tracked}
 use Rattle.quic_recovery.proofs.ReplyLaws.{only_refusal}
@@ -109,7 +109,7 @@ module _ {F K Q S M P : Type 0} (beginning : Beginning F K Q S M P) where
     -- a path that lives
     on_path : (name : PathName) (Replies : PathKnown K → Reply Q → Type 0)
         → ((path : PathKnown K) → Names None (Replies path))
-        → Names (unless (is_some (generation_of name history)) NoSuchPath) (OnPath (path_of name known.paths) Replies)
+        → Names (unless (is_some (generation_by name history)) NoSuchPath) (OnPath (path_of name known.paths) Replies)
     on_path name Replies names reply told =
         path_names (path_of name known.paths) Replies names reply told
         ∙ ap (λ (b : Bool). unless b NoSuchPath) (mapped (path_of name known.paths)

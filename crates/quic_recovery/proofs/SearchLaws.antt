@@ -10,7 +10,7 @@ use Rattle.recovery_mtud.specs.declared.config.MtuDiscoveryConfig.{MtuDiscoveryC
 use Rattle.recovery_mtud.specs.DiscoveryLog.{polls}
 use Rattle.recovery_mtud.specs.MtuEntries.{MtuEntry, poll_entry, probed, unprobed, mtu_in_use}
 use Rattle.recovery_mtud.specs.SearchRuns.{EndsNearBest, ProbesInSearch, TakesFew}
-use Rattle.recovery_mtud.proofs.EntryLaws.{is_probe_by}
+use Rattle.recovery_mtud.proofs.MtuEntryLaws.{is_probe_by}
 use Rattle.recovery_mtud.proofs.SearchRunLaws.{search_takes_few, search_ends_near, probes_in_search, mtu_by, search_runs_by, limits_outside_after}
 use Rattle.recovery_mtud.proofs.UnsearchedLaws.{unsearched}
 use Rattle.recovery_paths.specs.PathLog.{OnEachPath, PathPast, pasts_by, state_of}

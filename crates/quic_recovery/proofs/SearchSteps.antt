@@ -15,7 +15,7 @@ use Rattle.quic_recovery.proofs.Runs.{AllAlong, throughout_by, throughout_kept}
 use Rattle.quic_recovery.proofs.SearchSaid.{EntersAsTold, LimitsOutside, TellsProbes, data_packet, entered_so_far, Follows, Keeps, ProbesInTurn}
 use Rattle.quic_recovery.proofs.EnteredLaws.{entered_one}
 use Rattle.quic_recovery.proofs.SearchLaws.{AreSearched, first_is, limits_one, searched_one, tells_one, probes_one}
-use Rattle.quic_recovery.proofs.SizeLaws.{Sized, sized_after, size_in}
+use Rattle.quic_recovery.proofs.PacketSizeLaws.{Sized, sized_after, size_in}
 use Rattle.quic_recovery.proofs.FieldLaws.{said_found}
 use Rattle.quic_recovery.specs.Promises.Bursts.{size_of}
 use Rattle.recovery_ledger.specs.Tracked.{sent_by}

@@ -36,7 +36,7 @@ use Rattle.quic_recovery.specs.Same.{AcksAlike, LooksAlike, SameRefusal, SameAns
 use Rattle.quic_recovery.specs.State.{InFlightLeft, Left}
 use Rattle.quic_recovery.proofs.PeerIdsLaws.{held_same}
 use Rattle.quic_recovery.proofs.ReplyLaws.{only_refusal}
-use Rattle.quic_recovery.specs.PartReplies.{EcnAnswer, Is, IsPending, IsQueueProbeAnswer, OnPath, MtuProbeReply, ReceivedAnswer}
+use Rattle.quic_recovery.specs.PartReplies.{EcnAnswer, Is, IsPendingQueue, IsQueueProbeAnswer, OnPath, MtuProbeReply, ReceivedAnswer}
 use Rattle.quic_recovery.specs.Table.{ToldBy}
 
 -- ---- refusals, by their numbers
@@ -117,7 +117,7 @@ module _ {Q S M P : Type 0} (q : QueueMeaning Q S M P) where
   received_agree heard counts number eliciting (New one) other is_one is_other = grind (arith, is_one, is_other)
   received_agree heard counts number eliciting one other is_one is_other = grind (arith, is_one, is_other)
 
-  pending_agree : (here : SpaceKnown P M) → Agree (IsPending q here)
+  pending_agree : (here : SpaceKnown P M) → Agree (IsPendingQueue q here)
   pending_agree here (Queue one) other is_one is_other = grind (arith, is_one, is_other)
   pending_agree here one other is_one is_other = absurd is_one
 

@@ -27,7 +27,7 @@ use Rattle.quic_recovery.specs.Told.{logs_of, known_by, Told}
 use Rattle.quic_recovery.specs.History.{Beginning, History, QueueMeaning, Reply}
 use Rattle.quic_recovery.specs.Known.{Known, number_in, packet_now}
 use Rattle.quic_recovery.specs.Logs.{onto}
-use Rattle.quic_recovery.specs.Promises.Fates.{more_if, times as times_in, is_given, is_acked, is_lost, is_forgotten as is_forgotten_in, is_discarded}
+use Rattle.quic_recovery.specs.Promises.Fates.{more_if, times as times_in, is_given, is_acked, is_lost, is_forgotten as is_forgotten_in, goes_with_space}
 use Rattle.quic_recovery.specs.Promises.Rising.{GivesRising}
 use Rattle.quic_recovery.specs.Promises.Tracked.{is_tracked}
 use Rattle.quic_recovery.specs.PartReplies.{MtuProbeReply}
@@ -146,7 +146,7 @@ abbrev departed_in : {Q S M P : Type 0} → SpaceId → ℕ → History Q S M P 
 departed_in space n history =
     times_in (is_acked space n) history + times_in (is_lost space n) history + times_in (is_forgotten_in space n)
     history
-    + times_in (is_discarded space n) history
+    + times_in (goes_with_space space n) history
 
 -- the number is where the history says
 abbrev TracksIn : {F K Q S M P : Type 0} → Beginning F K Q S M P → History Q S M P → SpaceId → ℕ → Type 0

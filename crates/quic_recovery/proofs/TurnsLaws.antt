@@ -16,7 +16,7 @@ use Rattle.quic_recovery.specs.Search.{discovery_settings}
 use Rattle.quic_recovery.specs.Promises.Few.{is_in_flight as flies}
 use Rattle.quic_recovery.specs.Promises.Near.{next}
 use Rattle.quic_recovery.specs.Promises.Probes.{runs}
-use Rattle.quic_recovery.specs.Promises.Turns.{SearchesInTurn, is_probe}
+use Rattle.quic_recovery.specs.Promises.Turns.{SearchesInTurn, is_probe_in_flight}
 use Rattle.quic_recovery.proofs.SearchSaid.{entered_so_far, is_in_flight, IsSmall}
 use Rattle.quic_recovery.proofs.NearLaws.{Kept, kept_by, kept_first, runs_same}
 use Rattle.quic_recovery.proofs.SearchSteps.{Facts, throughout_facts}
@@ -28,7 +28,7 @@ module _ {F K Q S M P : Type 0} (beginning : Beginning F K Q S M P) where
     entries = entered_so_far beginning history
 
     probe_same : (there : SpaceId) (number : ℕ)
-        → is_in_flight beginning history there number ≡ is_probe there number history
+        → is_in_flight beginning history there number ≡ is_probe_in_flight there number history
     probe_same space.Data number = let few = kept.few in grind (arith, few)
     probe_same there number = refl
 

@@ -54,5 +54,6 @@ IssueReply ids more = Refuses NumberTooLarge (2 ^ 62 < ids.issued + length more)
 
 -- why a retirement is refused; it is told whether the limit leaves room for one more id (19.16)
 abbrev pub RetirementReply : {Q : Type 0} → LocalIds → ℕ → ℕ → Reply Q → Type 0
-RetirementReply ids sequence limit = Refuses CidsNotInUse (ids.cid_len ≡ 0) (Refuses UnissuedCid (ids.issued ≤ sequence)
+RetirementReply ids sequence limit = Refuses CidsNotInUse (ids.cid_len ≡ 0)
+    (Refuses UnissuedCid (ids.issued ≤ sequence)
     (AlwaysAnswers (IsFlag (length (without_number sequence ids).unretired < limit))))

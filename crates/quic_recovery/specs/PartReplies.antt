@@ -11,7 +11,7 @@ use Rattle.recovery_ledger.specs.Acks.{Arms, Heard}
 use Rattle.recovery_ledger.specs.InFlight.{Overflows}
 use Rattle.recovery_ledger.specs.Packets.{Packet, packet_at, IsTooLarge}
 use Rattle.recovery_ledger.specs.Probes.{ProbeFound}
-use Rattle.recovery_ledger.specs.Queued.{IsSendable, probed}
+use Rattle.recovery_ledger.specs.Queued.{IsSendable, probe_queued}
 use Rattle.recovery_ledger.specs.Tracked.{forgotten_by}
 use Rattle.recovery_ledger.specs.declared.paths.InFlight.{InFlight as Counters}
 use Rattle.recovery_paths.specs.PathLog.{PathKnown}
@@ -53,7 +53,8 @@ module _ {Q P M : Type 0} (here : SpaceKnown P M) where
 
   -- a packet that is sent is given this number, and a silent packet may be forgotten for it
   abbrev pub SendReply : Counters → ℕ → Packet P M → Reply Q → Type 0
-  SendReply counters number packet = InSpace (Refuses refusal.NumberTooLarge (IsTooLarge packet.largest_acked)
+  SendReply counters number packet = InSpace
+      (Refuses refusal.NumberTooLarge (IsTooLarge packet.largest_acked)
       (Refuses refusal.NumbersExhausted (2 ^ 62 ≤ number)
       (Refuses refusal.Overflow (Overflows counters packet)
       (Answers (Unit {0}) (Is (answer.Sent number (forgotten_by here.sent packet)))))))
@@ -75,13 +76,13 @@ module _ {Q S M P : Type 0} (q : QueueMeaning Q S M P) (here : SpaceKnown P M) w
   -- a probe is asked for, and finds this: what can be sent then
   abbrev pub IsQueueProbeAnswer : S → Heard → Bool → ProbeFound → Answer Q → Type 0
   IsQueueProbeAnswer streams heard immediate found (answer.Sendable frames) =
-      IsSendable q.words streams heard (probed q.words immediate found here.sent.tracked here.queued) frames
+      IsSendable q.words streams heard (probe_queued q.words immediate found here.sent.tracked here.queued) frames
   IsQueueProbeAnswer streams heard immediate found other = ⊥
 
   -- what is to be sent again
-  abbrev pub IsPending : Answer Q → Type 0
-  IsPending (answer.Queue queue) = q.contents queue ≡ here.queued.pending
-  IsPending other = ⊥
+  abbrev pub IsPendingQueue : Answer Q → Type 0
+  IsPendingQueue (answer.Queue queue) = q.contents queue ≡ here.queued.pending
+  IsPendingQueue other = ⊥
 
 -- of the spaces only that of 1-RTT packets skips numbers
 abbrev pub skipped_in : {K P M : Type 0} → Known K P M → SpaceId → Option ℕ

@@ -32,7 +32,7 @@ use Rattle.recovery_ids.specs.RemoteStep.{RemoteStep, given, used, replaced}
 use Rattle.recovery_ledger.specs.Discarded.{DiscardedStep}
 use Rattle.recovery_events.specs.declared.event.Refusal.TheVariants.{DelayTooSmall}
 use Rattle.recovery_paths.specs.PathMaking.{marks_made}
-use Rattle.quic_recovery.specs.PartReplies.{Is, IsDone, InSpace, ReceivedReply, SendReply, LeaveReply, EcnAnswer, IsQueueProbeAnswer, IsPending, skipped_in, OnPath, delayed_or, transmit_answer, MtuProbeReply}
+use Rattle.quic_recovery.specs.PartReplies.{Is, IsDone, InSpace, ReceivedReply, SendReply, LeaveReply, EcnAnswer, IsQueueProbeAnswer, IsPendingQueue, skipped_in, OnPath, delayed_or, transmit_answer, MtuProbeReply}
 use Rattle.quic_recovery.specs.Plain.{Plain}
 
 -- ---- what the history says of the parts of which no log is kept: the ACKs that the peer asked for
@@ -127,7 +127,8 @@ module _ {K Q S M P : Type 0} (q : QueueMeaning Q S M P) (words : ControllerWord
       AlwaysAnswers (Is (delayed_or words answers.Ready (path_delay words now bytes known.paths.current.state)))
   ToldBy (Congestion now sent persistent bytes) = IsDone
   ToldBy (EndAcks now app_limited largest) = IsDone
-  ToldBy (PollMtu now) = InSpace (known.spaces Data) (Refuses refusals.NumbersExhausted (2 ^ 62 ≤ known.next_number)
+  ToldBy (PollMtu now) = InSpace (known.spaces Data)
+      (Refuses refusals.NumbersExhausted (2 ^ 62 ≤ known.next_number)
       (MtuProbeReply q known now (poll_of now known.paths.current.state.discovery)))
   -- a limit is taken while no search runs
   ToldBy (PeerLimit size) = Refuses refusals.ZeroMtu (size ≡ 0)
@@ -142,7 +143,7 @@ module _ {K Q S M P : Type 0} (q : QueueMeaning Q S M P) (words : ControllerWord
   ToldBy (QueueProbe space immediate streams) =
       let here = known.spaces space in let found = found_in known q.words streams space in
       InSpace here (Answers (IsSome found.moved) (IsQueueProbeAnswer q here streams (heard space) immediate found))
-  ToldBy (TakePending space) = InSpace (known.spaces space) (AlwaysAnswers (IsPending q (known.spaces space)))
+  ToldBy (TakePending space) = InSpace (known.spaces space) (AlwaysAnswers (IsPendingQueue q (known.spaces space)))
   -- a path that goes on from the current one needs a second controller
   ToldBy (NewPath now remote is_fresh) = Refuses refusals.Overflow (2 ^ 64 ≤ known.paths.current.generation + 1)
       (Answers (IsTrue (not is_fresh)) (Is answers.Done))

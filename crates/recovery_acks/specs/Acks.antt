@@ -35,10 +35,10 @@ abbrev pub CanSend : Acks → Type 0
 CanSend acks = IsTrue acks.required × ((n : ℕ) × IsPending acks n)
 
 -- one is at most another, where there is one
-abbrev pub IsUpTo : Option ℕ → Option ℕ → Type 0
-IsUpTo None other = ⊤
-IsUpTo (Some n) None = ⊥
-IsUpTo (Some n) (Some m) = n ≤ m
+abbrev pub IsNotAbove : Option ℕ → Option ℕ → Type 0
+IsNotAbove None other = ⊤
+IsNotAbove (Some n) None = ⊥
+IsNotAbove (Some n) (Some m) = n ≤ m
 
 -- the most ranges that are kept: an ACK frame spells each in 16 bytes at most (RFC 9000, 19.3.1), so that one of 64
 -- fits into the least datagram, of 1200 bytes
@@ -50,7 +50,7 @@ pub record AreAcksSound (acks : Acks) : Type 0 where
   pub ranges : length acks.ranges ≤ most_ranges
   pub apart : AreApart 0 acks.ranges
   pub noticed : 0 < acks.counts.eliciting → IsSome acks.base ⊎ IsTrue acks.required
-  pub order : IsUpTo acks.counts.acknowledged acks.counts.greatest
+  pub order : IsNotAbove acks.counts.acknowledged acks.counts.greatest
 
 -- ---- the counts
 

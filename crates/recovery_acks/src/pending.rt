@@ -3,7 +3,7 @@ ghost use Rattle.std.specs.Prelude.{◌≡◌, ◌≢◌, ℕ, ◌<◌, ◌≤�
 ghost use Rattle.recovery_base.specs.Numbers.{With};
 ghost use Rattle.recovery_base.specs.Received.{Has};
 ghost use Rattle.recovery_base.specs.Ranges.{InRanges, AreApart};
-ghost use Rattle.recovery_acks.specs.Acks.{IsPending, CanSend, new_acks, with_thresholds, with_required, acks_sent, Receives, AddsPending, SubtractsBelow, delay_at, timeout_at, HasReached, IsOutOfOrder, IsReported, IsUpTo, AreAcksSound, largest_with, most_ranges};
+ghost use Rattle.recovery_acks.specs.Acks.{IsPending, CanSend, new_acks, with_thresholds, with_required, acks_sent, Receives, AddsPending, SubtractsBelow, delay_at, timeout_at, HasReached, IsOutOfOrder, IsReported, IsNotAbove, AreAcksSound, largest_with, most_ranges};
 ghost use Rattle.recovery_acks.specs.Runs.{IsInHighest};
 
 use recovery_base::below::{AckFrequency, ArrayRangeSet, NoMemory};
@@ -292,7 +292,7 @@ fn is_out_of_order(
 ) -> bool
     requires reached { HasReached (Has dedup.now) greatest }
     requires above { number ≤ greatest }
-    requires order { IsUpTo acknowledged (Some greatest) }
+    requires order { IsNotAbove acknowledged (Some greatest) }
     ensures { Decides result
         (IsOutOfOrder (Has dedup.now) threshold acknowledged before greatest number) }
 {
@@ -309,7 +309,7 @@ fn is_out_of_order(
 fn is_reported(threshold: u64, greatest: u64, acknowledged: Option<u64>, dedup: &Dedup) -> bool
     requires some { 1 < threshold }
     requires reached { HasReached (Has dedup.now) greatest }
-    requires order { IsUpTo acknowledged (Some greatest) }
+    requires order { IsNotAbove acknowledged (Some greatest) }
     ensures { Decides result (IsReported (Has dedup.now) threshold greatest acknowledged) }
 {
     let acknowledged = match acknowledged {

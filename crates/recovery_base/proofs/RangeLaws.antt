@@ -1,5 +1,5 @@
--- Ranges that lie apart, and the numbers in them. All calls of the set of ranges rest on it, and `RunLaws` of what is
--- to be acknowledged.
+-- Ranges that lie apart, and the numbers in them. All calls of the set of ranges rest on it, and `HighestRunLaws` of
+-- what is to be acknowledged.
 use Rattle.std.proofs.Common.{◌≡◌, ℕ, suc, zero, ◌+◌, ◌<◌, ◌≤◌, inl, inr, ◌⊎◌, ◌↔◌, List, [], ◌∷◌, ◌++◌, length, take, drop, set, get_or, sym, ◌∙◌, ap, arith, drop-cons, add-one, refl}
 use Rattle.std.proofs.lemmas.Bool.Decides.{nat_tests}
 use Rattle.std.specs.declared.ops.Range.{Range}

@@ -8,7 +8,7 @@ use Rattle.std.specs.List.{AllByRecursion}
 use Rattle.recovery_congestion.specs.NamedMoment.{HasRoom, PassesAtMoment}
 use Rattle.recovery_congestion.specs.Progress.{IsInReach}
 use Rattle.recovery_congestion.specs.PacerLog.{PacerEntry, asked, bucket_by}
-use Rattle.recovery_congestion.specs.Pacing.{Bucket, PacerCall, resized, refilled, may_send, paced, delay_of}
+use Rattle.recovery_congestion.specs.Pacing.{Bucket, PacerCall, resized, refilled, may_send, paced, pacer_delay}
 use Rattle.recovery_congestion.proofs.ProgressLaws.{Fills, fills_refilled, paced-knows, passes}
 
 module _ (call : PacerCall) (made : Bucket) (earlier : List PacerEntry) (some : 0 < call.rtt) where
@@ -41,7 +41,7 @@ module _ (call : PacerCall) (made : Bucket) (earlier : List PacerEntry) (some : 
       _ alike.0 (fills_by between alike.1)
 
 pub passes_at_moment : (made : Bucket) (entries : List PacerEntry) (later : PacerCall)
-    → PassesAtMoment made entries later (delay_of later (paced later (bucket_by made entries)))
+    → PassesAtMoment made entries later (pacer_delay later (paced later (bucket_by made entries)))
 passes_at_moment made _ later between call earlier until is alike delays like room before_end late =
     let reach : IsInReach call (paced call (bucket_by made earlier)) =
     record { fits = fits (length between) (paced call _) room; uncut = room.1; window = room.0 } in

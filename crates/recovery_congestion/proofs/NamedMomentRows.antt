@@ -2,7 +2,7 @@
 use Rattle.std.proofs.Common.{◌≡◌, ℕ, true, List, [], ◌∷◌, None, Some, refl, arith}
 use Rattle.recovery_congestion.specs.NamedMoment.{HasRoom}
 use Rattle.recovery_congestion.specs.PacerLog.{PacerEntry, asked, took, bucket_by}
-use Rattle.recovery_congestion.specs.Pacing.{Bucket, PacerCall, bucket_made, paced, delay_of}
+use Rattle.recovery_congestion.specs.Pacing.{Bucket, PacerCall, bucket_made, paced, pacer_delay}
 
 -- at an RTT of 4 ns, a window of 3 bytes and an MTU of 1, where 256 bytes fit and 191 went out
 abbrev asks : ℕ → ℕ → PacerCall
@@ -18,20 +18,20 @@ took_191 = took 191 true ∷ asked (asks 191 0) ∷ []
 has_room : HasRoom (asks 252 0) 0 (paced (asks 252 0) (after took_191))
 has_room = (omega arith, omega arith, omega arith)
 
-until : delay_of (asks 252 0) (paced (asks 252 0) (after took_191)) ≡ Some 200
+until : pacer_delay (asks 252 0) (paced (asks 252 0) (after took_191)) ≡ Some 200
 until = refl
 
-passes : delay_of (asks 252 200) (paced (asks 252 200) (after (asked (asks 252 0) ∷ took_191))) ≡ None
+passes : pacer_delay (asks 252 200) (paced (asks 252 200) (after (asked (asks 252 0) ∷ took_191))) ≡ None
 passes = refl
 
 -- 253 bytes do not fit beside them, and are delayed again
 no_room : ¬ HasRoom (asks 253 0) 0 (paced (asks 253 0) (after took_191))
 no_room room = omega (arith, room.2)
 
-until_too : delay_of (asks 253 0) (paced (asks 253 0) (after took_191)) ≡ Some 200
+until_too : pacer_delay (asks 253 0) (paced (asks 253 0) (after took_191)) ≡ Some 200
 until_too = refl
 
-delayed_again : delay_of (asks 253 200) (paced (asks 253 200) (after (asked (asks 253 0) ∷ took_191))) ≡ Some 204
+delayed_again : pacer_delay (asks 253 200) (paced (asks 253 200) (after (asked (asks 253 0) ∷ took_191))) ≡ Some 204
 delayed_again = refl
 
 -- each question in between may cost a byte: with two of them 251 bytes have no room, and are delayed again
@@ -44,8 +44,8 @@ asked_thrice = asked (asks 251 2) ∷ asked (asks 251 1) ∷ asked (asks 251 0) 
 no_room_behind_two : ¬ HasRoom (asks 251 0) 2 (paced (asks 251 0) (after sent_less))
 no_room_behind_two room = omega (arith, room.2)
 
-until_there : delay_of (asks 251 0) (paced (asks 251 0) (after sent_less)) ≡ Some 264
+until_there : pacer_delay (asks 251 0) (paced (asks 251 0) (after sent_less)) ≡ Some 264
 until_there = refl
 
-delayed_behind_two : delay_of (asks 251 264) (paced (asks 251 264) (after asked_thrice)) ≡ Some 268
+delayed_behind_two : pacer_delay (asks 251 264) (paced (asks 251 264) (after asked_thrice)) ≡ Some 268
 delayed_behind_two = refl

@@ -4,9 +4,9 @@ use Rattle.std.proofs.lemmas.Bool.Decides.{nat_tests}
 use Rattle.std.proofs.Common.{◌≡◌, ℕ, ◌-◌, ◌*◌, ◌^◌, ◌<◌, ◌≤◌, true, false, List, [], ◌∷◌, None, arith}
 use Rattle.std.specs.Prelude.{◌&&◌, ◌==◌, if◌then◌else◌}
 use Rattle.std.proofs.Math.Nat.{mul-div-le}
-use Rattle.recovery_congestion.specs.Pacing.{Bucket, PacerCall, credit_of, resized, refilled, is_unpaced, paced, delay_of, less_tokens}
+use Rattle.recovery_congestion.specs.Pacing.{Bucket, PacerCall, credit_of, resized, refilled, is_unpaced, paced, pacer_delay, less_tokens}
 use Rattle.recovery_congestion.specs.PacerLog.{PacerEntry, asked, took, bucket_by, AreChecked, PacerMark, credited, transmitted, changed, capacity_in, greatest_moment, balance_in, is_as_before, marks_by, marks_asking, DelaysBy, KeepsRate}
-use Rattle.recovery_congestion.proofs.BalanceLaws.{NoDebt, AreEarned, credits_more, bytes_more, balance_is, rate_bound}
+use Rattle.recovery_congestion.proofs.PacerBalanceLaws.{NoDebt, AreEarned, credits_more, bytes_more, balance_is, rate_bound}
 
 -- the window is within 32 bits, and the RTT above zero
 abbrev IsPaced : PacerCall → Type 0
@@ -18,7 +18,7 @@ IsPaced call = (call.window < 2 ^ 32) × (0 < call.rtt)
 abbrev pub HasPassed : Bucket → ℕ → List PacerEntry → Type 0
 HasPassed made bytes [] = ⊥
 HasPassed made bytes (asked call ∷ earlier) =
-    (call.bytes ≡ bytes) × (delay_of call (paced call (bucket_by made earlier)) ≡ None)
+    (call.bytes ≡ bytes) × (pacer_delay call (paced call (bucket_by made earlier)) ≡ None)
 HasPassed made bytes (took other checked ∷ earlier) = ⊥
 
 -- all that was transmitted checked had passed right before
@@ -78,7 +78,7 @@ is_bounded : (call : PacerCall) → IsPaced call → is_unpaced call ≡ false
 is_bounded _ bounds = grind arith
 
 -- what passes is covered, where the call is paced
-passed_is_covered : (call : PacerCall) (bucket : Bucket) → IsPaced call → delay_of call bucket ≡ None
+passed_is_covered : (call : PacerCall) (bucket : Bucket) → IsPaced call → pacer_delay call bucket ≡ None
     → call.bytes ≤ bucket.tokens
 passed_is_covered _ _ bounds passes = grind arith
 
@@ -107,7 +107,7 @@ module _ (made : Bucket) where
   -- a call is delayed exactly by the balance
   pub delays_by : (earlier : List PacerEntry) (call : PacerCall) → made.tokens ≡ made.capacity
       → AreChecked (asked call ∷ earlier) → HavePassed made earlier
-      → DelaysBy made earlier call (delay_of call (paced call (bucket_by made earlier)))
+      → DelaysBy made earlier call (pacer_delay call (paced call (bucket_by made earlier)))
   delays_by earlier call full checked passed =
       let tied = tied_asking call _ _ (tied_by earlier full checked.1 passed) in (
         balance_is made _ tied.no_debt,

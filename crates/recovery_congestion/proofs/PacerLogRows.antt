@@ -1,6 +1,6 @@
 -- A worked row: what the history of one pacer comes to, computed. Nothing rests on it.
 use Rattle.std.proofs.Common.{◌≡◌, ℕ, zero, suc, ◌-◌, ◌*◌, true, List, [], ◌∷◌, Some, refl, arith}
-use Rattle.recovery_congestion.specs.Pacing.{Bucket, PacerCall, bucket_made, next_moment, paced, delay_of}
+use Rattle.recovery_congestion.specs.Pacing.{Bucket, PacerCall, bucket_made, next_moment, paced, pacer_delay}
 use Rattle.recovery_congestion.specs.PacerLog.{PacerEntry, asked, took, bucket_by, AreChecked, PacerMark, bytes_in, capacity_in, greatest_moment, balance_in, marks_by, marks_asking}
 
 -- at an RTT of 333 ms, a window of 12,000 bytes and an MTU of 1,200
@@ -56,7 +56,7 @@ second_moment : moment_by (asks 266_400_000) (marks_asking made (asks 266_400_00
 unfolding balance_in
 second_moment = refl
 
-second_delay : delay_of (asks 266_400_000) (paced (asks 266_400_000) (bucket_by made all_twenty)) ≡ Some 532_800_000
+second_delay : pacer_delay (asks 266_400_000) (paced (asks 266_400_000) (bucket_by made all_twenty)) ≡ Some 532_800_000
 second_delay = refl
 
 -- from the making the bound is met with equality, at this RTT, this window and the last moment

@@ -6,7 +6,7 @@ use Rattle.std.proofs.Math.Nat.{div-add-mod, mod-lt, mul-le-mul_left, mul-le-mul
 use Rattle.std.proofs.lemmas.Bool.{cases_lt}
 use Rattle.recovery_base.specs.Times.{longest_span}
 use Rattle.recovery_congestion.specs.PacerLog.{PacerEntry, asked, bucket_by}
-use Rattle.recovery_congestion.specs.Pacing.{Bucket, PacerCall, credit_of, wait_of, resized, refilled, may_send, paced, next_moment, delay_of}
+use Rattle.recovery_congestion.specs.Pacing.{Bucket, PacerCall, credit_of, wait_of, resized, refilled, may_send, paced, next_moment, pacer_delay}
 use Rattle.recovery_congestion.specs.Progress.{IsInReach, PassesBehind}
 
 -- the bucket knows the call's window and MTU
@@ -87,11 +87,11 @@ module _ (call : PacerCall) (first : Bucket) where
 -- what was delayed until a moment passes as much later as the roundings take: a call that is delayed is paced, the
 -- tokens do not cover it, and a bucket that was refilled holds no more than it takes
 pub passes : (call later : PacerCall) (old bucket : Bucket) (until questions slack : ℕ) → (let first = paced call old in
-    delay_of call first ≡ Some until → later ≡ record call { now = later.now } → IsInReach call first
+    pacer_delay call first ≡ Some until → later ≡ record call { now = later.now } → IsInReach call first
     → until < 2 ^ 64 - 1 → until + slack ≤ later.now
     → 4 * (call.rtt * (call.bytes + questions)) + 20 * call.window
     ≤ 4 * (call.rtt * first.capacity) + 5 * call.window * slack
-    → (0 < call.rtt → Fills call first questions bucket) → delay_of later (paced later bucket) ≡ None)
+    → (0 < call.rtt → Fills call first questions bucket) → pacer_delay later (paced later bucket) ≡ None)
 passes call later old bucket until questions slack delays again reach before_end late room fills =
     grind (arith, enough)
   where
@@ -110,7 +110,7 @@ passes call later old bucket until questions slack delays again reach before_end
         (omega (arith, rw most at short.0, before_end, late)) room
 
 pub passes_behind : (made : Bucket) (entries : List PacerEntry) (later : PacerCall)
-    → PassesBehind made entries later (delay_of later (paced later (bucket_by made entries)))
+    → PassesBehind made entries later (pacer_delay later (paced later (bucket_by made entries)))
 passes_behind made (asked call ∷ earlier) later = λ until delays again reach late before_end.
     passes call later (bucket_by made earlier) _ until 0 4 delays again reach (omega (arith, before_end)) late
     (omega (arith, mul-le-mul_left call.rtt reach.fits)) (λ some. (refl, paced-knows call _, λ below. omega arith))

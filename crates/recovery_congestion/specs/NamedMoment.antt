@@ -4,7 +4,7 @@ use Rattle.std.specs.Prelude.{◌≡◌, ℕ, ◌+◌, ◌-◌, ◌*◌, ◌^◌
 use Rattle.std.specs.List.{AllByRecursion}
 use Rattle.recovery_base.specs.Times.{longest_span}
 use Rattle.recovery_congestion.specs.PacerLog.{PacerEntry, asked, bucket_by}
-use Rattle.recovery_congestion.specs.Pacing.{Bucket, PacerCall, paced, delay_of}
+use Rattle.recovery_congestion.specs.Pacing.{Bucket, PacerCall, paced, pacer_delay}
 
 -- the bucket fills, in no longer time than spans are, and takes the bytes and, beside them, one for each question, as
 -- each rounds down, and what comes in four nanoseconds, five windows for each RTT, as the moment is rounded too:
@@ -21,5 +21,5 @@ PassesAtMoment made entries later given =
     → entries ≡ map asked between ++ asked call ∷ earlier
     → AllByRecursion (λ other. other ≡ record call { bytes = other.bytes; now = other.now }) between
     → let bucket = paced call (bucket_by made earlier) in
-    delay_of call bucket ≡ Some until → later ≡ record call { now = later.now }
+    pacer_delay call bucket ≡ Some until → later ≡ record call { now = later.now }
     → HasRoom call (length between) bucket → until < 2 ^ 64 - 1 → until ≤ later.now → given ≡ None

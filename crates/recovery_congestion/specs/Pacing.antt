@@ -78,8 +78,8 @@ next_moment call capacity tokens last =
     min (last + wait_of call.rtt call.window (max call.bytes capacity - tokens)) (2 ^ 64 - 1)
 
 -- what a call is told, by the bucket that it leaves: nothing where the bytes may be sent, and else when to ask again
-abbrev pub delay_of : PacerCall → Bucket → Option ℕ
-delay_of call bucket =
+abbrev pub pacer_delay : PacerCall → Bucket → Option ℕ
+pacer_delay call bucket =
     if may_send call bucket then None else Some (next_moment call bucket.capacity bucket.tokens bucket.last)
 
 -- a packet of so many bytes was sent; a debt is not kept

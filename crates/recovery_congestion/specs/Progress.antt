@@ -2,7 +2,7 @@
 use Rattle.std.specs.Prelude.{◌≡◌, ℕ, ◌+◌, ◌*◌, ◌^◌, ◌<◌, ◌≤◌, ⊤, List, ◌∷◌, Option, None, Some}
 use Rattle.recovery_base.specs.Times.{longest_span}
 use Rattle.recovery_congestion.specs.PacerLog.{PacerEntry, asked, bucket_by}
-use Rattle.recovery_congestion.specs.Pacing.{Bucket, PacerCall, paced, delay_of}
+use Rattle.recovery_congestion.specs.Pacing.{Bucket, PacerCall, paced, pacer_delay}
 
 -- a full bucket has the bytes, it fills, and in no longer time than spans are
 pub record IsInReach (call : PacerCall) (bucket : Bucket) : Type 0 where
@@ -16,6 +16,6 @@ pub record IsInReach (call : PacerCall) (bucket : Bucket) : Type 0 where
 abbrev pub PassesBehind : Bucket → List PacerEntry → PacerCall → Option ℕ → Type 0
 PassesBehind made (asked call ∷ earlier) later given =
     let bucket = paced call (bucket_by made earlier) in
-    (until : ℕ) → delay_of call bucket ≡ Some until → later ≡ record call { now = later.now } → IsInReach call bucket
+    (until : ℕ) → pacer_delay call bucket ≡ Some until → later ≡ record call { now = later.now } → IsInReach call bucket
     → until + 4 ≤ later.now → later.now < 2 ^ 64 → given ≡ None
 PassesBehind made entries later given = ⊤

@@ -1,6 +1,6 @@
 //! Spreads packets over time, so that a window is not sent in one burst (RFC 9002, 7.7).
 ghost use Rattle.std.specs.Prelude.{◌≡◌, ℕ, ◌+◌, ◌-◌, ◌*◌, ◌/◌, ◌^◌, ◌<◌, ◌≤◌, min, max};
-ghost use Rattle.recovery_congestion.specs.Pacing.{capacity_of, credit_of, wait_of, bucket_made, resized, refilled, paced, delay_of, less_tokens, IsBucketSound};
+ghost use Rattle.recovery_congestion.specs.Pacing.{capacity_of, credit_of, wait_of, bucket_made, resized, refilled, paced, pacer_delay, less_tokens, IsBucketSound};
 
 use recovery_base::time::{Duration, Instant};
 use std::marker::Model;
@@ -99,7 +99,7 @@ impl Pacer {
             ≡ paced (record { bytes = bytes; rtt = rtt; mtu = mtu; window = window; now = now })
             self.old }
         ensures delays { result
-            ≡ delay_of (record { bytes = bytes; rtt = rtt; mtu = mtu; window = window; now = now })
+            ≡ pacer_delay (record { bytes = bytes; rtt = rtt; mtu = mtu; window = window; now = now })
             self.new }
         ensures sound { IsBucketSound self.new }
     {

@@ -27,14 +27,14 @@ abbrev pub tracking : Sent → Detector → Detector
 tracking packet old = record old { tracked = old.tracked ++ packet ∷ []; next = packet.number + 1 }
 
 -- it never falls (RFC 9002, A.7)
-abbrev pub largest_with : ℕ → ℕ → Option ℕ → Option ℕ
-largest_with first last largest = if nat_le first last then Some (max (unwrap_or largest 0) last) else largest
+abbrev pub largest_acked_with : ℕ → ℕ → Option ℕ → Option ℕ
+largest_acked_with first last largest = if nat_le first last then Some (max (unwrap_or largest 0) last) else largest
 
 -- an ACK range came: those that leave are those in it
 pub record Acks (old : Detector) (first last : ℕ) (acked : List Sent) (new : Detector) : Type 0 where
   pub leave : acked ≡ filter (is_in first last) old.tracked
   pub stay : new.tracked ≡ without (is_in first last) old.tracked
-  pub largest : new.largest ≡ largest_with first last old.largest
+  pub largest : new.largest ≡ largest_acked_with first last old.largest
   pub others : (new.next ≡ old.next) × (new.loss_time ≡ old.loss_time)
 
 -- those that leave are those that are lost now, and the others are lost later (RFC 9002, A.10)

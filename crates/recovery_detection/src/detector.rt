@@ -1,6 +1,6 @@
 //! The packets of one space that are neither acknowledged nor lost.
 ghost use Rattle.std.specs.Prelude.{◌≡◌, ◌+◌, ◌<◌, ◌≤◌, ◌↔◌, IfOk, OnOk, OnErr, IsErrOf, nat_le};
-ghost use Rattle.recovery_detection.specs.Detectors.{Detector, blank, tracking, Acks, Detects, forgetting, discarding, probe_moment, largest_with, next_after};
+ghost use Rattle.recovery_detection.specs.Detectors.{Detector, blank, tracking, Acks, Detects, forgetting, discarding, probe_moment, largest_acked_with, next_after};
 ghost use Rattle.recovery_detection.specs.Runs.{LeaveOnce};
 ghost use Rattle.recovery_detection.specs.declared.detector.TrackError.TheVariants.{NoMemory, NotRising};
 
@@ -191,7 +191,7 @@ fn is_next(last_sent: Option<u64>, number: u64) -> bool
 
 /// The largest number acknowledged, once `first` to `last` are.
 fn with_acked(largest: Option<u64>, first: u64, last: u64) -> Option<u64>
-    ensures { result ≡ largest_with first last largest }
+    ensures { result ≡ largest_acked_with first last largest }
 {
     if last < first {
         return largest;

@@ -2,7 +2,7 @@
 use Rattle.std.proofs.Common.{◌≡◌, ℕ, zero, suc, ◌+◌, ◌^◌, ◌≤◌, ◌==◌, nat_lt, not, Bool, false, List, [], ◌∷◌, map, drop, Option, refl, sym, arith}
 use Rattle.std.specs.List.{list_any}
 use Rattle.recovery_ids.specs.declared.state.CidTimestamp.{CidTimestamp}
-use Rattle.recovery_ids.specs.LocalIds.{LocalIds, no_ids, AreSound, Rise, timed_out, next_mark, holds_unretired, with_issued, without_number}
+use Rattle.recovery_ids.specs.LocalIds.{LocalIds, no_ids, AreSoundIds, Rise, timed_out, next_mark, holds_unretired, with_issued, without_number}
 use Rattle.recovery_ids.proofs.RiseLaws.{Rise-bound, Rise-wider, Rise-from, Rise-filter, Rise-append, list_any-between}
 use Rattle.recovery_ids.proofs.DeadlineLaws.{deadlines_with-rise}
 
@@ -24,7 +24,7 @@ mark_rises mark issued (oldest ∷ later) rise = grind (
   Rise-wider (oldest.sequence + 1) issued mark issued (map (λ deadline. deadline.sequence) later),
 )
 
-module _ {ids : LocalIds} (sound : AreSound ids) where
+module _ {ids : LocalIds} (sound : AreSoundIds ids) where
   pub asked : holds_unretired ids.retired_below ids.retire_prior_to ids ≡ any_below ids.retire_prior_to ids
   asked = list_any-between _ _ _ _ ids.unretired sound.unretired (omega arith)
 
@@ -32,7 +32,7 @@ module _ {ids : LocalIds} (sound : AreSound ids) where
   rises : any_below ids.retire_prior_to ids ≡ false → Rise ids.retire_prior_to ids.issued ids.unretired
   rises none = Rise-from _ _ _ ids.unretired sound.unretired none (Rise-bound _ _ _ sound.deadlines)
 
-  pub timed_sound : AreSound (timed_out ids)
+  pub timed_sound : AreSoundIds (timed_out ids)
   timed_sound = let marks = mark_rises _ _ ids.deadlines sound.deadlines in grind (arith, asked, rises)
 
   pub moves_answer : any_below ids.retire_prior_to ids ≡ false → (next : ℕ)
@@ -41,7 +41,7 @@ module _ {ids : LocalIds} (sound : AreSound ids) where
 
   -- ---- numbers issued and retired
 
-  pub issued_sound : (count now : ℕ) → ids.issued + count ≤ 2 ^ 62 → AreSound (with_issued count now ids)
+  pub issued_sound : (count now : ℕ) → ids.issued + count ≤ 2 ^ 62 → AreSoundIds (with_issued count now ids)
   issued_sound zero _ _ = sound
   issued_sound (suc count) now small =
       let end : ids.issued + suc count ≡ ids.issued + count + 1 = omega arith in record {
@@ -52,7 +52,7 @@ module _ {ids : LocalIds} (sound : AreSound ids) where
             (Rise-wider _ _ _ _ _ sound.deadlines (omega arith) (omega arith)));
       }
 
-  pub retired_sound : (number : ℕ) → AreSound (without_number number ids)
+  pub retired_sound : (number : ℕ) → AreSoundIds (without_number number ids)
   retired_sound number = record {
     small = sound.small;
     marks = sound.marks;
@@ -61,5 +61,5 @@ module _ {ids : LocalIds} (sound : AreSound ids) where
   }
 
 -- before any is issued
-pub none_sound : (cid_len : ℕ) (lifetime : Option ℕ) → AreSound (no_ids cid_len lifetime)
+pub none_sound : (cid_len : ℕ) (lifetime : Option ℕ) → AreSoundIds (no_ids cid_len lifetime)
 none_sound _ _ = grind arith

@@ -2,13 +2,13 @@
 use Rattle.std.specs.Prelude.{ℕ, List}
 use Rattle.std.specs.Map.{keys_of}
 use Rattle.recovery_queue.specs.declared.slots.Slot.{Slot}
-use Rattle.recovery_queue.specs.Slots.{entries_of}
+use Rattle.recovery_queue.specs.Slots.{entries_in}
 use Rattle.recovery_ids.specs.LocalIds.{LocalIds}
 use Rattle.recovery_ids.specs.declared.state.CidState.TheInside.{Inside}
 
 -- the numbers that stand in a queue of slots, in their order
 abbrev pub numbers_in : List (Slot (Unit {0})) → List ℕ
-numbers_in slots = keys_of (entries_of slots)
+numbers_in slots = keys_of (entries_in slots)
 
 abbrev pub local_ids : Inside → LocalIds
 local_ids state = record {

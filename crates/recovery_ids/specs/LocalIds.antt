@@ -107,7 +107,7 @@ Rise low high [] = low ≤ high
 Rise low high (n ∷ ns) = (low ≤ n) × Rise (n + 1) high ns
 
 -- the unretired numbers rise from the first mark, the deadlines' numbers from the second, all below the count issued
-pub record AreSound (ids : LocalIds) : Type 0 where
+pub record AreSoundIds (ids : LocalIds) : Type 0 where
   pub small : ids.issued ≤ 2 ^ 62
   pub marks : ids.retired_below ≤ ids.retire_prior_to
   pub unretired : Rise ids.retired_below ids.issued ids.unretired

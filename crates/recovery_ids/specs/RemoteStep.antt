@@ -28,13 +28,13 @@ ids_given frame ids =
     record { active = unwrap_or least ids.active; held = held }
 
 -- the active id is dropped, and the next one is active; where there is none, all stays
-abbrev pub moved_to : Option ℕ → RemoteIds → RemoteIds
-moved_to None ids = ids
-moved_to (Some next) ids = record { active = next; held = without_id ids.active ids.held }
+abbrev pub with_active : Option ℕ → RemoteIds → RemoteIds
+with_active None ids = ids
+with_active (Some next) ids = record { active = next; held = without_id ids.active ids.held }
 
 -- the next id is the one of the least number held above the active one
 abbrev pub ids_used : RemoteIds → RemoteIds
-ids_used ids = moved_to (least_held ids.held (ids.active + 1)) ids
+ids_used ids = with_active (least_held ids.held (ids.active + 1)) ids
 
 -- what one entry makes of the ids
 unfoldable pub remote_ids_with : RemoteEntry → RemoteIds → RemoteIds

@@ -2,7 +2,7 @@
 ghost use Rattle.std.specs.Prelude.{◌≡◌, ℕ, List, ◌+◌, ◌-◌, ◌<◌, ◌≤◌, ◌^◌, ◌==◌, nat_lt, [], ◌++◌, length, map, filter, drop, not, IsOk, IfOk, OnOk, OnErr, MatchResult};
 ghost use Rattle.std.specs.List.{list_any, range_with_len};
 ghost use Rattle.std.specs.VecDeque.{deque_len, deque_capacity};
-ghost use Rattle.recovery_ids.specs.LocalIds.{without_last_at, with_deadline, deadlines_with_last, next_mark, no_ids, with_issued, holds_unretired, timed_out, first_moment, RefusesRetirement, AcceptsRetirement, Rise, AreSound};
+ghost use Rattle.recovery_ids.specs.LocalIds.{without_last_at, with_deadline, deadlines_with_last, next_mark, no_ids, with_issued, holds_unretired, timed_out, first_moment, RefusesRetirement, AcceptsRetirement, Rise, AreSoundIds};
 ghost use Rattle.recovery_ids.specs.CidState.{numbers_in};
 
 use recovery_base::below::{IssuedCid, NoMemory, TransportError};
@@ -43,7 +43,7 @@ pub struct CidState {
 }
 
 impl Model for CidState {
-    ghost use Rattle.recovery_ids.specs.LocalIds.{LocalIds, AreSound};
+    ghost use Rattle.recovery_ids.specs.LocalIds.{LocalIds, AreSoundIds};
 
     ghost Value = { LocalIds };
 
@@ -51,7 +51,7 @@ impl Model for CidState {
 
     ghost view = { local_ids };
 
-    ghost invariant = { λ state. AreSound (local_ids state) };
+    ghost invariant = { λ state. AreSoundIds (local_ids state) };
 }
 
 /// Why a retirement by the peer is refused (RFC 9000, 19.16).
@@ -101,7 +101,7 @@ impl CidState {
         requires { issued ≤ 2 ^ 62 }
         ensures ids { IfOk result (λ ids. ids ≡ with_issued issued now (no_ids cid_len cid_lifetime)) }
         ensures memory { OnErr result (0 < issued) }
-        ensures sound { IfOk result AreSound }
+        ensures sound { IfOk result AreSoundIds }
     {
         ask_for_room(alloc, issued)?;
         let mut active_seq = SlotQueue::new(alloc);
@@ -136,7 +136,7 @@ impl CidState {
         ensures answer { result
             ≡ holds_unretired self.old.retire_prior_to self.new.retire_prior_to self.new }
         ensures never_falls { self.old.retire_prior_to ≤ self.new.retire_prior_to }
-        ensures sound { AreSound self.new }
+        ensures sound { AreSoundIds self.new }
     {
         let next = pop_mark(&mut self.retire_timestamp, self.retire_seq);
         if is_any_below(&self.active_seq, self.retire_seq) {
@@ -158,7 +158,7 @@ impl CidState {
         ensures ok { OnOk result (self.new ≡ with_issued (length ids.now) now self.old) }
         ensures err { OnErr result (self.new ≡ self.old) }
         ensures empty { ids.now ≡ [] → IsOk result }
-        ensures sound { AreSound self.new }
+        ensures sound { AreSoundIds self.new }
     {
         let issued = self.issued + ids.len() as u64;
         if ids.is_empty() {
@@ -185,7 +185,7 @@ impl CidState {
             (λ more. AcceptsRetirement self.old sequence limit more self.new)
             (RefusesRetirement self.old sequence) }
         ensures err { OnErr result (self.new ≡ self.old) }
-        ensures sound { AreSound self.new }
+        ensures sound { AreSoundIds self.new }
     {
         if self.cid_len == 0 {
             return Err(RetireError::CidsNotInUse);
@@ -216,7 +216,7 @@ impl CidState {
     pub fn issued(&self) -> u64
         ensures value { result ≡ self.now.issued }
         ensures bound { result ≤ 2 ^ 62 }
-        ensures sound { AreSound self.now }
+        ensures sound { AreSoundIds self.now }
     {
         self.issued
     }

@@ -6,7 +6,7 @@ use Rattle.recovery_base.specs.Numbers.{Recent, With}
 use Rattle.recovery_base.proofs.WindowLaws.{HasGreatest, iff_trans, missing_with}
 use Rattle.recovery_acks.specs.Acks.{AckCounts, Acks, AsksAtOnce, IsPending, acks_sent, with_required, with_thresholds}
 use Rattle.recovery_acks.proofs.AckLaws.{out_of_order_alike}
-use Rattle.recovery_acks.proofs.RunLaws.{highest_alike}
+use Rattle.recovery_acks.proofs.HighestRunLaws.{highest_alike}
 use Rattle.recovery_queue.specs.Queues.{QueueWords}
 use Rattle.recovery_ledger.specs.Acks.{ToAcknowledge, Arms, heard_by, counts_by}
 use Rattle.recovery_ledger.specs.Packets.{Packet, packet_at, is_above}

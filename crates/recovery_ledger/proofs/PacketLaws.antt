@@ -9,7 +9,7 @@ use Rattle.std.proofs.lemmas.List.Sums.{sum_by-cons}
 use Rattle.std.proofs.lemmas.Bool.Decides.{nat_tests}
 use Rattle.std.proofs.lemmas.Map.Lookups.{exact_unsigned}
 use Rattle.recovery_queue.proofs.SlotLaws.{at_itself}
-pub use Rattle.recovery_queue.proofs.EntryLaws.{AllBelow, all_below}
+pub use Rattle.recovery_queue.proofs.SlotEntryLaws.{AllBelow, all_below}
 use Rattle.recovery_ledger.specs.Packets.{Packet, Packets, packet_at, without, without_some, replaced, carrying, AreBelow, HasSize, is_above, is_silent_above, silent_above, least_number, forgotten_number, entry_at, entry_number}
 use Rattle.recovery_ledger.specs.Counts.{silent_count, eliciting_count, size_count}
 

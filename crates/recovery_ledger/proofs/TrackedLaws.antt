@@ -3,8 +3,8 @@
 use Rattle.std.proofs.lemmas.Bool.Decides.{nat_tests}
 use Rattle.std.proofs.Common.{◌≡◌, Bool, MatchOption, ℕ, ◌+◌, ◌-◌, ◌^◌, ◌<◌, ◌≤◌, min, max, true, false, [], ◌∷◌, ◌++◌, length, filter, Option, None, Some, refl, arith, length-append, IfSome}
 use Rattle.recovery_queue.specs.Queues.{QueueWords, IsVoid}
-use Rattle.recovery_queue.specs.Slots.{Divides, entries_of, item_at, Finds, IsHeldAt, first_number, is_from, AreFrom, IsClosedUp}
-use Rattle.recovery_queue.proofs.EntryLaws.{entries_fit, taken, item_held, filed}
+use Rattle.recovery_queue.specs.Slots.{Divides, entries_in, item_at, Finds, IsHeldAt, first_number, is_from, AreFrom, IsClosedUp}
+use Rattle.recovery_queue.proofs.SlotEntryLaws.{entries_fit, taken, item_held, filed}
 use Rattle.recovery_queue.proofs.SlotLaws.{Slots, slot_within}
 use Rattle.recovery_ledger.specs.Probes.{first_filled}
 use Rattle.recovery_ledger.specs.Places.{HasSlots, IsPlaceOf, FindsPacket}
@@ -76,20 +76,20 @@ module _ {P M S : Type 0} (words : QueueWords P S) (last : Option ℕ) (from fil
 module _ {P M S : Type 0} {words : QueueWords P S} {slots : Slots (Packet P M)} {last : Option ℕ}
     {silent sized from filled : ℕ} (tracked : AreTracked words slots last silent sized from filled) where
   abbrev old : Packets P M
-  old = entries_of slots
+  old = entries_in slots
 
   kept_all : AreKept words last from filled old (2 ^ 64)
   kept_all = (tracked.found, tracked.void, all_below old (2 ^ 64) tracked.small)
 
   -- what is tracked once each packet is kept
   tracked_by : {new : Slots (Packet P M)} {next : Option ℕ} {fewer less lower empty : ℕ} {packets : Packets P M}
-      → entries_of new ≡ packets → AreCounted packets next fewer less → IsClosedUp new
+      → entries_in new ≡ packets → AreCounted packets next fewer less → IsClosedUp new
       → AreKept words next lower empty packets (2 ^ 64) → AreTracked words new next fewer less lower empty
   tracked_by {packets = packets} is counted closed kept =
       grind (arith, is, counted, closed, kept, are_below packets (2 ^ 64))
 
   module _ {new : Slots (Packet P M)} (number : ℕ) (packet : Packet P M) where
-    pub tracked_taken : packet_at old number ≡ Some packet → entries_of new ≡ without old number → IsClosedUp new
+    pub tracked_taken : packet_at old number ≡ Some packet → entries_in new ≡ without old number → IsClosedUp new
         → AreTracked words new last (silent - silent_count last (number, packet)) (sized - size_count packet) from
         filled
     tracked_taken found is closed =
@@ -97,7 +97,7 @@ module _ {P M S : Type 0} {words : QueueWords P S} {slots : Slots (Packet P M)} 
         (kept_without words last from filled old (2 ^ 64) number kept_all)
 
     pub tracked_carrying : {lower : ℕ} (contents : P) → packet_at old number ≡ Some packet
-        → entries_of new ≡ replaced number (Some (with_contents contents packet)) old
+        → entries_in new ≡ replaced number (Some (with_contents contents packet)) old
         → length new ≡ length slots → lower ≤ filled → (number < lower → IsVoid words contents)
         → AreTracked words new last silent sized from lower
     tracked_carrying {lower} contents found is same less nothing =
@@ -111,7 +111,7 @@ module _ {P M S : Type 0} {words : QueueWords P S} {slots : Slots (Packet P M)} 
         (grind (arith, tracked.closed, same, kept.2, is)) kept.1
 
   module _ (new : Slots (Packet P M)) (number : ℕ) (packet : Packet P M) (fits : number < 2 ^ 64)
-      (below : AreBelow old number) (is : entries_of new ≡ old ++ (number, packet) ∷ []) where
+      (below : AreBelow old number) (is : entries_in new ≡ old ++ (number, packet) ∷ []) where
     kept_below : AreKept words last from filled old number
     kept_below = (tracked.found, tracked.void, all_below old number below)
 
@@ -143,7 +143,7 @@ module _ {P M S : Type 0} {words : QueueWords P S} {slots : Slots (Packet P M)} 
     pub tracked_forgetting : {left : Slots (Packet P M)} (least : ℕ) (gone : Packet P M)
         {inside : Packet P M} → inside ≡ packet → inside.ack_eliciting ≡ false → IsAboveLast last number
         → packet_at old least ≡ Some gone → is_above last least ≡ true
-        → AreAboveFrom last least old → entries_of left ≡ without (entries_of new) least → IsClosedUp left
+        → AreAboveFrom last least old → entries_in left ≡ without (entries_in new) least → IsClosedUp left
         → AreTracked words left last silent (sized + size_count packet - size_count gone) least (min filled number)
     tracked_forgetting least gone view is_silent above found up lowest taken closed =
         tracked_by (grind (arith, taken, is, (found-append old ((number, packet) ∷ []) least gone found).1))
@@ -235,6 +235,6 @@ module _ {P M S : Type 0} (words : QueueWords P S) where
 -- what is left once a packet was taken out of its slot and put back with other contents
 pub record Exchanges {P M : Type 0} (slots : Slots (Packet P M)) (number : ℕ) (packet : Packet P M)
     (contents : P) (new : Slots (Packet P M)) : Type 0 where
-  pub found : packet_at (entries_of slots) number ≡ Some packet
-  pub entries : entries_of new ≡ replaced number (Some (with_contents contents packet)) (entries_of slots)
+  pub found : packet_at (entries_in slots) number ≡ Some packet
+  pub entries : entries_in new ≡ replaced number (Some (with_contents contents packet)) (entries_in slots)
   pub kept : length new ≡ length slots

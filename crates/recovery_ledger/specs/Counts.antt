@@ -1,7 +1,7 @@
 -- The counts that are kept beside the tracked packets.
 use Rattle.std.specs.Prelude.{◌≡◌, ℕ, ◌^◌, ◌<◌, ◌≤◌, ◌==◌, ◌&&◌, sum_by, List, [], ◌∷◌, true, Option, if◌then◌else◌}
 use Rattle.recovery_queue.specs.declared.slots.Slot.{Slot}
-use Rattle.recovery_queue.specs.Slots.{entries_of, IsClosedUp}
+use Rattle.recovery_queue.specs.Slots.{entries_in, IsClosedUp}
 use Rattle.recovery_queue.specs.Queues.{QueueWords, IsVoid}
 use Rattle.recovery_ledger.specs.Packets.{Packet, Packets, AreBelow, is_above, is_silent_above}
 
@@ -39,8 +39,8 @@ AreVoidBelow words from (entry ∷ packets) =
 -- a number on.
 pub record AreTracked {P M S : Type 0} (words : QueueWords P S) (slots : List (Slot (Packet P M)))
     (last : Option ℕ) (silent sized from filled_from : ℕ) : Type 0 where
-  pub counted : AreCounted (entries_of slots) last silent sized
+  pub counted : AreCounted (entries_in slots) last silent sized
   pub closed : IsClosedUp slots
-  pub found : AreAboveFrom last from (entries_of slots)
-  pub small : AreBelow (entries_of slots) (2 ^ 64)
-  pub void : AreVoidBelow words filled_from (entries_of slots)
+  pub found : AreAboveFrom last from (entries_in slots)
+  pub small : AreBelow (entries_in slots) (2 ^ 64)
+  pub void : AreVoidBelow words filled_from (entries_in slots)

@@ -58,6 +58,5 @@ SumsLeave old generation packets new =
 
 -- a counter would pass the end of its type
 abbrev pub Overflows : {P M : Type 0} → InFlight → Packet P M → Type 0
-Overflows counters packet =
-    (2 ^ 64 ≤ counters.bytes + packet.size)
+Overflows counters packet = (2 ^ 64 ≤ counters.bytes + packet.size)
     ⊎ (2 ^ 64 ≤ counters.ack_eliciting + (if packet.ack_eliciting then 1 else 0))

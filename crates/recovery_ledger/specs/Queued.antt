@@ -30,8 +30,8 @@ module _ {P M S : Type 0} (words : QueueWords P S) where
   joined_with pending packet = option_map_or (λ there. words.joined pending there.retransmits) packet pending
 
   -- a probe is asked for, and finds this: a PING is marked only where no ACK at once is asked for
-  abbrev pub probed : Bool → ProbeFound → Packets P M → Queued P → Queued P
-  probed immediate found packets old = record old {
+  abbrev pub probe_queued : Bool → ProbeFound → Packets P M → Queued P → Queued P
+  probe_queued immediate found packets old = record old {
     pending = joined_with old.pending (option_and_then (packet_at packets) found.moved);
     ping = old.ping || (found.nothing && not (immediate || old.immediate));
     immediate = immediate || old.immediate;
@@ -44,7 +44,7 @@ module _ {P M S : Type 0} (words : QueueWords P S) where
       let lost = packet_at (sent_by words earlier).tracked number in
       record (queued_by earlier) { pending = joined_with (queued_by earlier).pending lost }
   queued_by (probes immediate found ∷ earlier) =
-      probed immediate found (sent_by words earlier).tracked (queued_by earlier)
+      probe_queued immediate found (sent_by words earlier).tracked (queued_by earlier)
   queued_by (takes_pending ∷ earlier) = record (queued_by earlier) { pending = words.empty }
   queued_by (emptied ∷ earlier) = record (queued_by earlier) { pending = words.empty }
   queued_by (feeds_back counts ∷ earlier) = record (queued_by earlier) { ecn = counts }

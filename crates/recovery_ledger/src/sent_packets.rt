@@ -3,7 +3,7 @@ ghost use Rattle.std.specs.Prelude.{◌≡◌, Decides, ◌^◌, ◌<◌, ◌≤
 ghost use Rattle.std.specs.Option.{is_some};
 ghost use Rattle.recovery_ledger.specs.Packets.{Tracking, no_packets, packet_at, AreBelow, IsAboveLast, HasSize, is_above, least_number, silent_in, forgotten_number, forgotten_entry, after_sending, after_taking, after_carrying, contents_or};
 ghost use Rattle.recovery_queue.specs.Queues.{IsVoid};
-ghost use Rattle.recovery_queue.specs.Slots.{entries_of};
+ghost use Rattle.recovery_queue.specs.Slots.{entries_in};
 ghost use Rattle.recovery_ledger.specs.Places.{HasSlots, FindsPacket};
 ghost use Rattle.recovery_ledger.specs.Probes.{first_filled};
 ghost use Rattle.recovery_ledger.specs.Counts.{silent_count, size_count, AreAboveFrom, AreVoidBelow};
@@ -37,14 +37,14 @@ pub struct SentPackets<Q: RetransmitQueue> {
 }
 
 impl<Q: RetransmitQueue> Model for SentPackets<Q> {
-    ghost use Rattle.recovery_queue.specs.Slots.{entries_of};
+    ghost use Rattle.recovery_queue.specs.Slots.{entries_in};
     ghost use Rattle.recovery_ledger.specs.Packets.{Tracking};
     ghost use Rattle.recovery_ledger.specs.Counts.{AreTracked};
 
     ghost Value = { Tracking Q.Contents Q.Meta };
 
     ghost view = { λ a.
-        record { packets = entries_of a.packets; last_eliciting = a.last_eliciting } };
+        record { packets = entries_in a.packets; last_eliciting = a.last_eliciting } };
 
     ghost invariant = { λ a.
         AreTracked Q.words a.packets a.last_eliciting
@@ -233,11 +233,11 @@ fn first_silent<Q>(packets: &SlotQueue<SentPacket<Q>>, last: Option<u64>, from: 
 where
     Q: RetransmitQueue + Drop,
     Q::Meta: Drop,
-    requires found { AreAboveFrom last from (entries_of packets.now) }
-    requires small { AreBelow (entries_of packets.now) (2 ^ 64) }
+    requires found { AreAboveFrom last from (entries_in packets.now) }
+    requires small { AreBelow (entries_in packets.now) (2 ^ 64) }
     ensures first { result
-        ≡ least_number (filter (λ entry. is_above last entry.0) (entries_of packets.now)) }
-    ensures least { IfSome result (λ least. AreAboveFrom last least (entries_of packets.now)) }
+        ≡ least_number (filter (λ entry. is_above last entry.0) (entries_in packets.now)) }
+    ensures least { IfSome result (λ least. AreAboveFrom last least (entries_in packets.now)) }
 {
     match last {
         Some(last) => packets.first_from(last.checked_add(1)?.max(from)),
@@ -267,9 +267,9 @@ fn first_filled<Q>(
 where
     Q: RetransmitQueue + Drop,
     Q::Meta: Drop,
-    requires { AreVoidBelow Q.words from (entries_of packets.now) }
-    ensures number { result.0 ≡ first_filled Q.words streams.now (entries_of packets.now) }
-    ensures void { AreVoidBelow Q.words result.1 (entries_of packets.now) }
+    requires { AreVoidBelow Q.words from (entries_in packets.now) }
+    ensures number { result.0 ≡ first_filled Q.words streams.now (entries_in packets.now) }
+    ensures void { AreVoidBelow Q.words result.1 (entries_in packets.now) }
 {
     let mut are_void = true;
     for place in packets.place_from(from)..packets.len() {

@@ -15,7 +15,7 @@ use Rattle.core.proofs.slice.Prefixes.{drop_more, prefix_len-drop_yes}
 use Rattle.core.proofs.dec2flt.DigitsLemmas.{HasRead, HasRead_more, digits_len-take, digit_range, is_digit}
 use Rattle.core.proofs.dec2flt.Eight.{eight_at, word_at}
 use Rattle.recovery_lines.specs.Reading.{AreDigits}
-use Rattle.recovery_lines.proofs.NumberLaws.{by_index, taken_digits}
+use Rattle.recovery_lines.proofs.NumberWordLaws.{by_index, taken_digits}
 
 pub are_digits : (bs : List ℕ) (at value : ℕ) → HasRead bs 0 0 at value → AreDigits bs at
 are_digits bs at value r =

@@ -10,10 +10,10 @@ use Rattle.recovery_lines.specs.declared.lines.Line.TheVariants.{Said, Ids, Path
 use Rattle.recovery_lines.specs.Fields.{Field, Tail, no_tail, an_item_tail, Values, words_for, AllFit}
 use Rattle.recovery_lines.specs.Lines.{ItemEvent, Means, Form, FormValues, issue_ids, new_path, forms, saying, words_said, spelling, IsWithinTypes}
 use Rattle.recovery_lines.specs.Reading.{◌>>=◌, field, value_of, items_read, fields_read, all_read, reading, form_named, line_at, line_behind}
-use Rattle.recovery_lines.proofs.FieldLaws.{bind_some, again, field_takes}
+use Rattle.recovery_lines.proofs.LineFieldLaws.{bind_some, again, field_takes}
 use Rattle.recovery_lines.proofs.IdLaws.{ids_count, ids_first}
 use Rattle.recovery_lines.proofs.ItemLaws.{items_take, items_again}
-use Rattle.recovery_lines.proofs.PlainLaws.{IsPlain}
+use Rattle.recovery_lines.proofs.PlainWordLaws.{IsPlain}
 
 -- ---- several fields, and what stands behind them
 

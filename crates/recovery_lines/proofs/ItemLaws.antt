@@ -4,8 +4,8 @@ use Rattle.std.proofs.Common.{◌≡◌, ℕ, ◌+◌, ◌<◌, ◌^◌, List, [
 use Rattle.std.proofs.Common.{arith, lit≤, refl}
 use Rattle.std.specs.List.{AllByRecursion}
 use Rattle.recovery_lines.specs.Reading.{◌>>=◌, field, items_read, number_of}
-use Rattle.recovery_lines.proofs.NumberLaws.{number_again, number_takes}
-use Rattle.recovery_lines.proofs.PlainLaws.{IsPlain, decimal_plain}
+use Rattle.recovery_lines.proofs.NumberWordLaws.{number_again, number_takes}
+use Rattle.recovery_lines.proofs.PlainWordLaws.{IsPlain, decimal_plain}
 
 abbrev pub AreItems : List ℕ → Type 0
 AreItems items = AllByRecursion (λ item. item < 2 ^ 64) items

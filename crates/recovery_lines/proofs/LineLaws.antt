@@ -10,7 +10,7 @@ use Rattle.recovery_lines.specs.Words.{words_of}
 use Rattle.recovery_lines.specs.Lines.{ItemEvent, Means, saying, spelling, IsWithinTypes, Spells, IsSame, HoldsList}
 use Rattle.recovery_lines.specs.Reading.{whole, line_at, line_of, TakesMemory, TookAll}
 use Rattle.recovery_lines.proofs.AddressLaws.{one_address}
-use Rattle.recovery_lines.proofs.PlainLaws.{plain_no_feed, words_joined}
+use Rattle.recovery_lines.proofs.PlainWordLaws.{plain_no_feed, words_joined}
 use Rattle.recovery_lines.proofs.FormLaws.{Saying, Spell, said_by, means_said, line_takes, line_again}
 
 -- ---- whole lines

@@ -1,5 +1,5 @@
--- Numerals of up to 64 digits: what `decimal` writes of the value of digits, and its first digit. `NumberLaws` rest on
--- it.
+-- Numerals of up to 64 digits: what `decimal` writes of the value of digits, and its first digit. `NumberWordLaws` rest
+-- on it.
 use Rattle.std.proofs.Common.{◌≡◌, ◌+◌, ◌*◌, ◌%◌, ℕ, ◌<◌, ◌≤◌, ◌^◌, List, [], ◌∷◌, ◌++◌, length, get_or, decimal, sym, arith, append_assoc, append-nil, length-append}
 use Rattle.std.specs.Str.Parse.{AllDigits, digits_value, digits_value_after}
 use Rattle.std.specs.Char.{digit_value}

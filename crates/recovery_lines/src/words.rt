@@ -281,7 +281,7 @@ impl<'a> Words<'a> {
     }
 
     /// The next word as a packet number, 0 to `u64::MAX`, or as none, which is spelled `-`.
-    #[tactic(auto, using(crate::proofs::FieldLaws::largest_is), unfolding(crate::specs::Reading::field))]
+    #[tactic(auto, using(crate::proofs::LineFieldLaws::largest_is), unfolding(crate::specs::Reading::field))]
     pub fn largest(&mut self) -> Option<Option<u64>>
         ensures { ReadsBy (field largest_of) self.old self.new result }
     {

@@ -6,7 +6,7 @@ use Rattle.recovery_mtud.specs.Discovery.{Discovery, reports, size_of_probe}
 use Rattle.recovery_mtud.specs.DiscoveryLog.{MtuCall, polls, acks, loses, losses_end, discovery_after, discovery_by}
 use Rattle.recovery_mtud.specs.MtuEntries.{IsUntold, MtuEntry, losses_over, reported, probe_in_flight, size_at, entry_of, entries_by, min_mtu_in_use}
 use Rattle.recovery_mtud.specs.BurstRuns.{Loss, is_above, open_run, standing, unanswered, larger_acked, acked_numbers, lost_numbers, AreFatesApart, AreFourStanding, AreFourUnanswered}
-use Rattle.recovery_mtud.proofs.EntryLaws.{polled, Holds, holds_by, size_in_held}
+use Rattle.recovery_mtud.proofs.MtuEntryLaws.{polled, Holds, holds_by, size_in_held}
 use Rattle.recovery_mtud.proofs.BurstCounts.{has}
 use Rattle.recovery_mtud.proofs.BurstTies.{Needy, Coming, needy_acked, needy_probed, needy_lost, needy_ended, needy_report, needy_made, coming_acked, coming_probed, coming_lost, coming_ended, coming_report, coming_made}
 

@@ -4,7 +4,7 @@ use Rattle.std.proofs.Common.{◌≡◌, List, [], ◌∷◌, arith}
 use Rattle.std.proofs.lemmas.Bool.Decides.{nat_tests}
 use Rattle.recovery_mtud.specs.Discovery.{Discovery, IsDiscoverySound}
 use Rattle.recovery_mtud.specs.DiscoveryLog.{MtuCall, polls, discovery_after, discovery_by, IsPositiveMtuCall, ArePositiveMtuCalls, mtu_after}
-use Rattle.recovery_mtud.proofs.BurstLaws.{filter_fewer, with_burst_few}
+use Rattle.recovery_mtud.proofs.BurstCallLaws.{filter_fewer, with_burst_few}
 
 -- one call
 pub discovery_after_sound : (call : MtuCall) → IsPositiveMtuCall call → (old : Discovery) → IsDiscoverySound old

@@ -8,13 +8,13 @@ use Rattle.std.proofs.lemmas.Bool.Decides.{nat_tests}
 use Rattle.std.proofs.lemmas.List.Elements.{recursion_from_All}
 use Rattle.recovery_mtud.specs.declared.config.MtuDiscoveryConfig.{MtuDiscoveryConfig}
 use Rattle.recovery_mtud.specs.declared.search.Probing.{Probing}
-use Rattle.recovery_mtud.specs.Search.{MtuSearch, upper_from, begun, size_to_probe, probing_on}
+use Rattle.recovery_mtud.specs.Search.{MtuSearch, upper_from, search_begun, size_to_probe, probing_on}
 use Rattle.recovery_mtud.specs.Bursts.{LossBursts}
 use Rattle.recovery_mtud.specs.Discovery.{Discovery, is_searching_of, limit_or_greatest}
 use Rattle.recovery_mtud.specs.DiscoveryLog.{MtuCall, polls, acks, is_limited, discovery_after, discovery_by}
 use Rattle.recovery_mtud.specs.MtuEntries.{IsUntold, search_settings, MtuEntry, unprobed, poll_entry, entry_of, entries_by, MtuProbe, probe_in_flight, limit_in_use, mtu_in_use}
 use Rattle.recovery_mtud.specs.SearchRuns.{search_runs, search_of, before_search, next_activation, is_searched, ProbesInSearch, probed_sizes, acked_sizes, lost_sizes, TakesFew, AreLimitsOutside, IsHonest, IsNearBest, EndsNearBest, start_upper}
-use Rattle.recovery_mtud.proofs.EntryLaws.{polled, held, Holds, holds_by}
+use Rattle.recovery_mtud.proofs.MtuEntryLaws.{polled, held, Holds, holds_by}
 use Rattle.recovery_mtud.proofs.SearchTies.{Narrows, left, narrows_next, Fair, fair_next, fair_end, Within, within_begun, within_next}
 
 -- ---- the entries of a search
@@ -130,7 +130,7 @@ module _ (made : Discovery) (link : ℕ) (settings : MtuDiscoveryConfig) (entrie
 
   -- a poll that begins a search
   fresh_kept : Holds made entries (old None) → search_runs entries ≡ false
-      → Kept made link settings 16 entries mtu activation (Some (begun mtu (search_in None)))
+      → Kept made link settings 16 entries mtu activation (Some (search_begun mtu (search_in None)))
   fresh_kept holds idle =
       let within = within_begun mtu (search_in None) in
       let bound = ap₂ (λ (m : ℕ) (l : Option ℕ). upper_from m (limit_or_greatest l) settings.upper_bound)
@@ -160,7 +160,7 @@ module _ (made : Discovery) (link : ℕ) (settings : MtuDiscoveryConfig) (entrie
       → Leaves made link settings entries call (old probing)
   told further call (Some p) = searching further call p p.in_flight
   told further (polls now next) None = λ holds kept. (
-      let fresh = begun mtu (search_in None) in
+      let fresh = search_begun mtu (search_in None) in
       let found = goes_on 16 now next None fresh refl (fresh_kept holds (sym holds.runs)) in
       (left 16 fresh, grind (arith, nat_tests, found))
       )

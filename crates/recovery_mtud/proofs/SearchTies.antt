@@ -7,7 +7,7 @@ use Rattle.std.proofs.Math.Nat.{pow-suc}
 use Rattle.std.proofs.lemmas.Bool.Decides.{nat_tests}
 use Rattle.recovery_mtud.specs.declared.config.MtuDiscoveryConfig.{MtuDiscoveryConfig}
 use Rattle.recovery_mtud.specs.declared.search.Probing.{Probing}
-use Rattle.recovery_mtud.specs.Search.{MtuSearch, begun, narrowed, repeats, size_to_probe}
+use Rattle.recovery_mtud.specs.Search.{MtuSearch, search_begun, narrowed, repeats, size_to_probe}
 
 abbrev pub flying : Option ℕ → ℕ
 flying None = 0
@@ -74,7 +74,7 @@ Within settings bound mtu p = (p.lower ≤ bound) × (p.upper ≤ bound) × (p.l
     → (mtu ≤ p.lower) × (p.lower < p.last) × (p.upper ≤ settings.upper_bound)))
 
 pub within_begun : (mtu : ℕ) (search : MtuSearch)
-    → (let fresh = begun mtu search in Within search.settings fresh.upper mtu fresh)
+    → (let fresh = search_begun mtu search in Within search.settings fresh.upper mtu fresh)
 within_begun _ _ = grind arith
 
 pub within_next : (settings : MtuDiscoveryConfig) (bound mtu number size : ℕ) (p : Probing)

@@ -25,8 +25,8 @@ abbrev pub upper_from : ℕ → ℕ → ℕ → ℕ
 upper_from mtu limit bound = min (max bound (min mtu limit)) limit
 
 -- it begins between the MTU in use, or what the peer takes, and the upper bound
-abbrev pub begun : ℕ → MtuSearch → Probing
-begun mtu search =
+abbrev pub search_begun : ℕ → MtuSearch → Probing
+search_begun mtu search =
     let lower = min mtu search.limit in
     let upper = upper_from mtu search.limit search.settings.upper_bound in
     record { lower = lower; upper = upper; last = lower; in_flight = None; losses = 0 }
@@ -58,7 +58,7 @@ size_to_probe change p = if repeats p then Some p.last else next_size change (na
 abbrev pub probing_at : ℕ → ℕ → MtuSearch → Option Probing
 probing_at mtu now search =
     option_map_or (λ p. if is_some p.in_flight then None else Some p) search.probing
-    (if nat_lt now search.activation then None else Some (begun mtu search))
+    (if nat_lt now search.activation then None else Some (search_begun mtu search))
 
 -- the size that a poll is told to probe, if any
 abbrev pub search_poll : ℕ → ℕ → MtuSearch → Option ℕ

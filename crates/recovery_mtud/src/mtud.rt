@@ -138,7 +138,7 @@ impl MtuDiscovery {
     /// A packet of so many bytes was acknowledged: whether it was the probe in flight. The MTU in use is then its size.
     /// Outside Data nothing changes: probes are packets of 1-RTT keys, and other spaces have the same numbers again
     /// (RFC 9000, 12.3).
-    #[tactic(auto, using(crate::proofs::BurstLaws::bursts_acked_sound))]
+    #[tactic(auto, using(crate::proofs::BurstCallLaws::bursts_acked_sound))]
     pub fn on_acked(&mut self, space: SpaceId, packet_number: u64, packet_bytes: u16) -> bool
         ensures answer { result ≡ same_space space Data && is_probe packet_number self.old }
         ensures after { self.new

@@ -1,7 +1,7 @@
 //! The search for a path's MTU (RFC 8899, 5; RFC 9000, 14.3).
 ghost use Rattle.std.specs.Prelude.{◌≡◌, ◌<◌, ◌≤◌, None, is_some, IfSome, if◌then◌else◌};
 ghost use Rattle.std.specs.Option.{option_and_then};
-ghost use Rattle.recovery_mtud.specs.Search.{begun, narrowed, next_size, size_to_probe, probing_at, search_poll, search_polled};
+ghost use Rattle.recovery_mtud.specs.Search.{search_begun, narrowed, next_size, size_to_probe, probing_at, search_poll, search_polled};
 ghost use Rattle.recovery_mtud.specs.Search.{later, probed_size, probing_acked, probing_lost, search_with, IsProbingSound};
 
 use crate::config::MtuDiscoveryConfig;
@@ -140,7 +140,7 @@ impl Search {
     /// The MTU in use counts as a probe that arrived: the first one probed is above it.
     fn begin(&self, mtu: u16) -> Probing
         requires { 0 < mtu }
-        ensures value { result ≡ begun mtu self.now }
+        ensures value { result ≡ search_begun mtu self.now }
         ensures sound { IsProbingSound result }
     {
         let lower = mtu.min(self.limit);

@@ -7,7 +7,7 @@ use Rattle.recovery_mtud.proofs.SearchRunLaws.{IsInTurn}
 use Rattle.recovery_paths.specs.declared.live_paths.PathName.TheVariants.{Current, Previous}
 use Rattle.recovery_paths.specs.PathMaking.{PathSettings}
 use Rattle.recovery_paths.specs.PathStates.{PathState, path_delay}
-use Rattle.recovery_paths.specs.PathLog.{OfPaths, OnEachPath, PathsEntry, PathEntry, PathPast, PathKnown, Following, paths_with, paths_after, pasts_by, each_path, state_of, known_of, known_with, known_following, past_with, past_following, on, moves, drops_previous, searches, passes}
+use Rattle.recovery_paths.specs.PathLog.{OfPaths, OnEachPath, PathsEntry, PathEntry, PathPast, PathKnown, Following, paths_with, paths_after, pasts_by, each_path, state_of, known_of, path_known_with, known_following, past_with, past_following, on, moves, drops_previous, searches, passes}
 use Rattle.recovery_paths.proofs.PathLogLaws.{some_same, for_changed, each-after}
 
 -- what passes was not delayed, and a limit is told while no search runs
@@ -42,7 +42,7 @@ module _ {K : Type 0} (settings : PathSettings K) where
   abbrev pub AreAllowed : OfPaths (PathKnown K) → List PathsEntry → Type 0
   AreAllowed paths [] = Unit {0}
   AreAllowed paths (entry ∷ earlier) =
-      IsAllowedOn (paths_after (known_with settings) (known_following settings) earlier paths) entry
+      IsAllowedOn (paths_after (path_known_with settings) (known_following settings) earlier paths) entry
       × AreAllowed paths earlier
 
   -- where nothing passes and no search sees anything, all is allowed

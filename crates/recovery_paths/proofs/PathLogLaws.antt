@@ -4,7 +4,7 @@ use Rattle.std.proofs.Common.{◌≡◌, List, [], ◌∷◌, ◌++◌, Option, 
 use Rattle.std.specs.Option.{ForSome}
 use Rattle.recovery_paths.specs.declared.live_paths.PathName.TheVariants.{Current, Previous}
 use Rattle.recovery_paths.specs.PathMaking.{PathSettings}
-use Rattle.recovery_paths.specs.PathLog.{OfPaths, PathsEntry, PathEntry, PathPast, PathKnown, Following, paths_with, paths_after, pasts_by, each_path, past_with, past_following, known_of, known_with, known_following, PathsStep, PathsLeft, on, moves, drops_previous, fresh, goes_on, receives}
+use Rattle.recovery_paths.specs.PathLog.{OfPaths, PathsEntry, PathEntry, PathPast, PathKnown, Following, paths_with, paths_after, pasts_by, each_path, past_with, past_following, known_of, path_known_with, known_following, PathsStep, PathsLeft, on, moves, drops_previous, fresh, goes_on, receives}
 use Rattle.recovery_paths.specs.PathStates.{PathState}
 
 pub some_same : {A : Type 0} {a b : A} → Some a ≡ Some b → a ≡ b
@@ -25,7 +25,7 @@ option-each f change changed same (Some path) = ap (λ q. Some q) (same path)
 module _ {K : Type 0} (settings : PathSettings K) where
   -- what is known after an entry is what the past with the entry gives
   pub known_of-with : (entry : PathEntry) (past : PathPast K)
-      → known_with settings entry (known_of past) ≡ known_of (past_with settings entry past)
+      → path_known_with settings entry (known_of past) ≡ known_of (past_with settings entry past)
   known_of-with (receives bytes) past = refl
   known_of-with entry past = refl
 
@@ -36,18 +36,18 @@ module _ {K : Type 0} (settings : PathSettings K) where
   known_of-following (goes_on remote now) past = refl
 
   each-with : (entry : PathsEntry) (pasts : OfPaths (PathPast K))
-      → paths_with (known_with settings) (known_following settings) entry (each_path known_of pasts)
+      → paths_with (path_known_with settings) (known_following settings) entry (each_path known_of pasts)
       ≡ each_path known_of (paths_with (past_with settings) (past_following settings) entry pasts)
   each-with (on Current entry) pasts = rw (known_of-with entry pasts.current) refl
   each-with (on Previous entry) pasts =
-      rw (option-each known_of (past_with settings entry) (known_with settings entry) (known_of-with entry)
+      rw (option-each known_of (past_with settings entry) (path_known_with settings entry) (known_of-with entry)
       pasts.previous) refl
   each-with (moves following) pasts = rw (known_of-following following pasts.current) refl
   each-with drops_previous pasts = refl
 
   -- entries before a log, as they change what the log leaves
   pub each-after : (first : PathState K) (entries log : List PathsEntry)
-      → paths_after (known_with settings) (known_following settings) entries
+      → paths_after (path_known_with settings) (known_following settings) entries
       (each_path known_of (pasts_by settings first log))
       ≡ each_path known_of (pasts_by settings first (entries ++ log))
   each-after first [] log = refl

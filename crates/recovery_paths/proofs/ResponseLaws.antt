@@ -6,7 +6,7 @@ use Rattle.std.proofs.lemmas.Bool.{or_parts}
 use Rattle.std.proofs.lemmas.Bool.Decides.{nat_tests}
 use Rattle.std.specs.declared.net.socket_addr.SocketAddr.{SocketAddr}
 use Rattle.recovery_paths.specs.declared.responses.PathResponse.{PathResponse}
-use Rattle.recovery_paths.specs.Responses.{AreSound, goes_to, remotes, renewed, same_address, with_response}
+use Rattle.recovery_paths.specs.Responses.{AreSoundResponses, goes_to, remotes, renewed, same_address, with_response}
 
 -- the front of a list whose elements have a property
 all_take : {X : Type 0} (P : X → Type 0) (n : ℕ) (xs : List X) → AllByRecursion P xs → AllByRecursion P (take n xs)
@@ -20,12 +20,13 @@ distinct_take e zero ks apart = search rules
 distinct_take e (suc n) [] apart = apart
 distinct_take e (suc n) (k ∷ ks) apart = (all_take (λ y. e k y ≡ false) n ks apart.0, distinct_take e n ks apart.1)
 
-pub none_sound : AreSound []
+pub none_sound : AreSoundResponses []
 unfolding IsDistinct
 none_sound = record { few = omega arith; apart = search rules }
 
 -- the first n of sound responses
-pub take_sound : (n : ℕ) (responses : List PathResponse) → AreSound responses → AreSound (take n responses)
+pub take_sound : (n : ℕ) (responses : List PathResponse) → AreSoundResponses responses
+    → AreSoundResponses (take n responses)
 take_sound n responses sound = record {
   few = omega (arith, length-take n responses, sound.few);
   apart = rw (← take-map (λ (response : PathResponse). response.remote) n responses)
@@ -57,8 +58,8 @@ remotes_renewed : (new : PathResponse) (responses : List PathResponse)
 remotes_renewed new [] = refl
 remotes_renewed new (kept ∷ others) = grind (arith, remotes_renewed new others)
 
-pub with_response_sound : (new : PathResponse) (responses : List PathResponse) → AreSound responses
-    → AreSound (with_response new responses)
+pub with_response_sound : (new : PathResponse) (responses : List PathResponse) → AreSoundResponses responses
+    → AreSoundResponses (with_response new responses)
 with_response_sound new responses sound = grind (
   arith,
   nat_tests,

@@ -9,7 +9,7 @@ use Rattle.recovery_mtud.specs.Discovery.{Discovery}
 use Rattle.recovery_mtud.specs.DiscoveryLog.{MtuCall, resets, discovery_by}
 use Rattle.recovery_mtud.specs.MtuEntries.{IsUntold, search_settings, entries_by}
 use Rattle.recovery_mtud.specs.SearchRuns.{AreLimitsOutside}
-use Rattle.recovery_mtud.proofs.EntryLaws.{discovery_made_untold, made_settings}
+use Rattle.recovery_mtud.proofs.MtuEntryLaws.{discovery_made_untold, made_settings}
 use Rattle.recovery_mtud.proofs.SearchRunLaws.{IsInTurn, limits_outside_after}
 use Rattle.recovery_paths.specs.PathMaking.{PathSettings, first_discovery}
 use Rattle.recovery_paths.specs.PathLog.{OnEachPath, PathsEntry, PathEntry, PathPast, Following, pasts_by, each_path, state_of, known_of, past_with, past_following, searches, is_reset}

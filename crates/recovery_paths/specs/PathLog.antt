@@ -174,8 +174,8 @@ abbrev pub known_of : {K : Type 0} → PathPast K → PathKnown K
 known_of past = record { generation = past.generation; state = state_of past }
 
 module _ {K : Type 0} (settings : PathSettings K) where
-  abbrev pub known_with : PathEntry → PathKnown K → PathKnown K
-  known_with entry old = record old { state = state_with settings entry old.state }
+  abbrev pub path_known_with : PathEntry → PathKnown K → PathKnown K
+  path_known_with entry old = record old { state = state_with settings entry old.state }
 
   abbrev pub known_following : Following → PathKnown K → PathKnown K
   known_following following old = record {
@@ -193,7 +193,7 @@ module _ {K : Type 0} (settings : PathSettings K) where
 
   -- an event may be several entries to the paths, the newest first
   abbrev pub PathsStep : List PathsEntry → OfPaths (PathKnown K) → OfPaths (PathKnown K) → Type 0
-  PathsStep entries old new = new ≡ paths_after known_with known_following entries old
+  PathsStep entries old new = new ≡ paths_after path_known_with known_following entries old
 
   abbrev pub PathsLeft : PathState K → List PathsEntry → OfPaths (PathKnown K) → Type 0
   PathsLeft first log paths = paths ≡ paths_known_by first log

@@ -10,7 +10,7 @@ use Rattle.recovery_ledger.specs.Packets.{Packet}
 use Rattle.recovery_ledger.specs.Paths.{PathLedger, generation_of, after_leaving}
 use Rattle.recovery_mtud.specs.Discovery.{Discovery, is_probe}
 use Rattle.recovery_mtud.specs.DiscoveryLog.{MtuCall, acks as acks_packet, loses_probe, loses, discovery_after}
-use Rattle.recovery_congestion.specs.Pacing.{Bucket, PacerCall, paced, delay_of, less_tokens}
+use Rattle.recovery_congestion.specs.Pacing.{Bucket, PacerCall, paced, pacer_delay, less_tokens}
 use Rattle.recovery_paths.specs.declared.responses.PathResponse.{PathResponse}
 use Rattle.recovery_congestion.specs.Rtt.{Rtt, rtt_updated, rtt_get}
 
@@ -146,4 +146,4 @@ module _ {K : Type 0} (words : ControllerWords K) where
 
   -- when to ask again, where the bytes may not be sent yet
   abbrev pub path_delay : ℕ → ℕ → PathState K → Option ℕ
-  path_delay now bytes path = let call = pacer_call path now bytes in delay_of call (paced call path.pacer)
+  path_delay now bytes path = let call = pacer_call path now bytes in pacer_delay call (paced call path.pacer)

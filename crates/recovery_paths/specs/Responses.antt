@@ -24,7 +24,7 @@ abbrev pub remotes : List PathResponse → List SocketAddr
 remotes responses = map (λ response. response.remote) responses
 
 -- at most 16 wait, and no two go to the same address
-pub record AreSound (responses : List PathResponse) : Type 0 where
+pub record AreSoundResponses (responses : List PathResponse) : Type 0 where
   pub few : length responses ≤ 16
   pub apart : IsDistinct same_address (remotes responses)
 
@@ -58,6 +58,6 @@ sent_on_path remote None = None
 sent_on_path remote (Some last) = if goes_to remote last then Some last.token else None
 
 -- the last response goes where something was sent
-abbrev pub left_after : {Sent : Type 0} → Option Sent → List PathResponse → List PathResponse
-left_after None responses = responses
-left_after (Some sent) responses = take (length responses - 1) responses
+abbrev pub responses_left : {Sent : Type 0} → Option Sent → List PathResponse → List PathResponse
+responses_left None responses = responses
+responses_left (Some sent) responses = take (length responses - 1) responses

@@ -1,7 +1,7 @@
 //! PATH_RESPONSE frames that are to be sent.
 ghost use Rattle.std.specs.Prelude.{◌≡◌, ⊤, length, map, [], ◌==◌};
 ghost use Rattle.std.specs.List.{list_any};
-ghost use Rattle.recovery_paths.specs.Responses.{goes_to, renewed, with_response, last_of, sent_off_path, sent_on_path, left_after, AreSound};
+ghost use Rattle.recovery_paths.specs.Responses.{goes_to, renewed, with_response, last_of, sent_off_path, sent_on_path, responses_left, AreSoundResponses};
 
 use arrayvec::ArrayVec;
 use std::marker::Model;
@@ -42,13 +42,13 @@ pub struct PathResponses {
 impl Model for PathResponses {
     ghost use Rattle.std.specs.Prelude.{List};
     ghost use Rattle.recovery_paths.specs.declared.responses.PathResponse.{PathResponse};
-    ghost use Rattle.recovery_paths.specs.Responses.{AreSound};
+    ghost use Rattle.recovery_paths.specs.Responses.{AreSoundResponses};
 
     ghost Value = { List PathResponse };
 
     ghost view = { λ responses. responses.pending.items };
 
-    ghost invariant = { λ responses. AreSound responses.pending.items };
+    ghost invariant = { λ responses. AreSoundResponses responses.pending.items };
 }
 
 impl Default for PathResponses {
@@ -64,7 +64,7 @@ impl PathResponses {
     #[tactic(auto, using(crate::proofs::ResponseLaws::none_sound))]
     pub fn new() -> Self
         ensures none { result ≡ [] }
-        ensures sound { AreSound result }
+        ensures sound { AreSoundResponses result }
     {
         PathResponses {
             pending: ArrayVec::new(),
@@ -79,7 +79,7 @@ impl PathResponses {
     pub fn push(&mut self, packet: u64, token: u64, remote: SocketAddr)
         ensures kept { self.new
             ≡ with_response (record { packet = packet; token = token; remote = remote }) self.old }
-        ensures sound { AreSound self.new }
+        ensures sound { AreSoundResponses self.new }
     {
         let response = PathResponse {
             packet,
@@ -95,8 +95,8 @@ impl PathResponses {
     #[tactic(auto, using(crate::proofs::ResponseLaws::take_sound))]
     pub fn pop_off_path(&mut self, remote: SocketAddr) -> Option<(u64, SocketAddr)>
         ensures answer { result ≡ sent_off_path remote (last_of self.old) }
-        ensures rest { self.new ≡ left_after result self.old }
-        ensures sound { AreSound self.new }
+        ensures rest { self.new ≡ responses_left result self.old }
+        ensures sound { AreSoundResponses self.new }
     {
         let response = *self.pending.last()?;
         if response.remote == remote {
@@ -112,8 +112,8 @@ impl PathResponses {
     #[tactic(auto, using(crate::proofs::ResponseLaws::take_sound))]
     pub fn pop_on_path(&mut self, remote: SocketAddr) -> Option<u64>
         ensures answer { result ≡ sent_on_path remote (last_of self.old) }
-        ensures rest { self.new ≡ left_after result self.old }
-        ensures sound { AreSound self.new }
+        ensures rest { self.new ≡ responses_left result self.old }
+        ensures sound { AreSoundResponses self.new }
     {
         let response = *self.pending.last()?;
         if response.remote != remote {

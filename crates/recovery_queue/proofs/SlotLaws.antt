@@ -1,5 +1,5 @@
--- Slots by their places: what stands at one, what is filed there, and what stands before and behind it. `EntryLaws` and
--- the look-ups of `SlotQueue` rest on it.
+-- Slots by their places: what stands at one, what is filed there, and what stands before and behind it. `SlotEntryLaws`
+-- and the look-ups of `SlotQueue` rest on it.
 use Rattle.std.proofs.Common.{◌≡◌, ℕ, zero, suc, ◌+◌, ◌-◌, ◌/◌, ◌^◌, ◌<◌, ◌≤◌, true, List, [], ◌∷◌, length, Option, None, Some, MatchOption, refl, sym, ap, arith, get_or}
 use Rattle.std.specs.Ordering.{nat_cmp, is_eq}
 use Rattle.std.specs.Cmp.{nat_cmp_total, tied_itself}

@@ -12,13 +12,13 @@ filed number None entries = entries
 filed number (Some item) entries = (number, item) ∷ entries
 
 -- what is filed, in the order of the numbers
-abbrev pub entries_of : {T : Type 0} → List (Slot T) → List (ℕ × T)
-entries_of [] = []
-entries_of (slot ∷ slots) = filed slot.number slot.item (entries_of slots)
+abbrev pub entries_in : {T : Type 0} → List (Slot T) → List (ℕ × T)
+entries_in [] = []
+entries_in (slot ∷ slots) = filed slot.number slot.item (entries_in slots)
 
 -- what is filed under a number
 abbrev pub item_at : {T : Type 0} → List (Slot T) → ℕ → Option T
-item_at slots number = lookup (is_at (nat_cmp number)) (entries_of slots)
+item_at slots number = lookup (is_at (nat_cmp number)) (entries_in slots)
 
 -- the numbers rise, from the first on and below the end
 abbrev pub AreRising : {T : Type 0} → ℕ → List (Slot T) → ℕ → Type 0
@@ -32,7 +32,7 @@ Rises slots = (first : ℕ) × (end : ℕ) × AreRising first slots end
 -- so many slots are filled, and the numbers rise from the first to the last
 abbrev pub IsSound : {T : Type 0} → List (Slot T) → ℕ → ℕ → ℕ → Type 0
 IsSound slots filled first last =
-    (filled ≡ length (entries_of slots)) × AreRising first slots (last + 1)
+    (filled ≡ length (entries_in slots)) × AreRising first slots (last + 1)
 
 -- numbers between two bounds still rise between them
 abbrev pub StaysRising : {T : Type 0} → List (Slot T) → List (Slot T) → Type 0
@@ -101,7 +101,7 @@ IsAboveAll {T} entries number =
 
 -- at most 64 slots are empty beside as many as are filled
 abbrev pub IsClosedUp : {T : Type 0} → List (Slot T) → Type 0
-IsClosedUp slots = length slots ≤ 2 * length (entries_of slots) + 64
+IsClosedUp slots = length slots ≤ 2 * length (entries_in slots) + 64
 
 abbrev pub IsFrontEmpty : {T : Type 0} → List (Slot T) → Type 0
 IsFrontEmpty [] = ⊥
@@ -128,7 +128,7 @@ is_from number entry = not (nat_lt entry.0 number)
 
 -- what is filed from a number on
 abbrev pub entries_from : {T : Type 0} → ℕ → List (Slot T) → List (ℕ × T)
-entries_from number slots = filter (is_from number) (entries_of slots)
+entries_from number slots = filter (is_from number) (entries_in slots)
 
 abbrev pub first_number : {T : Type 0} → List (ℕ × T) → Option ℕ
 first_number [] = None

@@ -4,7 +4,7 @@ ghost use Rattle.std.specs.VecDeque.{deque_len, deque_capacity};
 ghost use Rattle.std.specs.Ordering.{nat_cmp};
 ghost use Rattle.std.specs.BTreeMap.{is_at};
 ghost use Rattle.std.specs.Map.{remove_entry};
-ghost use Rattle.recovery_queue.specs.Slots.{entries_of, item_at, AreRising, IsFiledAt, Divides, Encloses, IsHeldAt, IsEmptyAt, IsAboveAll, IsClosedUp, IsFrontEmpty, IsBackFrom, Replaces, Rises, Finds, IsWithinDigits, AreFrom, StaysRising, entries_from, first_number, is_filled, is_from};
+ghost use Rattle.recovery_queue.specs.Slots.{entries_in, item_at, AreRising, IsFiledAt, Divides, Encloses, IsHeldAt, IsEmptyAt, IsAboveAll, IsClosedUp, IsFrontEmpty, IsBackFrom, Replaces, Rises, Finds, IsWithinDigits, AreFrom, StaysRising, entries_from, first_number, is_filled, is_from};
 
 use std::alloc::{AllocError, Global};
 use std::collections::VecDeque;
@@ -71,8 +71,8 @@ impl<T: Drop> SlotQueue<T> {
 
     /// How many slots are filled.
     pub fn filled(&self) -> usize
-        ensures count { result ≡ length (entries_of self.now) }
-        ensures few { length (entries_of self.now) < 2 ^ 63 }
+        ensures count { result ≡ length (entries_in self.now) }
+        ensures few { length (entries_in self.now) < 2 ^ 63 }
     {
         self.filled
     }
@@ -163,7 +163,7 @@ impl<T: Drop> SlotQueue<T> {
 
     /// The first place whose number is not below this one; where there is none, how many slots there are, or more.
     pub fn place_from(&self, number: u64) -> usize
-        ensures entries { entries_of (drop result self.now) ≡ entries_from number self.now }
+        ensures entries { entries_in (drop result self.now) ≡ entries_from number self.now }
         ensures divides { Divides self.now number result }
     {
         let mut looks = Looks { count: 0 };
@@ -188,9 +188,9 @@ impl<T: Drop> SlotQueue<T> {
 
     /// Files an item under a number above all others.
     pub fn push(&mut self, number: u64, item: T) -> Result<(), AllocError>
-        requires { IsAboveAll (entries_of self.old) number }
+        requires { IsAboveAll (entries_in self.old) number }
         ensures ok { OnOk result
-            (entries_of self.new ≡ entries_of self.old ++ (number, item) ∷ []) }
+            (entries_in self.new ≡ entries_in self.old ++ (number, item) ∷ []) }
         ensures one_more { OnOk result (length self.new ≤ length self.old + 1) }
         ensures err { OnErr result (self.new ≡ self.old) }
     {
@@ -210,8 +210,8 @@ impl<T: Drop> SlotQueue<T> {
     #[inline(always)]
     pub fn take(&mut self, number: u64) -> Option<T>
         ensures value { result ≡ item_at self.old number }
-        ensures entries { entries_of self.new
-            ≡ remove_entry (is_at (nat_cmp number)) (entries_of self.old) }
+        ensures entries { entries_in self.new
+            ≡ remove_entry (is_at (nat_cmp number)) (entries_in self.old) }
         ensures bound { IfSome result (λ _. IsClosedUp self.new) }
         ensures none { IfNone result (self.new ≡ self.old) }
     {
@@ -223,8 +223,8 @@ impl<T: Drop> SlotQueue<T> {
 
     /// Takes out what is filed under the lowest number. Empty slots are closed up where they are too many.
     pub fn pop_first(&mut self) -> Option<(u64, T)>
-        ensures entries { MatchOption result (entries_of self.old ≡ [])
-            (λ entry. entries_of self.old ≡ entry ∷ entries_of self.new) }
+        ensures entries { MatchOption result (entries_in self.old ≡ [])
+            (λ entry. entries_in self.old ≡ entry ∷ entries_in self.new) }
         ensures bound { IfSome result (λ _. IsClosedUp self.new) }
         ensures none { IfNone result (self.new ≡ self.old) }
     {
@@ -249,7 +249,7 @@ impl<T: Drop> SlotQueue<T> {
     /// Closes up empty slots: those before the first filled one always, the others where they are too many.
     #[inline(always)]
     fn close_up(&mut self)
-        ensures entries { entries_of self.new ≡ entries_of self.old }
+        ensures entries { entries_in self.new ≡ entries_in self.old }
         ensures bound { IsClosedUp self.new }
     {
         trim(&mut self.slots);
@@ -262,7 +262,7 @@ impl<T: Drop> SlotQueue<T> {
 
 /// Drops the empty slots before the first filled one.
 fn trim<T: Drop>(slots: &mut VecDeque<Slot<T>>)
-    ensures entries { entries_of slots.new.items ≡ entries_of slots.old.items }
+    ensures entries { entries_in slots.new.items ≡ entries_in slots.old.items }
     ensures rising { StaysRising slots.old.items slots.new.items }
 {
     while is_front_empty(slots) {
@@ -308,8 +308,8 @@ fn first_with<T>(slots: &VecDeque<Slot<T>>, first: u64, number: u64) -> u64
 
 /// Drops the slots from a number on, all of which are empty. None has a number above the last.
 fn cut<T: Drop>(slots: &mut VecDeque<Slot<T>>, last: u64, number: u64)
-    requires { IsAboveAll (entries_of slots.old.items) number }
-    ensures entries { entries_of slots.new.items ≡ entries_of slots.old.items }
+    requires { IsAboveAll (entries_in slots.old.items) number }
+    ensures entries { entries_in slots.new.items ≡ entries_in slots.old.items }
     ensures rising { (first : ℕ) → AreRising first slots.old.items (last + 1)
         → AreRising first slots.new.items number }
     ensures fewer { deque_len slots.new ≤ deque_len slots.old }
@@ -322,8 +322,8 @@ fn cut<T: Drop>(slots: &mut VecDeque<Slot<T>>, last: u64, number: u64)
 
 /// Drops the slots from a number on, all of which are empty.
 fn cut_back<T: Drop>(slots: &mut VecDeque<Slot<T>>, number: u64)
-    requires { IsAboveAll (entries_of slots.old.items) number }
-    ensures entries { entries_of slots.new.items ≡ entries_of slots.old.items }
+    requires { IsAboveAll (entries_in slots.old.items) number }
+    ensures entries { entries_in slots.new.items ≡ entries_in slots.old.items }
     ensures rising { (first end : ℕ) → AreRising first slots.old.items end
         → AreRising first slots.new.items number }
     ensures fewer { deque_len slots.new ≤ deque_len slots.old }

@@ -12,7 +12,7 @@ use Rattle.recovery_events.specs.declared.event.Answer.TheVariants as answer
 use Rattle.recovery_events.specs.declared.event.Refusal.TheVariants as refusal
 use Rattle.quic_recovery.specs.History.{History, Reply}
 use Rattle.quic_recovery.specs.Promises.OwnIds.{IsIssue, IssuesIds}
-use Rattle.quic_recovery.specs.Promises.Paths.{generation_of}
+use Rattle.quic_recovery.specs.Promises.Paths.{generation_by}
 use Rattle.quic_recovery.specs.Promises.PeerIds.{AcceptsIds}
 use Rattle.quic_recovery.specs.Promises.Refused.{RefusesRightly}
 use Rattle.quic_recovery.specs.Promises.Tracked.{is_tracked}
@@ -171,13 +171,13 @@ module _ (Q S M P : Type 0) (queue : Q) (frames : M) (remote : SocketAddr) where
 
   -- ---- paths
 
-  first_before : generation_of Previous flight ≡ Some 0
+  first_before : generation_by Previous flight ≡ Some 0
   first_before = refl
 
-  second_in_use : generation_of Current flight ≡ Some 1
+  second_in_use : generation_by Current flight ≡ Some 1
   second_in_use = refl
 
-  dropped : generation_of Previous ((event.DropPrevious, Ok answer.Done) ∷ flight) ≡ None
+  dropped : generation_by Previous ((event.DropPrevious, Ok answer.Done) ∷ flight) ≡ None
   dropped = refl
 
   -- ---- refusals

@@ -13,7 +13,7 @@ use Rattle.recovery_events.specs.declared.event.Answer.TheVariants as answer
 use Rattle.recovery_events.specs.declared.event.Refusal.TheVariants as refusal
 use Rattle.quic_recovery.specs.History.{Beginning, History, Reply}
 use Rattle.quic_recovery.specs.Promises.Bursts.{open_run, size_of}
-use Rattle.quic_recovery.specs.Promises.Few.{ProbesFew, is_in_flight, probed}
+use Rattle.quic_recovery.specs.Promises.Few.{ProbesFew, is_in_flight, sizes_probed}
 use Rattle.quic_recovery.specs.Promises.Holes.{ReportsAtFour}
 use Rattle.quic_recovery.specs.Promises.Mtu.{mtu}
 use Rattle.quic_recovery.specs.Promises.Near.{IsNear, next, start}
@@ -189,13 +189,13 @@ module _ (Q S M P : Type 0) (queue : Q) (frames : M) where
       ∷ (event.PollMtu 0, Ok (answer.Probe 0 1326))
       ∷ []
 
-  two_sizes : probed search_so_far ≡ 1389 ∷ 1326 ∷ []
+  two_sizes : sizes_probed search_so_far ≡ 1389 ∷ 1326 ∷ []
   two_sizes = refl
 
-  still_two : probed ((event.PollMtu 3, Ok answer.NoProbe) ∷ search_so_far) ≡ 1389 ∷ 1326 ∷ []
+  still_two : sizes_probed ((event.PollMtu 3, Ok answer.NoProbe) ∷ search_so_far) ≡ 1389 ∷ 1326 ∷ []
   still_two = refl
 
-  none_after_reset : probed ((event.ResetPath 3, Ok answer.Done) ∷ search_so_far) ≡ []
+  none_after_reset : sizes_probed ((event.ResetPath 3, Ok answer.Done) ∷ search_so_far) ≡ []
   none_after_reset = refl
 
   another_is_no_end : is_in_flight ((event.Acked Data 3 9 false, Ok (answer.Acked false)) ∷ search_so_far) ≡ true

@@ -11,7 +11,7 @@ use Rattle.rand.specs.Uniform.{canon}
 use Rattle.recovery_skips.specs.declared.filter.Skips.{Skips}
 use Rattle.recovery_skips.specs.declared.filter.Skips.TheVariants.{Drawn, Starting, Disabled}
 use Rattle.recovery_skips.specs.Skips.{IsSkips, AreWords, draw, first_skip, next_skip, skip_at}
-use Rattle.recovery_skips.proofs.RangeLaws.{range_wide}
+use Rattle.recovery_skips.proofs.DrawRangeLaws.{range_wide}
 
 -- the high word of a product of a word and a range lies below the range, and a carry that stays open leaves room
 high_below : (m range w hi lo : ℕ) → w < m → 0 < range → range ≤ m → hi * m + lo ≡ w * range

@@ -128,7 +128,7 @@ impl PacketNumberFilter {
     }
 
     /// The skip is passed, and the one behind it drawn.
-    #[tactic(auto, using(crate::proofs::RangeLaws::powers))]
+    #[tactic(auto, using(crate::proofs::DrawRangeLaws::powers))]
     fn pass<R: Rng>(&mut self, rng: &mut R, skip: u64)
         requires first { 6 ≤ self.old.exponent }
         requires last { self.old.exponent ≤ 62 }

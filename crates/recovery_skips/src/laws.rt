@@ -42,7 +42,7 @@ pub fn skips_lie_between_powers()
 {}
 
 /// A number is skipped just where it stands in the sequence of skips, and those below a number are counted.
-#[tactic(auto, using(crate::proofs::CountLaws::skipped_in_sequence, crate::proofs::CountLaws::skips_below_counts))]
+#[tactic(auto, using(crate::proofs::SkipCountLaws::skipped_in_sequence, crate::proofs::SkipCountLaws::skips_below_counts))]
 pub fn sequence_is_skipped()
     ensures skipped { (skips : Skips) (words : Stream) (n : ℕ) →
         (is_skipped skips words n ≡ true)
@@ -53,7 +53,7 @@ pub fn sequence_is_skipped()
 {}
 
 /// What a filter remembers is the greatest skip below the next number.
-#[tactic(auto, using(crate::proofs::CountLaws::skip_before_greatest))]
+#[tactic(auto, using(crate::proofs::SkipCountLaws::skip_before_greatest))]
 pub fn greatest_skip_is_remembered()
     ensures { (skips : Skips) (words : Stream) (n : ℕ) →
         IsGreatestBelow skips words n (skip_before skips words n) }

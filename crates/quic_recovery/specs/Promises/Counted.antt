@@ -9,7 +9,7 @@ use Rattle.recovery_events.specs.declared.event.Answer.TheVariants as answer
 use Rattle.recovery_events.specs.declared.event.Answer.TheVariants.{Sent, Probe}
 use Rattle.recovery_events.specs.declared.event.Refusal.TheVariants.{NoSuchPath}
 use Rattle.quic_recovery.specs.History.{History, Reply}
-use Rattle.quic_recovery.specs.Promises.Paths.{paths_made, generation_of}
+use Rattle.quic_recovery.specs.Promises.Paths.{paths_made, generation_by}
 use Rattle.quic_recovery.specs.Promises.Tracked.{leaves}
 
 module _ {Q S M P : Type 0} (weigh : ℕ → Bool → ℕ) where
@@ -36,5 +36,5 @@ module _ {Q S M P : Type 0} where
       (sum_on (λ size eliciting. if eliciting then 1 else 0) generation none_gone history))
 
   abbrev pub CountsInFlight : History Q S M P → Event Q S M P → Reply Q → Type 0
-  CountsInFlight history (InFlight path) reply = IsTally history (generation_of path history) reply
+  CountsInFlight history (InFlight path) reply = IsTally history (generation_by path history) reply
   CountsInFlight history event reply = Unit {0}

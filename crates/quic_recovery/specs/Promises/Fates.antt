@@ -35,14 +35,14 @@ module _ {Q S M P : Type 0} where
         same_space there space && forgotten == n
     is_forgotten happened earlier = false
 
-    abbrev pub is_discarded : Event Q S M P × Reply Q → History Q S M P → Bool
-    is_discarded (DiscardSpace there, Ok answer) earlier = same_space there space && is_tracked space n earlier
-    is_discarded happened earlier = false
+    abbrev pub goes_with_space : Event Q S M P × Reply Q → History Q S M P → Bool
+    goes_with_space (DiscardSpace there, Ok answer) earlier = same_space there space && is_tracked space n earlier
+    goes_with_space happened earlier = false
 
     -- how often it has a fate
     abbrev pub fates : History Q S M P → ℕ
     fates history = more_if (is_tracked space n history)
-        (times is_acked history + times is_lost history + times is_forgotten history + times is_discarded history)
+        (times is_acked history + times is_lost history + times is_forgotten history + times goes_with_space history)
 
   abbrev pub HaveOneFate : History Q S M P → Type 0
   HaveOneFate history = (space : SpaceId) (n : ℕ) →

@@ -25,15 +25,15 @@ module _ {Q S M P : Type 0} where
   is_in_flight (happened ∷ earlier) = if begins_anew happened then false else is_in_flight earlier
 
   -- the sizes probed by the search that runs; it ends where a poll gives no probe while none is in flight
-  abbrev pub probed : History Q S M P → List ℕ
-  probed [] = []
-  probed ((PollMtu now, Ok (answer.Probe number size)) ∷ earlier) = size ∷ probed earlier
-  probed ((PollMtu now, Ok answer.NoProbe) ∷ earlier) = if is_in_flight earlier then probed earlier else []
-  probed (happened ∷ earlier) = if begins_anew happened then [] else probed earlier
+  abbrev pub sizes_probed : History Q S M P → List ℕ
+  sizes_probed [] = []
+  sizes_probed ((PollMtu now, Ok (answer.Probe number size)) ∷ earlier) = size ∷ sizes_probed earlier
+  sizes_probed ((PollMtu now, Ok answer.NoProbe) ∷ earlier) = if is_in_flight earlier then sizes_probed earlier else []
+  sizes_probed (happened ∷ earlier) = if begins_anew happened then [] else sizes_probed earlier
 
 module _ {F K Q S M P : Type 0} (beginning : Beginning F K Q S M P) where
   -- after an event, the search that runs has taken few, where the least change is at least 3
   abbrev pub ProbesFew : History Q S M P → Event Q S M P → Reply Q → Type 0
   ProbesFew history event reply =
-      let sizes = probed ((event, reply) ∷ history) in
+      let sizes = sizes_probed ((event, reply) ∷ history) in
       WhereSearched beginning (λ settings. (length sizes ≤ 48) × (distinct_count nat_eq sizes ≤ 16))

@@ -45,6 +45,5 @@ module _ {Q S M P : Type 0} where
 
   -- these are held; the active one is held and the least, and all lie among eight numbers from it on
   abbrev pub AreHeld : List ℕ → History Q S M P → RemoteIds → Type 0
-  AreHeld initial history ids =
-      ((n : ℕ) → retired_below history ≤ n → ids.held n ≡ id_under initial n history)
+  AreHeld initial history ids = ((n : ℕ) → retired_below history ≤ n → ids.held n ≡ id_under initial n history)
       × (retired_below history ≤ ids.active) × AreInWindow ids

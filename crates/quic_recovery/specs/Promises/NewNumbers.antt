@@ -13,8 +13,7 @@ use Rattle.quic_recovery.specs.History.{History, Reply}
 
 -- it exceeds every number that came, or it is none of them, and at most 128 below each
 abbrev pub is_new : List ℕ → ℕ → Bool
-is_new came n =
-    list_all (λ m. nat_lt m n) came
+is_new came n = list_all (λ m. nat_lt m n) came
     || (not (is_member nat_eq came n) && list_all (λ m. nat_le m (n + 128)) came)
 
 -- what a packet is replied, where its space was discarded or not, its number is too large or not, and new or not

@@ -14,9 +14,9 @@ module _ {Q S M P : Type 0} where
   paths_made (happened ∷ earlier) = paths_made earlier
 
   -- the generation of a path, where it lives
-  abbrev pub generation_of : PathName → History Q S M P → Option ℕ
-  generation_of Current history = Some (paths_made history)
-  generation_of Previous [] = None
-  generation_of Previous ((NewPath now remote is_fresh, Ok answer) ∷ earlier) = Some (paths_made earlier)
-  generation_of Previous ((DropPrevious, Ok answer) ∷ earlier) = None
-  generation_of Previous (happened ∷ earlier) = generation_of Previous earlier
+  abbrev pub generation_by : PathName → History Q S M P → Option ℕ
+  generation_by Current history = Some (paths_made history)
+  generation_by Previous [] = None
+  generation_by Previous ((NewPath now remote is_fresh, Ok answer) ∷ earlier) = Some (paths_made earlier)
+  generation_by Previous ((DropPrevious, Ok answer) ∷ earlier) = None
+  generation_by Previous (happened ∷ earlier) = generation_by Previous earlier

@@ -3,12 +3,12 @@ use Rattle.std.specs.Prelude.{ℕ, Bool, true, nat_lt, length, List, [], ◌∷�
 use Rattle.recovery_events.specs.declared.event.Event.TheVariants.{PollMtu, Acked, Lost}
 use Rattle.recovery_events.specs.declared.event.Answer.TheVariants as answer
 use Rattle.quic_recovery.specs.History.{History}
-use Rattle.quic_recovery.specs.Promises.Few.{probed}
+use Rattle.quic_recovery.specs.Promises.Few.{sizes_probed}
 
 module _ {Q S M P : Type 0} where
   -- a search runs from its first probe until it ends
   abbrev pub runs : History Q S M P → Bool
-  runs history = nat_lt 0 (length (probed history))
+  runs history = nat_lt 0 (length (sizes_probed history))
 
   -- the number and the size of the probe that went out last
   abbrev pub last_probe : History Q S M P → ℕ × ℕ

@@ -11,7 +11,7 @@ use Rattle.recovery_events.specs.declared.event.Refusal.TheVariants.{SpaceDiscar
 use Rattle.quic_recovery.specs.History.{History, Reply}
 use Rattle.quic_recovery.specs.Promises.GivenIds.{active_id}
 use Rattle.quic_recovery.specs.Promises.NewNumbers.{is_discarded}
-use Rattle.quic_recovery.specs.Promises.Paths.{generation_of}
+use Rattle.quic_recovery.specs.Promises.Paths.{generation_by}
 use Rattle.quic_recovery.specs.Promises.Tracked.{is_tracked}
 
 abbrev pub unless : Bool → Refusal → Option Refusal
@@ -35,10 +35,10 @@ module _ {Q S M P : Type 0} (history : History Q S M P) where
   first_cause (QueueProbe space immediate streams) = in_space space None
   first_cause (TakePending space) = in_space space None
   first_cause (DiscardSpace space) = in_space space None
-  first_cause (DatagramIn path bytes) = unless (is_some (generation_of path history)) NoSuchPath
-  first_cause (Validated path) = unless (is_some (generation_of path history)) NoSuchPath
-  first_cause (InFlight path) = unless (is_some (generation_of path history)) NoSuchPath
-  first_cause DropPrevious = unless (is_some (generation_of Previous history)) NoSuchPath
+  first_cause (DatagramIn path bytes) = unless (is_some (generation_by path history)) NoSuchPath
+  first_cause (Validated path) = unless (is_some (generation_by path history)) NoSuchPath
+  first_cause (InFlight path) = unless (is_some (generation_by path history)) NoSuchPath
+  first_cause DropPrevious = unless (is_some (generation_by Previous history)) NoSuchPath
   first_cause (InitialId id) = unless (active_id history == 0) NotInitialId
   first_cause event = None
 

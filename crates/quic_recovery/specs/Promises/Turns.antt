@@ -17,8 +17,9 @@ use Rattle.quic_recovery.specs.Search.{discovery_settings}
 
 module _ {Q S M P : Type 0} where
   -- the packet of 1-RTT keys of this number is the probe in flight
-  abbrev pub is_probe : SpaceId → ℕ → History Q S M P → Bool
-  is_probe space number history = same_space space Data && (is_in_flight history && number == (last_probe history).0)
+  abbrev pub is_probe_in_flight : SpaceId → ℕ → History Q S M P → Bool
+  is_probe_in_flight space number history =
+      same_space space Data && (is_in_flight history && number == (last_probe history).0)
 
 module _ {F K Q S M P : Type 0} (beginning : Beginning F K Q S M P) where
   abbrev pub SearchesInTurn : History Q S M P → Event Q S M P → Reply Q → Type 0
@@ -27,8 +28,8 @@ module _ {F K Q S M P : Type 0} (beginning : Beginning F K Q S M P) where
       × IsSomeAnd (discovery_settings beginning) (λ settings. (runs history || nat_le (next settings history) now)
       ≡ true)
   SearchesInTurn history (Acked space now number app_limited) (Ok given) =
-      given ≡ answer.Acked (is_probe space number history)
-  SearchesInTurn history (Lost space number) (Ok given) = given ≡ answer.Lost (is_probe space number history)
+      given ≡ answer.Acked (is_probe_in_flight space number history)
+  SearchesInTurn history (Lost space number) (Ok given) = given ≡ answer.Lost (is_probe_in_flight space number history)
   SearchesInTurn history (PeerLimit size) reply =
       reply ≡ (if size == 0 then Err ZeroMtu else if runs history then Err Searching else Ok answer.Done)
   SearchesInTurn history event reply = Unit {0}

@@ -2,7 +2,7 @@ use Rattle.std.proofs.Common.{List, ℕ, ap, ◌∙◌}
 use Rattle.rand_core.specs.Steps.{stream_of, steps_u32}
 use Rattle.rand_pcg.specs.Pcg.{pcg32}
 use Rattle.recovery_ffi.specs.Settings.{config_of}
-use Rattle.recovery_ffi.proofs.MadeLaws.{made_or}
+use Rattle.recovery_ffi.proofs.SettingsMadeLaws.{made_or}
 use Rattle.recovery_ffi.proofs.recovery_ffi_new.Goals as goal
 
 pub returns-in-Ok : goal.returns-in-Ok

@@ -1,5 +1,5 @@
 use Rattle.std.proofs.Common.{inl, refl, arith}
-use Rattle.recovery_acks.proofs.RunLaws.{inserted_kept, inserted_cut, some_after_cut}
+use Rattle.recovery_acks.proofs.HighestRunLaws.{inserted_kept, inserted_cut, some_after_cut}
 use Rattle.recovery_acks.proofs.pending.insert.Goals as goal
 
 pub returns-then-len-gt-MAX_ACK_BLOCKS-clause-pending : goal.returns-then-len-gt-MAX_ACK_BLOCKS-clause-pending

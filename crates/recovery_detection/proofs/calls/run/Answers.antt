@@ -3,7 +3,7 @@ use Rattle.std.proofs.lemmas.List.{take_more, take_all}
 use Rattle.recovery_detection.specs.declared.calls.Call.{Call}
 use Rattle.recovery_detection.specs.Detectors.{blank}
 use Rattle.recovery_detection.specs.Runs.{Steps}
-use Rattle.recovery_detection.proofs.RunLaws.{steps_push, handed_once, handed_given}
+use Rattle.recovery_detection.proofs.DetectorRunLaws.{steps_push, handed_once, handed_given}
 use Rattle.recovery_detection.proofs.calls.run.Goals as goal
 
 pub loop-call-preserved : goal.loop-call-preserved

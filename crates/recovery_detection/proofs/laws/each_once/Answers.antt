@@ -1,4 +1,4 @@
-use Rattle.recovery_detection.proofs.RunLaws.{handed_once, handed_given, tracked_rise}
+use Rattle.recovery_detection.proofs.DetectorRunLaws.{handed_once, handed_given, tracked_rise}
 use Rattle.recovery_detection.proofs.laws.each_once.Goals as goal
 
 pub returns-clause-once : goal.returns-clause-once

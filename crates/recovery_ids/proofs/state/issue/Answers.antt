@@ -1,6 +1,6 @@
 use Rattle.std.proofs.Common.{◌+◌, ◌-◌, ◌≡◌, ◌∙◌, ◌∷◌, [], append_assoc, suc, ap, arith}
 use Rattle.std.specs.Map.{keys_of}
-use Rattle.recovery_queue.specs.Slots.{entries_of}
+use Rattle.recovery_queue.specs.Slots.{entries_in}
 use Rattle.recovery_ids.specs.CidState.{numbers_in}
 use Rattle.recovery_ids.specs.LocalIds.{Rise}
 use Rattle.recovery_ids.proofs.RiseLaws.{range_more, Rise-append}
@@ -13,7 +13,7 @@ push-requires c =
     let rise : Rise 0 number (numbers_in c.loop-number.numbers) = rw c.loop-number.invariant
     (Rise-append 0 c.args.first (number - c.args.first) number (numbers_in c.args.numbers.now) c.requires.above
     (omega arith)) in
-    is_above 0 number (entries_of c.loop-number.numbers) rise
+    is_above 0 number (entries_in c.loop-number.numbers) rise
 
 pub loop-number-preserved : goal.loop-number-preserved
 loop-number-preserved c =
@@ -22,4 +22,4 @@ loop-number-preserved c =
     let one_more : number + 1 - c.args.first ≡ suc done = omega arith in
     let longer = range_more c.args.first done number (omega arith) in
     rw (one_more, longer, ← append_assoc, ← c.loop-number.invariant) (ap keys_of c.in-Ok.ensures.ok
-    ∙ keys-append (entries_of c.loop-number.numbers) ((number, tt) ∷ []))
+    ∙ keys-append (entries_in c.loop-number.numbers) ((number, tt) ∷ []))

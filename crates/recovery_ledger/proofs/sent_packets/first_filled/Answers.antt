@@ -1,7 +1,7 @@
 use Rattle.std.proofs.Common.{sym, ap, subst, ◌∙◌}
 use Rattle.recovery_queue.specs.Queues.{IsVoid}
-use Rattle.recovery_queue.specs.Slots.{entries_of}
-use Rattle.recovery_queue.proofs.EntryLaws.{not_both, drop_slot, entries_dropped, divided}
+use Rattle.recovery_queue.specs.Slots.{entries_in}
+use Rattle.recovery_queue.proofs.SlotEntryLaws.{not_both, drop_slot, entries_dropped, divided}
 use Rattle.recovery_ledger.specs.Packets.{Packet}
 use Rattle.recovery_ledger.proofs.TrackedLaws.{passes_below, void_here, passes_next}
 use Rattle.recovery_ledger.proofs.sent_packets.first_filled.Goals as goal
@@ -19,7 +19,7 @@ loop-place-preserved-in_default g c =
 pub returns-then-not-is_empty-clause-number : goal.returns-then-not-is_empty-clause-number
 returns-then-not-is_empty-clause-number g c =
     (passes_next _ c.loop-place.invariant _
-    (ap (λ ss. entries_of ss) (drop_slot c.args.packets.now c.loop-place.place _ c.in-Some.ensures.slot))
+    (ap (λ ss. entries_in ss) (drop_slot c.args.packets.now c.loop-place.place _ c.in-Some.ensures.slot))
     c.packet.view_is c.is_empty.ensures).0 c.if-not-is_empty.true
 
 pub returns-then-not-is_empty-clause-void : goal.returns-then-not-is_empty-clause-void
@@ -33,7 +33,7 @@ returns-then-not-is_empty-clause-void g c =
 pub loop-place-preserved : goal.loop-place-preserved
 loop-place-preserved g c =
     (passes_next _ c.loop-place.invariant _
-    (ap (λ ss. entries_of ss) (drop_slot c.args.packets.now c.loop-place.place _ c.in-Some.ensures.slot))
+    (ap (λ ss. entries_in ss) (drop_slot c.args.packets.now c.loop-place.place _ c.in-Some.ensures.slot))
     c.packet.view_is c.is_empty.ensures).1 c.if-not-is_empty.false _ _
     (elim c.if-are_void.branch [
       | then-are_void w ↦ rw w.from-is (void_here _ c.loop-place.invariant _ (divided _ _ _ c.in-Some.ensures.divides)

@@ -3,7 +3,7 @@ use Rattle.std.proofs.lemmas.Bool.Decides.{nat_tests}
 use Rattle.std.proofs.lemmas.List.{get_or-take}
 use Rattle.std.proofs.lemmas.List.Sums.{position_or_len_is}
 use Rattle.std.specs.List.{position_or_len}
-use Rattle.recovery_lines.proofs.NumberLaws.{digits_read, taken_digits}
+use Rattle.recovery_lines.proofs.NumberWordLaws.{digits_read, taken_digits}
 use Rattle.recovery_lines.proofs.words.first_short_number.Goals as goal
 use Rattle.recovery_lines.proofs.words.first_short_number.Goals.{then-end-gt1, else-end-gt1, else-end-bytes-via-then-end-bytes+else-bytes-end-ne32, else-end-bytes-via-else-end-bytes}
 

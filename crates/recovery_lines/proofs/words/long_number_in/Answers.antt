@@ -1,7 +1,7 @@
 use Rattle.std.proofs.Common.{◌≡◌, ◌^◌, lit≤, ◌∙◌, length, take_all, arith}
 use Rattle.std.proofs.lemmas.Bool.Decides.{nat_tests}
 use Rattle.recovery_lines.specs.Reading.{AreDigits}
-use Rattle.recovery_lines.proofs.NumberLaws.{digits_more, digits_read, not_read, too_large}
+use Rattle.recovery_lines.proofs.NumberWordLaws.{digits_more, digits_read, not_read, too_large}
 use Rattle.recovery_lines.proofs.words.long_number_in.Goals as goal
 use Rattle.recovery_lines.proofs.words.long_number_in.Goals.{then-is_empty-via-then-is_empty}
 use Rattle.recovery_lines.proofs.words.long_number_in.Goals.{then-is_empty-via-else-is_empty+then-digits-eq48}

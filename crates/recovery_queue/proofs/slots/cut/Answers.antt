@@ -1,5 +1,5 @@
 use Rattle.std.proofs.Common.{arith}
-use Rattle.recovery_queue.proofs.EntryLaws.{rises_within}
+use Rattle.recovery_queue.proofs.SlotEntryLaws.{rises_within}
 use Rattle.recovery_queue.proofs.slots.cut.Goals as goal
 
 pub returns-else-number-last-clause-rising : goal.returns-else-number-last-clause-rising

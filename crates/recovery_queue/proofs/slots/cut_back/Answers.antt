@@ -1,5 +1,5 @@
 use Rattle.std.proofs.Common.{rules}
-use Rattle.recovery_queue.proofs.EntryLaws.{cut_kept, rises_to, not_both}
+use Rattle.recovery_queue.proofs.SlotEntryLaws.{cut_kept, rises_to, not_both}
 use Rattle.recovery_queue.proofs.slots.cut_back.Goals as goal
 
 pub loop-slots-preserved-in-loop-slots : goal.loop-slots-preserved-in-loop-slots

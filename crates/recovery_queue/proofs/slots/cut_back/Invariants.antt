@@ -1,5 +1,5 @@
 use Rattle.std.proofs.Common.{◌≡◌, ◌≤◌}
-use Rattle.recovery_queue.proofs.EntryLaws.{Keeps}
+use Rattle.recovery_queue.proofs.SlotEntryLaws.{Keeps}
 use Rattle.recovery_queue.proofs.slots.cut_back.Given as goal
 
 abbrev pub invariant-loop-slots : goal.invariant-loop-slots

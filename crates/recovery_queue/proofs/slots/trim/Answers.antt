@@ -1,4 +1,4 @@
-use Rattle.recovery_queue.proofs.EntryLaws.{tail_kept}
+use Rattle.recovery_queue.proofs.SlotEntryLaws.{tail_kept}
 use Rattle.recovery_queue.proofs.slots.trim.Goals as goal
 
 pub loop-slots-preserved-in-loop-slots-2 : goal.loop-slots-preserved-in-loop-slots-2

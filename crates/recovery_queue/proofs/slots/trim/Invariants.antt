@@ -1,4 +1,4 @@
-use Rattle.recovery_queue.proofs.EntryLaws.{Keeps}
+use Rattle.recovery_queue.proofs.SlotEntryLaws.{Keeps}
 use Rattle.recovery_queue.proofs.slots.trim.Given as goal
 
 abbrev pub invariant-loop-slots : goal.invariant-loop-slots

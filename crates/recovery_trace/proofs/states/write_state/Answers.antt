@@ -2,7 +2,7 @@ use Rattle.std.proofs.Common.{rules, string_bytes}
 use lib.Chars.{codes}
 use Rattle.recovery_ledger.specs.Paths.{counters_of}
 use Rattle.recovery_trace.specs.States.{flight_text, window_text, rtt_text, room_text}
-use Rattle.recovery_trace.proofs.StatesLaws.{five}
+use Rattle.recovery_trace.proofs.StateTextLaws.{five}
 use Rattle.recovery_trace.proofs.states.write_state.Goals as goal
 
 pub returns : goal.returns

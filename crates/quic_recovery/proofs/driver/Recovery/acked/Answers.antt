@@ -1,7 +1,7 @@
 use Rattle.std.proofs.Common.{sym, ap, ◌∙◌}
 use Rattle.recovery_ledger.specs.Packets.{Tracking}
 use Rattle.recovery_ledger.specs.Spaces.{tracking_of, next_number_of, space_takes}
-use Rattle.recovery_ledger.proofs.AckLaws.{acked_greatest}
+use Rattle.recovery_ledger.proofs.SpaceAckLaws.{acked_greatest}
 use Rattle.recovery_ledger.proofs.AmongLaws.{acknowledging_found}
 use Rattle.recovery_ledger.proofs.CoherentLaws.{coherent_taken}
 use Rattle.recovery_paths.proofs.BalanceLaws.{counted, paths_balanced_acked}

@@ -1,5 +1,5 @@
 use Rattle.recovery_detection.specs.Inside.{detector_in}
-use Rattle.recovery_detection.proofs.PastLaws.{past_discarded}
+use Rattle.recovery_detection.proofs.DetectorPastLaws.{past_discarded}
 use Rattle.recovery_detection.proofs.detector.LossDetector.discard.Goals as goal
 
 pub invariant_of-self : goal.invariant_of-self

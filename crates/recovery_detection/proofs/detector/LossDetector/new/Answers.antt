@@ -2,7 +2,7 @@ use Rattle.std.proofs.Common.{List, sym, subst}
 use Rattle.recovery_detection.specs.declared.packets.Sent.{Sent}
 use Rattle.recovery_detection.specs.Detectors.{blank}
 use Rattle.recovery_detection.specs.Runs.{HasPast}
-use Rattle.recovery_detection.proofs.PastLaws.{no_past}
+use Rattle.recovery_detection.proofs.DetectorPastLaws.{no_past}
 use Rattle.recovery_detection.proofs.detector.LossDetector.new.Goals as goal
 
 pub invariant_of-result : goal.invariant_of-result

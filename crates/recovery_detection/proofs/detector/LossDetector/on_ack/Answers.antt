@@ -5,7 +5,7 @@ use Rattle.recovery_detection.specs.Detectors.{Detector}
 use Rattle.recovery_detection.specs.Inside.{detector_in}
 use Rattle.recovery_detection.specs.Packets.{is_in}
 use Rattle.recovery_detection.specs.Runs.{LeaveOnce}
-use Rattle.recovery_detection.proofs.PastLaws.{past_on, leave_once}
+use Rattle.recovery_detection.proofs.DetectorPastLaws.{past_on, leave_once}
 use Rattle.recovery_detection.proofs.detector.LossDetector.on_ack.Goals as goal
 
 pub invariant_of-self : goal.invariant_of-self

@@ -1,5 +1,5 @@
 use Rattle.std.proofs.Common.{arith}
-use Rattle.recovery_ids.proofs.WindowLaws.{drops_below}
+use Rattle.recovery_ids.proofs.IdWindowLaws.{drops_below}
 use Rattle.recovery_ids.proofs.window.Window.drop_below.Goals as goal
 
 pub returns-clause-entries : goal.returns-clause-entries

@@ -1,4 +1,4 @@
-use Rattle.recovery_queue.specs.Slots.{entries_of}
+use Rattle.recovery_queue.specs.Slots.{entries_in}
 use Rattle.std.proofs.Common.{ap, arith}
 use Rattle.recovery_ledger.specs.Packets.{entry_at}
 use Rattle.recovery_ledger.proofs.CountLaws.{IsForgotten, silent_bound, silent_few, forgotten_found}
@@ -11,7 +11,7 @@ overflow_add-self g c =
     grind (
       arith,
       c.self.invariant.counted.sized_is,
-      sized_counted (entries_of c.self.inside.packets),
+      sized_counted (entries_in c.self.inside.packets),
       c.filled-filled.ensures.few,
       c.size_count-count.ensures,
     )
@@ -72,9 +72,9 @@ overflow_sub-self g c =
     c.if-is_eliciting.false _ c.in-Some.ensures.number c.in_ok-push.ensures.ok c.take.ensures.value) in
     omega (arith, gone.2)
 
-found : (g : _) (c : goal.After-self-4-1 g) → IsForgotten (entries_of c.self.inside.packets)
+found : (g : _) (c : goal.After-self-4-1 g) → IsForgotten (entries_in c.self.inside.packets)
     c.self.inside.last_eliciting c.self.inside.sized c.args.number c.args.packet c.in-Some.least
-    (entries_of c.push.new.self) c.in-Some-take.gone
+    (entries_in c.push.new.self) c.in-Some-take.gone
 found g c =
     rw c.in-Some-take.is at (forgotten_found c.self.invariant.counted c.self.view_is c.packet.view_is
     c.if-is_eliciting.false _ c.in-Some.ensures.number c.in_ok-push.ensures.ok c.take.ensures.value)

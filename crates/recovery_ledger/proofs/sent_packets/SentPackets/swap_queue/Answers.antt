@@ -1,5 +1,5 @@
 use Rattle.std.proofs.Common.{sym, ap, ◌∙◌, arith}
-use Rattle.recovery_queue.proofs.EntryLaws.{taken, put_back}
+use Rattle.recovery_queue.proofs.SlotEntryLaws.{taken, put_back}
 use Rattle.recovery_ledger.specs.Packets.{Packet, with_contents}
 use Rattle.recovery_ledger.proofs.TrackedLaws.{Exchanges, tracked_carrying}
 use Rattle.recovery_ledger.proofs.sent_packets.SentPackets.swap_queue.Goals as goal

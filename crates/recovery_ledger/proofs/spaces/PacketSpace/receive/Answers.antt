@@ -2,7 +2,7 @@ use Rattle.std.proofs.Common.{refl, sym, ap, subst, arith}
 use Rattle.recovery_base.proofs.MissingLaws.{has_greatest}
 use Rattle.recovery_acks.specs.Acks.{AckCounts}
 use Rattle.recovery_ledger.specs.Spaces.{Space, HasGreatestCome}
-use Rattle.recovery_ledger.proofs.AckLaws.{hears, still_reached}
+use Rattle.recovery_ledger.proofs.SpaceAckLaws.{hears, still_reached}
 use Rattle.recovery_ledger.proofs.spaces.PacketSpace.receive.Goals as goal
 
 pub packet_received-arm-requires-clause-earlier : goal.packet_received-arm-requires-clause-earlier

@@ -1,5 +1,5 @@
 use Rattle.std.proofs.Common.{arith}
-use Rattle.recovery_queue.proofs.EntryLaws.{entries_fit, kept}
+use Rattle.recovery_queue.proofs.SlotEntryLaws.{entries_fit, kept}
 use Rattle.recovery_queue.proofs.slots.SlotQueue.close_up.Goals as goal
 
 pub overflow_sub-len : goal.overflow_sub-len

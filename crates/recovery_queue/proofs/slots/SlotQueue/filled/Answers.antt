@@ -1,5 +1,5 @@
 use Rattle.std.proofs.Common.{arith}
-use Rattle.recovery_queue.proofs.EntryLaws.{entries_fit}
+use Rattle.recovery_queue.proofs.SlotEntryLaws.{entries_fit}
 use Rattle.recovery_queue.proofs.slots.SlotQueue.filled.Goals as goal
 
 pub returns-clause-few : goal.returns-clause-few

@@ -1,4 +1,4 @@
-use Rattle.recovery_queue.proofs.EntryLaws.{divided}
+use Rattle.recovery_queue.proofs.SlotEntryLaws.{divided}
 use Rattle.recovery_queue.proofs.slots.SlotQueue.place_from.Goals as goal
 
 pub returns-in-Ok-clause-entries : goal.returns-in-Ok-clause-entries

@@ -1,6 +1,6 @@
 use Rattle.std.proofs.Common.{[], ◌∷◌, Some, arith, length-append}
 use Rattle.recovery_queue.specs.declared.slots.Slot.{Slot}
-use Rattle.recovery_queue.proofs.EntryLaws.{entries_fit, entries-append, rises_pushed}
+use Rattle.recovery_queue.proofs.SlotEntryLaws.{entries_fit, entries-append, rises_pushed}
 use Rattle.recovery_queue.proofs.slots.SlotQueue.push.Goals as goal
 
 pub overflow_add-self : goal.overflow_add-self

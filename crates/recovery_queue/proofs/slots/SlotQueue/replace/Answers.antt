@@ -1,6 +1,6 @@
 use Rattle.std.proofs.Common.{arith, refl}
 use Rattle.recovery_queue.proofs.SlotLaws.{slot_read}
-use Rattle.recovery_queue.proofs.EntryLaws.{entries_fit, replaced_sound}
+use Rattle.recovery_queue.proofs.SlotEntryLaws.{entries_fit, replaced_sound}
 use Rattle.recovery_queue.proofs.slots.SlotQueue.replace.Goals as goal
 
 pub overflow_add-self : goal.overflow_add-self

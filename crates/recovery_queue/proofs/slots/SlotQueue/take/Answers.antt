@@ -1,5 +1,5 @@
 use Rattle.std.proofs.Common.{sym, ◌∙◌, arith}
-use Rattle.recovery_queue.proofs.EntryLaws.{taken, absent_removed}
+use Rattle.recovery_queue.proofs.SlotEntryLaws.{taken, absent_removed}
 use Rattle.recovery_queue.proofs.slots.SlotQueue.take.Goals as goal
 
 pub returns-in_err-place-clause-entries : goal.returns-in_err-place-clause-entries

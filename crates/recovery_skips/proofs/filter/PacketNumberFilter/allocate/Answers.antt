@@ -1,4 +1,4 @@
-use Rattle.recovery_skips.proofs.RangeLaws.{can_draw}
+use Rattle.recovery_skips.proofs.DrawRangeLaws.{can_draw}
 use Rattle.recovery_skips.proofs.filter.PacketNumberFilter.allocate.Goals as goal
 
 pub pass-requires : goal.pass-requires

@@ -1,4 +1,4 @@
--- A line of plain words has no line feed, and its words are these. `FieldLaws` and `LineLaws` rest on it.
+-- A line of plain words has no line feed, and its words are these. `LineFieldLaws` and `LineLaws` rest on it.
 use Rattle.std.proofs.Common.{◌≡◌, ◌≢◌, ℕ, ◌<◌, ◌^◌, ◌==◌, false, List, [], ◌∷◌, decimal, refl, ap, ◌∙◌, arith, ne_eqb}
 use Rattle.std.specs.List.{AllByRecursion, All, join_with_byte}
 use Rattle.std.proofs.lemmas.List.Splits.{join_with_byte-slice_split, slice_split_at, slice_split_none}

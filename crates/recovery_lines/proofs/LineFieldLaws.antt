@@ -6,8 +6,8 @@ use lib.Chars.{codes}
 use Rattle.recovery_lines.specs.Fields.{Field, Value, word_for, Fits, a_largest}
 use Rattle.recovery_lines.specs.Reading.{◌>>=◌, field, value_of, flag_of, space_of, timer_of, path_of, largest_of, number_of}
 use Rattle.std.proofs.lemmas.Fmt.{decimal_is_IsNumeral}
-use Rattle.recovery_lines.proofs.NumberLaws.{number_takes, number_again}
-use Rattle.recovery_lines.proofs.PlainLaws.{IsPlain, decimal_plain}
+use Rattle.recovery_lines.proofs.NumberWordLaws.{number_takes, number_again}
+use Rattle.recovery_lines.proofs.PlainWordLaws.{IsPlain, decimal_plain}
 
 -- the value of a step that did not fail
 pub bind_some : {A B : Type 0} (o : Option A) (f : A → Option B) (y : B) → (o >>= f) ≡ Some y → (x : A) × (o ≡ Some x)

@@ -1,4 +1,4 @@
--- What it says that a number was read from a word, or not. The readers of numbers and `FieldLaws` rest on it.
+-- What it says that a number was read from a word, or not. The readers of numbers and `LineFieldLaws` rest on it.
 use Rattle.std.proofs.Common.{◌+◌, ◌*◌, ◌%◌, take, length-take, lit≤, ◌≡◌, ℕ, ◌^◌, ◌<◌, ◌≤◌, List, length, get_or, Some, None, decimal, arith}
 use Rattle.std.proofs.lemmas.Bool.Decides.{nat_tests}
 use Rattle.std.proofs.lemmas.List.{get_or-take}

@@ -10,7 +10,7 @@ use Rattle.std.proofs.lemmas.List.{length-drop, same_from_push}
 use Rattle.std.proofs.Math.Seq.{set-append_seam}
 use Rattle.std.proofs.lemmas.List.Filters.{length-filter_both}
 use Rattle.recovery_queue.specs.declared.slots.Slot.{Slot}
-use Rattle.recovery_queue.specs.Slots.{entries_of, item_at, AreRising, IsSlotAt, Divides, IsHeldAt, IsAboveAll, IsFrontEmpty, IsBackFrom, Replaces, Finds, is_filled, is_below, is_from, first_number, AreFrom, StaysRising}
+use Rattle.recovery_queue.specs.Slots.{entries_in, item_at, AreRising, IsSlotAt, Divides, IsHeldAt, IsAboveAll, IsFrontEmpty, IsBackFrom, Replaces, Finds, is_filled, is_below, is_from, first_number, AreFrom, StaysRising}
 use Rattle.recovery_queue.proofs.SlotLaws.{Slots, at_itself}
 
 pub not_both : {b : Bool} → b ≡ true → b ≡ false → ⊥
@@ -25,12 +25,12 @@ module _ {T : Type 0} where
   slot_of number item = record { number = number; item = item }
 
   pub entries-append : (before after : Slots T)
-      → entries_of (before ++ after) ≡ entries_of before ++ entries_of after
+      → entries_in (before ++ after) ≡ entries_in before ++ entries_in after
   entries-append [] after = refl
   entries-append (slot ∷ before) after = grind (arith, entries-append before after)
 
   -- no more is filed than there are slots
-  pub entries_fit : (slots : Slots T) → length (entries_of slots) ≤ length slots
+  pub entries_fit : (slots : Slots T) → length (entries_in slots) ≤ length slots
   entries_fit [] = omega arith
   entries_fit (slot ∷ slots) = grind (arith, entries_fit slots)
 
@@ -39,7 +39,7 @@ module _ {T : Type 0} where
   pub replaced_sound : (slots : Slots T) (first end place : ℕ) (slot : Slot T) (item : Option T)
       → AreRising first slots end → IsSlotAt slots place slot
       → (let new = set slots place (slot_of slot.number item) in
-      (length (entries_of new) + one_if (is_some slot.item) ≡ length (entries_of slots) + one_if (is_some item))
+      (length (entries_in new) + one_if (is_some slot.item) ≡ length (entries_in slots) + one_if (is_some item))
       × AreRising first new end)
   replaced_sound (head ∷ slots) first end (suc place) slot item rising at =
       grind (arith, replaced_sound slots (head.number + 1) end place slot item rising.2 at)
@@ -72,10 +72,10 @@ module _ {T : Type 0} where
 
     -- what is filed under a number that no slot before it has
     here : (before : Slots T) → item_at before number ≡ None
-        → (let entries = entries_of (holding before (Some item)) in
+        → (let entries = entries_in (holding before (Some item)) in
         (item_at (holding before (Some item)) number ≡ Some item)
-        × (entries_of (holding before None) ≡ remove_entry (is_at (nat_cmp number)) entries)
-        × (entries_of (holding before (Some other)) ≡ set_value (is_at (nat_cmp number)) entries other)
+        × (entries_in (holding before None) ≡ remove_entry (is_at (nat_cmp number)) entries)
+        × (entries_in (holding before (Some other)) ≡ set_value (is_at (nat_cmp number)) entries other)
         × IsSlotAt (holding before (Some item)) (length before) (slot_of number (Some item)))
     here [] none = grind (arith, at_itself number)
     here (slot ∷ before) none = grind (arith, here before)
@@ -92,7 +92,7 @@ module _ {T : Type 0} where
     held = grind (arith, finds.place, is)
 
     -- what is found and taken is filed no more
-    pub taken : (found ≡ item_at old number) × (entries_of mid ≡ remove_entry (is_at (nat_cmp number)) (entries_of old))
+    pub taken : (found ≡ item_at old number) × (entries_in mid ≡ remove_entry (is_at (nat_cmp number)) (entries_in old))
         × IfNone found ⊥
     taken =
         let its = held.1 in
@@ -105,7 +105,7 @@ module _ {T : Type 0} where
 
     -- another is put in its place
     pub put_back : {left : Option T} {new : Slots T} (other : T) → Replaces mid place (Some other) left new
-        → (entries_of new ≡ set_value (is_at (nat_cmp number)) (entries_of old) other) × (length new ≡ length old)
+        → (entries_in new ≡ set_value (is_at (nat_cmp number)) (entries_in old) other) × (length new ≡ length old)
     put_back other second =
         let its = held.1 in
         let empty = replaced its.before its.after number its.is its.place_is first in
@@ -131,15 +131,15 @@ module _ {T : Type 0} where
   rises_within (slot ∷ slots) first lower end upper low high rising =
       grind (arith, rises_within slots (slot.number + 1) (slot.number + 1) end upper)
 
-  pub kept : (slots : Slots T) (first end : ℕ) → (entries_of (filter is_filled slots) ≡ entries_of slots)
-      × (length (filter is_filled slots) ≡ length (entries_of slots))
+  pub kept : (slots : Slots T) (first end : ℕ) → (entries_in (filter is_filled slots) ≡ entries_in slots)
+      × (length (filter is_filled slots) ≡ length (entries_in slots))
       × (AreRising first slots end → AreRising first (filter is_filled slots) end)
   kept [] first end = grind arith
   kept (slot ∷ slots) first end = grind (arith, kept slots (slot.number + 1) end, rises_within)
 
   -- slots are dropped of which none was filled
   pub record Keeps (start slots : Slots T) : Type 0 where
-    pub entries : entries_of slots ≡ entries_of start
+    pub entries : entries_in slots ≡ entries_in start
     pub rising : StaysRising start slots
 
   -- the first, which is empty
@@ -167,19 +167,19 @@ module _ {T : Type 0} where
   -- a slot at the end with too high a number is empty
   cut_last : (before : Slots T) (slot : Slot T) (first end number : ℕ)
       → (AreRising first (before ++ slot ∷ []) end → AreRising first before end)
-      × (AllBelow (entries_of (before ++ slot ∷ [])) number → number ≤ slot.number
-      → entries_of before ≡ entries_of (before ++ slot ∷ []))
+      × (AllBelow (entries_in (before ++ slot ∷ [])) number → number ≤ slot.number
+      → entries_in before ≡ entries_in (before ++ slot ∷ []))
   cut_last [] slot first end number = grind arith
   cut_last (head ∷ before) slot first end number = grind (arith, cut_last before slot (head.number + 1) end number)
 
   pub cut_kept : {start old new : Slots T} {number : ℕ} (popped : Option (Slot T)) → Keeps start old
-      → old ≡ new ++ option_to_list popped → IsAboveAll (entries_of start) number → IsBackFrom number old
+      → old ≡ new ++ option_to_list popped → IsAboveAll (entries_in start) number → IsBackFrom number old
       → Keeps start new
   cut_kept {new = new} None kept is above back = subst (Keeps _) (is ∙ append-nil new) kept
   cut_kept {start} {new = new} {number} (Some slot) kept is above back =
       let last = same_from_push back.0 new back.1 slot (sym back.2 ∙ is) in
-      let under : AllBelow (entries_of (new ++ slot ∷ [])) number =
-      rw (← is, kept.entries) (all_below (entries_of start) number above) in record {
+      let under : AllBelow (entries_in (new ++ slot ∷ [])) number =
+      rw (← is, kept.entries) (all_below (entries_in start) number above) in record {
         entries = grind (arith, is, last, under, cut_last new slot 0 0 number, kept.entries);
         rising = λ first end rising. (cut_last new slot first end 0).0 (rw is at (kept.rising first end rising));
       }
@@ -214,7 +214,7 @@ module _ {T : Type 0} where
   }
 
   pub divided : (slots : Slots T) (number place : ℕ) → Divides slots number place
-      → entries_of (drop place slots) ≡ filter (is_from number) (entries_of slots)
+      → entries_in (drop place slots) ≡ filter (is_from number) (entries_in slots)
   divided [] number zero divides = refl
   divided [] number (suc place) divides = refl
   divided (slot ∷ slots) number zero divides = grind (
@@ -240,7 +240,7 @@ module _ {T : Type 0} where
   drop_slot slots place slot at = grind (arith, at)
 
   pub entries_dropped : (slots : Slots T) (place : ℕ) (slot : Slot T) → IsSlotAt slots place slot
-      → slot.item ≡ None → entries_of (drop place slots) ≡ entries_of (drop (place + 1) slots)
+      → slot.item ≡ None → entries_in (drop place slots) ≡ entries_in (drop (place + 1) slots)
   entries_dropped slots place slot at empty = grind (arith, drop_slot slots place slot at)
 
   -- what is filed first, if anything, is what leaves first
@@ -254,17 +254,17 @@ module _ {T : Type 0} where
 
   -- no more are filed before a place than there are slots
   entries_to : (slots : Slots T) (place : ℕ)
-      → length (entries_of slots) ≤ place + length (entries_of (drop place slots))
+      → length (entries_in slots) ≤ place + length (entries_in (drop place slots))
   entries_to (slot ∷ slots) (suc place) = grind (arith, entries_to slots place)
   entries_to slots place = omega arith
 
   pub filed : {slots : Slots T} {number place : ℕ} → Divides slots number place → place ≤ length slots
-      → (length (filter (is_below number) (entries_of slots)) ≤ place)
-      × (place + length (filter (is_from number) (entries_of slots)) ≤ length slots)
+      → (length (filter (is_below number) (entries_in slots)) ≤ place)
+      × (place + length (filter (is_from number) (entries_in slots)) ≤ length slots)
   filed {slots} {number} {place} divides within = grind (
     arith,
     divided slots number place divides,
-    length-filter_both (is_below number) (is_from number) (λ _. refl) (entries_of slots),
+    length-filter_both (is_below number) (is_from number) (λ _. refl) (entries_in slots),
     entries_to slots place,
     entries_fit (drop place slots),
     length-drop place slots,

@@ -8,7 +8,7 @@ use Rattle.recovery_detection.specs.declared.calls.Answer.TheVariants.{Done}
 use Rattle.recovery_detection.specs.Detectors.{Detector, blank}
 use Rattle.recovery_detection.specs.Packets.{is_number, without}
 use Rattle.recovery_detection.specs.Runs.{Reply, Step, HasPast, LeaveOnce}
-use Rattle.recovery_detection.proofs.RunLaws.{steps_push, parted, at_most_once}
+use Rattle.recovery_detection.proofs.DetectorRunLaws.{steps_push, parted, at_most_once}
 
 pub no_past : ∥ HasPast blank ∥₁
 no_past = ∣ record { calls = []; replies = []; steps = refl } ∣₁
