@@ -11,7 +11,7 @@ use Rattle.recovery_events.specs.declared.event.Answer.TheVariants.{Probe}
 use Rattle.quic_recovery.specs.Told.{Told}
 use Rattle.quic_recovery.specs.History.{Beginning, History, Reply}
 use Rattle.quic_recovery.specs.Promises.Acknowledged.{largest_in}
-use Rattle.quic_recovery.proofs.SearchSteps.{found_packet as is_there}
+use Rattle.quic_recovery.proofs.AnswerLaws.{is_there}
 use Rattle.quic_recovery.proofs.FieldLaws.{IsSaid, said_found, said_then, said_told}
 use Rattle.quic_recovery.proofs.TrackedLaws.{one_space, sent_in}
 

@@ -12,7 +12,7 @@ use Rattle.recovery_events.specs.declared.event.Event.TheVariants.{InitialId, Dr
 use Rattle.recovery_events.specs.declared.event.Answer.{Answer}
 use Rattle.recovery_events.specs.declared.event.Refusal.{Refusal}
 use Rattle.recovery_events.specs.declared.event.Refusal.TheVariants as refusal
-use Rattle.recovery_events.specs.declared.event.Refusal.TheVariants.{NumberTooLarge, NumbersExhausted, Overflow, DelayTooSmall, BadRange, SkippedAcked, SpaceDiscarded, NotTracked, NoSuchPath, NotInitialId, NoMemory}
+use Rattle.recovery_events.specs.declared.event.Refusal.TheVariants.{Overflow, SpaceDiscarded, NotTracked, NoSuchPath, NotInitialId, NoMemory}
 use Rattle.recovery_events.specs.Refusals.{refusal_number}
 use Rattle.quic_recovery.specs.Told.{known_by, Told}
 use Rattle.quic_recovery.specs.History.{Beginning, History, Reply}

@@ -1,6 +1,6 @@
 -- What an event is to the search on the path in use, for what is read off the history: one step of its entries. The
 -- promises on searches by events alone rest on it.
-use Rattle.std.proofs.Common.{arith, ℕ, ◌≡◌, Bool, true, false, if◌then◌else◌, List, [], ◌∷◌, Option, None, Some, Ok, Err, refl, is_some}
+use Rattle.std.proofs.Common.{arith, ℕ, ◌≡◌, Bool, true, false, if◌then◌else◌, List, [], ◌∷◌, None, Some, Ok, Err, is_some}
 use Rattle.recovery_base.specs.declared.below.SpaceId.TheVariants.{Data}
 use Rattle.recovery_ledger.specs.Packets.{Packet}
 use Rattle.recovery_mtud.specs.Discovery.{reports}
@@ -11,6 +11,7 @@ use Rattle.recovery_events.specs.declared.event.Event.TheVariants.{PollMtu, Acke
 use Rattle.recovery_events.specs.declared.event.Answer.TheVariants as answer
 use Rattle.quic_recovery.specs.Told.{known_by, settings_of, Told, logs_of}
 use Rattle.quic_recovery.specs.History.{Beginning, History, Reply}
+use Rattle.quic_recovery.proofs.AnswerLaws.{is_there}
 use Rattle.quic_recovery.proofs.Runs.{AllAlong, throughout_by, throughout_kept}
 use Rattle.quic_recovery.proofs.SearchSaid.{EntersAsTold, LimitsOutside, TellsProbes, data_packet, entered_so_far, Follows, Keeps, ProbesInTurn}
 use Rattle.quic_recovery.proofs.EnteredLaws.{entered_one}
@@ -57,12 +58,6 @@ module _ {F K Q S M P : Type 0} (beginning : Beginning F K Q S M P) where
 
 -- ---- events whose answer says what they are
 
--- the packet that was found
-pub found_packet : {P M : Type 0} (found : Option (Packet P M)) → ¬ (found ≡ None) → (packet : Packet P M)
-    × (found ≡ Some packet)
-found_packet None there = absurd (there refl)
-found_packet (Some packet) there = (packet, refl)
-
 -- whether a number is that of the probe in flight
 abbrev is_probed : List MtuEntry → ℕ → Bool
 is_probed entries number = is_some (size_at number (probe_in_flight entries))
@@ -102,7 +97,7 @@ module _ {F K Q S M P : Type 0} (beginning : Beginning F K Q S M P) (history : H
       × (packet.size ≡ size_of history number)
   found number sized there =
       let sent = sent_by beginning.queue.words ((logs_of beginning history).spaces Data) in
-      let packet = found_packet (data_packet beginning history number) there in
+      let packet = is_there (data_packet beginning history number) there in
       (packet.0, packet.1, said_found size_in (size_of history) sent.next sent.tracked sized number packet.0 packet.1)
 
   -- so it holds

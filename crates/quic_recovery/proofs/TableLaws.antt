@@ -20,7 +20,7 @@ use Rattle.recovery_events.specs.declared.event.Answer.{Answer}
 use Rattle.recovery_events.specs.declared.event.Answer.TheVariants.{Queue, Flag, New, Sendable, Retire}
 use Rattle.recovery_events.specs.declared.event.Refusal.{Refusal}
 use Rattle.recovery_events.specs.declared.event.Refusal.TheVariants as refusal
-use Rattle.recovery_events.specs.declared.event.Refusal.TheVariants.{NoMemory, SpaceDiscarded, NoSuchPath, Overflow, NumberTooLarge, NumbersExhausted, NotTracked, BadRetirePriorTo, Retired, ExceedsLimit, Conflict, NotInitialId, BadRange, CidsNotInUse, UnissuedCid, DelayTooSmall, ZeroMtu, Searching, SkippedAcked}
+use Rattle.recovery_events.specs.declared.event.Refusal.TheVariants.{NoMemory, NoSuchPath, Overflow}
 use Rattle.recovery_paths.specs.declared.live_paths.PathName.{PathName}
 use Rattle.recovery_paths.specs.declared.live_paths.PathName.TheVariants.{Previous}
 use Rattle.recovery_events.specs.declared.event.Event.{Event}

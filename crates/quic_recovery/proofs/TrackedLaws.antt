@@ -32,7 +32,7 @@ use Rattle.quic_recovery.specs.Promises.Rising.{GivesRising}
 use Rattle.quic_recovery.specs.Promises.Tracked.{is_tracked}
 use Rattle.quic_recovery.specs.PartReplies.{MtuProbeReply}
 use Rattle.quic_recovery.proofs.EntryKinds.{keeps_packets, space_kind, space_kept}
-use Rattle.quic_recovery.proofs.AnswerLaws.{past_four}
+use Rattle.quic_recovery.proofs.AnswerLaws.{is_there, past_four}
 use Rattle.quic_recovery.proofs.Runs.{AllAlong, throughout_kept}
 
 -- ---- a number among those that are tracked
@@ -125,12 +125,6 @@ pub is_new : {F K Q S M P : Type 0} (beginning : Beginning F K Q S M P) (before 
 is_new beginning before Data =
     number_from_above beginning.config.skips beginning.random (sent_in beginning before Data).next
 is_new beginning before space = omega arith
-
--- a packet that was found is there
-pub is_there : {P M : Type 0} (found : Option (Packet P M)) → ¬ (found ≡ None)
-    → (packet : Packet P M) × (found ≡ Some packet)
-is_there None there = absurd (there refl)
-is_there (Some packet) there = (packet, refl)
 
 pub one_space : (there space : SpaceId) → same_space there space ≡ true → there ≡ space
 one_space Initial Initial e = refl

@@ -1,3 +1,3 @@
 pub mod AckLaws
 pub mod FrequencyLaws
-pub mod RunLaws
+pub mod HighestRunLaws

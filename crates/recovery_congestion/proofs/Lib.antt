@@ -1,4 +1,4 @@
-mod BalanceLaws
+mod PacerBalanceLaws
 pub mod NamedMomentLaws
 mod NamedMomentRows
 pub mod PacerLogLaws

@@ -1,4 +1,4 @@
 pub mod DetectLaws
 pub mod MomentLaws
-pub mod PastLaws
-pub mod RunLaws
+pub mod DetectorPastLaws
+pub mod DetectorRunLaws

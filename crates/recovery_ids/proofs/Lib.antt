@@ -8,4 +8,4 @@ mod RepeatLaws
 pub mod RiseLaws
 pub mod SetLaws
 pub mod StateLaws
-pub mod WindowLaws
+pub mod IdWindowLaws

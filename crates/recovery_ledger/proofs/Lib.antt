@@ -1,4 +1,4 @@
-pub mod AckLaws
+pub mod SpaceAckLaws
 pub mod AmongLaws
 pub mod CarryLaws
 pub mod CoherentLaws

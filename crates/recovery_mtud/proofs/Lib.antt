@@ -1,9 +1,9 @@
 mod BurstCounts
-pub mod BurstLaws
+pub mod BurstCallLaws
 pub mod BurstRunLaws
 mod BurstTies
 pub mod DiscoveryLaws
-pub mod EntryLaws
+pub mod MtuEntryLaws
 mod DiscoveryRows
 mod RunRows
 pub mod SearchRunLaws

@@ -1,6 +1,6 @@
 pub mod AllowedLaws
 pub mod BalanceLaws
-pub mod FateLaws
+pub mod PathFateLaws
 pub mod LivePathsLaws
 pub mod PassedLaws
 pub mod PathLogLaws

@@ -1,2 +1,2 @@
-pub mod EntryLaws
+pub mod SlotEntryLaws
 pub mod SlotLaws

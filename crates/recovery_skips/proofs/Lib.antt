@@ -1,4 +1,4 @@
-pub mod CountLaws
+pub mod SkipCountLaws
 pub mod DrawLaws
-pub mod RangeLaws
+pub mod DrawRangeLaws
 pub mod SkipLaws

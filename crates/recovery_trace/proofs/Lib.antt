@@ -1,2 +1,2 @@
 pub mod ReadingLaws
-pub mod StatesLaws
+pub mod StateTextLaws
