@@ -1,5 +1,4 @@
--- Worked rows, computed: of six packets, sent 10 ms apart, number 4 is acknowledged, and the greater RTT is 100 ms.
--- Nothing rests on them.
+-- Worked rows: what becomes of six packets of which number 4 is acknowledged, computed. Nothing rests on them.
 use Rattle.std.specs.Prelude.{ℕ, ◌≡◌, ◌*◌, ◌^◌, List, [], ◌∷◌, true, filter, map, None, Some, refl}
 use Rattle.recovery_base.specs.Times.{longest_span}
 use Rattle.recovery_detection.specs.declared.packets.Sent.{Sent}
@@ -12,6 +11,7 @@ millis n = n * 10 ^ 6
 abbrev packet : ℕ → Sent
 packet n = record { number = n; sent = millis (10 * n); size = 1200; ack_eliciting = true }
 
+-- sent 10 ms apart; the greater RTT is 100 ms
 abbrev flight : List Sent
 flight = packet 0 ∷ packet 1 ∷ packet 2 ∷ packet 3 ∷ packet 4 ∷ packet 5 ∷ []
 
