@@ -1,5 +1,5 @@
 -- What an ack-eliciting packet leaves: the call `packet_received` and the log of a space (`HeardLaws`) rest on it.
-use Rattle.std.proofs.Common.{◌≡◌, ℕ, ◌+◌, ◌-◌, ◌<◌, max, inl, inr, ◌⊎◌, ◌↔◌, Bool, true, false, nat_lt, not, cond, sym, Option, None, Some, refl, ap, arith}
+use Rattle.std.proofs.Common.{◌≡◌, ℕ, ◌+◌, ◌-◌, ◌<◌, max, inl, inr, ◌⊎◌, ◌↔◌, Bool, true, false, nat_lt, not, cond, Option, None, Some, refl, arith}
 use Rattle.std.specs.Prelude.{◌≢◌, IsTrue, IfSome, Decides, MatchBool}
 use Rattle.std.specs.Option.{unwrap_or}
 use Rattle.std.proofs.lemmas.Bool.{false≢true, cases_lt}

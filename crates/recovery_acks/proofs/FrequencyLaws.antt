@@ -1,5 +1,5 @@
 -- ACK_FREQUENCY frames leave the greatest ack-eliciting number. The driver's `ack_frequency_in` rests on it.
-use Rattle.std.proofs.Common.{Bool, true, false, ◌≡◌, Result, Ok, Err, arith}
+use Rattle.std.proofs.Common.{Bool, ◌≡◌, Result, Ok, Err, arith}
 use Rattle.recovery_base.specs.declared.below.frames.AckFrequency.{AckFrequency}
 use Rattle.recovery_base.specs.declared.below.frames.TransportError.{TransportError}
 use Rattle.recovery_acks.specs.declared.frequency.AckFrequencyState.{AckFrequencyState}

@@ -1,5 +1,5 @@
 //! How often the peer is asked to acknowledge, and how often it asks (draft-ietf-quic-ack-frequency-04).
-ghost use Rattle.std.specs.Prelude.{◌≡◌, ◌<◌, ◌≤◌, ◌^◌, ◌+◌, [], min, max, Decides, MatchOption, Some, None};
+ghost use Rattle.std.specs.Prelude.{◌≡◌, ◌<◌, ◌≤◌, ◌^◌, ◌+◌, min, max, Decides, MatchOption, Some, None};
 ghost use Rattle.recovery_acks.specs.AckFrequencies.{frequency_made, pending_of, next_of, candidate_delay, current_delay, longest_delay, IsWorthSending, FrequencyReceived, AcksRequest, with_next, with_pending};
 
 use crate::PendingAcks;
@@ -14,7 +14,7 @@ const TIMER_GRANULARITY_NANOS: u128 = 1_000_000;
 /// else be asked for than come without a request.
 const MIN_AUTOMATIC_ACK_DELAY_MILLIS: u64 = 25;
 
-/// The delays of ACKs, as asked for and as asked by the peer.
+/// The delays of ACKs, as asked for and as asked by the peer (draft-ietf-quic-ack-frequency-04, sections 4 and 7).
 #[derive(Drop)]
 pub struct AckFrequencyState {
     in_flight_ack_frequency_frame: Option<(u64, Duration)>,
@@ -27,7 +27,7 @@ pub struct AckFrequencyState {
 }
 
 impl AckFrequencyState {
-    /// Nothing was asked yet; both delays are this one.
+    /// Nothing was asked yet, by either end; both delays are this one (RFC 9000, 18.2: max_ack_delay).
     pub fn new(default_max_ack_delay: Duration) -> Self
         ensures { result ≡ frequency_made default_max_ack_delay }
     {
@@ -41,7 +41,8 @@ impl AckFrequencyState {
     }
 
     /// The delay to ask the peer for: the configured one or else the peer's, at most the RTT, which counts as 25 ms at
-    /// least, and at least the peer's `min_ack_delay`.
+    /// least, and at least the peer's `min_ack_delay`, which is in microseconds (draft-ietf-quic-ack-frequency-04, sections
+    /// 3 and 4).
     pub fn candidate_max_ack_delay(
         &self,
         rtt: Duration,
@@ -63,7 +64,8 @@ impl AckFrequencyState {
         wanted.min(most).max(least)
     }
 
-    /// The longest delay that the peer may use: its own, or the one asked for while that request is on its way.
+    /// The longest delay that the peer may use, which a probe timeout allows for: its own, or the one asked for, where that
+    /// is longer and on its way (RFC 9002, 6.2.1; draft-ietf-quic-ack-frequency-04, section 7).
     pub fn max_ack_delay_for_pto(&self) -> Duration
         ensures { result ≡ longest_delay (pending_of self.now) self.now.peer_max_ack_delay }
     {
@@ -73,7 +75,8 @@ impl AckFrequencyState {
         }
     }
 
-    /// The number of the next request, counted from 0. None past 2^62 - 1, and then nothing changes.
+    /// The number of the next request, counted from 0 (draft-ietf-quic-ack-frequency-04, section 4). None past 2^62 - 1,
+    /// and then nothing changes.
     pub fn next_sequence_number(&mut self) -> Option<VarInt>
         ensures number { MatchOption result (2 ^ 62 ≤ next_of self.old)
             (λ number. number ≡ next_of self.old) }
@@ -89,8 +92,8 @@ impl AckFrequencyState {
         }
     }
 
-    /// Whether a request is worth sending: none was made yet, or the delay wanted is more than a fifth away from the
-    /// one asked for last.
+    /// Whether a request is worth sending (draft-ietf-quic-ack-frequency-04, section 4): none was made yet, or the delay
+    /// wanted is more than a fifth away from the one asked for last.
     pub fn should_send_ack_frequency(
         &self,
         rtt: Duration,
@@ -115,14 +118,16 @@ impl AckFrequencyState {
         5 * (desired.saturating_sub(current) + current.saturating_sub(desired)) > current
     }
 
-    /// A packet with a request went out.
+    /// The packet `pn` went out with a request of this delay (draft-ietf-quic-ack-frequency-04, section 4). An earlier
+    /// request on its way is forgotten.
     pub fn ack_frequency_sent(&mut self, pn: u64, requested_max_ack_delay: Duration)
         ensures { self.new ≡ with_pending (pn, requested_max_ack_delay) self.old }
     {
         self.in_flight_ack_frequency_frame = Some((pn, requested_max_ack_delay));
     }
 
-    /// A packet was acknowledged: where it held the request on its way, the peer uses that delay from now on.
+    /// The packet `pn` was acknowledged: where it held the request on its way, the peer uses that delay from now on (RFC
+    /// 9002, 6.2.1; draft-ietf-quic-ack-frequency-04, section 7). Else nothing changes.
     pub fn on_acked(&mut self, pn: u64)
         ensures { AcksRequest pn self.old self.new }
     {
@@ -134,9 +139,11 @@ impl AckFrequencyState {
         }
     }
 
-    /// An ACK_FREQUENCY frame came. The answer is whether it is newer than the last and was taken.
+    /// An ACK_FREQUENCY frame came. The answer is whether it is newer than the last and was taken
+    /// (draft-ietf-quic-ack-frequency-04, section 4). `false` changes nothing.
     ///
-    /// A delay below 1 ms is refused: the number of the frame is kept, and nothing else changes.
+    /// A delay below 1 ms, which the frame tells in microseconds, is refused as a PROTOCOL_VIOLATION: the number of the
+    /// frame is kept, and nothing else changes.
     pub fn ack_frequency_received(
         &mut self,
         frame: &AckFrequency,

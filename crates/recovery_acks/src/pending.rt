@@ -47,7 +47,8 @@ impl Model for PendingAcks {
 }
 
 impl PendingAcks {
-    /// Nothing is to be acknowledged; both thresholds are 1. It takes no memory.
+    /// Nothing is to be acknowledged. Both thresholds are 1 packet: the second ack-eliciting packet without an ACK asks for
+    /// one at once (RFC 9000, 13.2.2), and so does each that is out of order (13.2.1). It takes no memory.
     pub fn new(alloc: Global) -> Self
         ensures value { result ≡ new_acks [] }
         ensures sound { AreAcksSound result }
@@ -66,7 +67,8 @@ impl PendingAcks {
         }
     }
 
-    /// Takes both thresholds of an ACK_FREQUENCY frame.
+    /// Takes both thresholds of an ACK_FREQUENCY frame, in packets (draft-ietf-quic-ack-frequency-04, section 4). Nothing
+    /// else changes.
     pub fn set_ack_frequency_params(&mut self, frame: &AckFrequency)
         ensures takes { self.new
             ≡ with_thresholds frame.now.ack_eliciting_threshold frame.now.reordering_threshold
@@ -77,7 +79,8 @@ impl PendingAcks {
         self.reordering_threshold = frame.reordering_threshold.into_inner();
     }
 
-    /// From now on an ACK is required at once.
+    /// From now on an ACK is required at once, as an IMMEDIATE_ACK frame asks for it (draft-ietf-quic-ack-frequency-04,
+    /// section 5).
     pub fn set_immediate_ack_required(&mut self)
         ensures required { self.new ≡ with_required true self.old }
         ensures sound { AreAcksSound self.new }
@@ -85,7 +88,8 @@ impl PendingAcks {
         self.immediate_ack_required = true;
     }
 
-    /// The longest delay is over: an ACK is required at once exactly where an ack-eliciting packet came since the last one.
+    /// The longest delay is over (RFC 9000, 13.2.1): an ACK is required at once exactly where an ack-eliciting packet
+    /// came since the last one.
     pub fn on_max_ack_delay_timeout(&mut self)
         ensures requires_one { self.new ≡ with_required (nat_lt 0 self.old.counts.eliciting) self.old }
         ensures sound { AreAcksSound self.new }
@@ -94,7 +98,7 @@ impl PendingAcks {
     }
 
     /// When a delay ends that starts with the first ack-eliciting packet since the last ACK that came while no ACK could be sent
-    /// at once; none before one came.
+    /// at once; none before one came (RFC 9000, 13.2.1). It stops at `u64::MAX` nanoseconds.
     pub fn max_ack_delay_timeout(&self, max_ack_delay: Duration) -> Option<Instant>
         ensures { result ≡ timeout_at max_ack_delay self.now.base }
     {
@@ -104,21 +108,23 @@ impl PendingAcks {
         }
     }
 
-    /// Whether an ACK may be sent in a packet of its own: one is required, and a number is to be acknowledged.
+    /// Whether an ACK may be sent in a packet of its own: one is required, and a number is to be acknowledged (RFC 9000,
+    /// 13.2.1).
     pub fn can_send(&self) -> bool
         ensures { Decides result (CanSend self.now) }
     {
         may_send(self.immediate_ack_required, &self.ranges)
     }
 
-    /// Whether an ACK may be sent with other frames: a number is to be acknowledged.
+    /// Whether an ACK may be sent with other frames: a number is to be acknowledged (RFC 9000, 13.2.1).
     pub fn can_send_with_other_frames(&self) -> bool
         ensures { Decides result ((n : ℕ) × IsPending self.now n) }
     {
         !self.ranges.is_empty()
     }
 
-    /// How long ago the largest packet came; zero before the first.
+    /// How long ago the largest packet came, which an ACK frame tells (RFC 9000, 13.2.5); zero before the first, and
+    /// where it came after `now`.
     pub fn ack_delay(&self, now: Instant) -> Duration
         ensures { result ≡ delay_at now self.now.counts.largest }
     {
@@ -128,7 +134,12 @@ impl PendingAcks {
         }
     }
 
-    /// A packet came, after its number went into `dedup`. The answer is whether the delay timer is to be armed.
+    /// A packet came, after its number went into `dedup`. The answer is whether the delay timer is to be armed (RFC 9000,
+    /// 13.2.1).
+    ///
+    /// An ack-eliciting packet asks for an ACK at once where more of them came since the last one than may, or where it
+    /// is out of order (RFC 9000, 13.2.1 and 13.2.2; draft-ietf-quic-ack-frequency-04, section 6.1). The others are
+    /// only counted.
     pub fn packet_received(
         &mut self,
         now: Instant,
@@ -175,7 +186,8 @@ impl PendingAcks {
         true
     }
 
-    /// An ACK was sent, which is taken to hold all numbers that are to be acknowledged.
+    /// An ACK was sent, which is taken to hold all numbers that are to be acknowledged. They stay, for the next ACK (RFC
+    /// 9000, 13.2.3); none is required any more, no delay runs, and packets are counted anew.
     pub fn acks_sent(&mut self)
         ensures sends { self.new ≡ acks_sent self.old }
         ensures sound { AreAcksSound self.new }
@@ -187,9 +199,9 @@ impl PendingAcks {
         self.largest_acked = self.largest_ack_eliciting_packet;
     }
 
-    /// A number below 2^62 is to be acknowledged. Where more than 64 ranges stand, the lowest goes.
+    /// A number below 2^62 is to be acknowledged. Where more than 64 ranges stand, the lowest goes (RFC 9000, 13.2.3).
     ///
-    /// `NoMemory` changes nothing.
+    /// `NoMemory` changes nothing; a number that is there takes no memory.
     pub fn insert_one(&mut self, packet: u64, now: Instant) -> Result<(), NoMemory>
         requires { packet < 2 ^ 62 }
         ensures inserts { OnOk result (AddsPending self.old packet now self.new) }
@@ -202,7 +214,8 @@ impl PendingAcks {
         Ok(())
     }
 
-    /// The numbers up to `max`, below 2^62, need no acknowledgement any more. It takes no memory.
+    /// The numbers up to `max`, below 2^62, need no acknowledgement any more: the peer has an ACK that went up to there
+    /// (RFC 9000, 13.2.4). It takes no memory.
     pub fn subtract_below(&mut self, max: u64)
         requires { max < 2 ^ 62 }
         ensures subtracts { SubtractsBelow self.old max self.new }
@@ -211,7 +224,7 @@ impl PendingAcks {
         let _ = self.ranges.remove(0..max + 1);
     }
 
-    /// The numbers that are to be acknowledged: at most 64 ranges.
+    /// The numbers that are to be acknowledged: at most 64 ranges, in ascending order (RFC 9000, 13.2.3).
     pub fn ranges(&self) -> &ArrayRangeSet
         ensures value { result.now ≡ self.now.ranges }
         ensures count { length self.now.ranges ≤ most_ranges }
@@ -221,7 +234,7 @@ impl PendingAcks {
 
     /// Requires an ACK at once where more than 10 packets came since the last one that ask for none.
     ///
-    /// To be called where a packet is sent anyway.
+    /// To be called where a packet is sent anyway: such packets alone are not to make one be sent (RFC 9000, 13.2.1).
     pub fn maybe_ack_non_eliciting(&mut self)
         ensures many { 10 < self.old.counts.silent → self.new ≡ with_required true self.old }
         ensures few { self.old.counts.silent ≤ 10 → self.new ≡ self.old }

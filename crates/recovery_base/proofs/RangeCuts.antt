@@ -6,7 +6,7 @@ use Rattle.std.specs.declared.ops.Range.{Range}
 use Rattle.std.specs.List.{insert}
 use Rattle.std.proofs.lemmas.List.{drop_all}
 use Rattle.recovery_base.specs.Ranges.{InRanges, AreApart, Removes, IsBetween, floor_above, IsPlace, span, clipped, is_some_range, cut_ranges}
-use Rattle.recovery_base.proofs.RangeLaws.{Ranges, Changes, changed, drop_at, same_read, apart_lower, from_there, from_place, in_above}
+use Rattle.recovery_base.proofs.RangeLaws.{Ranges, Changes, changed, after, drop_at, same_read, apart_lower, from_there, from_place, in_above}
 
 module _ (n start end : ℕ) where
   abbrev Cut : ℕ → ℕ → Ranges → Ranges → Type 0
@@ -57,17 +57,10 @@ module _ {ranges : Ranges} {start end at : ℕ} (apart : AreApart 0 ranges) (som
     none_at_end last = none (λ n between. rw (drop_all at ranges (omega arith)) (λ lies. lies))
 
     module _ {range : Range ℕ} (differs : ¬ (at ≡ length ranges)) (is : range ≡ get_or ranges at range) where
-      inside : at < length ranges
-      inside = omega arith
+      rest : drop at ranges ≡ range ∷ after ranges at
+      rest = drop_at ranges at range (omega arith) is
 
-      after : Ranges
-      after = drop (suc at) ranges
-
-      rest : drop at ranges ≡ range ∷ after
-      unfolding after
-      rest = drop_at ranges at range inside is
-
-      apart_here : AreApart (floor_above 0 (take at ranges)) (range ∷ after)
+      apart_here : AreApart (floor_above 0 (take at ranges)) (range ∷ after ranges at)
       apart_here = rw rest at (from_there 0 at ranges apart).1
 
       ends_past : start < range.end
@@ -76,13 +69,14 @@ module _ {ranges : Ranges} {start end at : ℕ} (apart : AreApart 0 ranges) (som
       pub none_before : end ≤ range.start → Removes ranges start end false ranges
       unfolding InRanges AreApart
       none_before past = none (λ n between. rw rest
-          (grind (arith, between, past, apart_here, in_above (range.end + 1) after n)))
+          (grind (arith, between, past, apart_here, in_above (range.end + 1) (after ranges at) n)))
 
       -- numbers leave, and the change from the place on is known number by number
       taken : (more : ℕ) (edit : ℕ → Ranges → Ranges) → ((at : ℕ) (range : Range ℕ) (others : Ranges)
           → range.start < range.end → range.end < start + 1 → edit (suc at) (range ∷ others) ≡ range ∷ edit at others)
           → range.start < end → (start ≡ 0 → more ≡ 0)
-          → ((n : ℕ) → Cut n start end more (floor_above 0 (take at ranges)) (range ∷ after) (edit 0 (range ∷ after)))
+          → ((n : ℕ) → Cut n start end more (floor_above 0 (take at ranges)) (range ∷ after ranges at)
+          (edit 0 (range ∷ after ranges at)))
           → Removes ranges start end true (edit at ranges)
       unfolding InRanges AreApart
       taken more edit passes before few change = record {
@@ -107,9 +101,10 @@ module _ {ranges : Ranges} {start end at : ℕ} (apart : AreApart 0 ranges) (som
       unfolding AreApart
       cut_at also before short = taken 0 (λ i rs. cut_ranges start end rs)
           (λ i first others filled below. grind (arith, nat_tests, filled, below)) before (λ _. refl)
-          (λ n. cut_one n start end (floor_above 0 (take at ranges)) range after (cut_ranges start end after) some
-          (λ lower. rw (same_read ranges at inside is also) (short lower)) apart_here
-          (cut_all n start end (range.end + 1) after some (omega (arith, ends_past)) apart_here.2)
+          (λ n. cut_one n start end (floor_above 0 (take at ranges)) range (after ranges at)
+          (cut_ranges start end (after ranges at)) some
+          (λ lower. rw (same_read ranges at (omega arith) is also) (short lower)) apart_here
+          (cut_all n start end (range.end + 1) (after ranges at) some (omega (arith, ends_past)) apart_here.2)
           (is_some_range (clipped start end range)) refl)
 
       -- a range that holds numbers on both sides becomes two
@@ -118,8 +113,9 @@ module _ {ranges : Ranges} {start end at : ℕ} (apart : AreApart 0 ranges) (som
           (set (insert ranges (at + 1) (span end other.end)) at (span range.start start))
       unfolding InRanges AreApart
       splits {other} also lower upper =
-          let as_other = same_read ranges at inside is also in
+          let as_other = same_read ranges at (omega arith) is also in
+          let above = in_above (range.end + 1) (after ranges at) in
           taken 1 (λ i rs. set (insert rs (i + 1) (span end other.end)) i (span range.start start))
           (λ i first others _ _. let e : suc i + 1 ≡ suc (i + 1) = omega arith in rw e refl)
           (rw as_other (grind (arith, lower, upper, as_other, some))) (λ zero. absurd (omega arith))
-          (λ n. grind (arith, apart_here, lower, upper, some, as_other, in_above (range.end + 1) after n))
+          (λ n. grind (arith, apart_here, lower, upper, some, as_other, above n))

@@ -72,9 +72,14 @@ module _ (n bound more : ℕ) (Comes Goes : Type 0) (arrives : Comes → bound �
             change,
       ))
 
+-- what is left of the ranges behind one of them
+pub after : Ranges → ℕ → Ranges
+after ranges at = drop (suc at) ranges
+
 -- what is left of the ranges from one of them on
 pub drop_at : (ranges : Ranges) (at : ℕ) (range : Range ℕ) → at < length ranges → range ≡ get_or ranges at range
-    → drop at ranges ≡ range ∷ drop (suc at) ranges
+    → drop at ranges ≡ range ∷ after ranges at
+unfolding after
 drop_at ranges at range inside is =
     drop-cons ranges at range inside ∙ ap (λ (r : Range ℕ). r ∷ drop (suc at) ranges) (sym is)
 
@@ -115,18 +120,11 @@ module _ {ranges : Ranges} {x at : ℕ} (apart : AreApart 0 ranges) (place : IsP
   -- `range` and `other` are two reads of the range at the place
   module _ {range other : Range ℕ} (differs : ¬ (at ≡ length ranges)) (is : range ≡ get_or ranges at range)
       (also : other ≡ get_or ranges at other) where
-    inside : at < length ranges
-    inside = omega arith
-
-    after : Ranges
-    after = drop (suc at) ranges
-
-    rest : drop at ranges ≡ range ∷ after
-    unfolding after
-    rest = drop_at ranges at range inside is
+    rest : drop at ranges ≡ range ∷ after ranges at
+    rest = drop_at ranges at range (omega arith) is
 
     as_other : range ≡ other
-    as_other = same_read ranges at inside is also
+    as_other = same_read ranges at (omega arith) is also
 
     pub inserts_known : range.start ≤ x → x < other.end → InsertsOne ranges x false ranges
     unfolding InRanges AreApart
@@ -138,13 +136,14 @@ module _ {ranges : Ranges} {x at : ℕ} (apart : AreApart 0 ranges) (place : IsP
     pub inserts_between : x + 1 < range.start → InsertsOne ranges x true (insert ranges at (span x (x + 1)))
     unfolding InRanges AreApart
     inserts_between above = inserted (λ i rs. insert rs i (span x (x + 1))) (λ i range others. refl)
-        (range ∷ after) rest (λ below apart n. grind (arith, below, apart, above, in_above (range.end + 1) after x))
+        (range ∷ after ranges at) rest
+        (λ below apart n. grind (arith, below, apart, above, in_above (range.end + 1) (after ranges at) x))
 
     pub inserts_below : x + 1 ≡ other.start → InsertsOne ranges x true (set ranges at (span x range.end))
     unfolding InRanges AreApart
     inserts_below touches = inserted (λ i rs. set rs i (span x range.end)) (λ i range others. refl)
-        (range ∷ after) rest
-        (λ below apart n. grind (arith, below, apart, touches, as_other, in_above (range.end + 1) after x))
+        (range ∷ after ranges at) rest
+        (λ below apart n. grind (arith, below, apart, touches, as_other, in_above (range.end + 1) (after ranges at) x))
 
     module _ (past : other.end ≤ x) where
       ends_there : x ≤ range.end

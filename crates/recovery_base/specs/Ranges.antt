@@ -1,4 +1,4 @@
--- A set of numbers, kept as ranges.
+-- A set of numbers, kept as ranges, as ACK frames tell packet numbers (RFC 9000, 19.3.1).
 use Rattle.std.specs.Prelude.{ℕ, ◌≡◌, ◌+◌, ◌<◌, ◌≤◌, ◌⊎◌, ◌↔◌, List, [], ◌∷◌, length, take, drop, map, min, max, cond, nat_lt, ⊤, Bool, MatchBool, Any}
 use Rattle.std.specs.List.{filter}
 use Rattle.std.specs.declared.ops.Range.{Range}

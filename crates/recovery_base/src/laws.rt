@@ -1,5 +1,5 @@
 //! Laws that no call states: the order of spaces and of timers.
-ghost use Rattle.std.specs.Prelude.{◌≡◌, ℕ};
+ghost use Rattle.std.specs.Prelude.{◌≡◌};
 ghost use Rattle.std.specs.Ordering.{nat_cmp};
 ghost use Rattle.recovery_base.specs.Spaces.{space_index};
 ghost use Rattle.recovery_base.specs.Timers.{timer_index};

@@ -1,9 +1,8 @@
 -- What a pacer holds is what its history says, as long as all that was transmitted was checked. The clauses of `run` on
 -- pacers rest on it.
 use Rattle.std.proofs.lemmas.Bool.Decides.{nat_tests}
-use Rattle.std.proofs.Common.{◌≡◌, ℕ, ◌-◌, ◌*◌, ◌^◌, ◌<◌, ◌≤◌, true, false, List, [], ◌∷◌, None, arith}
+use Rattle.std.proofs.Common.{◌≡◌, ℕ, ◌-◌, ◌^◌, ◌<◌, ◌≤◌, true, false, List, [], ◌∷◌, None, arith}
 use Rattle.std.specs.Prelude.{◌&&◌, ◌==◌, if◌then◌else◌}
-use Rattle.std.proofs.Math.Nat.{mul-div-le}
 use Rattle.recovery_congestion.specs.Pacing.{Bucket, PacerCall, credit_of, resized, refilled, is_unpaced, paced, pacer_delay, less_tokens}
 use Rattle.recovery_congestion.specs.PacerLog.{PacerEntry, asked, took, bucket_by, AreChecked, PacerMark, credited, transmitted, changed, capacity_in, greatest_moment, balance_in, is_as_before, marks_by, marks_asking, DelaysBy, KeepsRate}
 use Rattle.recovery_congestion.proofs.PacerBalanceLaws.{NoDebt, AreEarned, credits_more, bytes_more, balance_is, rate_bound}

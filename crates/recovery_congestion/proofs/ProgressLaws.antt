@@ -1,12 +1,12 @@
 -- What was delayed passes in time, and a bucket that is only asked fills up as it was said. The clause `soon` of `run`
 -- and `NamedMomentLaws` rest on it.
 use Rattle.std.proofs.lemmas.Bool.Decides.{nat_tests}
-use Rattle.std.proofs.Common.{◌≡◌, ℕ, suc, ◌+◌, ◌-◌, ◌*◌, ◌/◌, ◌%◌, ◌^◌, ◌<◌, ◌≤◌, min, max, false, List, [], ◌∷◌, None, Some, ap, refl, ◌∙◌, arith, inl, inr}
-use Rattle.std.proofs.Math.Nat.{div-add-mod, mod-lt, mul-le-mul_left, mul-le-mul_right}
+use Rattle.std.proofs.Common.{◌≡◌, ℕ, suc, ◌+◌, ◌-◌, ◌*◌, ◌/◌, ◌^◌, ◌<◌, ◌≤◌, min, max, List, ◌∷◌, None, Some, ap, refl, arith, inl, inr}
+use Rattle.std.proofs.Math.Nat.{mul-le-mul_left, mul-le-mul_right}
 use Rattle.std.proofs.lemmas.Bool.{cases_lt}
 use Rattle.recovery_base.specs.Times.{longest_span}
 use Rattle.recovery_congestion.specs.PacerLog.{PacerEntry, asked, bucket_by}
-use Rattle.recovery_congestion.specs.Pacing.{Bucket, PacerCall, credit_of, wait_of, resized, refilled, may_send, paced, next_moment, pacer_delay}
+use Rattle.recovery_congestion.specs.Pacing.{Bucket, PacerCall, credit_of, wait_of, resized, refilled, paced, next_moment, pacer_delay}
 use Rattle.recovery_congestion.specs.Progress.{IsInReach, PassesBehind}
 
 -- the bucket knows the call's window and MTU

@@ -1,4 +1,4 @@
--- A window that congestion events halve.
+-- A window that congestion events halve, to two MTUs at least, and that nothing else changes (RFC 9002, 7.2 and 7.3.2).
 use Rattle.std.specs.Prelude.{ℕ, ◌*◌, ◌/◌, ◌<◌, max, None}
 use Rattle.std.proofs.Common.{arith}
 use Rattle.recovery_congestion.specs.Calls.{ControllerCall, congests, takes_mtu, IsPositive}

@@ -1,4 +1,4 @@
--- NewReno keeps the laws of controllers: its window stays above zero.
+-- NewReno (RFC 9002, 7.3) keeps the laws of controllers: its window stays above zero.
 use Rattle.std.specs.Prelude.{ℕ, ◌-◌, ◌*◌, ◌/◌, ◌<◌, min, max, Bool, true, false, nat_le, nat_lt, if◌then◌else◌}
 use Rattle.std.proofs.Common.{arith}
 use Rattle.recovery_congestion.specs.declared.congestion.new_reno.NewReno.{NewReno}

@@ -82,7 +82,8 @@ pub trait Controller: Sized {
     fn on_mtu_update(&mut self, new_mtu: u16)
         ensures { content self.new ≡ words.after (takes_mtu new_mtu) (content self.old) };
 
-    /// How many bytes may be in flight.
+    /// The congestion window: how many bytes may be in flight (RFC 9002, 7 and 7.2). It is above zero where the content is
+    /// sound.
     fn window(&self) -> u64
         ensures { result ≡ words.window (content self.now) };
 
@@ -90,7 +91,7 @@ pub trait Controller: Sized {
     fn metrics(&self) -> ControllerMetrics
         ensures { result ≡ words.metrics (content self.now) };
 
-    /// How many bytes may be in flight at first.
+    /// The window at first, in bytes: what `window` is of a controller just built (RFC 9002, 7.2).
     fn initial_window(&self) -> u64
         ensures { result ≡ words.initial (content self.now) };
 

@@ -1,4 +1,5 @@
 pub mod DetectLaws
+mod LossRows
 pub mod MomentLaws
 pub mod DetectorPastLaws
 pub mod DetectorRunLaws

@@ -1,6 +1,5 @@
 pub mod Detectors
 pub mod Inside
 pub mod Packets
-pub mod Rows
 pub mod Runs
 pub mod Timeouts

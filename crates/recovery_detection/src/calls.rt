@@ -1,5 +1,5 @@
 //! A list of calls, from a detector to which nothing has happened yet.
-ghost use Rattle.std.specs.Prelude.{◌≡◌, ◌<◌, ◌≤◌, ℕ, Bool, IfOk, OnErr, length, count_by};
+ghost use Rattle.std.specs.Prelude.{◌<◌, ◌≤◌, ℕ, Bool, IfOk, OnErr, length, count_by};
 ghost use Rattle.recovery_detection.specs.declared.packets.Sent.{Sent};
 ghost use Rattle.recovery_detection.specs.Runs.{Step, IsRun, handed_in, given, times};
 

@@ -3,8 +3,8 @@ ghost use Rattle.std.specs.Prelude.{◌≡◌, filter, map, IfOk, option_copied}
 ghost use Rattle.recovery_detection.specs.Packets.{is_in, is_below, is_lost, due, without, is_number, last_eliciting};
 ghost use Rattle.recovery_detection.specs.Timeouts.{IsEarliest};
 
-use crate::timeouts::earlier;
 use recovery_base::time::{Duration, Instant};
+use recovery_base::timer::earlier;
 use std::alloc::{AllocError, Global};
 
 /// A packet is lost where one sent so many numbers after it is acknowledged (RFC 9002, 6.1.1: kPacketThreshold).
@@ -70,7 +70,8 @@ impl Sent {
     }
 }
 
-/// The packets with a number of `first` to `last`.
+/// The packets with a number of `first` to `last`, as an ACK range has it (RFC 9000, 19.3), in their order. `AllocError` where there
+/// is no room for them: the packets stay as they are.
 pub fn acked_among(
     alloc: Global,
     packets: &[Sent],
@@ -93,7 +94,8 @@ pub fn drop_acked(packets: &mut Vec<Sent>, first: u64, last: u64)
     packets.retain(|packet| !packet.is_in(first, last));
 }
 
-/// The packets that are lost.
+/// The packets that are lost at `now` (RFC 9002, 6.1), in their order. `AllocError` where there is no room for them: the packets
+/// stay as they are.
 pub fn lost_among(
     alloc: Global,
     packets: &[Sent],

@@ -1,9 +1,9 @@
 //! How long to wait before a packet is lost and before a probe goes out (RFC 9002, 6.1.2 and 6.2), and the next timeout of all spaces.
-ghost use Rattle.std.specs.Prelude.{◌≡◌, min, ◌<◌, ◌^◌, ◌*◌, ◌-◌};
-ghost use Rattle.recovery_base.specs.Timers.{earlier_of};
+ghost use Rattle.std.specs.Prelude.{◌≡◌};
 ghost use Rattle.recovery_detection.specs.Timeouts.{loss_delay_of, probe_timeout_of, up_to_longest, IsEarliest, IsNextTimeout};
 
 use recovery_base::time::{Duration, Instant};
+use recovery_base::timer::earlier;
 
 /// The least span that timers keep: a millisecond (RFC 9002, 6.1.2: kGranularity), in nanoseconds.
 const GRANULARITY: u128 = 1_000_000;
@@ -34,17 +34,6 @@ fn up_to_longest(nanos: u128) -> Duration
     match Duration::checked_from_nanos(nanos) {
         Some(span) => span,
         None => Duration::MAX,
-    }
-}
-
-/// The earlier of two moments, where there are any.
-pub fn earlier(first: Option<Instant>, second: Option<Instant>) -> Option<Instant>
-    ensures { result ≡ earlier_of first second }
-{
-    match (first, second) {
-        (None, _) => second,
-        (_, None) => first,
-        (Some(a), Some(b)) => Some(if b < a { b } else { a }),
     }
 }
 

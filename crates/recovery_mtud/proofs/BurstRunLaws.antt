@@ -1,8 +1,8 @@
 -- Whole runs of the detection of black holes: a report needs four bursts, and comes at four. The driver's `BurstLaws`
 -- rest on it.
-use Rattle.std.proofs.Common.{◌≡◌, ℕ, Bool, Option, Some, None, is_some, ◌||◌, nat_lt, filter, if◌then◌else◌, true, false, List, [], ◌∷◌, refl, ap, arith, ◌∙◌}
+use Rattle.std.proofs.Common.{◌≡◌, ℕ, Bool, is_some, ◌||◌, nat_lt, filter, if◌then◌else◌, true, false, List, [], ◌∷◌, refl, arith}
 use Rattle.recovery_mtud.specs.Bursts.{LossBursts, bursts_acked, bursts_closed}
-use Rattle.recovery_mtud.specs.Discovery.{Discovery, reports, size_of_probe}
+use Rattle.recovery_mtud.specs.Discovery.{Discovery, reports}
 use Rattle.recovery_mtud.specs.DiscoveryLog.{MtuCall, polls, acks, loses, losses_end, discovery_after, discovery_by}
 use Rattle.recovery_mtud.specs.MtuEntries.{IsUntold, MtuEntry, losses_over, reported, probe_in_flight, size_at, entry_of, entries_by, min_mtu_in_use}
 use Rattle.recovery_mtud.specs.BurstRuns.{Loss, is_above, open_run, standing, unanswered, larger_acked, acked_numbers, lost_numbers, AreFatesApart, AreFourStanding, AreFourUnanswered}

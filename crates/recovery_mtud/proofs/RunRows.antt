@@ -1,5 +1,5 @@
 -- Worked rows of whole runs: what the definitions come to, computed. Nothing rests on them.
-use Rattle.std.proofs.Common.{◌≡◌, ℕ, zero, suc, arith, Option, None, Some, false, List, [], ◌∷◌, length, refl}
+use Rattle.std.proofs.Common.{◌≡◌, ℕ, zero, suc, Option, None, Some, false, List, [], ◌∷◌, length, refl}
 use Rattle.std.specs.Prelude.{nat_le, nat_eq, if◌then◌else◌}
 use Rattle.std.specs.Set.{distinct_count}
 use Rattle.recovery_mtud.specs.Settings.{default_settings}

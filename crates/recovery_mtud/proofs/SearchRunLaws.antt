@@ -14,7 +14,7 @@ use Rattle.recovery_mtud.specs.Discovery.{Discovery, is_searching_of, limit_or_g
 use Rattle.recovery_mtud.specs.DiscoveryLog.{MtuCall, polls, acks, is_limited, discovery_after, discovery_by}
 use Rattle.recovery_mtud.specs.MtuEntries.{IsUntold, search_settings, MtuEntry, unprobed, poll_entry, entry_of, entries_by, MtuProbe, probe_in_flight, limit_in_use, mtu_in_use}
 use Rattle.recovery_mtud.specs.SearchRuns.{search_runs, search_of, before_search, next_activation, is_searched, ProbesInSearch, probed_sizes, acked_sizes, lost_sizes, TakesFew, AreLimitsOutside, IsHonest, IsNearBest, EndsNearBest, start_upper}
-use Rattle.recovery_mtud.proofs.MtuEntryLaws.{polled, held, Holds, holds_by}
+use Rattle.recovery_mtud.proofs.MtuEntryLaws.{held, Holds, holds_by}
 use Rattle.recovery_mtud.proofs.SearchTies.{Narrows, left, narrows_next, Fair, fair_next, fair_end, Within, within_begun, within_next}
 
 -- ---- the entries of a search

@@ -1,6 +1,6 @@
 -- What a search keeps: how many sizes may still come by its bounds (a size in the middle halves what is left: RFC 8899,
 -- 5.3.2), and what an honest link leaves of them. `SearchRunLaws` rest on it.
-use Rattle.std.proofs.Common.{◌≡◌, ◌⊎◌, inl, inr, ℕ, zero, suc, ◌+◌, ◌-◌, ◌*◌, ◌/◌, ◌^◌, ◌<◌, ◌≤◌, min, max, if◌then◌else◌, Option, Some, None, Bool, true, false, List, [], ◌∷◌, length, arith, refl}
+use Rattle.std.proofs.Common.{◌≡◌, ◌⊎◌, inl, inr, ℕ, zero, suc, ◌+◌, ◌-◌, ◌*◌, ◌/◌, ◌^◌, ◌<◌, ◌≤◌, min, max, if◌then◌else◌, Option, Some, None, Bool, true, false, List, ◌∷◌, length, arith, refl}
 use Rattle.std.specs.Prelude.{nat_eq}
 use Rattle.std.specs.Set.{distinct_count, is_member}
 use Rattle.std.proofs.Math.Nat.{pow-suc}

@@ -1,6 +1,6 @@
 -- MTU discovery of a path: what it holds and answers (RFC 8899, 4.3 and 5; RFC 9000, 14.3). Sizes are in bytes, moments
 -- in nanoseconds.
-use Rattle.std.specs.Prelude.{ℕ, ◌<◌, min, nat_le, Bool, Option, Some, None, is_some, length, unwrap_or}
+use Rattle.std.specs.Prelude.{ℕ, ◌<◌, min, nat_le, Bool, Option, None, is_some, length, unwrap_or}
 use Rattle.std.specs.Option.{option_and, option_map, option_map_or, option_and_then, IfSome}
 use Rattle.recovery_mtud.specs.declared.config.MtuDiscoveryConfig.{MtuDiscoveryConfig}
 use Rattle.recovery_mtud.specs.Search.{MtuSearch, IsSearchSound, search_poll, probed_size}

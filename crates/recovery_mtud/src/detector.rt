@@ -3,7 +3,7 @@
 //! A path whose MTU fell loses every packet above a size, and no smaller one for its size; congestion loses packets of
 //! any size. So losses are held against the MTU only where all packets that were lost together are above the least MTU,
 //! and none as large as the smallest of them arrived after them.
-ghost use Rattle.std.specs.Prelude.{◌≡◌, ◌<◌, ◌≤◌, nat_le, [], length, if◌then◌else◌};
+ghost use Rattle.std.specs.Prelude.{◌≡◌, ◌<◌, nat_le, [], length, if◌then◌else◌};
 ghost use Rattle.recovery_mtud.specs.Bursts.{bursts_made, bursts_acked, bursts_closed, bursts_lost};
 
 use crate::bursts::{BLACK_HOLE_BURSTS, Bursts};

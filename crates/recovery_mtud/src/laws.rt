@@ -1,7 +1,7 @@
 //! Laws of MTU discovery that no call states.
-ghost use Rattle.std.specs.Prelude.{◌≡◌, ℕ, ◌<◌, List};
+ghost use Rattle.std.specs.Prelude.{◌≡◌, List};
 ghost use Rattle.recovery_mtud.specs.Discovery.{Discovery, IsDiscoverySound};
-ghost use Rattle.recovery_mtud.specs.DiscoveryLog.{MtuCall, discovery_after, discovery_by, mtu_after, IsPositiveMtuCall, ArePositiveMtuCalls};
+ghost use Rattle.recovery_mtud.specs.DiscoveryLog.{MtuCall, discovery_after, discovery_by, mtu_after, ArePositiveMtuCalls};
 
 /// Whatever is told of sizes above zero, the MTU in use stays above zero, and at most four bursts are kept.
 #[tactic(auto, using(crate::proofs::DiscoveryLaws::discovery_by_sound))]

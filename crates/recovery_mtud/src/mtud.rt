@@ -1,5 +1,5 @@
 //! Discovery of the MTU of a path, and detection of black holes (RFC 8899; RFC 9000, 14.3).
-ghost use Rattle.std.specs.Prelude.{◌≡◌, ◌<◌, ◌≤◌, Bool, false, ◌&&◌, Some, None, if◌then◌else◌};
+ghost use Rattle.std.specs.Prelude.{◌≡◌, ◌<◌, ◌≤◌, false, ◌&&◌, Some, None, if◌then◌else◌};
 ghost use Rattle.std.specs.Option.{IfSome};
 ghost use Rattle.recovery_base.specs.declared.below.SpaceId.TheVariants.{Data};
 ghost use Rattle.recovery_base.specs.Spaces.{same_space};

@@ -1,5 +1,5 @@
 //! The search for a path's MTU (RFC 8899, 5; RFC 9000, 14.3).
-ghost use Rattle.std.specs.Prelude.{◌≡◌, ◌<◌, ◌≤◌, None, is_some, IfSome, if◌then◌else◌};
+ghost use Rattle.std.specs.Prelude.{◌≡◌, ◌<◌, None, is_some, IfSome, if◌then◌else◌};
 ghost use Rattle.std.specs.Option.{option_and_then};
 ghost use Rattle.recovery_mtud.specs.Search.{search_begun, narrowed, next_size, size_to_probe, probing_at, search_poll, search_polled};
 ghost use Rattle.recovery_mtud.specs.Search.{later, probed_size, probing_acked, probing_lost, search_with, IsProbingSound};

@@ -1,10 +1,10 @@
 //! A queue of slots in the order of their numbers.
-ghost use Rattle.std.specs.Prelude.{◌≡◌, ℕ, ◌+◌, ◌*◌, ◌^◌, ◌<◌, ◌≤◌, ◌∷◌, ◌++◌, [], length, drop, filter, set, slice_index_or, Some, None, Decides, IfSome, IfNone, IfOk, OnOk, OnErr, MatchOption, MatchResult};
+ghost use Rattle.std.specs.Prelude.{◌≡◌, ℕ, ◌+◌, ◌^◌, ◌<◌, ◌≤◌, ◌∷◌, ◌++◌, [], length, drop, filter, slice_index_or, Some, None, Decides, IfSome, IfNone, IfOk, OnOk, OnErr, MatchOption, MatchResult};
 ghost use Rattle.std.specs.VecDeque.{deque_len, deque_capacity};
 ghost use Rattle.std.specs.Ordering.{nat_cmp};
 ghost use Rattle.std.specs.BTreeMap.{is_at};
 ghost use Rattle.std.specs.Map.{remove_entry};
-ghost use Rattle.recovery_queue.specs.Slots.{entries_in, item_at, AreRising, IsFiledAt, Divides, Encloses, IsHeldAt, IsEmptyAt, IsAboveAll, IsClosedUp, IsFrontEmpty, IsBackFrom, Replaces, Rises, Finds, IsWithinDigits, AreFrom, StaysRising, entries_from, first_number, is_filled, is_from};
+ghost use Rattle.recovery_queue.specs.Slots.{entries_in, item_at, AreRising, IsFiledAt, Divides, Encloses, IsHeldAt, IsEmptyAt, IsAboveAll, IsClosedUp, IsFrontEmpty, IsBackFrom, Replaces, Rises, Finds, IsWithinDigits, AreFrom, StaysRising, entries_from, first_number, is_filled};
 
 use std::alloc::{AllocError, Global};
 use std::collections::VecDeque;
@@ -51,6 +51,7 @@ impl<T> Model for SlotQueue<T> {
 }
 
 impl<T: Drop> SlotQueue<T> {
+    /// An empty queue. It takes no memory; `push` does.
     pub fn new(alloc: Global) -> Self
         ensures { result ≡ [] }
     {
@@ -186,7 +187,10 @@ impl<T: Drop> SlotQueue<T> {
         old
     }
 
-    /// Files an item under a number above all others.
+    /// Files an item under a number above all under which something is filed, any `u64`.
+    ///
+    /// `AllocError` changes nothing, and the item is dropped. It costs a few steps, beside one for each empty slot at the
+    /// end with that number or one above, which goes, and a move of the slots where they need more room.
     pub fn push(&mut self, number: u64, item: T) -> Result<(), AllocError>
         requires { IsAboveAll (entries_in self.old) number }
         ensures ok { OnOk result

@@ -1,6 +1,5 @@
 //! Numbers, frames and parameters of the wire that loss recovery reads.
 ghost use Rattle.std.specs.Prelude.{◌≡◌, ℕ, ◌-◌, ◌<◌, ◌^◌, None, Some, MatchResult, OnOk, OnErr, nat_lt};
-ghost use Rattle.std.specs.Option.{SomeIff};
 ghost use Rattle.std.specs.Result.{OkIff};
 ghost use Rattle.recovery_base.specs.Ecn.{ecn_fault};
 
@@ -48,7 +47,7 @@ impl VarInt {
         }
     }
 
-    /// Refuses 2^62 or more.
+    /// The number itself, 0 to 2^62 - 1 (RFC 9000, 16). 2^62 or more is refused with `VarIntBoundsExceeded`.
     pub fn from_u64(value: u64) -> Result<Self, VarIntBoundsExceeded>
         ensures { OkIff result (value < 2 ^ 62) value }
     {

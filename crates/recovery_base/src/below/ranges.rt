@@ -1,9 +1,9 @@
 //! A set of numbers kept as ranges.
-ghost use Rattle.std.specs.Prelude.{◌≡◌, ℕ, ◌+◌, ◌<◌, ◌^◌, ◌==◌, ◌++◌, List, [], length, IsSome, IsTrue, IfNone, IfOk, OnOk, OnErr, IsErr, IsOk, MatchBool, ⊤};
+ghost use Rattle.std.specs.Prelude.{◌≡◌, ℕ, ◌+◌, ◌<◌, ◌^◌, ◌==◌, ◌++◌, List, [], length, IfNone, IfOk, OnErr, IsErr, IsOk, MatchBool, ⊤};
 ghost use Rattle.std.specs.Option.{option_to_list};
 ghost use Rattle.std.specs.Slice.Iter.{iter_rest};
 ghost use Rattle.std.specs.declared.ops.Range.{Range};
-ghost use Rattle.recovery_base.specs.Ranges.{InRanges, AreApart, InsertsOne, Removes, IsSplitBy, IsBetween, IsPlace, clipped, cut_ranges};
+ghost use Rattle.recovery_base.specs.Ranges.{InRanges, AreApart, InsertsOne, Removes, IsSplitBy, IsPlace, clipped, cut_ranges};
 
 use super::NoMemory;
 use std::alloc::Global;

@@ -1,5 +1,5 @@
 //! How long a connection may be idle.
-ghost use Rattle.std.specs.Prelude.{◌≡◌, ℕ, ◌/◌, ◌<◌, ◌^◌, ◌*◌};
+ghost use Rattle.std.specs.Prelude.{◌≡◌, ℕ, ◌/◌, ◌<◌, ◌^◌};
 ghost use Rattle.std.specs.Result.{OkIff};
 
 use recovery_base::below::{VarInt, VarIntBoundsExceeded};
