@@ -1,5 +1,4 @@
--- What is put behind the events of a script: what a form says behind its name, and what a whole line spells. The pushes
--- of `lines` rest on it.
+-- What is put behind the events of a script: what a whole line spells. `push_event` rests on it.
 use Rattle.std.proofs.Common.{arith, ◌≡◌, ◌≤◌, ℕ, Bool, true, false, List, length, Option, Some, None, Result, Ok, Err, IfOk, OnErr, bytes_eq, refl, ap}
 use lib.Chars.{codes}
 use Rattle.std.proofs.lemmas.Slice.Eq.{bytes_eq-Decides}
@@ -9,31 +8,12 @@ use Rattle.recovery_lines.specs.Lines.{Form, ItemEvent, HoldsList, forms_without
 use Rattle.recovery_lines.specs.Reading.{Reads, Pushes, PushesSpelled, all_of, first_word, form_named, line_at, line_behind, line_of, reading, whole}
 use Rattle.recovery_lines.proofs.LineLaws.{line_found, line_only, refused_whole}
 
--- ---- what a form says
+-- ---- what is read
 
 whole_read : (line : Option Line) (left : List (List ℕ)) (read : Option (Line × List (List ℕ)))
     → Reads (λ x. x) line left read → whole read ≡ all_of line left
 whole_read None left read is = ap whole is
 whole_read (Some line) left read is = ap whole is
-
-module _ {E : Type 0} (before : List ItemEvent) (result : Result Bool E) (after : List ItemEvent) where
-  -- the form of a name says what stands behind it
-  pub pushes : {form : Form} (name : List ℕ) (words left : List (List ℕ)) (line : Option Line)
-      → form_named forms_without_items form.name ≡ Some form → true ≡ bytes_eq name form.name
-      → Reads (λ x. x) line left (reading form words) → Pushes (all_of line left) before result after
-      → Pushes (whole (line_behind forms_without_items name words)) before result after
-  unfolding line_behind
-  pushes {form = form} name words left line named same is push =
-      let found : form_named forms_without_items name ≡ Some form =
-      grind (arith, same, named, bytes_eq-Decides name form.name) in
-      rw (found, whole_read line left (reading form words) is) push
-
--- no form has the name
-pub says_none : (E : Type 0) (name : List ℕ) (words : List (List ℕ)) (events : List ItemEvent)
-    → form_named forms_without_items name ≡ None
-    → Pushes {E = E} (whole (line_behind forms_without_items name words)) events (Ok false) events
-unfolding line_behind
-says_none E name words events none = rw none (refl, refl)
 
 -- ---- what a line spells
 

@@ -501,6 +501,7 @@ fn push_read(
 
 /// Puts the event of a line without items behind the events, by the line's name and the words behind it. Names of other lengths are
 /// not compared with it. Each form has a push of its own, so that no event is put together where forms meet.
+#[tactic(auto, unfolding(crate::specs::Reading::line_behind))]
 fn push_behind(
     name: &[u8],
     words: &mut Words<'_>,
