@@ -44,6 +44,7 @@ fn long_number_in(digits: &[u8]) -> Option<u128>
 }
 
 /// The number that a word spells, 0 to `u64::MAX`: digits without a sign and without leading zeros.
+#[tactic(auto, unfolding(crate::specs::Reading::number_of))]
 pub fn number_in(word: &[u8]) -> Option<u64>
     ensures { result ≡ number_of (2 ^ 64) word.now }
 {
@@ -54,6 +55,7 @@ pub fn number_in(word: &[u8]) -> Option<u64>
 }
 
 /// The span that a word spells: nanoseconds, 0 to 2^64 · 10^9 - 1, as a number is spelled.
+#[tactic(auto, unfolding(crate::specs::Reading::number_of))]
 fn span_in(word: &[u8]) -> Option<Duration>
     ensures { result ≡ number_of (2 ^ 64 * 10 ^ 9) word.now }
 {
@@ -163,6 +165,7 @@ fn first_number(bytes: &[u8]) -> Option<(u64, usize)>
 }
 
 /// The span that the first word of bytes spells, and the length of that word. Few spans are longer than a number.
+#[tactic(auto, unfolding(crate::specs::Reading::number_of))]
 fn first_span(bytes: &[u8]) -> Option<(Duration, usize)>
     ensures { IsFirstNumber (2 ^ 64 * 10 ^ 9) bytes.now result }
 {
