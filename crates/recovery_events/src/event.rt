@@ -76,7 +76,7 @@ pub enum Event<Q: RetransmitQueue> {
     /// one, by `ExceedsLimit` where it lies past the eight numbers that begin at the active one or, where that is greater, at
     /// its retire-prior-to, then by `Conflict` where its number is held with another id or another token.
     NewId(NewConnectionId),
-    /// The next id of the peer is to be used, where one is held. Never refused.
+    /// The next id of the peer is to be used, where one is held (RFC 9000, 5.1.2). Never refused.
     NextId,
     /// The server chose another id for the handshake (RFC 9000, 7.2). Refused by `NotInitialId` where the active id is no
     /// longer the initial one.
@@ -135,7 +135,7 @@ pub enum Event<Q: RetransmitQueue> {
         /// The packet number space.
         space: SpaceId,
     },
-    /// What is in flight on a path? Refused by `NoSuchPath`.
+    /// What is in flight on a path (RFC 9002, B.2)? Refused by `NoSuchPath`.
     InFlight {
         /// The path.
         path: PathName,
@@ -253,7 +253,7 @@ pub enum Event<Q: RetransmitQueue> {
         /// What queues are asked with, whether they are empty.
         streams: Q::Streams,
     },
-    /// What waits to be sent again is handed out. Refused by `SpaceDiscarded`.
+    /// What waits to be sent again is handed out (RFC 9000, 13.3). Refused by `SpaceDiscarded`.
     TakePending {
         /// The packet number space.
         space: SpaceId,
@@ -361,13 +361,13 @@ pub enum Refusal {
     /// The packet is not tracked: it was not sent, or it was acknowledged, lost or forgotten.
     #[error("the packet is not tracked")]
     NotTracked,
-    /// The keys of the space were dropped.
+    /// The keys of the space were dropped (RFC 9001, 4.9).
     #[error("the space is discarded")]
     SpaceDiscarded,
     /// There is no such path.
     #[error("there is no such path")]
     NoSuchPath,
-    /// The MTU of the current path is searched for.
+    /// The MTU of the current path is searched for (RFC 8899, 5).
     #[error("the MTU is searched for")]
     Searching,
     /// A size of no bytes is none that a path carries.
@@ -401,7 +401,7 @@ pub enum Refusal {
     /// The peer's counts of ECN cannot be right (RFC 9000, 13.4.2.1), in these words.
     #[error("{0}")]
     Ecn(&'static str),
-    /// The initial id is no longer the active one.
+    /// The initial id is no longer the active one (RFC 9000, 7.2).
     #[error("the initial id is not active")]
     NotInitialId,
     /// Numbers do not go on where they should, or a range ends before it begins.
@@ -413,7 +413,7 @@ pub enum Refusal {
 }
 
 impl Refusal {
-    /// The number by which scripts and logs know the refusal.
+    /// The number by which scripts and logs know the refusal, 1 to 20.
     pub fn number(self) -> u8
         ensures { result ≡ refusal_number self }
     {
