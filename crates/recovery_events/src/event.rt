@@ -72,11 +72,14 @@ pub enum Event<Q: RetransmitQueue> {
         number: u64,
     },
     /// A NEW_CONNECTION_ID frame came in (RFC 9000, 19.15). Refused by `NumberTooLarge` where its number is 2^62 or more, by
-    /// `BadRetirePriorTo` where its retire-prior-to exceeds its number, by `Retired`, by `ExceedsLimit`, then by `Conflict`.
+    /// `BadRetirePriorTo` where its retire-prior-to exceeds its number, by `Retired` where its number lies below the active
+    /// one, by `ExceedsLimit` where it lies past the eight numbers that begin at the active one or, where that is greater, at
+    /// its retire-prior-to, then by `Conflict` where its number is held with another id or another token.
     NewId(NewConnectionId),
-    /// The next id of the peer is to be used, where one is held. Never refused.
+    /// The next id of the peer is to be used, where one is held (RFC 9000, 5.1.2). Never refused.
     NextId,
-    /// The server chose another id for the handshake (RFC 9000, 7.2). Refused by `NotInitialId`.
+    /// The server chose another id for the handshake (RFC 9000, 7.2). Refused by `NotInitialId` where the active id is no
+    /// longer the initial one.
     InitialId(ConnectionId),
     /// This end issues ids (RFC 9000, 5.1.1). Refused by `NumberTooLarge` where more than 2^62 would be issued, by `BadRange`
     /// where the numbers do not go on from the count issued, then by `NoMemory`. An empty list is never refused.
@@ -86,7 +89,8 @@ pub enum Event<Q: RetransmitQueue> {
         /// The ids, in the order of their numbers.
         ids: Vec<IssuedCid>,
     },
-    /// The timer for new ids expired (`Timer::PushNewCid`): the oldest deadline is taken. Never refused.
+    /// The timer for new ids expired (`Timer::PushNewCid`): the oldest deadline is taken. The answer is whether the peer is
+    /// to be asked by a NEW_CONNECTION_ID frame to retire numbers (RFC 9000, 5.1.2). Never refused.
     IdTimeout,
     /// A RETIRE_CONNECTION_ID frame came in (RFC 9000, 19.16). Refused by `CidsNotInUse`, then by `UnissuedCid`.
     PeerRetired {
@@ -95,8 +99,9 @@ pub enum Event<Q: RetransmitQueue> {
         /// How many ids the peer is ready to hold (RFC 9000, 18.2: active_connection_id_limit).
         limit: u64,
     },
-    /// An ACK_FREQUENCY frame came in. Refused by `SpaceDiscarded` once the space of 1-RTT packets is discarded, then by
-    /// `DelayTooSmall` where it is newer than the last one and asks for less than 1 ms; then its number is kept.
+    /// An ACK_FREQUENCY frame came in (draft-ietf-quic-ack-frequency-04, section 4). Refused by `SpaceDiscarded` once the
+    /// space of 1-RTT packets is discarded, then by `DelayTooSmall` where it is newer than the last one and asks for less
+    /// than 1 ms; then its number is kept.
     AckFrequencyIn(AckFrequency),
     /// An ACK frame was sent that holds all numbers that are to be acknowledged (RFC 9000, 13.2.1). Refused by
     /// `SpaceDiscarded`.
@@ -109,19 +114,20 @@ pub enum Event<Q: RetransmitQueue> {
         /// The packet number space.
         space: SpaceId,
     },
-    /// A timer is set to a moment. Never refused.
+    /// A timer is set to a moment, as the one for losses and probes is (RFC 9002, A.3 and A.8). Never refused.
     SetTimer {
         /// The timer; the others stay.
         timer: Timer,
         /// When it expires.
         time: Instant,
     },
-    /// A timer is stopped. Never refused.
+    /// A timer is stopped, as the one for losses and probes may be (RFC 9002, A.3 and A.8). Never refused.
     StopTimer {
         /// The timer; the others stay.
         timer: Timer,
     },
-    /// When does the next timer expire? Never refused.
+    /// When does the next timer expire (for losses and probes: RFC 9002, A.3)? The answer is the least moment that a timer is
+    /// set to, if any is set. Never refused.
     NextTimeout,
     /// The keys of a space are dropped, and with them all that it tracks (RFC 9002, 6.4). Every later event on the space is
     /// refused by `SpaceDiscarded`, and so is this one. Cost: linear in the packets that the space tracks.
@@ -129,7 +135,7 @@ pub enum Event<Q: RetransmitQueue> {
         /// The packet number space.
         space: SpaceId,
     },
-    /// What is in flight on a path? Refused by `NoSuchPath`.
+    /// What is in flight on a path (RFC 9002, B.2)? Refused by `NoSuchPath`.
     InFlight {
         /// The path.
         path: PathName,
@@ -247,7 +253,7 @@ pub enum Event<Q: RetransmitQueue> {
         /// What queues are asked with, whether they are empty.
         streams: Q::Streams,
     },
-    /// What waits to be sent again is handed out. Refused by `SpaceDiscarded`.
+    /// What waits to be sent again is handed out (RFC 9000, 13.3). Refused by `SpaceDiscarded`.
     TakePending {
         /// The packet number space.
         space: SpaceId,
@@ -355,13 +361,13 @@ pub enum Refusal {
     /// The packet is not tracked: it was not sent, or it was acknowledged, lost or forgotten.
     #[error("the packet is not tracked")]
     NotTracked,
-    /// The keys of the space were dropped.
+    /// The keys of the space were dropped (RFC 9001, 4.9).
     #[error("the space is discarded")]
     SpaceDiscarded,
     /// There is no such path.
     #[error("there is no such path")]
     NoSuchPath,
-    /// The MTU of the current path is searched for.
+    /// The MTU of the current path is searched for (RFC 8899, 5).
     #[error("the MTU is searched for")]
     Searching,
     /// A size of no bytes is none that a path carries.
@@ -385,7 +391,8 @@ pub enum Refusal {
     /// The number was not issued (RFC 9000, 19.16).
     #[error("the connection id was not issued")]
     UnissuedCid,
-    /// An ACK_FREQUENCY frame asks for a delay below 1 ms. The number of the frame is kept.
+    /// An ACK_FREQUENCY frame asks for a delay below 1 ms (draft-ietf-quic-ack-frequency-04, section 4). The number of the
+    /// frame is kept.
     #[error("the requested delay is too small")]
     DelayTooSmall,
     /// A number was acknowledged that was skipped, and never sent (RFC 9000, 21.4).
@@ -394,7 +401,7 @@ pub enum Refusal {
     /// The peer's counts of ECN cannot be right (RFC 9000, 13.4.2.1), in these words.
     #[error("{0}")]
     Ecn(&'static str),
-    /// The initial id is no longer the active one.
+    /// The initial id is no longer the active one (RFC 9000, 7.2).
     #[error("the initial id is not active")]
     NotInitialId,
     /// Numbers do not go on where they should, or a range ends before it begins.
@@ -406,7 +413,7 @@ pub enum Refusal {
 }
 
 impl Refusal {
-    /// The number by which scripts and logs know the refusal.
+    /// The number by which scripts and logs know the refusal, 1 to 20.
     pub fn number(self) -> u8
         ensures { result ≡ refusal_number self }
     {

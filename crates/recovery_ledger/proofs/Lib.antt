@@ -1,4 +1,3 @@
-pub mod SpaceAckLaws
 pub mod AmongLaws
 pub mod CarryLaws
 pub mod CoherentLaws
@@ -8,5 +7,6 @@ pub mod LedgerLaws
 mod LogRows
 pub mod PacketLaws
 pub mod ReceivedLaws
+pub mod SpaceAckLaws
 pub mod SpaceLaws
 pub mod TrackedLaws

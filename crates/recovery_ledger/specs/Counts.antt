@@ -1,4 +1,4 @@
--- The counts that are kept beside the tracked packets.
+-- The counts that are kept beside the tracked packets (RFC 9002, A.1).
 use Rattle.std.specs.Prelude.{◌≡◌, ℕ, ◌^◌, ◌<◌, ◌≤◌, ◌==◌, ◌&&◌, sum_by, List, [], ◌∷◌, true, Option, if◌then◌else◌}
 use Rattle.recovery_queue.specs.declared.slots.Slot.{Slot}
 use Rattle.recovery_queue.specs.Slots.{entries_in, IsClosedUp}
@@ -14,8 +14,8 @@ eliciting_count last entry = if is_above last entry.0 && entry.1.ack_eliciting t
 abbrev pub size_count : {P M : Type 0} → Packet P M → ℕ
 size_count packet = if packet.size == 0 then 0 else 1
 
--- Silent packets above the last eliciting number are counted, at most 1001, and no other kind is above it; the packets
--- with a size are counted.
+-- Silent packets (RFC 9002, 2: not ack-eliciting) above the last eliciting number are counted, at most 1001, and no
+-- other kind is above it; the packets with a size are counted.
 pub record AreCounted {P M : Type 0} (packets : Packets P M) (last : Option ℕ)
     (silent sized : ℕ) : Type 0 where
   pub silent_is : silent ≡ sum_by (silent_count last) packets

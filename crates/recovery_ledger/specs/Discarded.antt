@@ -1,5 +1,5 @@
--- Which spaces were discarded.
-use Rattle.std.specs.Prelude.{◌≡◌, Bool, false, ◌||◌, List, [], ◌∷◌}
+-- Which spaces were discarded with their keys (RFC 9001, 4.9; RFC 9002, 6.4).
+use Rattle.std.specs.Prelude.{◌≡◌, Bool, ◌||◌}
 use Rattle.recovery_base.specs.declared.below.SpaceId.{SpaceId}
 use Rattle.recovery_base.specs.declared.below.SpaceId.TheVariants.{Initial, Handshake, Data}
 use Rattle.recovery_ledger.specs.declared.discarded.DiscardedSpaces.{DiscardedSpaces}

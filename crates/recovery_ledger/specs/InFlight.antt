@@ -50,12 +50,6 @@ IsCountedIn counters generation packets =
     (sum_by (size_in generation) packets ≤ counters.bytes)
     × (sum_by (eliciting_in generation) packets ≤ counters.ack_eliciting)
 
--- all packets of a space leave the counters
-abbrev pub SumsLeave : {P M : Type 0} → InFlight → ℕ → Packets P M → InFlight → Type 0
-SumsLeave old generation packets new =
-    (new.bytes + sum_by (size_in generation) packets ≡ old.bytes)
-    × (new.ack_eliciting + sum_by (eliciting_in generation) packets ≡ old.ack_eliciting)
-
 -- a counter would pass the end of its type
 abbrev pub Overflows : {P M : Type 0} → InFlight → Packet P M → Type 0
 Overflows counters packet = (2 ^ 64 ≤ counters.bytes + packet.size)

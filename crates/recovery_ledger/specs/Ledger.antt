@@ -1,4 +1,4 @@
--- What ties the ledgers of the paths to what the spaces track.
+-- What ties the ledgers of the paths (RFC 9002, B.2) to what the spaces track (RFC 9002, A.1).
 use Rattle.std.specs.Prelude.{◌≡◌, ◌≤◌, ℕ}
 use Rattle.recovery_base.specs.declared.below.SpaceId.{SpaceId}
 use Rattle.recovery_ledger.specs.InFlight.{in_flight}

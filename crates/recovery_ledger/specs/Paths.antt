@@ -1,4 +1,4 @@
--- The ledger of a path: its generation, and what it has in flight.
+-- The ledger of a path: its generation, and what it has in flight (RFC 9002, B.2).
 use Rattle.std.specs.Prelude.{ℕ, ◌≡◌, ◌==◌, Option, if◌then◌else◌}
 use Rattle.std.specs.Option.{ForSome, option_map_or}
 use Rattle.recovery_ledger.specs.declared.paths.InFlight.{InFlight}

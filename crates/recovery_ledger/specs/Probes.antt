@@ -2,7 +2,7 @@
 use Rattle.std.specs.Prelude.{ℕ, Bool, not, ◌&&◌, filter, Option, None, if◌then◌else◌}
 use Rattle.std.specs.Option.{is_none}
 use Rattle.recovery_queue.specs.Queues.{QueueWords}
-use Rattle.recovery_ledger.specs.Packets.{Packets, Packet, least_number}
+use Rattle.recovery_ledger.specs.Packets.{Packets, least_number}
 
 pub record ProbeFound : Type 0 where
   -- the tracked packet whose contents are sent again, where nothing else is still to be sent

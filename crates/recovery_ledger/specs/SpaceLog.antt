@@ -1,4 +1,4 @@
--- What happened in one packet number space.
+-- What happened in one packet number space (RFC 9000, 12.3).
 use Rattle.std.specs.Prelude.{ℕ, Bool}
 use Rattle.recovery_base.specs.declared.below.frames.AckFrequency.{AckFrequency}
 use Rattle.recovery_base.specs.declared.below.frames.EcnCounts.{EcnCounts}
@@ -11,19 +11,19 @@ pub data SpaceEntry (P M : Type 0) : Type 0 where
   heard : (now number : ℕ) (ack_eliciting : Bool) → SpaceEntry P M
   -- a packet came that may have come before
   heard_again : (number : ℕ) → SpaceEntry P M
-  -- a packet is sent under a number
+  -- a packet is sent under a number (RFC 9002, A.5)
   sends : (number : ℕ) (packet : Packet P M) → SpaceEntry P M
-  -- a tracked packet is acknowledged
+  -- a tracked packet is acknowledged (RFC 9002, A.7)
   acknowledged : (number : ℕ) → SpaceEntry P M
-  -- a tracked packet is lost: its contents are to be sent again
+  -- a tracked packet is lost (RFC 9002, A.10): its contents are to be sent again
   loses : (number : ℕ) → SpaceEntry P M
-  -- a probe is asked for, and perhaps an ACK at once for it
+  -- a probe is asked for (RFC 9002, 6.2.4), and perhaps an ACK at once for it
   probes : (immediate : Bool) (found : ProbeFound) → SpaceEntry P M
   -- the contents to be sent again are handed out
   takes_pending : SpaceEntry P M
-  -- an ACK frame's counts of ECN are kept
+  -- an ACK frame's counts of ECN are kept (RFC 9000, 13.4.2)
   feeds_back : (counts : EcnCounts) → SpaceEntry P M
-  -- nothing is tracked any more
+  -- nothing is tracked any more (RFC 9002, 6.4)
   emptied : SpaceEntry P M
   -- an ACK is sent
   ack_goes : SpaceEntry P M

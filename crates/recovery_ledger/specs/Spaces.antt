@@ -1,4 +1,4 @@
--- The three packet number spaces, and what an event does to one.
+-- The three packet number spaces (RFC 9000, 12.3), and what an event does to one.
 use Rattle.std.specs.Prelude.{◌≡◌, ℕ, ◌+◌, ◌-◌, ◌^◌, ◌⊎◌, ◌↔◌, ◌||◌, ◌&&◌, not, min, max, nat_lt, List, [], Bool, IsTrue, Option, None, Some, if◌then◌else◌, ◌<◌, ◌≤◌, Result, Ok, Err}
 use Rattle.std.specs.Option.{option_and_then, option_map_or}
 use Rattle.recovery_base.specs.declared.below.SpaceId.{SpaceId}

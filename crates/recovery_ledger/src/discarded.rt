@@ -36,7 +36,7 @@ impl DiscardedSpaces {
         }
     }
 
-    /// A space is discarded.
+    /// A space is discarded with its keys (RFC 9001, 4.9). The others stay, and so does all where it was so before.
     pub fn insert(&mut self, space: SpaceId)
         ensures { DiscardedStep space self.old self.new }
     {

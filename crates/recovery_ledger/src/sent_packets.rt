@@ -56,6 +56,7 @@ where
     Q: RetransmitQueue + Drop,
     Q::Meta: Drop,
 {
+    /// None is tracked yet, and none was sent. It takes no memory before the first packet.
     pub fn new(alloc: Global) -> Self
         ensures { result ≡ no_packets }
     {
@@ -104,7 +105,7 @@ where
     }
 
     /// Tracks a packet with a number above all others. A silent packet past the limit makes the least silent one be
-    /// forgotten: that one is handed back. `NoMemory` changes nothing.
+    /// forgotten: that one is handed back. `NoMemory` drops the packet, and changes nothing else.
     pub fn insert(
         &mut self,
         number: u64,
@@ -143,7 +144,7 @@ where
         Ok(Some((least, gone)))
     }
 
-    /// Takes the packet of a number out.
+    /// Takes the packet of a number out. `None`, and nothing changed, where it is not tracked.
     pub fn remove(&mut self, number: u64) -> Option<SentPacket<Q>>
         ensures value { result ≡ packet_at self.old.packets number }
         ensures after { self.new ≡ after_taking number self.old }
@@ -155,7 +156,7 @@ where
         Some(packet)
     }
 
-    /// Takes the packet with the least number out.
+    /// Takes the packet with the least number out. `None`, and nothing changed, where none is tracked.
     pub fn pop_first(&mut self) -> Option<(u64, SentPacket<Q>)>
         ensures packets { MatchOption result (self.old.packets ≡ [])
             (λ entry. self.old.packets ≡ entry ∷ self.new.packets) }

@@ -112,7 +112,7 @@ impl SendableFrames {
     }
 }
 
-/// What is kept for one packet number space.
+/// What is kept for one packet number space (RFC 9000, 12.3).
 #[derive(Drop)]
 pub struct PacketSpace<Q: RetransmitQueue> {
     /// The packet numbers received.
@@ -208,7 +208,7 @@ where
         }
     }
 
-    /// The number of the next packet, 0 to 2^62; at 2^62 there is none left.
+    /// The number of the next packet, 0 to 2^62; at 2^62 there is none left (RFC 9000, 12.3).
     pub fn next_packet_number(&self) -> u64
         ensures { result ≡ next_number_of self.now }
     {
@@ -222,7 +222,7 @@ where
         self.sent_packets.last_eliciting()
     }
 
-    /// Gives out the next packet number. `None`, and nothing changed, where it would be 2^62.
+    /// Gives out the next packet number, below 2^62. `None`, and nothing changed, where it would be 2^62 (RFC 9000, 12.3).
     pub fn get_tx_number(&mut self) -> Option<u64>
         ensures number { IfSome result (λ number. number ≡ next_number_of self.old) }
         ensures limit { IfSome result (λ number. number < 2 ^ 62) }
@@ -410,8 +410,8 @@ where
         }
     }
 
-    /// A packet is lost: its contents are moved behind the pending ones, and it is tracked no more. It is handed back
-    /// with an empty queue. `None`, and nothing changed, where it is not tracked; then memory is never refused.
+    /// A packet is lost (RFC 9002, A.10): its contents are moved behind the pending ones, and it is tracked no more. It is
+    /// handed back with an empty queue. `None`, and nothing changed, where it is not tracked; then memory is never refused.
     /// `NoMemory` changes nothing. Cost as of `queue_lost`.
     pub fn lose(&mut self, number: u64) -> Result<Option<SentPacket<Q>>, NoMemory>
         ensures packet { IfOk result (λ packet. packet
@@ -509,7 +509,7 @@ where
         }
     }
 
-    /// Hands out what is to be sent again, and leaves an empty queue. It takes no memory.
+    /// Hands out what is to be sent again (RFC 9000, 13.3), and leaves an empty queue. It takes no memory.
     pub fn take_pending(&mut self, alloc: Global) -> Q
         ensures pending { Q.contents result ≡ self.old.pending }
         ensures step { SpaceStep Q.words takes_pending self.old self.new }
@@ -532,7 +532,7 @@ where
     }
 }
 
-/// The three packet number spaces.
+/// The three packet number spaces (RFC 9000, 12.3).
 #[derive(Drop)]
 pub struct PacketSpaces<Q: RetransmitQueue> {
     /// The space of Initial packets.

@@ -1,6 +1,4 @@
 //! Frames for a number of the peer's ids that is held, with ids and tokens that lines cannot spell.
-ghost use Rattle.std.specs.Prelude.{◌≤◌};
-
 use crate::rows::holds;
 use recovery_base::below::{ConnectionId, NewConnectionId, ResetToken};
 use recovery_parts::cids::{CidQueue, InsertError};

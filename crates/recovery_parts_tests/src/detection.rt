@@ -1,4 +1,5 @@
 //! Rows of losses and timeouts, worked out by hand from RFC 9002. Six packets are sent 10 ms apart, the first at 0.
+use crate::rows::{holds, same};
 use recovery_base::below::NoMemory;
 use recovery_base::time::{Duration, Instant};
 use recovery_detection::{
@@ -31,109 +32,205 @@ fn six(rt: &impl Abort, alloc: Global) -> LossDetector {
     detector
 }
 
-fn assert_numbers(rt: &impl Abort, packets: &[Sent], wanted: &[u64]) {
-    assert!(rt; packets.len() == wanted.len());
+/// What a detector is told or asked, and what it answers.
+#[derive(Clone, Copy)]
+enum Row {
+    /// A packet of this number that elicits an ACK is sent: whether it is tracked. If not, its number is none above the last.
+    Sends(u64, bool),
+    /// Numbers from one to another are acknowledged: those that are so for the first time.
+    Acks(u64, u64, &'static [u64]),
+    /// At this moment: the numbers that are lost.
+    Detects(u64, &'static [u64]),
+    Forgets(u64),
+    Discards,
+    Tracks(&'static [u64]),
+    LossTime(Option<u64>),
+    LargestAcked(Option<u64>),
+    /// When the probe is due, after 125 ms.
+    Probe(Option<u64>),
+}
+
+/// Whether the packets have these numbers.
+fn have(packets: &[Sent], wanted: &[u64]) -> bool {
+    if packets.len() != wanted.len() {
+        return false;
+    }
     for (packet, number) in packets.iter().zip(wanted) {
-        assert!(rt; packet.number == *number, "wanted {number}");
+        if packet.number != *number {
+            return false;
+        }
     }
+    true
 }
 
-fn assert_left(rt: &impl Abort, left: Result<Vec<Sent>, NoMemory>, wanted: &[u64]) {
+/// Whether packets of these numbers left.
+fn have_left(left: Result<Vec<Sent>, NoMemory>, wanted: &[u64]) -> bool {
     match left {
-        Ok(packets) => assert_numbers(rt, &packets, wanted),
-        Err(_) => assert!(rt; false, "NoMemory"),
+        Ok(packets) => have(&packets, wanted),
+        Err(NoMemory) => false,
     }
-}
-
-fn assert_loss_time(rt: &impl Abort, detector: &LossDetector, wanted: Option<u64>) {
-    let found = detector.loss_time().map(|moment| moment.as_nanos());
-    assert!(rt; found == wanted);
 }
 
 fn detect(detector: &mut LossDetector, nanos: u64) -> Result<Vec<Sent>, NoMemory> {
     detector.detect_lost(Instant::from_nanos(nanos), Duration::from_nanos(LOSS_DELAY))
 }
 
+/// Whether a packet of this number is tracked where it is to be, and else refused for its number.
+fn sends(detector: &mut LossDetector, number: u64, is_tracked: bool) -> bool {
+    match detector.on_sent(packet(number, true)) {
+        Ok(()) => is_tracked,
+        Err(TrackError::NotRising) => !is_tracked,
+        Err(TrackError::NoMemory) => false,
+    }
+}
+
+fn is_right(detector: &mut LossDetector, row: Row) -> bool {
+    match row {
+        Row::Sends(number, is_tracked) => sends(detector, number, is_tracked),
+        Row::Acks(first, last, wanted) => have_left(detector.on_ack(first, last), wanted),
+        Row::Detects(nanos, wanted) => have_left(detect(detector, nanos), wanted),
+        Row::Forgets(number) => {
+            detector.forget(number);
+            true
+        }
+        Row::Discards => {
+            detector.discard();
+            true
+        }
+        Row::Tracks(wanted) => have(detector.tracked(), wanted),
+        Row::LossTime(wanted) => detector.loss_time() == wanted.map(Instant::from_nanos),
+        Row::LargestAcked(wanted) => detector.largest_acked() == wanted,
+        Row::Probe(wanted) => {
+            detector.probe_at(Duration::from_millis(125)) == wanted.map(Instant::from_nanos)
+        }
+    }
+}
+
+/// Asserts that each row is right, once the six packets were sent.
+fn play(rt: &impl Abort, alloc: Global, rows: &[Row]) {
+    let mut detector = six(rt, alloc);
+    let mut place = 0u64;
+    for row in rows {
+        holds(rt, is_right(&mut detector, *row), place);
+        place = place.saturating_add(1);
+    }
+}
+
 #[test]
 fn lost_by_number_and_by_time(rt: HostRuntime) {
-    let mut detector = six(&rt, rt.alloc());
-    assert_left(&rt, detect(&mut detector, 55 * MILLI), &[]);
-    assert_loss_time(&rt, &detector, None);
-    assert_left(&rt, detector.on_ack(4, 4), &[4]);
-    assert_left(&rt, detect(&mut detector, 60 * MILLI), &[0, 1]);
-    assert_numbers(&rt, detector.tracked(), &[2, 3, 5]);
-    assert_loss_time(&rt, &detector, Some(132_500_000));
-    assert_left(&rt, detect(&mut detector, 132_499_999), &[]);
-    assert_left(&rt, detect(&mut detector, 132_500_000), &[2]);
-    assert_loss_time(&rt, &detector, Some(142_500_000));
-    assert_left(&rt, detect(&mut detector, 142_500_000), &[3]);
-    assert_numbers(&rt, detector.tracked(), &[5]);
-    assert_loss_time(&rt, &detector, None);
+    static ROWS: [Row; 12] = [
+        Row::Detects(55 * MILLI, &[]),
+        Row::LossTime(None),
+        Row::Acks(4, 4, &[4]),
+        Row::Detects(60 * MILLI, &[0, 1]),
+        Row::Tracks(&[2, 3, 5]),
+        Row::LossTime(Some(132_500_000)),
+        Row::Detects(132_499_999, &[]),
+        Row::Detects(132_500_000, &[2]),
+        Row::LossTime(Some(142_500_000)),
+        Row::Detects(142_500_000, &[3]),
+        Row::Tracks(&[5]),
+        Row::LossTime(None),
+    ];
+    play(&rt, rt.alloc(), &ROWS);
 }
 
 #[test]
 fn acknowledged_once(rt: HostRuntime) {
-    let mut detector = six(&rt, rt.alloc());
-    assert_left(&rt, detector.on_ack(1, 3), &[1, 2, 3]);
-    assert_left(&rt, detector.on_ack(0, 2), &[0]);
-    assert_left(&rt, detector.on_ack(0, 3), &[]);
-    assert!(&rt; detector.largest_acked() == Some(3));
-    assert_left(&rt, detector.on_ack(9, 8), &[]);
-    assert!(&rt; detector.largest_acked() == Some(3));
-    assert_numbers(&rt, detector.tracked(), &[4, 5]);
+    static ROWS: [Row; 7] = [
+        Row::Acks(1, 3, &[1, 2, 3]),
+        Row::Acks(0, 2, &[0]),
+        Row::Acks(0, 3, &[]),
+        Row::LargestAcked(Some(3)),
+        Row::Acks(9, 8, &[]),
+        Row::LargestAcked(Some(3)),
+        Row::Tracks(&[4, 5]),
+    ];
+    play(&rt, rt.alloc(), &ROWS);
 }
 
 #[test]
 fn numbers_rise(rt: HostRuntime) {
-    let mut detector = six(&rt, rt.alloc());
-    for number in [0, 5] {
-        let refused = detector.on_sent(packet(number, true));
-        assert!(&rt; refused == Err(TrackError::NotRising), "packet {number}");
-    }
-    assert_numbers(&rt, detector.tracked(), &[0, 1, 2, 3, 4, 5]);
-    assert!(&rt; detector.on_sent(packet(7, true)).is_ok());
-    assert_numbers(&rt, detector.tracked(), &[0, 1, 2, 3, 4, 5, 7]);
+    static ROWS: [Row; 5] = [
+        Row::Sends(0, false),
+        Row::Sends(5, false),
+        Row::Tracks(&[0, 1, 2, 3, 4, 5]),
+        Row::Sends(7, true),
+        Row::Tracks(&[0, 1, 2, 3, 4, 5, 7]),
+    ];
+    play(&rt, rt.alloc(), &ROWS);
 }
 
 #[test]
 fn forgotten_and_discarded(rt: HostRuntime) {
-    let mut detector = six(&rt, rt.alloc());
-    detector.forget(5);
-    detector.forget(6);
-    assert_numbers(&rt, detector.tracked(), &[0, 1, 2, 3, 4]);
-    assert_left(&rt, detector.on_ack(5, 5), &[]);
-    assert_left(&rt, detect(&mut detector, 60 * MILLI), &[0, 1, 2]);
-    assert_loss_time(&rt, &detector, Some(142_500_000));
-    detector.discard();
-    assert_numbers(&rt, detector.tracked(), &[]);
-    assert_loss_time(&rt, &detector, None);
+    static ROWS: [Row; 9] = [
+        Row::Forgets(5),
+        Row::Forgets(6),
+        Row::Tracks(&[0, 1, 2, 3, 4]),
+        Row::Acks(5, 5, &[]),
+        Row::Detects(60 * MILLI, &[0, 1, 2]),
+        Row::LossTime(Some(142_500_000)),
+        Row::Discards,
+        Row::Tracks(&[]),
+        Row::LossTime(None),
+    ];
+    play(&rt, rt.alloc(), &ROWS);
+}
+
+#[test]
+fn probes_after_a_span(rt: HostRuntime) {
+    static ROWS: [Row; 3] = [
+        Row::Probe(Some(165 * MILLI)),
+        Row::Acks(0, 4, &[0, 1, 2, 3, 4]),
+        Row::Probe(None),
+    ];
+    play(&rt, rt.alloc(), &ROWS);
 }
 
 #[test]
 fn spans(rt: HostRuntime) {
-    let millis = Duration::from_millis;
-    assert!(&rt; loss_delay(millis(80), millis(100)) == Duration::from_nanos(LOSS_DELAY));
-    assert!(&rt; loss_delay(millis(100), millis(80)) == Duration::from_nanos(LOSS_DELAY));
-    assert!(&rt; loss_delay(Duration::ZERO, Duration::from_nanos(8)) == millis(1));
-    assert!(&rt; loss_delay(Duration::MAX, millis(1)) == Duration::MAX);
-    for (count, wanted) in [(0, 125), (1, 250), (2, 500), (3, 1000)] {
-        let span = probe_timeout(millis(100), millis(25), count);
-        assert!(&rt; span == millis(wanted), "after {count}");
-    }
-    assert!(&rt; probe_timeout(millis(100), millis(25), 200) == Duration::MAX);
-    assert!(&rt; probe_timeout(Duration::ZERO, Duration::ZERO, u32::MAX) == Duration::ZERO);
+    let (millis, nanos) = (Duration::from_millis, Duration::from_nanos);
+    let (hundred, most) = (millis(100), millis(25));
+    same(
+        &rt,
+        &[
+            (loss_delay(millis(80), hundred), nanos(LOSS_DELAY)),
+            (loss_delay(hundred, millis(80)), nanos(LOSS_DELAY)),
+            (loss_delay(Duration::ZERO, nanos(8)), millis(1)),
+            (loss_delay(Duration::MAX, millis(1)), Duration::MAX),
+        ],
+    );
+    same(
+        &rt,
+        &[
+            (probe_timeout(hundred, most, 0), millis(125)),
+            (probe_timeout(hundred, most, 1), millis(250)),
+            (probe_timeout(hundred, most, 2), millis(500)),
+            (probe_timeout(hundred, most, 3), millis(1000)),
+            (probe_timeout(hundred, most, 200), Duration::MAX),
+            (
+                probe_timeout(Duration::ZERO, Duration::ZERO, u32::MAX),
+                Duration::ZERO,
+            ),
+        ],
+    );
 }
 
 #[test]
-fn probes_and_timeouts(rt: HostRuntime) {
+fn the_next_timeout(rt: HostRuntime) {
     let at = |millis: u64| Some(Instant::from_nanos(millis.saturating_mul(MILLI)));
-    let mut detector = six(&rt, rt.alloc());
-    assert!(&rt; detector.probe_at(Duration::from_millis(125)) == at(165));
-    assert_left(&rt, detector.on_ack(0, 4), &[0, 1, 2, 3, 4]);
-    assert!(&rt; detector.probe_at(Duration::from_millis(125)) == None);
-    assert!(&rt; next_timeout(&[None, at(30), at(20)], &[at(5), None, None]) == at(20));
-    assert!(&rt; next_timeout(&[None, None, None], &[at(50), None, at(40)]) == at(40));
-    assert!(&rt; next_timeout(&[None, None, None], &[None, None, None]) == None);
+    let none = [None; 3];
+    same(
+        &rt,
+        &[
+            (
+                next_timeout(&[None, at(30), at(20)], &[at(5), None, None]),
+                at(20),
+            ),
+            (next_timeout(&none, &[at(50), None, at(40)]), at(40)),
+            (next_timeout(&none, &none), None),
+        ],
+    );
 }
 
 /// How many packets are acknowledged and how many are lost.
@@ -172,11 +269,9 @@ fn a_run(rt: HostRuntime) {
         Call::Forget(4),
         Call::Discard,
     ];
-    match run(rt.alloc(), &calls) {
-        Ok(replies) => {
-            assert!(&rt; replies.len() == 11);
-            assert!(&rt; counts(&replies) == (1, 2));
-        }
-        Err(_) => assert!(&rt; false, "NoMemory"),
-    }
+    let is_right = match run(rt.alloc(), &calls) {
+        Ok(replies) => replies.len() == 11 && counts(&replies) == (1, 2),
+        Err(_) => false,
+    };
+    holds(&rt, is_right, 0);
 }

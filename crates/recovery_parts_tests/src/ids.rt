@@ -1,5 +1,5 @@
 //! Connection ids. Rows are calls, and what is seen after each.
-ghost use Rattle.std.specs.Prelude.{◌≡◌, ◌≤◌};
+ghost use Rattle.std.specs.Prelude.{◌≡◌};
 
 use crate::rows::holds;
 use recovery_base::below::{

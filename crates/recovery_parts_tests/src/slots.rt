@@ -1,5 +1,6 @@
 //! Packets are acknowledged in some order, all but the first: that one is found, and few slots are left. The limit of the
 //! slots, and that few are looked at, is proved.
+use crate::rows::holds;
 use recovery_base::below::NoMemory;
 use recovery_base::time::Instant;
 use recovery_ledger::spaces::{PacketSpace, SentPacket};
@@ -54,16 +55,21 @@ fn sent(rt: &impl Abort, alloc: Global, count: u64) -> PacketSpace<ItemQueue> {
     space
 }
 
+/// Takes a packet out: whether it was tracked.
+fn takes(space: &mut PacketSpace<ItemQueue>, number: u64) -> bool {
+    space.take(number).is_some()
+}
+
 fn assert_closed_up(rt: &impl Abort, alloc: Global, order: Order, count: u64) {
     let mut space = sent(rt, alloc, count);
     for step in 0..count.saturating_sub(1) {
         let number = order.number(step, count);
-        assert!(rt; space.take(number).is_some(), "{number}");
+        holds(rt, takes(&mut space, number), number);
     }
-    assert!(rt; space.slots() <= 66);
-    assert!(rt; space.find(0).0.is_some());
-    assert!(rt; space.take(0).is_some());
-    assert!(rt; space.find(0) == (None, 0));
+    holds(rt, space.slots() <= 66, count);
+    holds(rt, space.find(0).0.is_some(), count);
+    holds(rt, takes(&mut space, 0), 0);
+    holds(rt, space.find(0) == (None, 0), 0);
 }
 
 #[test]

@@ -1,8 +1,8 @@
 pub mod AllowedLaws
 pub mod BalanceLaws
-pub mod PathFateLaws
 pub mod LivePathsLaws
 pub mod PassedLaws
+pub mod PathFateLaws
 pub mod PathLogLaws
 pub mod ResponseLaws
 pub mod SearchedLaws

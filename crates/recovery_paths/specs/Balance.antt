@@ -1,4 +1,4 @@
--- What ties the paths to the packets that are tracked.
+-- What ties the paths to the packets that are tracked (RFC 9002, B.2).
 use Rattle.std.specs.Prelude.{◌<◌}
 use Rattle.std.specs.Option.{ForSome}
 use Rattle.recovery_ledger.specs.Ledger.{IsBalancedOn, AreCoherent, AreUpTo}

@@ -93,7 +93,8 @@ impl<C: Controller + Drop> LivePaths<C> {
         }
     }
 
-    /// A datagram came in on a path, of so many bytes (RFC 9000, 8.1). Refused by `NoSuchPath`, then by `Overflow`.
+    /// A datagram came in on a path, of so many bytes (RFC 9000, 8.1). Refused by `NoSuchPath`, then by `Overflow`; a refusal
+    /// changes nothing.
     pub fn receive_datagram(&mut self, name: PathName, bytes: u64) -> Result<(), DatagramError>
         ensures ok { OnOk result (self.new ≡ on_path_of name (on_state (after_receiving bytes)) self.old) }
         ensures no_path { IsErrOf result DatagramError.NoSuchPath ↔ (path_of name self.old ≡ None) }
@@ -142,10 +143,10 @@ impl<C: Controller + Drop> LivePaths<C> {
         }
     }
 
-    /// Tracks a packet of the path in use in a space, and counts it there. A packet that the space forgets for it is handed
-    /// back with its number, and is no longer counted on its path. `Overflow` is tested before anything is forgotten; a
-    /// refusal drops the packet and leaves all else. Cost: constant over all calls, but for a packet that is forgotten, which costs
-    /// what `take` does.
+    /// Tracks a packet of the path in use in a space, and counts it there (RFC 9002, B.2). A packet that the space forgets
+    /// for it is handed back with its number, and is no longer counted on its path. `Overflow` is tested before anything is
+    /// forgotten; a refusal drops the packet and leaves all else. Cost: constant over all calls, but for a packet that is
+    /// forgotten, which costs what `take` does.
     pub fn sent<Q>(
         &mut self,
         number: u64,
@@ -172,7 +173,7 @@ impl<C: Controller + Drop> LivePaths<C> {
         Ok(forgotten)
     }
 
-    /// The controller of the path in use is told of a packet that goes out there.
+    /// The controller of the path in use is told of a packet of so many bytes that goes out there (RFC 9002, B.4).
     pub fn on_sent(&mut self, now: Instant, bytes: u64, number: u64)
         ensures { self.new
             ≡ on_path_of Current (on_state (after_telling C.words (sends now bytes number))) self.old }
@@ -215,8 +216,8 @@ impl<C: Controller + Drop> LivePaths<C> {
         self.current.on_packet_lost(space, number, packet)
     }
 
-    /// Takes every packet of a space out, and counts each on its path no more. Cost: linear in the packets that the space
-    /// tracks.
+    /// Takes every packet of a space out, and counts each on its path no more (RFC 9002, 6.4). Cost: linear in the packets
+    /// that the space tracks.
     pub fn forget_all<Q>(&mut self, space: &mut PacketSpace<Q>)
     where
         Q: RetransmitQueue + Drop,
@@ -230,8 +231,8 @@ impl<C: Controller + Drop> LivePaths<C> {
         }
     }
 
-    /// A path to another address is used from now on, and the one in use becomes the previous one; an older previous one is
-    /// dropped.
+    /// A path to another address is used from now on (RFC 9000, 9.3), and the one in use becomes the previous one; an older
+    /// previous one is dropped.
     pub fn move_to(&mut self, path: PathData<C>)
         ensures { self.new ≡ moved_to path self.old }
     {
@@ -239,7 +240,7 @@ impl<C: Controller + Drop> LivePaths<C> {
         self.previous = Some(left);
     }
 
-    /// The previous path is dropped: false, and nothing, where none lives. Its packets stay tracked.
+    /// The previous path is dropped (RFC 9000, 9.3.3): false, and nothing, where none lives. Its packets stay tracked.
     pub fn drop_previous(&mut self) -> bool
         ensures lived { result ≡ is_some self.old.previous }
         ensures after { self.new ≡ record self.old { previous = None } }

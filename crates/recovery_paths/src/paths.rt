@@ -259,9 +259,10 @@ impl<C: Controller + Drop> PathData<C> {
         !self.validated && 3 * u128::from(self.total_recvd) < sent
     }
 
-    /// Tracks a packet of this path in a space, and counts it. A packet that the space forgets for it is handed back with
-    /// its number, and is no longer counted where it is one of this path's. `Overflow` is tested before anything is
-    /// forgotten. Cost: constant over all calls, but for a packet that is forgotten, which costs what `take` does.
+    /// Tracks a packet of this path in a space, and counts it (RFC 9002, B.2). A packet that the space forgets for it is
+    /// handed back with its number, and is no longer counted where it is one of this path's. `Overflow` is tested before
+    /// anything is forgotten; a refusal drops the packet and leaves all else. Cost: constant over all calls, but for a packet
+    /// that is forgotten, which costs what `take` does.
     pub fn sent<Q>(
         &mut self,
         number: u64,
@@ -296,7 +297,7 @@ impl<C: Controller + Drop> PathData<C> {
         Ok(forgotten)
     }
 
-    /// Counts a packet no more: false, and nothing, for a packet of another path.
+    /// Counts a packet no more (RFC 9002, B.2): false, and nothing, for a packet of another path.
     pub fn remove_in_flight<Q: RetransmitQueue>(&mut self, packet: &SentPacket<Q>) -> bool
         requires { IsCountedOn self.old.ledger packet.now }
         ensures own { Decides result (packet.now.path_generation ≡ generation_of self.old.ledger) }
@@ -309,7 +310,8 @@ impl<C: Controller + Drop> PathData<C> {
         true
     }
 
-    /// A datagram came in on the path, of so many bytes.
+    /// A datagram came in on the path, of so many bytes (RFC 9000, 8.1): the total has them. `TotalOverflow`, where it would
+    /// pass `u64::MAX`, changes nothing.
     pub fn receive_datagram(&mut self, bytes: u64) -> Result<(), TotalOverflow>
         ensures ok { OnOk result (self.new ≡ on_state (after_receiving bytes) self.old) }
         ensures overflow { OnErr result (2 ^ 64 ≤ self.old.state.total_recvd + bytes) }
@@ -337,7 +339,7 @@ impl<C: Controller + Drop> PathData<C> {
         self.rtt.update(ack_delay, rtt);
     }
 
-    /// The controller is told that a packet of so many bytes went out, under this number.
+    /// The controller is told that a packet of so many bytes went out, under this number (RFC 9002, B.4).
     pub fn on_sent(&mut self, now: Instant, bytes: u64, number: u64)
         ensures { self.new ≡ on_state (after_telling C.words (sends now bytes number)) self.old }
     {
@@ -389,7 +391,8 @@ impl<C: Controller + Drop> PathData<C> {
         space == SpaceId::Data && self.on_data_lost(number, packet.size)
     }
 
-    /// The controller is told that an ACK ends, with the bytes still in flight on the path.
+    /// The controller is told that an ACK ends: the bytes still in flight on the path, whether the sender had too little to
+    /// send to fill its window (RFC 9002, 7.8), and the largest number that was acknowledged, if any.
     pub fn on_end_acks(&mut self, now: Instant, app_limited: bool, largest: Option<u64>)
         ensures { let bytes = (counters_of self.old.ledger).bytes in
             self.new ≡ on_state (after_telling C.words (ends_acks now bytes app_limited largest)) self.old }
@@ -398,7 +401,8 @@ impl<C: Controller + Drop> PathData<C> {
             .on_end_acks(now, self.in_flight.bytes, app_limited, largest);
     }
 
-    /// The controller is told of packets that were lost or marked, the last of them sent at `sent`.
+    /// The controller is told of packets that were lost or marked (RFC 9002, 7.3), the last of them sent at `sent`: whether
+    /// the congestion is persistent (RFC 9002, 7.6), and how many bytes were lost.
     pub fn on_congestion_event(
         &mut self,
         now: Instant,
@@ -425,14 +429,15 @@ impl<C: Controller + Drop> PathData<C> {
             .delay(self.rtt.get(), bytes_to_send, mtu, window, now)
     }
 
-    /// Whether the total sent has room for so many bytes more.
+    /// Whether the total sent has room for so many bytes more: it stays at most `u64::MAX`.
     pub fn has_room(&self, bytes: u16) -> bool
         ensures { Decides result (self.now.state.total_sent + bytes < 2 ^ 64) }
     {
         self.total_sent.checked_add(u64::from(bytes)).is_some()
     }
 
-    /// A datagram of so many bytes is transmitted: the total has them, and the pacer takes its tokens off.
+    /// A datagram of so many bytes is transmitted: the total has them (RFC 9000, 8.1), and the pacer takes its tokens off
+    /// (RFC 9002, 7.7).
     pub fn transmit(&mut self, bytes: u16)
         requires { self.old.state.total_sent + bytes < 2 ^ 64 }
         ensures { self.new ≡ on_state (after_transmitting bytes) self.old }
@@ -498,7 +503,7 @@ impl<C: Controller + Drop> PathData<C> {
         }
     }
 
-    /// The search for the MTU goes on from here.
+    /// The search for the MTU goes on from here (RFC 9000, 14.3). Nothing else changes.
     pub fn search_on(&mut self, mtud: MtuDiscovery)
         ensures { self.new ≡ on_state (with_discovery mtud) self.old }
     {

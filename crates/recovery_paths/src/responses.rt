@@ -1,4 +1,4 @@
-//! PATH_RESPONSE frames that are to be sent.
+//! PATH_RESPONSE frames that are to be sent (RFC 9000, 8.2.2).
 ghost use Rattle.std.specs.Prelude.{◌≡◌, ⊤, length, map, [], ◌==◌};
 ghost use Rattle.std.specs.List.{list_any};
 ghost use Rattle.recovery_paths.specs.Responses.{goes_to, renewed, with_response, last_of, sent_off_path, sent_on_path, responses_left, AreSoundResponses};
@@ -89,7 +89,8 @@ impl PathResponses {
         put(&mut self.pending, response);
     }
 
-    /// Takes the last response out, where it goes to another address than `remote`: its token and its address.
+    /// Takes the last response out, where it goes to another address than `remote`: its token and its address. `None`, and
+    /// nothing changed, where none is to be sent or the last one goes to `remote`.
     ///
     /// It looks at the last one alone, since one to `remote` is soon sent on the path.
     #[tactic(auto, using(crate::proofs::ResponseLaws::take_sound))]
@@ -106,7 +107,8 @@ impl PathResponses {
         Some((response.token, response.remote))
     }
 
-    /// Takes the last response out, where it goes to `remote`: its token.
+    /// Takes the last response out, where it goes to `remote`: its token. `None`, and nothing changed, where none is to be
+    /// sent or the last one goes to another address.
     ///
     /// It looks at the last one alone, since one to another address is soon sent off the path.
     #[tactic(auto, using(crate::proofs::ResponseLaws::take_sound))]

@@ -1,5 +1,5 @@
 //! Which packet numbers are new: the worked rows, and the window beside the plain program over a set.
-ghost use Rattle.std.specs.Prelude.{ℕ, ◌<◌, ◌^◌, ◌≤◌};
+ghost use Rattle.std.specs.Prelude.{◌<◌, ◌^◌, ◌≤◌};
 
 use crate::rows::holds;
 use recovery_base::below::NoMemory;
@@ -127,34 +127,25 @@ fn finds_the_least_missing(rt: HostRuntime) {
 }
 
 /// One number into both, and a look at an interval that ends at it.
-fn compare(
-    rt: &impl Abort,
-    dedup: &mut Dedup,
-    plain: &mut Plain,
-    number: u64,
-    low: u64,
-) -> Result<(), NoMemory> {
+fn compare(rt: &impl Abort, dedup: &mut Dedup, plain: &mut Plain, number: u64, low: u64) {
     let number = number.min(BOUND - 1);
     let before = *dedup;
     let duplicate = dedup.insert(number);
-    let is_same = duplicate == plain.insert(number)?;
-    holds(rt, is_same, number);
+    holds(rt, plain.insert(number) == Ok(duplicate), number);
     if !duplicate && low < number {
         let missing = missing_after(before, number, low, number);
         let is_same = missing == plain.smallest_missing(low, number);
         holds(rt, is_same, low);
     }
-    Ok(())
 }
 
 /// Some numbers into both, from the beginning on.
-fn compare_all(rt: &impl Abort, alloc: Global, numbers: &[u64], low: u64) -> Result<(), NoMemory> {
+fn compare_all(rt: &impl Abort, alloc: Global, numbers: &[u64], low: u64) {
     let mut dedup = Dedup::new();
     let mut plain = Plain::new(alloc);
     for number in numbers {
-        compare(rt, &mut dedup, &mut plain, *number, low)?;
+        compare(rt, &mut dedup, &mut plain, *number, low);
     }
-    Ok(())
 }
 
 const NUMBERS: [u64; 14] = [
@@ -175,20 +166,19 @@ const NUMBERS: [u64; 14] = [
 ];
 
 #[test]
-fn is_the_plain_program_on_short_inputs(rt: HostRuntime) -> Result<(), NoMemory> {
+fn is_the_plain_program_on_short_inputs(rt: HostRuntime) {
     for first in NUMBERS {
         for second in NUMBERS {
             for third in NUMBERS {
                 let numbers = [first, second, third, first, 128, 0];
-                compare_all(&rt, rt.alloc(), &numbers, second)?;
+                compare_all(&rt, rt.alloc(), &numbers, second);
             }
         }
     }
-    Ok(())
 }
 
 /// Two thousand numbers around those before, and around a start. What the generator's state is then.
-fn compare_around(rt: &impl Abort, alloc: Global, start: u64, seed: u64) -> Result<u64, NoMemory> {
+fn compare_around(rt: &impl Abort, alloc: Global, start: u64, seed: u64) -> u64 {
     let mut random = seed;
     let mut dedup = Dedup::new();
     let mut plain = Plain::new(alloc);
@@ -205,18 +195,17 @@ fn compare_around(rt: &impl Abort, alloc: Global, start: u64, seed: u64) -> Resu
         };
         greatest = greatest.max(number).min(BOUND - 1);
         let low = greatest.saturating_sub((random >> 40) % 140);
-        compare(rt, &mut dedup, &mut plain, number, low)?;
+        compare(rt, &mut dedup, &mut plain, number, low);
     }
-    Ok(random)
+    random
 }
 
 #[test]
-fn is_the_plain_program_around_each_boundary(rt: HostRuntime) -> Result<(), NoMemory> {
+fn is_the_plain_program_around_each_boundary(rt: HostRuntime) {
     let mut random = 1u64;
     for start in [0u64, 1, 126, 127, 128, 129, 130, 1 << 32, BOUND - 400] {
-        random = compare_around(&rt, rt.alloc(), start, random)?;
+        random = compare_around(&rt, rt.alloc(), start, random);
     }
-    Ok(())
 }
 
 /// The greatest number before it moves.
@@ -258,31 +247,29 @@ fn compare_intervals(rt: &impl Abort, before: Dedup, plain: &Plain, greatest: u6
 }
 
 /// The numbers before, then one so far above them.
-fn compare_moved(rt: &impl Abort, alloc: Global, left_out: u64, by: u64) -> Result<(), NoMemory> {
+fn compare_moved(rt: &impl Abort, alloc: Global, left_out: u64, by: u64) {
     let mut dedup = Dedup::new();
     let mut plain = Plain::new(alloc);
     for number in 0..=START {
         if number == START || number % left_out.max(1) != 0 {
-            compare(rt, &mut dedup, &mut plain, number, START)?;
+            compare(rt, &mut dedup, &mut plain, number, START);
         }
     }
     let before = dedup;
     let greatest = START.saturating_add(by);
-    compare(rt, &mut dedup, &mut plain, greatest, START)?;
+    compare(rt, &mut dedup, &mut plain, greatest, START);
     compare_members(rt, dedup, &plain, greatest);
     if by > 0 {
         compare_intervals(rt, before, &plain, greatest);
     }
-    Ok(())
 }
 
 #[test]
-fn is_the_plain_program_across_the_words(rt: HostRuntime) -> Result<(), NoMemory> {
+fn is_the_plain_program_across_the_words(rt: HostRuntime) {
     for by in MOVES {
         for left_out in LEFT_OUT {
-            compare_moved(&rt, rt.alloc(), left_out, by)?;
-            compare_moved(&rt, rt.alloc(), left_out, by + 1)?;
+            compare_moved(&rt, rt.alloc(), left_out, by);
+            compare_moved(&rt, rt.alloc(), left_out, by + 1);
         }
     }
-    Ok(())
 }

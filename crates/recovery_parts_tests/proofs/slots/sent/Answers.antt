@@ -1,5 +1,3 @@
-use Rattle.std.proofs.Common.{◌≡◌, arith, sym}
-use Rattle.recovery_queue.specs.declared.items.ItemQueue.{ItemQueue}
 use Rattle.recovery_parts_tests.proofs.Sending.{sent_below, none_below}
 use Rattle.recovery_parts_tests.proofs.slots.sent.Goals as goal
 
