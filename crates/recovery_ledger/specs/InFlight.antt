@@ -1,5 +1,5 @@
 -- Bytes in flight (RFC 9002, 2 and B.2): sums over the tracked packets of a path's generation.
-use Rattle.std.specs.Prelude.{◌≡◌, ℕ, ◌+◌, ◌-◌, ◌≤◌, ◌^◌, ◌==◌, ◌&&◌, ◌⊎◌, sum_by, if◌then◌else◌}
+use Rattle.std.specs.Prelude.{ℕ, ◌+◌, ◌-◌, ◌≤◌, ◌^◌, ◌==◌, ◌&&◌, ◌⊎◌, sum_by, if◌then◌else◌}
 use Rattle.recovery_base.specs.declared.below.SpaceId.{SpaceId}
 use Rattle.recovery_base.specs.declared.below.SpaceId.TheVariants.{Initial, Handshake, Data}
 use Rattle.recovery_ledger.specs.declared.paths.InFlight.{InFlight}

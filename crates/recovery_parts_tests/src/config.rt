@@ -1,5 +1,5 @@
 //! Settings of a connection: the defaults, each setter once, and idle timeouts.
-use crate::rows::all_hold;
+use crate::rows::{all_hold, holds};
 use recovery_base::below::{VarInt, VarIntBoundsExceeded};
 use recovery_base::config::AckFrequencyConfig;
 use recovery_base::time::{Duration, Instant};
@@ -126,36 +126,30 @@ fn setters_of_loss_recovery(rt: HostRuntime) {
     all_hold(&rt, &are_right);
 }
 
-/// Asserts the RTT at first, and the MTUs: the one that a path begins with, and the least.
-fn holds<F>(rt: &impl Abort, config: &TransportConfig<F>, millis: u64, mtus: (u16, u16)) {
-    assert!(rt;
-        config.initial_rtt == Duration::from_millis(millis),
-        "RTT of {millis} ms"
-    );
-    assert!(rt;
-        (config.get_initial_mtu(), config.get_min_mtu()) == mtus,
-        "MTUs"
-    );
+/// Whether the RTT at first is so long, and the MTUs are these: the one that a path begins with, and the least.
+fn has<F>(config: &TransportConfig<F>, millis: u64, mtus: (u16, u16)) -> bool {
+    config.initial_rtt == Duration::from_millis(millis)
+        && (config.get_initial_mtu(), config.get_min_mtu()) == mtus
 }
 
 #[test]
 fn setters_of_paths(rt: HostRuntime) {
     let mut config = TransportConfig::with_factory(HalvingConfig::new(1));
-    holds(&rt, &config, 333, (1200, 1200));
+    holds(&rt, has(&config, 333, (1200, 1200)), 0);
     config.initial_mtu(1);
-    holds(&rt, &config, 333, (1200, 1200));
+    holds(&rt, has(&config, 333, (1200, 1200)), 1);
     config.min_mtu(u16::MAX);
-    holds(&rt, &config, 333, (u16::MAX, u16::MAX));
+    holds(&rt, has(&config, 333, (u16::MAX, u16::MAX)), 2);
     config.min_mtu(1).initial_mtu(1500);
-    holds(&rt, &config, 333, (1500, 1));
+    holds(&rt, has(&config, 333, (1500, 1)), 3);
     config.initial_rtt(Duration::from_millis(1));
-    holds(&rt, &config, 1, (1500, 1));
+    holds(&rt, has(&config, 1, (1500, 1)), 4);
     config.congestion_controller_factory(HalvingConfig::new(7));
     let controller = config
         .congestion_controller_factory
         .build(Instant::from_nanos(0), 1500);
-    assert!(rt; controller.window() == 7);
-    holds(&rt, &config, 1, (1500, 1));
+    holds(&rt, controller.window() == 7, 5);
+    holds(&rt, has(&config, 1, (1500, 1)), 6);
 }
 
 #[test]

@@ -2,6 +2,7 @@
 ghost use Rattle.std.specs.Prelude.{◌<◌};
 
 use crate::rows::holds;
+use recovery_base::below::NoMemory;
 use recovery_base::time::{Duration, Instant};
 use recovery_congestion::congestion::{
     Controller, ControllerFactory, ControllerMetrics, NewRenoConfig,
@@ -49,6 +50,17 @@ fn tell<C: Controller>(controller: &mut C, call: Call) {
     }
 }
 
+/// Whether a clone has the window of the controller that it is of.
+fn is_cloned<C: Controller + Drop>(controller: &C) -> bool {
+    match controller.try_clone() {
+        Ok(clone) => {
+            clone.window() == controller.window()
+                && clone.metrics().congestion_window == controller.window()
+        }
+        Err(NoMemory) => false,
+    }
+}
+
 /// Asserts that the window of a controller that is made at 0 with an MTU of 1200 is the initial one, and after each row as
 /// it says, where rows count from 1; that of a clone is the same in the end.
 fn play<F: ControllerFactory>(rt: &impl Abort, factory: F, initial: u64, rows: &[(Call, u64)])
@@ -65,12 +77,7 @@ where
         holds(rt, controller.window() == *window, row);
         row = row.saturating_add(1);
     }
-    let Ok(clone) = controller.try_clone() else {
-        panic!(rt; "NoMemory")
-    };
-    let is_same = clone.window() == controller.window()
-        && clone.metrics().congestion_window == controller.window();
-    holds(rt, is_same, row);
+    holds(rt, is_cloned(&controller), row);
 }
 
 /// The window after a loss, which no controller lets fall to zero.
