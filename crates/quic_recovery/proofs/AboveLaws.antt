@@ -1,12 +1,10 @@
 -- What the layer above keeps with paths and spaces stays as events go by. `LeftLaws` and the steps of calls rest on it.
 use Rattle.std.proofs.Common.{◌≡◌, ℕ, true, false, Option, None, Some, option_map, Ok, Err, refl, ap, arith}
-use Rattle.std.proofs.lemmas.Option.{none-some}
 use Rattle.recovery_base.specs.declared.below.frames.EcnCounts.{EcnCounts}
 use Rattle.recovery_ledger.specs.SpaceLog.{SpaceEntry}
 use Rattle.recovery_ledger.specs.Spaces.{Space, SpaceStep}
 use Rattle.recovery_ledger.specs.Queued.{no_ecn}
 use Rattle.recovery_paths.specs.PathLog.{OfPaths, paths_marks}
-use Rattle.recovery_paths.specs.PathMaking.{marks_made}
 use Rattle.recovery_paths.specs.PathStates.{Path, PathMarks}
 use Rattle.recovery_queue.specs.Queues.{QueueWords}
 use Rattle.recovery_events.specs.declared.event.Event.{Event}
@@ -48,12 +46,6 @@ module _ {K : Type 0} (change : Path K → Path K) (keeps : (path : Path K) → 
       } in paths_marks new) ≡ paths_marks paths
   both_marks current paths same =
       rw (same, previous_same (λ (path : Path K). path.marks) change keeps paths.previous) refl
-
--- a path alone, as it is made
-pub fresh_first : {K : Type 0} (path : Path K) (paths : OfPaths (Path K))
-    → paths ≡ record { current = path; previous = None } → path.marks ≡ marks_made None → AreFresh (paths_marks paths)
-fresh_first path paths is fresh =
-    rw is (fresh, λ left lives. absurd (none-some left lives))
 
 -- ---- spaces
 

@@ -1,9 +1,7 @@
-use Rattle.std.proofs.Common.{refl, sym, ap, ◌∙◌}
+use Rattle.std.proofs.Common.{sym, ap, ◌∙◌}
 use Rattle.recovery_ledger.specs.Spaces.{packets_of}
 use Rattle.recovery_ledger.proofs.CoherentLaws.{coherent_lost}
-use Rattle.recovery_ledger.proofs.ReceivedLaws.{fails}
 use Rattle.recovery_paths.proofs.BalanceLaws.{paths_balanced_lost, lost_counted_on}
-use Rattle.quic_recovery.proofs.DriverLaws.{put_back}
 use Rattle.quic_recovery.proofs.driver.Recovery.lost.Goals as goal
 
 pub on_packet_lost-probe-requires : goal.on_packet_lost-probe-requires
@@ -23,11 +21,3 @@ invariant_of-self g c =
           (rw left (coherent_lost g.Q.RetransmitQueue.words _ (balanced.coherent c.args.space) c.args.number)));
       limited = c.args.self.now.limited;
     }
-
-pub returns-in-Err : goal.returns-in-Err
-returns-in-Err g c =
-    let there = c.index_mut.ensures.value in
-    put_back _ _ _ _ _ _ (c.in-Err.ensures.err ∙ there) refl (
-      fails _ (sym c.if-contains.ensures),
-      (rw there at c.in-Err.ensures.tracked, tt),
-    )

@@ -4,7 +4,7 @@ use Rattle.recovery_base.specs.declared.below.SpaceId.{SpaceId}
 use Rattle.recovery_ledger.specs.Spaces.{space_of, SpaceLeft}
 use Rattle.recovery_ledger.proofs.SpaceLaws.{fresh_space}
 use Rattle.quic_recovery.specs.History.{begins, queue_meaning}
-use Rattle.quic_recovery.proofs.AboveLaws.{beside_made, fresh_first}
+use Rattle.quic_recovery.proofs.AboveLaws.{beside_made}
 use Rattle.quic_recovery.proofs.LeftLaws.{balanced_first, in_flight_law, paths_first}
 use Rattle.quic_recovery.proofs.SearchLaws.{where_allowed}
 use Rattle.quic_recovery.proofs.driver.Recovery.new.Goals as goal
@@ -52,6 +52,3 @@ returns-clause-came g c = record {
   small = where_allowed (λ settings. settings.upper_bound < 2 ^ 16) c.args.config.allow_mtud _
       c.upper_bound_fits.ensures;
 }
-
-pub returns-clause-marks : goal.returns-clause-marks
-returns-clause-marks g c = fresh_first _ _ c.new-4.ensures c.first_path.ensures.marks

@@ -1,9 +1,6 @@
-use Rattle.std.proofs.Common.{refl, sym, ◌∙◌}
 use Rattle.recovery_ledger.specs.Probes.{probe_found}
 use Rattle.recovery_ledger.specs.Spaces.{space_of, packets_of}
-use Rattle.recovery_ledger.proofs.ReceivedLaws.{fails}
 use Rattle.quic_recovery.proofs.ProbeStepLaws.{probe_balanced}
-use Rattle.quic_recovery.proofs.DriverLaws.{put_back}
 use Rattle.quic_recovery.proofs.driver.Recovery.queue_probe.Goals as goal
 
 pub invariant_of-self : goal.invariant_of-self
@@ -16,11 +13,3 @@ invariant_of-self g c =
           (rw c.index_mut.ensures.value at c.queue_probe.ensures.err);
       limited = c.args.self.now.limited;
     }
-
-pub returns : goal.returns
-returns g c =
-    put_back _ _ _ _ _ _
-    (c.in-Err.ensures.err ∙ c.index_mut.ensures.value) refl (
-      fails _ (sym c.if-contains.ensures),
-      rw c.index_mut.ensures.value at c.in-Err.ensures.moves,
-    )

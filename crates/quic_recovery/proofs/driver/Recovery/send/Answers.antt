@@ -45,9 +45,6 @@ invariant_of-self-2 g c =
       limited = c.args.self.now.limited;
     }
 
-pub give_out-requires : goal.give_out-requires
-give_out-requires g c = omega arith
-
 pub returns : goal.returns
 returns g c =
     let old = parts_of c.args.self.now in

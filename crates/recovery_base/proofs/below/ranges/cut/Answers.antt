@@ -1,4 +1,4 @@
-use Rattle.std.proofs.Common.{◌≡◌, ℕ, vec_len, ◌<◌, nat_lt, ◌++◌, map, take, drop, get_or, length, refl, ap, ◌∙◌, arith, rules}
+use Rattle.std.proofs.Common.{◌≡◌, ℕ, vec_len, ◌<◌, nat_lt, ◌++◌, map, take, drop, get_or, length, ap, ◌∙◌, arith, rules}
 use Rattle.std.specs.declared.ops.Range.{Range}
 use Rattle.std.specs.List.{filter}
 use Rattle.std.proofs.lemmas.Fn.{filter_same}
@@ -6,9 +6,6 @@ use Rattle.std.proofs.lemmas.List.{take_all, drop_all, append-nil, get_or_defaul
 use Rattle.std.proofs.lemmas.List.Edits.{map_over_more}
 use Rattle.recovery_base.specs.Ranges.{clipped, is_some_range, span}
 use Rattle.recovery_base.proofs.below.ranges.cut.Goals as goal
-
-pub loop-range-init : goal.loop-range-init
-loop-range-init c = refl
 
 pub loop-range-preserved : goal.loop-range-preserved
 loop-range-preserved c =

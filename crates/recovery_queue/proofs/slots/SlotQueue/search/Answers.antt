@@ -33,6 +33,3 @@ returns-else-is_some-clause-divides g c =
 
 pub returns-clause-held : goal.returns-clause-held
 returns-clause-held g c = (closed c.loop-low.invariant.encloses c.loop-low-test.false).1
-
-pub returns-clause-divides : goal.returns-clause-divides
-returns-clause-divides g c = (closed c.loop-low.invariant.encloses c.loop-low-test.false).0
