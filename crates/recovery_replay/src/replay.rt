@@ -98,8 +98,8 @@ struct Choice {
     fixed: Option<FixedWindowConfig>,
 }
 
-/// What a run over these controllers, with the peer at an address, starts with: a path that is not validated, a search for its MTU, an id
-/// of the peer and one of this end of eight bytes each, which lasts 10 s, and ACKs delayed by at most 25 ms.
+/// What a run over these controllers, with the peer at an address, starts with: a path that is not validated and whose
+/// MTU is searched for, one id of each end, of eight bytes, and ACKs delayed by at most 25 ms. Ids of this end last 10 s.
 pub fn config<F>(factory: F, remote: SocketAddr, skips: Skips) -> RecoveryConfig<F>
     ensures { result ≡ settings factory remote skips }
 {
