@@ -1,14 +1,18 @@
 #!/usr/bin/env python3
 """Reads the README and the documents: each link leads to a file, each name in backquotes stands in a source, and each clause of run is named in
-the README and in docs/PROMISES.md. Names of others (the crate that this follows, the toolchain's own, patterns) are listed here."""
+the README and in docs/PROMISES.md; examples stand beside what they print, as in examples/; and docs/DEFINITIONS.md says in which file a name is
+defined. Names of others (the crate that this follows, the toolchain's own, patterns) are listed here."""
 import pathlib
 import re
 import sys
+from itertools import zip_longest
 
 ROOT = pathlib.Path(__file__).resolve().parent.parent
 NAME = re.compile(r"[A-Za-z_][A-Za-z0-9_-]*")
 INPUT = re.compile(r"(tracked|local_ids)_\d+_")  # of bench/, which makes these names
 README_LINES = 130
+SHOWN = re.compile(r"^`(examples/\w+)\.txt`, and what it prints.*\n\n((?:    .*\n)+)", re.M)
+DEFINED = re.compile(r"^ *(?:(?:unfoldable|abbrev|pub|record|data) )*([^\s(:{]+) *[:({]", re.M)
 
 # names in backquotes that stand in no source: what the crate that this follows, Rust or the toolchain calls so, and parts of patterns
 OTHERS = {
@@ -60,11 +64,44 @@ def clauses_of_run():
     return re.findall(r"\n\s+ensures (\w+)", contract[:contract.index("\n    {\n")])
 
 
+def examples_in(file, text):
+    """What is wrong with each example that is shown: its lines stand beside what they print, as in its two files."""
+    shown = dict(SHOWN.findall(text))
+    every = {"README.md": ["examples/received"], "SCRIPTS.md": [f"examples/{it.stem}" for it in (ROOT / "examples").glob("*.txt")]}
+    for name in sorted({*shown, *every.get(file.name, [])}):
+        script, printed = ((ROOT / f"{name}.{end}").read_text().splitlines() for end in ("txt", "out"))
+        lines = [re.split("  +", line.strip()) for line in shown.get(name, "").splitlines()]
+        is_so = lines == [[*it] for it in zip_longest(script, printed)]
+        yield [] if is_so else [f"{file}: {name}.txt is not shown with what it prints, as {name}.out has it"]
+
+
+def misplaced():
+    """Names of docs/DEFINITIONS.md that are not defined in the file in brackets behind them, or else the last one above in their table."""
+    files = [*ROOT.glob("crates/*/specs/**/*.antt")]
+    stems = {it.stem for it in files}
+    defined = {(name, it.stem) for it in files for name in DEFINED.findall(it.read_text())}
+    for section in re.split("^## .*crates/", (ROOT / "docs" / "DEFINITIONS.md").read_text(), flags=re.M)[1:]:
+        last = set()
+        for row in re.findall(r"^\| (`.*?) \| ", section.partition("\n## ")[0], re.M):
+            names = []
+            for name, brackets in [*re.findall(r"`([^`]+)`|\(([^)]*)\)", row), ("", "")]:
+                named = {it.strip(" `").rpartition("/")[2] for it in brackets.split(",")} & stems
+                last = named or last
+                if name:
+                    names.append(name.split()[0])
+                elif named or not brackets:
+                    wrong = [it for it in names if not {(it, at) for at in last} & defined]
+                    yield from (f"docs/DEFINITIONS.md: `{it}` is not in {' or '.join(sorted(last))}" for it in wrong)
+                    names = []
+                elif "src/" in brackets:
+                    names = []
+
+
 def main():
     files = files_here()
     words = words_of_sources(files)
     documents = [it for it in files if it.suffix == ".md" and it.parts[0] in ("docs", "README.md")]
-    clauses, passed, faults = clauses_of_run(), 0, []
+    clauses, checks = clauses_of_run(), [list(misplaced())]
     for file in documents:
         text = (ROOT / file).read_text()
         found = list(faults_in(file, text, words))
@@ -72,12 +109,12 @@ def main():
             found += [f"{file}: the clause `{it}` of run is not named" for it in clauses if f"`{it}`" not in text]
         if file.name == "README.md" and text.count("\n") > README_LINES:
             found.append(f"{file}: {text.count(chr(10))} lines, and not at most {README_LINES}")
-        passed += not found
-        faults += found
-    for fault in faults:
+        checks += [found, *examples_in(file, text)]
+    for fault in [it for check in checks for it in check]:
         print(f"documents: {fault}", file=sys.stderr)
-    print(f"documents: {passed} passed, {len(documents) - passed} failed")
-    return 1 if faults else 0
+    failed = sum(map(bool, checks))
+    print(f"documents: {len(checks) - failed} passed, {failed} failed")
+    return 1 if failed else 0
 
 
 sys.exit(main())

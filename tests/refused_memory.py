@@ -45,7 +45,7 @@ def tried(crate, inputs, fail=None, jobs=1):
     found = {}
     with ThreadPoolExecutor(jobs) as pool:
         for part in pool.map(lambda it: tried_part(crate, it, fail), filter(None, parts)):
-            found |= part
+            found.update(part)
     return {name: found[name] for name in inputs}
 
 

@@ -33,6 +33,7 @@ struct recovery_id {
     uint8_t len;
 };
 
+// What a caller holds a recovery by. It holds none where the pointer is null; any other pointer is the library's own.
 struct recovery_handle {
     void *ptr;
 };

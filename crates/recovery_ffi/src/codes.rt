@@ -42,6 +42,7 @@ pub struct Id {
     pub len: u8,
 }
 
+/// The packet number space of a number: 0 Initial, 1 Handshake, any other that of application data (RFC 9000, 12.3).
 pub fn space_coded(code: u8) -> SpaceId
     ensures { result ≡ space_coded code }
 {
@@ -52,6 +53,8 @@ pub fn space_coded(code: u8) -> SpaceId
     }
 }
 
+/// The timer of a number: 0 loss detection, 1 idle, 2 close, 3 key discard, 4 path validation, 5 keep-alive, 6 pacing,
+/// 7 new ids of this end, any other that of a late ACK.
 pub fn timer_coded(code: u8) -> Timer
     ensures { result ≡ timer_coded code }
 {
@@ -68,6 +71,7 @@ pub fn timer_coded(code: u8) -> Timer
     }
 }
 
+/// Which of the two paths: the previous one, or else the one in use.
 pub fn path_coded(previous: bool) -> PathName
     ensures { result ≡ path_coded previous }
 {
@@ -78,6 +82,7 @@ pub fn path_coded(previous: bool) -> PathName
     }
 }
 
+/// The number where it is said to be there, and else none; any number is then passed over.
 pub fn maybe(some: bool, number: u64) -> Option<u64>
     ensures { result ≡ maybe some number }
 {

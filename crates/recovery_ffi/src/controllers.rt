@@ -29,6 +29,7 @@ impl Model for FixedConfig {
 }
 
 impl FixedConfig {
+    /// This window, in bytes and above zero, for good.
     pub fn new(window: u64) -> Self
         requires { 0 < window }
         ensures { result ≡ window }
@@ -56,7 +57,9 @@ pub enum ChosenConfig {
 /// The controller of a path: each call is that of the chosen one.
 #[derive(Drop)]
 pub enum Chosen {
+    /// NewReno (RFC 9002, 7).
     Reno(NewReno),
+    /// A window in bytes that nothing changes.
     Fixed(u64),
 }
 

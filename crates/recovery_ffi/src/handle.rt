@@ -14,6 +14,7 @@ use std::marker::Model;
 use std::mem::replace;
 use std::ptr::null_mut;
 
+/// What a caller holds a recovery by. It holds none where the pointer is null; any other pointer is the library's own.
 #[repr(C)]
 pub struct Handle {
     ptr: *mut u8,
@@ -84,6 +85,7 @@ impl Handle {
         parts.into_box()
     }
 
+    /// Takes out the stack that is held; the handle then holds none.
     #[inline(always)]
     pub fn take(&mut self, alloc: Global) -> Box<Stack>
         requires { IsHeld self.old.held }
@@ -94,6 +96,7 @@ impl Handle {
         full.into_box()
     }
 
+    /// Holds this stack, in a handle that holds none. It takes no memory.
     #[inline(always)]
     pub fn put(&mut self, stack: Box<Stack>)
         requires { self.old.held ≡ None }

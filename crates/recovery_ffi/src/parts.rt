@@ -5,9 +5,13 @@ ghost use Rattle.std.specs.Box.Ownership.{box_owns};
 use std::alloc::Allocator;
 use std::marker::Model;
 
+/// The pointer and the allocator of a box. What the box owns is theirs: as they are, nothing frees it.
 pub struct Parts<T, A: Allocator> {
+    /// Where the value stands.
     pub ptr: *mut T,
+    /// What the memory came from.
     pub alloc: A,
+    /// The value of the box.
     pub ghost value: { T },
 }
 
@@ -16,6 +20,7 @@ impl<T, A: Allocator> Model for Parts<T, A> {
 }
 
 impl<T, A: Allocator> Parts<T, A> {
+    /// The parts of a box. The value stays where it is.
     #[inline(always)]
     pub fn of(b: Box<T, A>) -> Parts<T, A>
     where
@@ -26,6 +31,7 @@ impl<T, A: Allocator> Parts<T, A> {
         Parts { ptr, alloc }
     }
 
+    /// The box that they are the parts of. It takes no memory.
     #[inline(always)]
     pub fn into_box(self) -> Box<T, A>
         ensures { result.value ≡ self.value }

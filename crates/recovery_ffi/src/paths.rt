@@ -1,5 +1,5 @@
 //! Paths, congestion and pacing (RFC 9000, 8.1 and 9; RFC 9002, 5 and 7): an export for each event.
-ghost use Rattle.std.specs.Prelude.{◌<◌, ◌^◌, ◌*◌, ◌+◌};
+ghost use Rattle.std.specs.Prelude.{◌<◌, ◌^◌};
 ghost use Rattle.recovery_ffi.specs.Answers.{Answers, MovesTo};
 ghost use Rattle.recovery_ffi.specs.Codes.{nanos_of, path_coded, maybe};
 ghost use Rattle.recovery_ffi.specs.Held.{IsHeld};

@@ -65,6 +65,7 @@ pub struct Settings {
     pub searches: bool,
 }
 
+/// What a recovery starts with by these settings, whose peer is at this address and has this id. Nothing is refused.
 pub fn config(
     settings: &Settings,
     initial_cid: ConnectionId,

@@ -1,6 +1,6 @@
 //! The event that a line of a script spells.
 ghost use Rattle.std.specs.Prelude.{◌≡◌, ◌+◌, ◌<◌, ◌≤◌, ◌^◌, Some, IfOk, OnErr, IsSomeAnd, vec_len, vec_capacity};
-ghost use Rattle.recovery_lines.specs.Lines.{ItemEvent, id_of, token_of, zero_ids, IsAt};
+ghost use Rattle.recovery_lines.specs.Lines.{id_of, token_of, zero_ids, IsAt};
 ghost use Rattle.recovery_lines.specs.Lines.{HoldsList, forms_without_items};
 ghost use Rattle.recovery_lines.specs.Lines.{received, send, acked, lost};
 ghost use Rattle.recovery_lines.specs.Lines.{new_id, initial_id, issue_ids, peer_retired};

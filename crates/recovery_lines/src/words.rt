@@ -1,10 +1,9 @@
 //! The words of a line, read one after the other.
-ghost use Rattle.std.specs.Prelude.{◌≡◌, ◌*◌, ◌<◌, ◌≤◌, ◌^◌, ◌==◌, [], Some, length, take};
+ghost use Rattle.std.specs.Prelude.{◌≡◌, ◌*◌, ◌<◌, ◌^◌, ◌==◌, [], Some, length, take};
 ghost use Rattle.std.specs.Prelude.{bytes_eq, Decides, IfOk, IfSome, OnErr, IsSome, IsSomeAnd};
 ghost use Rattle.std.specs.List.{position_or_len};
-ghost use Rattle.std.specs.Str.Parse.{digits_value};
 ghost use Rattle.recovery_lines.specs.Words.{words_of};
-ghost use Rattle.recovery_lines.specs.Reading.{AreDigits, IsFirstNumber, Reads, ReadsBy, words_left, first_word, field, flag_of, space_of, timer_of, path_of, largest_of, number_of};
+ghost use Rattle.recovery_lines.specs.Reading.{IsFirstNumber, Reads, ReadsBy, words_left, first_word, field, flag_of, space_of, timer_of, path_of, largest_of, number_of};
 ghost use Rattle.recovery_lines.specs.Reading.{items_read, AreItemsRead};
 
 use crate::blanks::word_len;

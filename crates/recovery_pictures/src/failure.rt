@@ -2,6 +2,7 @@
 
 use quic_recovery::Refusal;
 use quic_recovery::below::NoMemory;
+use recovery_replay::arguments::ArgumentsError;
 use std::alloc::AllocError;
 use std::io;
 use thiserror::Error;
@@ -36,5 +37,14 @@ impl From<NoMemory> for Failure {
 impl From<AllocError> for Failure {
     fn from(_: AllocError) -> Self {
         Failure::NoMemory
+    }
+}
+
+impl From<ArgumentsError> for Failure {
+    fn from(error: ArgumentsError) -> Self {
+        match error {
+            ArgumentsError::OutOfMemory => Failure::NoMemory,
+            ArgumentsError::Unreadable => Failure::Usage,
+        }
     }
 }

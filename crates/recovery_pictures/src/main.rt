@@ -11,8 +11,8 @@ mod tunnel;
 
 use failure::Failure;
 use recovery_lines::number_in;
+use recovery_replay::arguments::arguments;
 use start::Window;
-use std::env;
 use std::io::Read;
 use std::process::ExitCode;
 
@@ -25,16 +25,6 @@ enum Request {
     Tunnel,
     /// A burst over a slow link, paced or not.
     Burst,
-}
-
-/// The words behind the program's name.
-fn words(rt: &HostRuntime) -> Result<Vec<String>, Failure> {
-    let mut words = Vec::new(rt.alloc());
-    let arguments = env::args(rt).map_err(|_| Failure::Usage)?;
-    for word in arguments.skip(1) {
-        words.push(word).map_err(|_| Failure::NoMemory)?;
-    }
-    Ok(words)
 }
 
 /// What these words ask for: the name of a picture, and behind that of a connection its window, if it is not NewReno's.
@@ -73,7 +63,7 @@ fn text(rt: &HostRuntime) -> Result<String, Failure> {
 }
 
 fn run(rt: &HostRuntime) -> Result<(), Failure> {
-    let words = words(rt)?;
+    let words = arguments(rt)?;
     let picture = match request_of(&words) {
         Some(Request::Connection(window)) => {
             connection::picture_of(rt.alloc(), window, &mut rt.reader())?

@@ -30,8 +30,8 @@ use std::io;
 use std::io::{Read, Write};
 use std::net::SocketAddr;
 
-/// The port of the peer's first address.
-const FIRST_PORT: u16 = 4433;
+/// The port of the peer's first address, which `peer_at` names.
+pub const FIRST_PORT: u16 = 4433;
 
 /// How the program ends.
 #[derive(Clone, Copy)]
@@ -98,8 +98,9 @@ struct Choice {
     fixed: Option<FixedWindowConfig>,
 }
 
-/// What a run over these controllers, with the peer at an address, starts with.
-fn config<F>(factory: F, remote: SocketAddr, skips: Skips) -> RecoveryConfig<F>
+/// What a run over these controllers, with the peer at an address, starts with: a path that is not validated and whose
+/// MTU is searched for, one id of each end, of eight bytes, and ACKs delayed by at most 25 ms. Ids of this end last 10 s.
+pub fn config<F>(factory: F, remote: SocketAddr, skips: Skips) -> RecoveryConfig<F>
     ensures { result ≡ settings factory remote skips }
 {
     RecoveryConfig {
@@ -117,7 +118,7 @@ fn config<F>(factory: F, remote: SocketAddr, skips: Skips) -> RecoveryConfig<F>
 }
 
 /// How packet numbers are skipped: as they are drawn with a seed, and not at all without one.
-fn skips(seed: Option<u64>) -> Skips
+pub fn skips(seed: Option<u64>) -> Skips
     ensures { result ≡ skips_with seed }
 {
     match seed {

@@ -1,14 +1,11 @@
 -- One byte more of a line, and its end: `next_line` rests on it.
-use Rattle.std.proofs.Common.{◌≡◌, ◌≢◌, ℕ, zero, suc, ◌+◌, ◌<◌, ◌≤◌, List, [], ◌∷◌, ◌++◌, length, take, Option, refl, sym, ap, ◌∙◌, arith, length-append, length-take, take_all}
-use Rattle.std.specs.Prelude.{All}
+use Rattle.std.proofs.Common.{◌≡◌, ◌≢◌, ℕ, zero, suc, ◌+◌, ◌≤◌, List, [], ◌∷◌, ◌++◌, length, take, Option, refl, sym, ap, ◌∙◌, arith, length-append, length-take, take_all}
 use Rattle.std.proofs.lemmas.List.Elements.{All-nil, All-append, All-cons}
 use Rattle.std.specs.Io.KnownBytes.{Consumes}
 use Rattle.std.proofs.KnownBytes.{Consumes-trans}
+use Rattle.recovery_replay.proofs.ScriptLaws.{IsNoFeed}
 use Rattle.recovery_trace.specs.declared.reading.Next.TheVariants.{Line}
 use Rattle.recovery_trace.specs.Reading.{IsLine, Kept}
-
-abbrev IsNoFeed : ℕ → Type 0
-IsNoFeed byte = byte ≢ 10
 
 -- what was taken of a line so far, and what is kept of it
 abbrev pub Taken : Option (List ℕ) → Option (List ℕ) → List ℕ → Type 0

@@ -1,5 +1,5 @@
 -- What reading one line takes from an input.
-use Rattle.std.specs.Prelude.{◌≡◌, ◌≢◌, ℕ, ◌<◌, ◌≤◌, List, [], ◌∷◌, ◌++◌, length, take, All, Option, None, Some}
+use Rattle.std.specs.Prelude.{◌≡◌, ◌≢◌, ℕ, List, [], ◌∷◌, ◌++◌, take, All, Option, None, Some}
 use Rattle.std.specs.Io.KnownBytes.{Consumes, IsAtEnd}
 use Rattle.recovery_trace.specs.declared.reading.Next.{Next}
 use Rattle.recovery_trace.specs.declared.reading.Next.TheVariants.{Line, Last, End}

@@ -11,7 +11,7 @@ use Rattle.recovery_lines.specs.Lines.{ItemEvent, Spells}
 use Rattle.recovery_trace.specs.declared.trace.Outcome.{Outcome}
 use Rattle.recovery_trace.specs.declared.trace.Outcome.TheVariants.{Ended, BadLine, ReadFailed, WriteFailed, OutOfMemory, WrongArguments}
 use Rattle.recovery_trace.specs.declared.trace.Turn.{Turn}
-use Rattle.recovery_trace.specs.declared.trace.Turn.TheVariants.{Done, Bad, Over}
+use Rattle.recovery_trace.specs.declared.trace.Turn.TheVariants.{Over}
 use Rattle.recovery_trace.specs.States.{state_text}
 
 -- the exit status

@@ -7,26 +7,12 @@ mod requests;
 mod states;
 mod trace;
 
+use recovery_replay::arguments::{ArgumentsError, arguments};
 use requests::{Choice, HELP, Request, USAGE, VERSION, request_of};
-use std::io::{BufReader, ErrorKind};
+use std::io;
+use std::io::BufReader;
 use std::process::ExitCode;
-use std::{env, io};
 use trace::{Outcome, trace};
-
-/// The arguments behind the program's name.
-fn arguments(rt: &HostRuntime) -> Result<Vec<String>, Outcome> {
-    let mut words = Vec::new(rt.alloc());
-    match env::args(rt) {
-        Ok(arguments) => {
-            for word in arguments.skip(1) {
-                words.push(word).map_err(|_| Outcome::OutOfMemory)?;
-            }
-            Ok(words)
-        }
-        Err(error) if error.kind() == ErrorKind::OutOfMemory => Err(Outcome::OutOfMemory),
-        Err(_) => Err(Outcome::WrongArguments),
-    }
-}
 
 /// A trace from standard input to standard output.
 fn traced(rt: &HostRuntime, choice: Choice) -> Outcome {
@@ -59,7 +45,8 @@ fn outcome(rt: &HostRuntime) -> Outcome {
             Request::Version => written(print!(rt; "{VERSION}")),
             Request::Unknown => Outcome::WrongArguments,
         },
-        Err(outcome) => outcome,
+        Err(ArgumentsError::OutOfMemory) => Outcome::OutOfMemory,
+        Err(ArgumentsError::Unreadable) => Outcome::WrongArguments,
     }
 }
 

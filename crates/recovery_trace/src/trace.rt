@@ -1,8 +1,7 @@
 //! A trace: each line is read, its event done and its answer written before the next line is read.
-ghost use Rattle.std.specs.Prelude.{◌≡◌, ◌⊎◌, ℕ, ◌++◌, IfErr, IfOk, OnOk, string_bytes};
+ghost use Rattle.std.specs.Prelude.{◌≡◌, ◌⊎◌, ◌++◌, IfErr, IfOk, OnOk, string_bytes};
 ghost use Rattle.std.specs.Io.KnownBytes.{Appends};
 ghost use Rattle.quic_recovery.specs.State.{parts_of};
-ghost use Rattle.recovery_replay.specs.Replay.{settings, skips_with};
 ghost use Rattle.recovery_trace.specs.declared.trace.Outcome.TheVariants.{OutOfMemory, ReadFailed, WriteFailed};
 ghost use Rattle.recovery_trace.specs.Trace.{Answers, Turns, status_of, turn_text};
 
@@ -10,24 +9,19 @@ use crate::faults::{Fault, fault_in};
 use crate::reading::{Broken, Next, next_line};
 use crate::requests::{Choice, USAGE};
 use crate::states::write_state;
-use quic_recovery::below::{ConnectionId, NoMemory};
-use quic_recovery::config::TransportConfig;
+use quic_recovery::below::NoMemory;
 use quic_recovery::congestion::{ControllerFactory, NewRenoConfig};
-use quic_recovery::skips::Skips;
-use quic_recovery::time::{Duration, Instant};
-use quic_recovery::{Answer, LiveRecovery, Recovery, RecoveryConfig, Refusal};
+use quic_recovery::time::Instant;
+use quic_recovery::{Answer, LiveRecovery, Recovery, Refusal};
 use rand_core::SeedableRng;
 use rand_pcg::Pcg32;
 use recovery_answers::answers::write_reply;
 use recovery_lines::lines::{peer_at, push_event};
 use recovery_queue::items::ItemQueue;
+use recovery_replay::replay::{FIRST_PORT, config, skips};
 use std::alloc::{AllocError, Global};
 use std::io::{Read, Write};
-use std::net::SocketAddr;
 use std::str;
-
-/// The port of the peer's first address.
-const FIRST_PORT: u16 = 4433;
 
 /// How many bytes of a word that cannot be read are told.
 const TOLD: usize = 64;
@@ -301,34 +295,6 @@ where
         }
     }
     Outcome::ReadFailed
-}
-
-/// What a trace over these controllers starts with.
-fn config<F>(factory: F, remote: SocketAddr, skips: Skips) -> RecoveryConfig<F>
-    ensures { result ≡ settings factory remote skips }
-{
-    RecoveryConfig {
-        transport: TransportConfig::with_factory(factory),
-        remote,
-        validated: false,
-        allow_mtud: true,
-        max_ack_delay: Duration::from_millis(25),
-        initial_cid: ConnectionId::new(&[0xFF; 8]),
-        cid_len: 8,
-        cid_lifetime: Some(Duration::from_secs(10)),
-        issued: 1,
-        skips,
-    }
-}
-
-/// How packet numbers are skipped: as they are drawn with a seed, and not at all without one.
-fn skips(seed: Option<u64>) -> Skips
-    ensures { result ≡ skips_with seed }
-{
-    match seed {
-        Some(_) => Skips::Drawn,
-        None => Skips::Disabled,
-    }
 }
 
 /// A trace over these controllers.

@@ -31,6 +31,7 @@ pub struct Id {
     pub len: u8,
 }
 
+/// What a caller holds a recovery by. It holds none where the pointer is null; any other pointer is the library's own.
 #[repr(C)]
 pub struct Handle {
     pub ptr: *mut u8,
