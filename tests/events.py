@@ -7,7 +7,7 @@ import re
 import sys
 
 ROOT = pathlib.Path(__file__).resolve().parent.parent
-APART = re.compile(r"_tests$|^recovery_(rows|refused_memory|embedding|pictures|detection|ffi|trace)$")
+APART = re.compile(r"_tests$|_(rows|refused_memory)$|^recovery_(embedding|pictures|detection|ffi|trace)$")
 ROWS = re.compile(r"Rows$|^RowStart$")
 IMPORT = re.compile(r"\bEvent\.TheVariants\.\{([^}]*)\}")
 RENAMED = re.compile(r"\bEvent\.TheVariants as (\w+)")

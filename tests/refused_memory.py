@@ -1,5 +1,5 @@
 #!/usr/bin/env python3
-"""Has every request for memory refused in turn: those of the script of crates/recovery_refused_memory, and those of the program
+"""Has every request for memory refused in turn: those of the script of crates/quic_recovery_refused_memory, and those of the program
 on a script of its own. The sources are compiled without proof, and run with the Nth request refused (rt try --fail-alloc).
 
 N stays, and how many requests come first that are none of the script changes, so that one build serves for all of them.
@@ -73,7 +73,7 @@ def tried_part(crate, inputs, fail):
 def library(jobs):
     """The script of the library: each request is refused once."""
     inputs = {f"b{count:03}": f"{count}\n" for count in reversed(range(LIBRARY_REQUESTS))}
-    runs = tried("recovery_refused_memory", inputs, LIBRARY_REQUESTS, jobs)
+    runs = tried("quic_recovery_refused_memory", inputs, LIBRARY_REQUESTS, jobs)
     hit = collections.Counter()
     for name, (status, output, errors) in runs.items():
         found = re.fullmatch(r"(one by one|run): (?:step \d+, (.*), was refused memory, and that left no trace|(.*) was refused memory)\n", output)

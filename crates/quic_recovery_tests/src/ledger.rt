@@ -8,10 +8,10 @@ use quic_recovery::driver::Recovery;
 use quic_recovery::event::{Answer, Event, Refusal};
 use quic_recovery::paths::{LedgerError, PathData};
 use quic_recovery::spaces::{NUMBER_LIMIT, PacketSpace, SentPacket};
+use quic_recovery_rows::tally::Tally;
 use rand_pcg::Pcg32;
 use recovery_base::below::{EcnCounts, IssuedCid};
 use recovery_base::time::Instant;
-use recovery_rows::tally::Tally;
 use std::alloc::Global;
 
 fn at(nanos: u64) -> Instant

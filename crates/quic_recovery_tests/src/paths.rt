@@ -3,13 +3,13 @@ use crate::driver::{check, check_left, fresh, holds, right, told, walk};
 use quic_recovery::congestion::NewRenoConfig;
 use quic_recovery::driver::RecoveryConfig;
 use quic_recovery::event::PathName;
+use quic_recovery_rows::config::{settings, words};
+use quic_recovery_rows::events::*;
+use quic_recovery_rows::refusals::Refusal;
+use quic_recovery_rows::runs;
 use rand_pcg::Pcg32;
 use recovery_base::below::SpaceId;
 use recovery_base::time::Duration;
-use recovery_rows::config::{settings, words};
-use recovery_rows::events::*;
-use recovery_rows::refusals::Refusal;
-use recovery_rows::runs;
 use std::alloc::Global;
 use std::process::Abort;
 

@@ -1,9 +1,9 @@
 //! What is sent again, probes, and the counts of ECN.
 use super::*;
 use quic_recovery::spaces::SendableFrames;
+use quic_recovery_rows::refusals::Fault;
+use quic_recovery_rows::tally::Tally;
 use recovery_base::below::EcnCounts;
-use recovery_rows::refusals::Fault;
-use recovery_rows::tally::Tally;
 
 const PING: Reply = Ok(Answer::Sendable(SendableFrames {
     acks: false,

@@ -9,8 +9,8 @@ use Rattle.recovery_events.specs.declared.event.Event.TheVariants as event
 use Rattle.recovery_events.specs.declared.event.Answer.TheVariants as answer
 use Rattle.recovery_events.specs.declared.event.Refusal.TheVariants as refusal
 use Rattle.quic_recovery.specs.Told.{Told}
-use Rattle.recovery_rows.proofs.RowStart.{RowEvent, RowReply, RowHistory, row_start, AllTold, ◌⊳◌}
-use Rattle.recovery_rows.proofs.RowLaws.{unrefused, small, fits, stays, unlike, uneven, differ, some_is_none}
+use Rattle.quic_recovery_rows.proofs.RowStart.{RowEvent, RowReply, RowHistory, row_start, AllTold, ◌⊳◌}
+use Rattle.quic_recovery_rows.proofs.RowLaws.{unrefused, small, fits, stays, unlike, uneven, differ, some_is_none}
 
 module _ (remote : SocketAddr) (random : Stream) where
   abbrev RowTold : RowHistory → RowEvent → RowReply → Type 0

@@ -1,5 +1,5 @@
 //! A queue for tests: what is generic in the queue is seen at work on one that is not the program's.
-ghost use Rattle.recovery_rows.specs.Tallies.{tally_words};
+ghost use Rattle.quic_recovery_rows.specs.Tallies.{tally_words};
 
 use recovery_queue::queue::RetransmitQueue;
 use std::alloc::Global;

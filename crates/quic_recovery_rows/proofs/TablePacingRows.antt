@@ -7,8 +7,8 @@ use Rattle.recovery_skips.specs.declared.filter.Skips.TheVariants.{Disabled}
 use Rattle.recovery_events.specs.declared.event.Event.TheVariants as event
 use Rattle.recovery_events.specs.declared.event.Answer.TheVariants as answer
 use Rattle.quic_recovery.specs.Told.{Told}
-use Rattle.recovery_rows.proofs.RowStart.{RowEvent, RowReply, RowHistory, row_start, AllTold, ◌⊳◌}
-use Rattle.recovery_rows.proofs.RowLaws.{unrefused, small, unlike, uneven}
+use Rattle.quic_recovery_rows.proofs.RowStart.{RowEvent, RowReply, RowHistory, row_start, AllTold, ◌⊳◌}
+use Rattle.quic_recovery_rows.proofs.RowLaws.{unrefused, small, unlike, uneven}
 
 module _ (remote : SocketAddr) (random : Stream) where
   abbrev RowTold : RowHistory → RowEvent → RowReply → Type 0

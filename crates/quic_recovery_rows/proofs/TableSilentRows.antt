@@ -23,8 +23,8 @@ use Rattle.recovery_events.specs.declared.event.Answer.{Answer}
 use Rattle.recovery_events.specs.declared.event.Answer.TheVariants as answer
 use Rattle.quic_recovery.specs.Told.{logs_of, known_by, Logs, Told}
 use Rattle.quic_recovery.specs.Known.{Known, current_in_flight}
-use Rattle.recovery_rows.proofs.RowStart.{RowEvent, RowReply, RowHistory, item_words, row_start}
-use Rattle.recovery_rows.proofs.RowLaws.{unrefused, some_is_none, said}
+use Rattle.quic_recovery_rows.proofs.RowStart.{RowEvent, RowReply, RowHistory, item_words, row_start}
+use Rattle.quic_recovery_rows.proofs.RowLaws.{unrefused, some_is_none, said}
 
 -- ---- silent packets in the order of their numbers
 

@@ -10,8 +10,8 @@ use Rattle.recovery_events.specs.declared.event.Event.TheVariants as event
 use Rattle.recovery_events.specs.declared.event.Answer.TheVariants as answer
 use Rattle.recovery_events.specs.declared.event.Refusal.TheVariants as refusal
 use Rattle.quic_recovery.specs.Told.{Told}
-use Rattle.recovery_rows.proofs.RowStart.{RowEvent, RowReply, RowHistory, row_start, AllTold, ◌⊳◌}
-use Rattle.recovery_rows.proofs.RowLaws.{small, starts, stays, differ, unlike}
+use Rattle.quic_recovery_rows.proofs.RowStart.{RowEvent, RowReply, RowHistory, row_start, AllTold, ◌⊳◌}
+use Rattle.quic_recovery_rows.proofs.RowLaws.{small, starts, stays, differ, unlike}
 
 module _ (remote : SocketAddr) (random : Stream) (given : Vec IssuedCid) where
   abbrev RowTold : RowHistory → RowEvent → RowReply → Type 0

@@ -21,7 +21,7 @@ use Rattle.quic_recovery.specs.Promises.Probes.{acked_probes, lost_probes}
 use Rattle.quic_recovery.specs.Promises.Sizes.{ProbesWithin}
 use Rattle.quic_recovery.specs.Promises.Turns.{SearchesInTurn}
 use Rattle.quic_recovery.specs.Search.{discovery_settings}
-use Rattle.recovery_rows.proofs.RowStart.{RowHistory, row_start}
+use Rattle.quic_recovery_rows.proofs.RowStart.{RowHistory, row_start}
 
 -- ---- too many probes, and too many sizes
 
