@@ -6,7 +6,6 @@ N stays, and how many requests come first that are none of the script changes, s
 """
 import argparse
 import collections
-import os
 import pathlib
 import re
 import subprocess
@@ -130,7 +129,7 @@ def program(jobs):
 
 def main():
     parser = argparse.ArgumentParser(description=__doc__, formatter_class=argparse.RawDescriptionHelpFormatter)
-    parser.add_argument("--jobs", type=int, default=min(2, len(os.sched_getaffinity(0))), help="how many runs side by side")
+    parser.add_argument("--jobs", type=int, default=1, help="how many runs side by side; each builds the sources once more")
     jobs = max(1, parser.parse_args().jobs)
     try:
         show("of the library's script, each request in turn")
