@@ -99,7 +99,7 @@ def text_of(lines):
 def program(jobs):
     """The program: a refused event is answered so, and the others as if it were not there; else the run ends as a whole."""
     lines = [line for line, _ in SCRIPT]
-    without = {"all": lines} | {f"w{at}": lines[:at] + lines[at + 1 :] for at in range(len(lines))}
+    without = {"all": lines, **{f"w{at}": lines[:at] + lines[at + 1 :] for at in range(len(lines))}}
     whole = tried("recovery_program", {name: text_of(its) for name, its in without.items()})
     answers = {name: output.splitlines() for name, (_, output, _) in whole.items()}
     if any(REFUSED in it for its in answers.values() for it in its):
