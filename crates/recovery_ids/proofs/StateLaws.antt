@@ -1,8 +1,8 @@
 -- What becomes of the ids that this end issued. The calls of `CidState` rest on it.
-use Rattle.std.proofs.Common.{◌≡◌, ℕ, zero, suc, ◌+◌, ◌^◌, ◌≤◌, ◌==◌, nat_lt, not, Bool, false, List, [], ◌∷◌, map, drop, Option, refl, sym, arith}
-use Rattle.std.specs.List.{list_any}
+use Rattle.std.proofs.Common.{◌≡◌, ℕ, zero, suc, ◌+◌, ◌-◌, ◌^◌, ◌≤◌, ◌==◌, nat_lt, not, Bool, false, List, [], ◌∷◌, map, drop, Option, refl, sym, arith}
+use Rattle.std.specs.List.{list_any, range_with_len}
 use Rattle.recovery_ids.specs.declared.state.CidTimestamp.{CidTimestamp}
-use Rattle.recovery_ids.specs.LocalIds.{LocalIds, no_ids, AreSoundIds, Rise, timed_out, next_mark, holds_unretired, with_issued, without_number}
+use Rattle.recovery_ids.specs.LocalIds.{LocalIds, no_ids, AreSoundIds, Rise, timed_out, next_mark, holds_unretired, with_issued, without_number, deadlines_with_last}
 use Rattle.recovery_ids.proofs.RiseLaws.{Rise-bound, Rise-wider, Rise-from, Rise-filter, Rise-append, list_any-between}
 use Rattle.recovery_ids.proofs.DeadlineLaws.{deadlines_with-rise}
 
@@ -63,3 +63,31 @@ module _ {ids : LocalIds} (sound : AreSoundIds ids) where
 -- before any is issued
 pub none_sound : (cid_len : ℕ) (lifetime : Option ℕ) → AreSoundIds (no_ids cid_len lifetime)
 none_sound _ _ = grind arith
+
+-- the first ids, from number 0 on, with a deadline for the last of them
+module _ (now cid_len : ℕ) (lifetime : Option ℕ) where
+  abbrev pub first_ids : ℕ → List ℕ → List CidTimestamp → LocalIds
+  first_ids issued numbers deadlines = record {
+    cid_len = cid_len;
+    cid_lifetime = lifetime;
+    issued = issued;
+    unretired = numbers;
+    retired_below = 0;
+    retire_prior_to = 0;
+    deadlines = deadlines;
+  }
+
+  pub first_issued : (issued : ℕ) (numbers : List ℕ) (deadlines : List CidTimestamp) → issued ≤ 2 ^ 62
+      → numbers ≡ range_with_len 0 (issued - 0) → deadlines ≡ deadlines_with_last lifetime now issued []
+      → (first_ids issued numbers deadlines ≡ with_issued issued now (no_ids cid_len lifetime))
+      × AreSoundIds (first_ids issued numbers deadlines)
+  first_issued issued numbers deadlines small are last =
+      let all : issued - 0 ≡ issued = omega arith in
+      let is : first_ids issued numbers deadlines ≡ with_issued issued now (no_ids cid_len lifetime) =
+      rw (are, last, all) (said issued) in
+      (is, rw is (issued_sound (none_sound cid_len lifetime) issued now (omega arith)))
+    where
+      said : (count : ℕ) → first_ids count (range_with_len 0 count) (deadlines_with_last lifetime now count [])
+          ≡ with_issued count now (no_ids cid_len lifetime)
+      said zero = refl
+      said (suc count) = grind arith

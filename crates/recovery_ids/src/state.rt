@@ -89,8 +89,8 @@ impl CidState {
     /// Counts the numbers 0 to `issued - 1` as issued, none of them retired, each with a deadline one lifetime from
     /// `now`. Without a lifetime, or where the deadline would pass the clock's end, none is stored.
     ///
-    /// `NoMemory` where there is no room for them: 16 bytes a number, in a buffer that doubles as it grows; of a count past
-    /// all memory it is answered at once. Where none is issued, no memory is taken. The time is linear in the count.
+    /// `NoMemory` where there is no room for them, which is asked for at once: 16 bytes a number, so that of a count past
+    /// all memory none is taken. Where none is issued, no memory is taken. The time is linear in the count.
     pub fn new(
         alloc: Global,
         cid_len: usize,
@@ -103,7 +103,6 @@ impl CidState {
         ensures memory { OnErr result (0 < issued) }
         ensures sound { IfOk result AreSoundIds }
     {
-        ask_for_room(alloc, issued)?;
         let mut active_seq = SlotQueue::new(alloc);
         let mut retire_timestamp = VecDeque::with_capacity(alloc, issued.min(1) as usize)?;
         issue(&mut active_seq, 0, issued)?;
@@ -222,16 +221,8 @@ impl CidState {
     }
 }
 
-/// Asks for room for so many numbers at once and gives it back, since a set takes its memory number by number: a count
-/// past all memory would else be refused only once all memory is taken.
-fn ask_for_room(alloc: Global, count: u64) -> Result<(), NoMemory>
-    ensures { OnErr result (0 < count) }
-{
-    let _room: Vec<u64> = Vec::with_capacity(alloc, count as usize)?;
-    Ok(())
-}
-
-/// Adds the numbers from one up to another, above all that are there. `NoMemory` changes nothing.
+/// Adds the numbers from one up to another, above all that are there. Room for all is asked for at once, so that a
+/// count past all memory is refused before any is taken. `NoMemory` changes nothing.
 fn issue(numbers: &mut SlotQueue<()>, first: u64, end: u64) -> Result<(), NoMemory>
     requires ahead { first ≤ end }
     requires above { Rise 0 first (numbers_in numbers.old) }
@@ -240,6 +231,7 @@ fn issue(numbers: &mut SlotQueue<()>, first: u64, end: u64) -> Result<(), NoMemo
     ensures err { OnErr result (numbers_in numbers.new ≡ numbers_in numbers.old) }
     ensures memory { OnErr result (first < end) }
 {
+    numbers.reserve((end - first) as usize)?;
     for number in first..end {
         match numbers.push(number, ()) {
             Ok(()) => {}

@@ -1,5 +1,5 @@
 //! What is held for the numbers of a window.
-ghost use Rattle.std.specs.Prelude.{◌≡◌, ℕ, ◌+◌, ◌<◌, ◌≤◌, ◌^◌, ◌%◌, ◌==◌, Some, None, MatchOption, if◌then◌else◌};
+ghost use Rattle.std.specs.Prelude.{◌≡◌, ℕ, ◌+◌, ◌<◌, ◌≤◌, ◌^◌, ◌%◌, ◌==◌, Some, None, MatchOption, set, if◌then◌else◌};
 ghost use Rattle.recovery_ids.specs.RemoteIds.{IsLeastHeld, with_id, without_below};
 ghost use Rattle.recovery_ids.specs.Window.{held_at, IsWithin};
 
@@ -23,6 +23,14 @@ fn slot(number: u64) -> usize
     ensures { result ≡ number % LEN }
 {
     (number % LEN as u64) as usize
+}
+
+/// Empties the entry of one of the `LEN` numbers from the window's start on.
+fn clear(entries: &mut [Option<CidData>; LEN], start: u64, number: u64)
+    requires { (start ≤ number) × (number < start + LEN) }
+    ensures { entries.new ≡ set entries.old (number % LEN) None }
+{
+    entries[slot(number)] = None;
 }
 
 impl Window {
@@ -50,6 +58,14 @@ impl Window {
         if number < self.start || number - self.start >= LEN as u64 {
             return None;
         }
+        self.entry(number)
+    }
+
+    /// What is held for a number of the window.
+    fn entry(&self, number: u64) -> Option<CidData>
+        requires { IsWithin self.now number }
+        ensures { result ≡ held_at self.now number }
+    {
         self.entries[slot(number)]
     }
 
@@ -62,7 +78,8 @@ impl Window {
         self.entries[slot(number)] = Some(entry);
     }
 
-    /// Moves the start up to a number, and drops what was held below.
+    /// Moves the start up to a number, and drops what was held below. However far it moves, it empties the entries of
+    /// numbers in the new window alone, at most `LEN`.
     pub fn drop_below(&mut self, low: u64)
         requires ahead { self.old.start ≤ low }
         requires small { low < 2 ^ 62 }
@@ -72,12 +89,12 @@ impl Window {
         // What is held below is past reach once the start has moved. Numbers that come into the window find no entry.
         let end = self.start + LEN as u64;
         for number in end.max(low)..low + LEN as u64 {
-            self.entries[slot(number)] = None;
+            clear(&mut self.entries, low, number);
         }
         self.start = low;
     }
 
-    /// The least number at or above another for which something is held.
+    /// The least number at or above another for which something is held. It looks at no number past the window.
     pub fn least_from(&self, low: u64) -> Option<u64>
         requires ahead { self.now.start ≤ low }
         requires small { self.now.start < 2 ^ 62 }
@@ -85,7 +102,7 @@ impl Window {
             (IsLeastHeld (held_at self.now) low) }
     {
         for number in low..self.start + LEN as u64 {
-            if self.get(number).is_some() {
+            if self.entry(number).is_some() {
                 return Some(number);
             }
         }

@@ -1,6 +1,6 @@
 -- What is filed, as slots are replaced, dropped and closed up, and from a number on. The calls of `SlotQueue` rest on
 -- it, and the tracked packets above it.
-use Rattle.std.proofs.Common.{◌≡◌, ℕ, zero, suc, ◌+◌, ◌<◌, ◌≤◌, Bool, true, false, List, [], ◌∷◌, ◌++◌, length, set, drop, filter, Option, None, Some, MatchOption, IfNone, refl, sym, ap, subst, ◌∙◌, arith, append-nil, length-append}
+use Rattle.std.proofs.Common.{◌≡◌, ℕ, zero, suc, ◌+◌, ◌-◌, ◌<◌, ◌≤◌, Bool, true, false, List, [], ◌∷◌, ◌++◌, length, set, drop, filter, Option, None, Some, MatchOption, IfSome, IfNone, refl, sym, ap, subst, ◌∙◌, arith, append-nil, length-append, get_or}
 use Rattle.std.specs.Option.{is_some, option_to_list}
 use Rattle.std.specs.Ordering.{nat_cmp}
 use Rattle.std.specs.BTreeMap.{is_at}
@@ -10,7 +10,7 @@ use Rattle.std.proofs.lemmas.List.{length-drop, same_from_push}
 use Rattle.std.proofs.Math.Seq.{set-append_seam}
 use Rattle.std.proofs.lemmas.List.Filters.{length-filter_both}
 use Rattle.recovery_queue.specs.declared.slots.Slot.{Slot}
-use Rattle.recovery_queue.specs.Slots.{entries_in, item_at, AreRising, IsSlotAt, Divides, IsHeldAt, IsAboveAll, IsFrontEmpty, IsBackFrom, Replaces, Finds, is_filled, is_below, is_from, first_number, AreFrom, StaysRising}
+use Rattle.recovery_queue.specs.Slots.{entries_in, item_at, AreRising, IsSlotAt, Divides, IsHeldAt, IsAboveAll, IsFirst, IsFirstWith, IsLast, IsSound, IsClosedUp, IsFrontEmpty, IsBackFrom, Replaces, Finds, ClosesUp, TakesOut, trimmed, is_filled, is_below, is_from, first_number, AreFrom}
 use Rattle.recovery_queue.proofs.SlotLaws.{Slots, at_itself}
 
 pub not_both : {b : Bool} → b ≡ true → b ≡ false → ⊥
@@ -44,6 +44,19 @@ module _ {T : Type 0} where
   replaced_sound (head ∷ slots) first end (suc place) slot item rising at =
       grind (arith, replaced_sound slots (head.number + 1) end place slot item rising.2 at)
   replaced_sound slots first end place slot item rising at = grind (arith, at)
+
+  -- the first number and the last are as they were
+  pub replaced_ends : (slots : Slots T) (first last place : ℕ) (slot : Slot T) (item : Option T)
+      → IsFirst first slots → IsLast last slots → IsSlotAt slots place slot
+      → (let new = set slots place (slot_of slot.number item) in IsFirst first new × IsLast last new)
+  replaced_ends [] first last place slot item is_first is_last at = absurd at
+  replaced_ends (head ∷ []) first last (suc place) slot item is_first is_last at = absurd at
+  replaced_ends (head ∷ next ∷ slots) first last (suc zero) slot item is_first is_last at =
+      (is_first, (replaced_ends (next ∷ slots) next.number last zero slot item refl is_last at).1)
+  replaced_ends (head ∷ next ∷ slots) first last (suc (suc place)) slot item is_first is_last at =
+      (is_first, (replaced_ends (next ∷ slots) next.number last (suc place) slot item refl is_last at).1)
+  replaced_ends (head ∷ []) first last zero slot item is_first is_last at = grind (arith, at, is_first, is_last)
+  replaced_ends (head ∷ next ∷ slots) first last zero slot item is_first is_last at = grind (arith, at, is_first, is_last)
 
   -- ---- what is held at a place
 
@@ -137,19 +150,127 @@ module _ {T : Type 0} where
   kept [] first end = grind arith
   kept (slot ∷ slots) first end = grind (arith, kept slots (slot.number + 1) end, rises_within)
 
-  -- slots are dropped of which none was filled
+  -- the first number and the last bound the others
+  pub from_first : (slots : Slots T) (first front end : ℕ) → IsFirst front slots → AreRising first slots end
+      → AreRising front slots end
+  from_first [] first front end is rising = tt
+  from_first (slot ∷ slots) first front end is rising = grind (arith, is, rising)
+
+  pub first_alone : (slots : Slots T) (number : ℕ) → length slots ≡ 0 → IsFirstWith number slots number
+  first_alone [] number none = refl
+  first_alone (slot ∷ slots) number none = absurd (omega arith)
+
+  pub first_stays : (slots : Slots T) (first number : ℕ) → 0 < length slots → IsFirst first slots
+      → IsFirstWith first slots number
+  first_stays [] first number some is = absurd (omega arith)
+  first_stays (slot ∷ slots) first number some is = is
+
+  pub last_at : (before : Slots T) (slot : Slot T) → IsLast slot.number (before ++ slot ∷ [])
+  last_at [] slot = refl
+  last_at (first ∷ []) slot = refl
+  last_at (first ∷ next ∷ before) slot = last_at (next ∷ before) slot
+
+  pub last_read : (slots : Slots T) (slot : Slot T) (count : ℕ) → count ≡ length slots → 0 < count
+      → slot ≡ get_or slots (count - 1) slot → IsLast slot.number slots
+  last_read [] slot count all some is = absurd (omega arith)
+  last_read (first ∷ []) slot count all some is = grind (arith, all, is)
+  last_read (first ∷ next ∷ slots) slot count all some is =
+      last_read (next ∷ slots) slot (count - 1) (omega arith) (omega arith) (grind (arith, all, is))
+
+  pub to_last : (slots : Slots T) (first last end : ℕ) → IsLast last slots → AreRising first slots end
+      → AreRising first slots (last + 1)
+  to_last [] first last end is rising = tt
+  to_last (slot ∷ []) first last end is rising = grind (arith, is, rising)
+  to_last (slot ∷ next ∷ slots) first last end is rising =
+      let behind = to_last (next ∷ slots) (slot.number + 1) last end is rising.2 in
+      (rising.0, omega (arith, behind.0, behind.1), behind)
+
+  last_behind : (slot : Slot T) (slots : Slots T) (last : ℕ) → IsLast last (slot ∷ slots) → IsLast last slots
+  last_behind slot [] last is = tt
+  last_behind slot (next ∷ slots) last is = is
+
+  -- without the empty slots in front
+  pub trimmed_kept : (slots : Slots T) (first end last : ℕ) → (entries_in (trimmed slots) ≡ entries_in slots)
+      × (AreRising first slots end → AreRising first (trimmed slots) end)
+      × (IsLast last slots → IsLast last (trimmed slots))
+      × ¬ IsFrontEmpty (trimmed slots)
+  trimmed_kept [] first end last = (refl, λ rising. tt, λ is. tt, λ empty. empty)
+  trimmed_kept (slot ∷ slots) first end last =
+      grind (
+        arith,
+        trimmed_kept slots (slot.number + 1) end last,
+        rises_within (trimmed slots) (slot.number + 1) first end end,
+        last_behind slot slots last,
+      )
+
+  -- one of them is dropped
+  pub tail_trimmed : {old : Slots T} (popped : Option (Slot T)) (new : Slots T) → old ≡ option_to_list popped ++ new
+      → IsFrontEmpty old → trimmed new ≡ trimmed old
+  tail_trimmed None new is empty = ap trimmed (sym is)
+  tail_trimmed (Some slot) new is empty = grind (arith, is, empty)
+
+  pub is_trimmed : (slots : Slots T) → ¬ IsFrontEmpty slots → trimmed slots ≡ slots
+  is_trimmed [] filled = refl
+  is_trimmed (slot ∷ slots) filled = grind (arith, filled)
+
+  -- where the first slot is filled, it is the first filled one
+  pub filled_first : (slots : Slots T) (first : ℕ) → ¬ IsFrontEmpty slots
+      → (IsFirst first slots → IsFirst first (filter is_filled slots)) × ¬ IsFrontEmpty (filter is_filled slots)
+  filled_first [] first filled = (λ is. tt, λ empty. empty)
+  filled_first (slot ∷ slots) first filled = grind (arith, filled)
+
+  -- empty slots in front are gone
+  pub trimmed_sound : {old new : Slots T} {filled first last front : ℕ} → IsSound old filled first last
+      → new ≡ trimmed old → IsFirst front new → IsSound new filled front last
+  trimmed_sound {old} {new} {filled} {first} {last} {front} sound is front_is =
+      let its = trimmed_kept old first (last + 1) last in record {
+        count = grind (arith, sound.count, is, its.0);
+        rising = from_first new first front (last + 1) front_is (rw is (its.1 sound.rising));
+        first_is = front_is;
+        last_is = rw is (its.2 sound.last_is);
+      }
+
+  pub only_trimmed : {old new : Slots T} → new ≡ trimmed old → IsClosedUp new → ClosesUp old new
+  only_trimmed {old} is few = record {
+    front = rw is (trimmed_kept old 0 0 0).3;
+    few = few;
+    others = λ _. is;
+  }
+
+  -- and the others too
+  pub filtered_sound : {old new : Slots T} {filled first last back : ℕ} → IsSound old filled first last
+      → ¬ IsFrontEmpty old → new ≡ filter is_filled old → IsLast back new → IsSound new filled first back
+  filtered_sound {old} {new} {filled} {first} {last} {back} sound full is back_is =
+      let its = kept old first (last + 1) in record {
+        count = grind (arith, sound.count, is, its.0);
+        rising = to_last new first back (last + 1) back_is (rw is (its.2 sound.rising));
+        first_is = rw is ((filled_first old first full).0 sound.first_is);
+        last_is = back_is;
+      }
+
+  pub all_filled : {old mid new : Slots T} → mid ≡ trimmed old → new ≡ filter is_filled mid → ¬ IsClosedUp mid
+      → ClosesUp old new
+  all_filled {old} {mid} {new} trim is many = record {
+    front = rw is (filled_first mid 0 (rw trim (trimmed_kept old 0 0 0).3)).1;
+    few = grind (arith, is, kept mid 0 0);
+    others = λ few. absurd (many (rw trim few));
+  }
+
+  pub takes_out : {old emptied new : Slots T} {place : ℕ} {found : Option T} → Replaces old place None found emptied
+      → ClosesUp emptied new → IfSome found (λ item. TakesOut old item new)
+  takes_out {found = None} empties closes = tt
+  takes_out {found = Some item} empties closes = record {
+    place = _;
+    emptied = _;
+    empties = empties;
+    closes = closes;
+  }
+
+  -- slots are dropped at the end of which none was filled
   pub record Keeps (start slots : Slots T) : Type 0 where
     pub entries : entries_in slots ≡ entries_in start
-    pub rising : StaysRising start slots
-
-  -- the first, which is empty
-  pub tail_kept : {start old new : Slots T} (popped : Option (Slot T)) → Keeps start old
-      → old ≡ option_to_list popped ++ new → IsFrontEmpty old → Keeps start new
-  tail_kept None kept is empty = subst (Keeps _) is kept
-  tail_kept (Some slot) kept is empty = record {
-    entries = grind (arith, is, kept.entries);
-    rising = λ first end rising. grind (arith, is, kept.rising first end rising, rises_within);
-  }
+    pub rising : (first end : ℕ) → AreRising first start end → AreRising first slots end
+    pub front : (first : ℕ) → IsFirst first start → IsFirst first slots
 
   -- ---- one slot more at the end
 
@@ -169,6 +290,7 @@ module _ {T : Type 0} where
       → (AreRising first (before ++ slot ∷ []) end → AreRising first before end)
       × (AllBelow (entries_in (before ++ slot ∷ [])) number → number ≤ slot.number
       → entries_in before ≡ entries_in (before ++ slot ∷ []))
+      × (IsFirst first (before ++ slot ∷ []) → IsFirst first before)
   cut_last [] slot first end number = grind arith
   cut_last (head ∷ before) slot first end number = grind (arith, cut_last before slot (head.number + 1) end number)
 
@@ -182,6 +304,7 @@ module _ {T : Type 0} where
       rw (← is, kept.entries) (all_below (entries_in start) number above) in record {
         entries = grind (arith, is, last, under, cut_last new slot 0 0 number, kept.entries);
         rising = λ first end rising. (cut_last new slot first end 0).0 (rw is at (kept.rising first end rising));
+        front = λ first front. (cut_last new slot first 0 0).2 (rw is at (kept.front first front));
       }
 
   -- where the last number is below another, all are
@@ -202,6 +325,12 @@ module _ {T : Type 0} where
   rises_pushed [] first number item low rising = (low, omega arith, tt)
   rises_pushed (slot ∷ slots) first number item low rising =
       grind (arith, rises_pushed slots (slot.number + 1) number item)
+
+  -- it is the last, and the first where there is no other
+  pub ends_pushed : (slots : Slots T) (first number : ℕ) (item : Option T) → IsFirstWith first slots number
+      → (let new = slots ++ slot_of number item ∷ [] in IsFirst first new × IsLast number new)
+  ends_pushed [] first number item is = (is, refl)
+  ends_pushed (slot ∷ slots) first number item is = (is, last_at (slot ∷ slots) (slot_of number item))
 
   -- ---- from a number on
 

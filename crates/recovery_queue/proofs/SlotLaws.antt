@@ -7,7 +7,7 @@ use Rattle.std.specs.BTreeMap.{is_at}
 use Rattle.std.proofs.lemmas.Bool.Decides.{nat_tests}
 use Rattle.std.proofs.Math.Nat.{pow-suc}
 use Rattle.recovery_queue.specs.declared.slots.Slot.{Slot}
-use Rattle.recovery_queue.specs.Slots.{item_at, AreRising, IsSlotAt, Divides, Encloses, IsHeldAt, Rises}
+use Rattle.recovery_queue.specs.Slots.{item_at, AreRising, IsSlotAt, Divides, Encloses, IsHeldAt, Rises, FollowOn, IsFirst, IsLast}
 
 pub at_itself : (number : ℕ) → is_at (nat_cmp number) number ≡ true
 at_itself number = ap is_eq (tied_itself nat_cmp_total number)
@@ -136,6 +136,18 @@ module _ {T : Type 0} where
         grind (arith, over, upper, stands slots first end p slot rising at, slot_within slots p slot at);
   }
 
+  -- where every number follows the one before it, the first and the last tell how many there are
+  pub follow_to : (slots : Slots T) (from first last : ℕ) → FollowOn from slots → IsFirst first slots
+      → IsLast last slots → 0 < length slots → (first ≡ from) × (last + 1 ≡ from + length slots)
+  follow_to [] from first last follow is_first is_last some = absurd (omega arith)
+  follow_to (slot ∷ []) from first last follow is_first is_last some = grind (arith, follow, is_first, is_last)
+  follow_to (slot ∷ next ∷ slots) from first last follow is_first is_last some = grind (
+    arith,
+    follow,
+    is_first,
+    follow_to (next ∷ slots) (from + 1) next.number last follow.1 refl is_last (omega arith),
+  )
+
   -- ---- a search
 
   -- a slot of the number divides the others
@@ -146,21 +158,21 @@ module _ {T : Type 0} where
     above = λ p other there over. omega (arith, apart slots place p slot other rises at there);
   }
 
-  -- between two places a number is sought, after so many looks
-  pub record Seeks (slots : Slots T) (number low high looks : ℕ) : Type 0 where
+  -- between two places of a range a number is sought, after so many looks
+  pub record Seeks (range : ℕ) (slots : Slots T) (number low high looks : ℕ) : Type 0 where
     pub rises : Rises slots
     pub encloses : Encloses slots number low high
-    pub halves : Halves looks (high - low) (length slots)
+    pub halves : Halves looks (high - low) range
 
   -- a look at the middle: an end of the range moves there, or it is the slot of the number
-  pub looked : {slots : Slots T} {number low high looks after : ℕ} {slot : Slot T}
-      → Seeks slots number low high looks → low < high → (let middle = low + (high - low) / 2 in
+  pub looked : {range : ℕ} {slots : Slots T} {number low high looks after : ℕ} {slot : Slot T}
+      → Seeks range slots number low high looks → low < high → (let middle = low + (high - low) / 2 in
       slot ≡ get_or slots middle slot → after ≡ looks + 1
-      → (slot.number < number → Seeks slots number (middle + 1) high after)
-      × (number < slot.number → Seeks slots number low middle after)
+      → (slot.number < number → Seeks range slots number (middle + 1) high after)
+      × (number < slot.number → Seeks range slots number low middle after)
       × (slot.number ≡ number → Divides slots number middle
       × MatchOption slot.item (item_at slots number ≡ None) (IsHeldAt slots number middle)))
-  looked {slots} {number} {low} {high} {slot = slot} old some read counted = (
+  looked {slots = slots} {number} {low} {high} {slot = slot} old some read counted = (
     λ less. record {
       rises = old.rises;
       encloses = record {
@@ -188,9 +200,9 @@ module _ {T : Type 0} where
       middle : IsSlotAt slots (low + (high - low) / 2) slot
       middle = slot_at slots _ slot (omega (arith, old.encloses.within)) read
 
-  -- fewer than 2^63 slots take fewer than 64 looks
-  pub few_looks : {slots : Slots T} {number low high looks : ℕ} → Seeks slots number low high looks
-      → length slots < 2 ^ 63 → looks < 64
+  -- a range of fewer than 2^63 slots takes fewer than 64 looks
+  pub few_looks : {range : ℕ} {slots : Slots T} {number low high looks : ℕ} → Seeks range slots number low high looks
+      → range < 2 ^ 63 → looks < 64
   few_looks old few = let h = old.halves 63 few in grind (arith, h)
 
   -- where a range has closed no slot has the number

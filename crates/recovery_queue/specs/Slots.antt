@@ -1,5 +1,5 @@
 -- A queue of slots in the order of their numbers: what is filed in it, and what is found in it.
-use Rattle.std.specs.Prelude.{◌≡◌, ℕ, ◌+◌, ◌*◌, ◌^◌, ◌<◌, ◌≤◌, zero, suc, List, [], ◌∷◌, ◌++◌, length, Option, None, Some, MatchOption, IfSome, filter, set, Bool, not, nat_lt}
+use Rattle.std.specs.Prelude.{◌≡◌, ℕ, ◌+◌, ◌*◌, ◌^◌, ◌<◌, ◌≤◌, zero, suc, List, [], ◌∷◌, ◌++◌, length, Option, None, Some, MatchOption, IfSome, filter, set, Bool, not, nat_lt, if◌then◌else◌}
 use Rattle.std.specs.Ordering.{nat_cmp}
 use Rattle.std.specs.BTreeMap.{is_at}
 use Rattle.std.specs.Map.{lookup}
@@ -29,14 +29,36 @@ AreRising first (slot ∷ slots) end =
 abbrev pub Rises : {T : Type 0} → List (Slot T) → Type 0
 Rises slots = (first : ℕ) × (end : ℕ) × AreRising first slots end
 
--- so many slots are filled, and the numbers rise from the first to the last
-abbrev pub IsSound : {T : Type 0} → List (Slot T) → ℕ → ℕ → ℕ → Type 0
-IsSound slots filled first last =
-    (filled ≡ length (entries_in slots)) × AreRising first slots (last + 1)
+-- every number follows the one before it
+abbrev pub FollowOn : {T : Type 0} → ℕ → List (Slot T) → Type 0
+FollowOn first [] = Unit {0}
+FollowOn first (slot ∷ slots) = (slot.number ≡ first) × FollowOn (first + 1) slots
 
--- numbers between two bounds still rise between them
-abbrev pub StaysRising : {T : Type 0} → List (Slot T) → List (Slot T) → Type 0
-StaysRising old new = (first end : ℕ) → AreRising first old end → AreRising first new end
+abbrev pub LeavesNoneOut : {T : Type 0} → List (Slot T) → Type 0
+LeavesNoneOut slots = (first : ℕ) × FollowOn first slots
+
+-- the number of the first slot, if there is one
+abbrev pub IsFirst : {T : Type 0} → ℕ → List (Slot T) → Type 0
+IsFirst first [] = Unit {0}
+IsFirst first (slot ∷ slots) = slot.number ≡ first
+
+-- the number of the first slot, once one more of a number stands behind them
+abbrev pub IsFirstWith : {T : Type 0} → ℕ → List (Slot T) → ℕ → Type 0
+IsFirstWith first [] number = number ≡ first
+IsFirstWith first (slot ∷ slots) number = slot.number ≡ first
+
+-- the number of the last slot, if there is one
+abbrev pub IsLast : {T : Type 0} → ℕ → List (Slot T) → Type 0
+IsLast last [] = Unit {0}
+IsLast last (slot ∷ []) = slot.number ≡ last
+IsLast last (slot ∷ next ∷ slots) = IsLast last (next ∷ slots)
+
+-- so many slots are filled, and the numbers rise from the first to the last
+pub record IsSound {T : Type 0} (slots : List (Slot T)) (filled first last : ℕ) : Type 0 where
+  pub count : filled ≡ length (entries_in slots)
+  pub rising : AreRising first slots (last + 1)
+  pub first_is : IsFirst first slots
+  pub last_is : IsLast last slots
 
 -- the slot at a place
 abbrev pub IsSlotAt : {T : Type 0} → List (Slot T) → ℕ → Slot T → Type 0
@@ -72,12 +94,14 @@ pub record IsHeldAt {T : Type 0} (slots : List (Slot T)) (number place : ℕ) (i
 abbrev pub IsWithinDigits : ℕ → ℕ → Type 0
 IsWithinDigits looks slots = (digits : ℕ) → slots < 2 ^ digits → looks ≤ digits
 
--- a number's place among the slots, and how many were looked at for it: one at least, where it was found
+-- a number's place among the slots, and how many were looked at for it: one at least, where it was found, and no more
+-- where no number is left out
 pub record Finds {T : Type 0} (slots : List (Slot T)) (number : ℕ) (found : Option ℕ × ℕ) : Type 0 where
   pub place : MatchOption found.0 (item_at slots number ≡ None)
       (λ place. (item : T) × IsHeldAt slots number place item)
   pub divides : IfSome found.0 (Divides slots number)
   pub looks : IsWithinDigits found.1 (length slots)
+  pub one : LeavesNoneOut slots → found.1 ≤ 1
   pub seen : IfSome found.0 (λ _. 0 < found.1)
 
 -- the slot at a place is empty
@@ -106,6 +130,24 @@ IsClosedUp slots = length slots ≤ 2 * length (entries_in slots) + 64
 abbrev pub IsFrontEmpty : {T : Type 0} → List (Slot T) → Type 0
 IsFrontEmpty [] = ⊥
 IsFrontEmpty (slot ∷ slots) = slot.item ≡ None
+
+-- the slots from the first filled one on
+abbrev pub trimmed : {T : Type 0} → List (Slot T) → List (Slot T)
+trimmed [] = []
+trimmed (slot ∷ slots) = if is_some slot.item then slot ∷ slots else trimmed slots
+
+-- empty slots in front are gone, and few others are left; where few are to be, no other slot is moved
+pub record ClosesUp {T : Type 0} (old new : List (Slot T)) : Type 0 where
+  pub front : ¬ IsFrontEmpty new
+  pub few : IsClosedUp new
+  pub others : IsClosedUp (trimmed old) → new ≡ trimmed old
+
+-- an item is taken out of its slot, and slots are closed up
+pub record TakesOut {T : Type 0} (old : List (Slot T)) (item : T) (new : List (Slot T)) : Type 0 where
+  pub place : ℕ
+  pub emptied : List (Slot T)
+  pub empties : Replaces old place None (Some item) emptied
+  pub closes : ClosesUp emptied new
 
 -- the last slot has this number or one above
 abbrev pub IsBackFrom : {T : Type 0} → ℕ → List (Slot T) → Type 0

@@ -1,11 +1,14 @@
 //! A queue of slots in the order of their numbers.
-ghost use Rattle.std.specs.Prelude.{◌≡◌, ℕ, ◌+◌, ◌^◌, ◌<◌, ◌≤◌, ◌∷◌, ◌++◌, [], length, drop, filter, slice_index_or, Some, None, Decides, IfSome, IfNone, IfOk, OnOk, OnErr, MatchOption, MatchResult};
+ghost use Rattle.std.specs.Prelude.{◌≡◌, ℕ, ◌+◌, ◌-◌, ◌^◌, ◌<◌, ◌≤◌, ◌∷◌, ◌++◌, [], length, drop, filter, slice_index_or, Some, None, Decides, IfSome, IfNone, IfOk, OnOk, OnErr, MatchOption, MatchResult};
 ghost use Rattle.std.specs.VecDeque.{deque_len, deque_capacity};
 ghost use Rattle.std.specs.Ordering.{nat_cmp};
 ghost use Rattle.std.specs.BTreeMap.{is_at};
 ghost use Rattle.std.specs.Map.{remove_entry};
-ghost use Rattle.recovery_queue.specs.Slots.{entries_in, item_at, AreRising, IsFiledAt, Divides, Encloses, IsHeldAt, IsEmptyAt, IsAboveAll, IsClosedUp, IsFrontEmpty, IsBackFrom, Replaces, Rises, Finds, IsWithinDigits, AreFrom, StaysRising, entries_from, first_number, is_filled};
+ghost use Rattle.recovery_queue.specs.Slots.{entries_in, item_at, AreRising, IsFiledAt, Divides, Encloses, IsHeldAt, IsEmptyAt, IsAboveAll, IsClosedUp, IsFrontEmpty, IsBackFrom, Replaces, Rises, LeavesNoneOut, IsFirst, IsFirstWith, IsLast, Finds, IsWithinDigits, ClosesUp, TakesOut, trimmed, AreFrom, entries_from, first_number, is_filled};
 
+mod looks;
+
+use looks::Looks;
 use std::alloc::{AllocError, Global};
 use std::collections::VecDeque;
 use std::marker::Model;
@@ -19,12 +22,6 @@ const SLACK: usize = 64;
 struct Slot<T> {
     number: u64,
     item: Option<T>,
-}
-
-/// How many slots a search looked at.
-#[derive(Drop)]
-struct Looks {
-    count: u32,
 }
 
 /// What is filed under rising numbers.
@@ -92,21 +89,11 @@ impl<T: Drop> SlotQueue<T> {
         }
     }
 
-    /// Reads a slot, and counts that.
-    fn look(&self, place: usize, looks: &mut Looks) -> &Slot<T>
-        requires within { place < length self.now }
-        requires few { looks.old.count < 64 }
-        ensures slot { result.now ≡ slice_index_or self.now place result.now }
-        ensures counted { looks.new.count ≡ looks.old.count + 1 }
-    {
-        looks.count += 1;
-        &self.slots[place]
-    }
-
     /// Between which places a number stands, if it does: slots before the first have lower numbers, and from the second
     /// on higher ones. Where no number is left out these are one place.
     fn range_of(&self, number: u64) -> (usize, usize)
         ensures encloses { Encloses self.now number result.0 result.1 }
+        ensures one { LeavesNoneOut self.now → result.1 ≤ result.0 + 1 }
         ensures rises { Rises self.now }
         ensures few { length self.now < 2 ^ 63 }
     {
@@ -124,42 +111,31 @@ impl<T: Drop> SlotQueue<T> {
         (low, high)
     }
 
-    /// The place of what is filed under a number, or, in `Err`, the first place whose number is not below it.
+    /// The place of what is filed under a number, or, in `Err`, the first place whose number is not below it; and how
+    /// many slots were read for it.
     #[inline(always)]
-    fn search(&self, number: u64, looks: &mut Looks) -> Result<usize, usize>
-        requires { looks.old.count ≡ 0 }
-        ensures held { MatchResult result
+    fn search(&self, number: u64) -> (Result<usize, usize>, u32)
+        ensures held { MatchResult result.0
             (λ place. (item : T) × IsHeldAt self.now number place item)
             (λ place. item_at self.now number ≡ None) }
-        ensures divides { MatchResult result (Divides self.now number) (Divides self.now number) }
-        ensures looks { IsWithinDigits looks.new.count (length self.now) }
-        ensures seen { IfOk result (λ _. 0 < looks.new.count) }
+        ensures divides { MatchResult result.0 (Divides self.now number) (Divides self.now number) }
+        ensures looks { IsWithinDigits result.1 (length self.now) }
+        ensures one { LeavesNoneOut self.now → result.1 ≤ 1 }
+        ensures seen { IfOk result.0 (λ _. 0 < result.1) }
     {
-        let (mut low, mut high) = self.range_of(number);
-        while low < high {
-            let middle = low + (high - low) / 2;
-            let slot = self.look(middle, looks);
-            if slot.number < number {
-                low = middle + 1;
-            } else if slot.number > number {
-                high = middle;
-            } else if slot.item.is_some() {
-                return Ok(middle);
-            } else {
-                return Err(middle);
-            }
-        }
-        Err(low)
+        let (low, high) = self.range_of(number);
+        let mut looks = Looks::over(&self.slots);
+        let place = halve(&mut looks, number, low, high);
+        (place, looks.count())
     }
 
     /// The place of what is filed under a number, and how many slots were looked at for it: at most as many as the count
-    /// of slots has binary digits.
+    /// of slots has binary digits, and at most one where no number is left out.
     pub fn find(&self, number: u64) -> (Option<usize>, u32)
         ensures { Finds self.now number result }
     {
-        let mut looks = Looks { count: 0 };
-        let place = self.search(number, &mut looks).ok();
-        (place, looks.count)
+        let (place, looks) = self.search(number);
+        (place.ok(), looks)
     }
 
     /// The first place whose number is not below this one; where there is none, how many slots there are, or more.
@@ -167,8 +143,8 @@ impl<T: Drop> SlotQueue<T> {
         ensures entries { entries_in (drop result self.now) ≡ entries_from number self.now }
         ensures divides { Divides self.now number result }
     {
-        let mut looks = Looks { count: 0 };
-        match self.search(number, &mut looks) {
+        let (place, _) = self.search(number);
+        match place {
             Ok(place) => place,
             Err(place) => place,
         }
@@ -185,6 +161,19 @@ impl<T: Drop> SlotQueue<T> {
         let old = mem::replace(&mut slot.item, item);
         self.filled -= usize::from(old.is_some());
         old
+    }
+
+    /// Makes room for so many slots more, at one request for memory at most: pushes ask for none until they are used.
+    ///
+    /// `AllocError` changes nothing. Where no slot is asked for, no memory is taken.
+    pub fn reserve(&mut self, count: usize) -> Result<(), AllocError>
+        ensures slots { self.new ≡ self.old }
+        ensures memory { OnErr result (0 < count) }
+    {
+        if count == 0 {
+            return Ok(());
+        }
+        self.slots.reserve(count)
     }
 
     /// Files an item under a number above all under which something is filed, any `u64`.
@@ -217,6 +206,7 @@ impl<T: Drop> SlotQueue<T> {
         ensures entries { entries_in self.new
             ≡ remove_entry (is_at (nat_cmp number)) (entries_in self.old) }
         ensures bound { IfSome result (λ _. IsClosedUp self.new) }
+        ensures closes { IfSome result (λ item. TakesOut self.old item self.new) }
         ensures none { IfNone result (self.new ≡ self.old) }
     {
         let (place, _) = self.find(number);
@@ -230,6 +220,7 @@ impl<T: Drop> SlotQueue<T> {
         ensures entries { MatchOption result (entries_in self.old ≡ [])
             (λ entry. entries_in self.old ≡ entry ∷ entries_in self.new) }
         ensures bound { IfSome result (λ _. IsClosedUp self.new) }
+        ensures closes { IfSome result (λ entry. TakesOut self.old entry.1 self.new) }
         ensures none { IfNone result (self.new ≡ self.old) }
     {
         let number = self.first_from(0)?;
@@ -254,20 +245,53 @@ impl<T: Drop> SlotQueue<T> {
     #[inline(always)]
     fn close_up(&mut self)
         ensures entries { entries_in self.new ≡ entries_in self.old }
-        ensures bound { IsClosedUp self.new }
+        ensures closes { ClosesUp self.old self.new }
     {
         trim(&mut self.slots);
         self.first = first_of(&self.slots, self.first);
         if self.slots.len() - self.filled > self.filled + SLACK {
             keep_filled(&mut self.slots);
+            self.last = last_of(&self.slots, self.last);
         }
     }
 }
 
+/// The place of what is filed under a number, or, in `Err`, the first place whose number is not below it, between two
+/// places.
+#[inline(always)]
+fn halve<T>(looks: &mut Looks<'_, T>, number: u64, from: usize, to: usize) -> Result<usize, usize>
+    requires fresh { looks.old.count ≡ 0 }
+    requires encloses { Encloses looks.old.slots.now.items number from to }
+    requires rises { Rises looks.old.slots.now.items }
+    requires few { length looks.old.slots.now.items < 2 ^ 63 }
+    ensures held { MatchResult result
+        (λ place. (item : T) × IsHeldAt looks.old.slots.now.items number place item)
+        (λ place. item_at looks.old.slots.now.items number ≡ None) }
+    ensures divides { MatchResult result (Divides looks.old.slots.now.items number)
+        (Divides looks.old.slots.now.items number) }
+    ensures looks { IsWithinDigits looks.new.count (to - from) }
+    ensures seen { IfOk result (λ _. 0 < looks.new.count) }
+{
+    let (mut low, mut high) = (from, to);
+    while low < high {
+        let middle = low + (high - low) / 2;
+        let slot = looks.look(middle);
+        if slot.number < number {
+            low = middle + 1;
+        } else if slot.number > number {
+            high = middle;
+        } else if slot.item.is_some() {
+            return Ok(middle);
+        } else {
+            return Err(middle);
+        }
+    }
+    Err(low)
+}
+
 /// Drops the empty slots before the first filled one.
 fn trim<T: Drop>(slots: &mut VecDeque<Slot<T>>)
-    ensures entries { entries_in slots.new.items ≡ entries_in slots.old.items }
-    ensures rising { StaysRising slots.old.items slots.new.items }
+    ensures { slots.new.items ≡ trimmed slots.old.items }
 {
     while is_front_empty(slots) {
         slots.pop_front();
@@ -293,8 +317,7 @@ fn keep_filled<T: Drop>(slots: &mut VecDeque<Slot<T>>)
 
 /// The number of the first slot; another, where there is none.
 fn first_of<T>(slots: &VecDeque<Slot<T>>, first: u64) -> u64
-    ensures { (end : ℕ) → AreRising first slots.now.items end
-        → AreRising result slots.now.items end }
+    ensures { IsFirst result slots.now.items }
 {
     match slots.front() {
         Some(slot) => slot.number,
@@ -302,10 +325,21 @@ fn first_of<T>(slots: &VecDeque<Slot<T>>, first: u64) -> u64
     }
 }
 
+/// The number of the last slot; another, where there is none.
+fn last_of<T>(slots: &VecDeque<Slot<T>>, last: u64) -> u64
+    ensures { IsLast result slots.now.items }
+{
+    match slots.back() {
+        Some(slot) => slot.number,
+        None => last,
+    }
+}
+
 /// From which number on slots stand, once one more stands behind them.
 fn first_with<T>(slots: &VecDeque<Slot<T>>, first: u64, number: u64) -> u64
-    ensures { AreRising first slots.now.items number
+    ensures rising { AreRising first slots.now.items number
         → (result ≤ number) × AreRising result slots.now.items number }
+    ensures first { IsFirst first slots.now.items → IsFirstWith result slots.now.items number }
 {
     if slots.is_empty() { number } else { first }
 }
@@ -316,6 +350,7 @@ fn cut<T: Drop>(slots: &mut VecDeque<Slot<T>>, last: u64, number: u64)
     ensures entries { entries_in slots.new.items ≡ entries_in slots.old.items }
     ensures rising { (first : ℕ) → AreRising first slots.old.items (last + 1)
         → AreRising first slots.new.items number }
+    ensures first { (first : ℕ) → IsFirst first slots.old.items → IsFirst first slots.new.items }
     ensures fewer { deque_len slots.new ≤ deque_len slots.old }
     ensures capacity { deque_capacity slots.new ≡ deque_capacity slots.old }
 {
@@ -330,6 +365,7 @@ fn cut_back<T: Drop>(slots: &mut VecDeque<Slot<T>>, number: u64)
     ensures entries { entries_in slots.new.items ≡ entries_in slots.old.items }
     ensures rising { (first end : ℕ) → AreRising first slots.old.items end
         → AreRising first slots.new.items number }
+    ensures first { (first : ℕ) → IsFirst first slots.old.items → IsFirst first slots.new.items }
     ensures fewer { deque_len slots.new ≤ deque_len slots.old }
     ensures capacity { deque_capacity slots.new ≡ deque_capacity slots.old }
 {

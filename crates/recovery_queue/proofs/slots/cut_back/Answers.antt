@@ -22,3 +22,6 @@ pub returns-clause-rising : goal.returns-clause-rising
 returns-clause-rising g c = λ first end rising.
     rises_to _ first end _ (c.loop-slots.invariant.kept.rising first end rising)
     (λ back. not_both (c.is_back_from.ensures.1 back) c.loop-slots-test.false)
+
+pub returns-clause-first : goal.returns-clause-first
+returns-clause-first g c = c.loop-slots.invariant.kept.front

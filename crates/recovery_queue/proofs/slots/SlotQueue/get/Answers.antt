@@ -9,7 +9,7 @@ returns-in-Some-clause-slot g c =
 pub returns-in-Some-clause-divides : goal.returns-in-Some-clause-divides
 returns-in-Some-clause-divides g c =
     divides_at _ _ _ c.index-slot.result.now
-    (c.self.inside.first, c.self.inside.last + 1, rw (← c.self.view_is) c.self.invariant.1)
+    (c.self.inside.first, c.self.inside.last + 1, rw (← c.self.view_is) c.self.invariant.rising)
     (slot_read c.self.view_is c.requires c.index-slot.ensures) refl
 
 pub returns-in-None-clause-slot : goal.returns-in-None-clause-slot
