@@ -1,5 +1,6 @@
 //! ACKs that come in (RFC 9000, 13.4 and 19.3; RFC 9002, A.7).
 use crate::connection::Connection;
+use crate::losses::PEER_ACK_DELAY;
 use quic_recovery::below::{EcnCounts, SpaceId};
 use quic_recovery::time::{Duration, Instant};
 use quic_recovery::{Answer, Event, Refusal};
@@ -18,16 +19,19 @@ pub struct Arrived {
     pub sent: u64,
     /// Whether one of them was a probe of the MTU, whose size is in use now.
     pub probe: bool,
+    /// Whether the ACK's largest number is above those of all ACKs before it.
+    pub is_newest: bool,
 }
 
 impl Arrived {
-    fn none() -> Self {
+    fn none(is_newest: bool) -> Self {
         Arrived {
             packets: 0,
             ack_eliciting: false,
             largest: 0,
             sent: 0,
             probe: false,
+            is_newest,
         }
     }
 
@@ -92,13 +96,20 @@ impl Connection {
         }
     }
 
+    /// Whether the largest number of an ACK is above all that were acknowledged before.
+    fn is_newest(&self, space: SpaceId, ranges: &[(u64, u64)]) -> bool {
+        let before = self.flight.space(space).largest_acked();
+        let largest = ranges.first().map(|range| range.1);
+        largest > before
+    }
+
     fn take_ranges(
         &mut self,
         now: Instant,
         space: SpaceId,
         ranges: &[(u64, u64)],
     ) -> Result<Arrived, Refusal> {
-        let mut arrived = Arrived::none();
+        let mut arrived = Arrived::none(self.is_newest(space, ranges));
         for (first, last) in ranges {
             self.take_range(now, space, (*first, *last), &mut arrived)?;
         }
@@ -145,7 +156,7 @@ impl Connection {
     }
 
     /// The time since the packet of the ACK's largest number was sent is a sample of the RTT, where it is newly acknowledged, and with it
-    /// one that elicits an ACK (RFC 9002, 5.1). The peer's delay is left out for an Initial packet (RFC 9002, 5.3).
+    /// one that elicits an ACK (RFC 9002, 5.1).
     fn sample(
         &mut self,
         now: Instant,
@@ -161,13 +172,19 @@ impl Connection {
             return Ok(());
         }
         self.tell(Event::Sample {
-            delay: if space == SpaceId::Initial {
-                Duration::ZERO
-            } else {
-                delay
-            },
+            delay: self.delay_of_ack(space, delay),
             rtt: now - Instant::from_nanos(arrived.sent),
         })
+    }
+
+    /// How long the peer let an ACK wait: nothing in an Initial packet, and once the handshake is confirmed no longer than its
+    /// max_ack_delay, whatever it says (RFC 9002, 5.3).
+    fn delay_of_ack(&self, space: SpaceId, delay: Duration) -> Duration {
+        match space {
+            SpaceId::Initial => Duration::ZERO,
+            SpaceId::Data if self.is_confirmed => delay.min(Duration::from_millis(PEER_ACK_DELAY)),
+            _ => delay,
+        }
     }
 
     /// An ACK has counts of ECN, and newly acknowledges so many packets that were sent with ECT(0): whether more of them were marked.
@@ -189,13 +206,17 @@ impl Connection {
         }
     }
 
-    /// Such counts come in behind what arrived: marked packets are a sign of congestion, as lost ones are (RFC 9002, 7.3.2).
+    /// Such counts come in behind what arrived: marked packets are a sign of congestion, as lost ones are (RFC 9002, 7.3.2). Those of an ACK
+    /// that does not raise the largest number acknowledged may be older than the last ones, and are left out (RFC 9000, 13.4.2.1).
     pub fn hear_counts(
         &mut self,
         now: Instant,
         arrived: &Arrived,
         counts: EcnCounts,
     ) -> Result<bool, Refusal> {
+        if !arrived.is_newest {
+            return Ok(false);
+        }
         let is_marked = self.count_marks(arrived.packets, counts)?;
         if is_marked {
             self.congested(now, Instant::from_nanos(arrived.sent), 0)?;

@@ -4,7 +4,8 @@ use crate::at;
 use crate::connection::Connection;
 use crate::failure::Failure;
 use crate::lines::{
-    show, show_items, show_number, show_numbers, show_packet, show_refusal, show_value,
+    show, show_items, show_number, show_numbers, show_packet, show_refusal, show_value, show_wake,
+    show_window,
 };
 use crate::paths::Departure;
 use quic_recovery::Refusal;
@@ -19,7 +20,7 @@ use recovery_queue::items::ItemQueue;
 use std::alloc::Global;
 
 /// A queue of one item.
-fn item(alloc: Global, number: u64) -> Result<ItemQueue, NoMemory> {
+pub fn item(alloc: Global, number: u64) -> Result<ItemQueue, NoMemory> {
     let mut items = Vec::new(alloc);
     items.push(number)?;
     Ok(ItemQueue::from_items(items))
@@ -36,6 +37,7 @@ pub fn live(rt: &(impl Print + AllocGlobal), client: &mut Connection) -> Result<
         lose(rt, client, first)?;
     }
     send_again(rt, client)?;
+    count_less(rt, client)?;
     mistrust(rt, client)?;
     probe(rt, client)?;
     grow(rt, client)?;
@@ -48,7 +50,7 @@ fn handshake(rt: &(impl Print + AllocGlobal), client: &mut Connection) -> Result
     let gone = client.transmit(at(0), 1200)?;
     let hello = client.send(SpaceId::Initial, at(0), 1200, item(rt.alloc(), 1)?)?;
     show_packet(rt, "Initial", hello, "goes out", &gone)?;
-    wake(rt, client)?;
+    show_wake(rt, client)?;
     let heard = hear_server(client)?;
     show_value(rt, "Initial 0 comes in", &heard)?;
     arrive(client, SpaceId::Initial, 40, hello)?;
@@ -130,7 +132,7 @@ fn peer_ids(rt: &impl Print, client: &mut Connection) -> Result<(), Failure> {
 fn own_ids(rt: &(impl Print + AllocGlobal), client: &mut Connection) -> Result<(), Failure> {
     let number = client.issue_id(rt.alloc(), at(9_000), 9)?;
     show_number(rt, "id ", number, " is issued")?;
-    wake(rt, client)?;
+    show_wake(rt, client)?;
     if client.has_expired(Timer::PushNewCid, at(10_000)) && client.id_timer_expired()? {
         let before = client.state().local_ids().retire_prior_to();
         show_number(rt, "ids below ", before, " are to be retired")?;
@@ -198,7 +200,7 @@ fn fill_window(
     let in_flight = client.in_flight(PathName::Current)?;
     let more = client.may_burst(at(11_100), 1200)?;
     show_flight(rt, in_flight, more)?;
-    wake(rt, client)?;
+    show_wake(rt, client)?;
     client.stop_timer(Timer::Pacing)?;
     Ok(first)
 }
@@ -223,14 +225,6 @@ fn show_flight(rt: &impl Print, bytes: u64, more: Departure) -> Result<(), Failu
     Ok(())
 }
 
-/// When the stack is to wake up.
-fn wake(rt: &impl Print, client: &mut Connection) -> Result<(), Failure> {
-    match client.next_timeout()? {
-        Some(nanos) => show_number(rt, "wake up at ", nanos / 1000, " us"),
-        None => show(rt, "sleep on"),
-    }
-}
-
 /// One ACK comes in, of nine packets behind the first one, which is held for lost (RFC 9002, 6.1.1).
 fn lose(
     rt: &(impl Print + AllocGlobal),
@@ -244,25 +238,11 @@ fn lose(
     show_window(rt, client, "one is lost")
 }
 
-/// A window, and what of it is in flight.
-fn show_room(rt: &impl Print, why: &str, window: u64, bytes: u64) -> Result<(), Failure> {
-    println!(rt; "{why}: a window of {window} bytes, {bytes} in flight")?;
-    Ok(())
-}
-
-/// What the path in use has room for.
-fn show_window(rt: &impl Print, client: &Connection, why: &str) -> Result<(), Failure> {
-    let path = client.state().current();
-    let window = path.congestion.window();
-    let bytes = path.in_flight().bytes;
-    show_room(rt, why, window, bytes)
-}
-
 fn counts(ect0: u64, ce: u64) -> EcnCounts {
     EcnCounts { ect0, ect1: 0, ce }
 }
 
-/// What was lost goes out again, and arrives with a mark; then the server counts what cannot be.
+/// What was lost goes out again, and arrives with a mark.
 fn send_again(rt: &impl Print, client: &mut Connection) -> Result<(), Failure> {
     let items = client.pending(SpaceId::Data)?;
     show_items(rt, "the items ", items.items(), " wait to be sent again")?;
@@ -271,10 +251,20 @@ fn send_again(rt: &impl Print, client: &mut Connection) -> Result<(), Failure> {
     let (_, is_marked) = count(client, 11_190, again, counts(9, 1))?;
     show_value(rt, "packets are marked", &is_marked)?;
     show_window(rt, client, "one is marked")?;
-    let (packets, _) = count(client, 11_195, again, counts(8, 1))?;
-    show_number(rt, "the same ACK again: ", packets, " packets arrive")?;
+    let (packets, _) = count(client, 11_195, again, counts(9, 1))?;
+    show_number(rt, "the same ACK again: ", packets, " packets arrive")
+}
+
+/// A packet arrives, and the server counts fewer than before.
+fn count_less(rt: &(impl Print + AllocGlobal), client: &mut Connection) -> Result<(), Failure> {
+    let sent = client.send(SpaceId::Data, at(11_156), 1200, item(rt.alloc(), 101)?)?;
+    count(client, 11_196, sent, counts(8, 1))?;
     let sending_ecn = client.state().current().sending_ecn;
-    show_value(rt, "packets go out with ECT(0)", &sending_ecn)
+    show_value(
+        rt,
+        "the server counts fewer; packets go out with ECT(0)",
+        &sending_ecn,
+    )
 }
 
 /// An ACK of one packet comes in with counts of marks, `millis` after the beginning: how many packets arrive by it, and whether one of
@@ -315,13 +305,13 @@ fn show_expiry(
 /// No ACK comes for a packet: a probe goes out, with what is to be sent again. Its ACK shows that the packet is lost.
 fn probe(rt: &(impl Print + AllocGlobal), client: &mut Connection) -> Result<(), Failure> {
     client.send(SpaceId::Data, at(11_200), 600, item(rt.alloc(), 200)?)?;
-    wake(rt, client)?;
+    show_wake(rt, client)?;
     let is_over = client.has_expired(Timer::LossDetection, at(12_000));
     let is_probe = client.loss_timer_expired(at(12_000))?;
     let items = client.probe(SpaceId::Data)?;
     show_expiry(rt, is_over, is_probe, items.items())?;
     let probe = send_probe(client, items)?;
-    wake(rt, client)?;
+    show_wake(rt, client)?;
     arrive(client, SpaceId::Data, 12_040, probe)?;
     show_window(
         rt,

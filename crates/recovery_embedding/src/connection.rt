@@ -3,6 +3,7 @@ ghost use Rattle.std.specs.Prelude.{◌≡◌};
 ghost use Rattle.recovery_skips.specs.Skips.{IsSkips};
 
 use crate::flight::Flight;
+use crate::losses::Losses;
 use quic_recovery::below::{ConnectionId, ResetToken};
 use quic_recovery::config::TransportConfig;
 use quic_recovery::congestion::NewRenoConfig;
@@ -55,6 +56,8 @@ pub struct Connection {
     pub recovery: StackRecovery,
     /// What was sent and is neither acknowledged nor lost.
     pub flight: Flight,
+    /// What was handed in as lost since the last time that these were all.
+    pub losses: Losses,
     /// The token by which the peer resets the connection (RFC 9000, 10.3), where it came with the id in use.
     pub peer_token: Option<ResetToken>,
     /// There was nothing more to send, though the window had room: then it does not grow (RFC 9002, 7.8).
@@ -70,6 +73,7 @@ impl Connection {
         Connection {
             recovery,
             flight: Flight::new(alloc),
+            losses: Losses::none(),
             peer_token: None,
             app_limited: true,
             probes: 0,

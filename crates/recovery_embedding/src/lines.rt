@@ -1,6 +1,8 @@
 //! The lines that the example prints, by their form. A function that only prints is proved once; a `println!` amid other calls is
 //! proved with all of them.
+use crate::connection::Connection;
 use crate::failure::Failure;
+use quic_recovery::congestion::Controller;
 use std::fmt::{Debug, Display};
 
 /// A line of text.
@@ -61,4 +63,26 @@ pub fn show_items(
 ) -> Result<(), Failure> {
     println!(rt; "{before}{items:?}{after}")?;
     Ok(())
+}
+
+/// When the stack is to wake up.
+pub fn show_wake(rt: &impl Print, client: &mut Connection) -> Result<(), Failure> {
+    match client.next_timeout()? {
+        Some(nanos) => show_number(rt, "wake up at ", nanos / 1000, " us"),
+        None => show(rt, "sleep on"),
+    }
+}
+
+/// A window, and what of it is in flight.
+fn show_room(rt: &impl Print, why: &str, window: u64, bytes: u64) -> Result<(), Failure> {
+    println!(rt; "{why}: a window of {window} bytes, {bytes} in flight")?;
+    Ok(())
+}
+
+/// What the path in use has room for.
+pub fn show_window(rt: &impl Print, client: &Connection, why: &str) -> Result<(), Failure> {
+    let path = client.state().current();
+    let window = path.congestion.window();
+    let bytes = path.in_flight().bytes;
+    show_room(rt, why, window, bytes)
 }

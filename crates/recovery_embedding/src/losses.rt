@@ -4,35 +4,58 @@ use quic_recovery::below::SpaceId;
 use quic_recovery::time::{Duration, Instant};
 use quic_recovery::timer::Timer;
 use quic_recovery::{Answer, Event, Refusal};
-use recovery_detection::{Sent, loss_delay, next_timeout, probe_timeout};
+use recovery_detection::{loss_delay, next_timeout, probe_timeout};
 use recovery_queue::items::ItemQueue;
 
 /// How late the peer's ACKs may be (RFC 9000, 18.2: max_ack_delay), in milliseconds.
-const PEER_ACK_DELAY: u64 = 25;
+pub const PEER_ACK_DELAY: u64 = 25;
 
-/// What was found lost at one moment, beside probes of the MTU.
-#[derive(Clone, Copy)]
-struct Losses {
-    /// In bytes.
+/// What was found lost at one moment, and handed in.
+#[derive(Clone, Copy, Drop)]
+pub struct Losses {
+    packets: u64,
+    /// The bytes of those whose loss is a sign of congestion.
     bytes: u64,
-    /// When the last of them was sent, in nanoseconds.
+    /// When the last of those was sent, in nanoseconds.
     last: Option<u64>,
+}
+
+impl Losses {
+    pub fn none() -> Self {
+        Losses {
+            packets: 0,
+            bytes: 0,
+            last: None,
+        }
+    }
+
+    /// The loss of a packet that was not counted in flight, as it holds ACKs alone, is no sign of congestion (RFC 9002, 7 and B.8), nor is
+    /// that of a probe of the MTU (RFC 9000, 14.4).
+    fn note(&mut self, size: u16, sent: u64, is_probe: bool) {
+        self.packets = self.packets.saturating_add(1);
+        if size > 0 && !is_probe {
+            self.bytes = self.bytes.saturating_add(u64::from(size));
+            self.last = Some(sent);
+        }
+    }
 }
 
 impl Connection {
     /// The packets of a space that are lost at this moment are handed in, each once; then that these were all, and where one of them
-    /// was no probe of the MTU, that there is congestion: the window may shrink.
+    /// was in flight, that there is congestion: the window may shrink. Where memory is refused in between, the next call goes on.
     pub fn find_lost(&mut self, now: Instant, space: SpaceId) -> Result<bool, Refusal> {
         let rtt = self.state().current().rtt;
         let delay = loss_delay(rtt.get(), rtt.latest());
-        let lost = match self.flight.detect_lost(space, now, delay) {
-            Ok(lost) => lost,
-            Err(_) => return Err(Refusal::NoMemory),
-        };
-        if lost.is_empty() {
+        self.hand_in_lost(space)?;
+        if self.flight.detect_lost(space, now, delay).is_err() {
+            return Err(Refusal::NoMemory);
+        }
+        self.hand_in_lost(space)?;
+        let losses = self.losses;
+        if losses.packets == 0 {
             return Ok(false);
         }
-        let losses = self.tell_lost(space, &lost)?;
+        self.losses = Losses::none();
         let is_black_hole = self.losses_done(now)?;
         if let Some(sent) = losses.last {
             self.congested(now, Instant::from_nanos(sent), losses.bytes)?;
@@ -40,19 +63,23 @@ impl Connection {
         Ok(is_black_hole)
     }
 
-    fn tell_lost(&mut self, space: SpaceId, lost: &[Sent]) -> Result<Losses, Refusal> {
-        let mut losses = Losses {
-            bytes: 0,
-            last: None,
-        };
-        for packet in lost {
-            let is_probe = self.packet_lost(space, packet.number)?;
-            if !is_probe {
-                losses.bytes = losses.bytes.saturating_add(u64::from(packet.size));
-                losses.last = Some(packet.sent.as_nanos());
-            }
+    /// What was found lost in a space is handed in, and leaves once it is.
+    fn hand_in_lost(&mut self, space: SpaceId) -> Result<(), Refusal> {
+        for _ in 0..self.flight.waiting(space) {
+            self.hand_in_one(space)?;
         }
-        Ok(losses)
+        Ok(())
+    }
+
+    fn hand_in_one(&mut self, space: SpaceId) -> Result<(), Refusal> {
+        let (number, size, sent) = match self.flight.next_lost(space) {
+            Some(packet) => (packet.number, packet.size, packet.sent.as_nanos()),
+            None => return Ok(()),
+        };
+        let is_probe = self.packet_lost(space, number)?;
+        self.flight.handed_in(space);
+        self.losses.note(size, sent, is_probe);
+        Ok(())
     }
 
     /// A packet is held for lost: its items wait to be sent again. Whether it was a probe of the MTU, whose loss is no sign of congestion

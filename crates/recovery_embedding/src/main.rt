@@ -14,6 +14,7 @@ mod losses;
 mod mtu;
 mod packets;
 mod paths;
+mod rules;
 mod server;
 mod timers;
 
@@ -60,7 +61,8 @@ fn run_server(rt: &HostRuntime) -> Result<(), Failure> {
 
 fn run(rt: &HostRuntime) -> Result<(), Failure> {
     run_client(rt)?;
-    run_server(rt)
+    run_server(rt)?;
+    rules::show_all(rt)
 }
 
 fn main(rt: HostRuntime) -> Result<(), Failure> {
