@@ -9,7 +9,7 @@ ROOT = pathlib.Path(__file__).resolve().parent.parent
 DRIVER = ROOT / "crates" / "quic_recovery" / "src" / "driver.rt"
 PROMISES = ROOT / "crates" / "quic_recovery" / "specs" / "Promises"
 LONGEST = 50
-MOST = 1998  # lines that run rests on: they may only fall
+MOST_EACH = 78  # lines that run rests on, for each of its clauses
 DEFINITION = re.compile(r" *(?:(?:unfoldable )?(?:abbrev )?pub |abbrev |pub )(?:record |data )?([^\s(:{]+)")
 RECORD = re.compile(r" *pub (?:record|data) ")
 USE = re.compile(r"\s*(?:ghost )?use ([\w.]+)\.\{(.*)\};?$")
@@ -91,12 +91,15 @@ def main():
     for name, lines in direct.items():
         if lines > LONGEST:
             failed += 1
-            print(f"definitions: Promises/{name}: {lines} lines, and not at most {LONGEST}", file=sys.stderr)
+            print(f"definitions: Promises/{name}: {lines} lines, and not at most {LONGEST}: a promise is read as a whole, so say it shorter, or as two",
+                  file=sys.stderr)
     whole = size(set().union(*told.values()))
     print(f"definitions: run rests on {whole} lines; {len(direct)} files of promises have {sum(direct.values())}")
-    if whole > MOST:
+    most = MOST_EACH * len(told)
+    if whole > most:
         failed += 1
-        print(f"definitions: run rests on {whole} lines, and not on at most {MOST}", file=sys.stderr)
+        print(f"definitions: run rests on {whole} lines, and not on at most {most} ({MOST_EACH} a clause): say a definition over words that are "
+              "there, or drop one that a clause can do without", file=sys.stderr)
     print(f"definitions: {len(direct) + 1 - failed} passed, {failed} failed")
     return 1 if failed else 0
 

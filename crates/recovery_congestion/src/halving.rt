@@ -1,6 +1,6 @@
 //! A congestion controller for tests: what is generic in the controller is seen at work on one that is not NewReno.
 
-ghost use Rattle.std.specs.Prelude.{◌≡◌, ◌<◌, refl};
+ghost use Rattle.std.specs.Prelude.{◌≡◌, ◌<◌, Ok, refl};
 ghost use Rattle.recovery_congestion.specs.Halving.{halving_made, halving_words, IsHalvingSound, halving_laws};
 
 use crate::congestion::{Controller, ControllerFactory, ControllerMetrics};
@@ -107,7 +107,9 @@ impl Controller for Halving {
         self.initial
     }
 
-    fn try_clone(&self) -> Result<Self, NoMemory> {
+    fn try_clone(&self) -> Result<Self, NoMemory>
+        ensures { result ≡ Ok self.now }
+    {
         Ok(Halving {
             initial: self.initial,
             window: self.window,
