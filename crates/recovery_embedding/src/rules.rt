@@ -134,9 +134,9 @@ fn cap_ack_delay(rt: &(impl Print + AllocGlobal)) -> Result<(), Failure> {
 fn sample_largest_alone(rt: &(impl Print + AllocGlobal)) -> Result<(), Failure> {
     let mut client = confirmed(rt)?;
     let first = send(rt.alloc(), &mut client, 0)?;
-    let second = send(rt.alloc(), &mut client, 10)?;
-    ack(&mut client, 50, second, second)?;
-    ack(&mut client, 60, first, second)?;
+    let second = send(rt.alloc(), &mut client, 1)?;
+    ack(&mut client, 41, second, second)?;
+    ack(&mut client, 42, first, second)?;
     show_rtt(
         rt,
         &client,

@@ -56,7 +56,8 @@ module _ {T : Type 0} where
   replaced_ends (head ∷ next ∷ slots) first last (suc (suc place)) slot item is_first is_last at =
       (is_first, (replaced_ends (next ∷ slots) next.number last (suc place) slot item refl is_last at).1)
   replaced_ends (head ∷ []) first last zero slot item is_first is_last at = grind (arith, at, is_first, is_last)
-  replaced_ends (head ∷ next ∷ slots) first last zero slot item is_first is_last at = grind (arith, at, is_first, is_last)
+  replaced_ends (head ∷ next ∷ slots) first last zero slot item is_first is_last at =
+      grind (arith, at, is_first, is_last)
 
   -- ---- what is held at a place
 

@@ -9,8 +9,8 @@ returns-then-number-self-clause-encloses g c =
 
 pub returns-then-number-self-2-clause-encloses : goal.returns-then-number-self-2-clause-encloses
 returns-then-number-self-2-clause-encloses g c =
-    rw (c.len-len.ensures, ← c.self.view_is) (enclosed _ _ _ _ _ _ c.self.invariant.rising (omega arith) (λ _. omega arith)
-    (λ more. omega arith))
+    rw (c.len-len.ensures, ← c.self.view_is) (enclosed _ _ _ _ _ _ c.self.invariant.rising (omega arith)
+    (λ _. omega arith) (λ more. omega arith))
 
 pub returns-clause-encloses : goal.returns-clause-encloses
 returns-clause-encloses g c =
