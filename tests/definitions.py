@@ -1,15 +1,16 @@
 #!/usr/bin/env python3
-"""Counts what a reader of Recovery::run has to read: the lines of the definitions that its clauses rest on, name by name, without imports,
-blanks and comments; and the lines of each promise that is read off events and answers alone, whole files, at most fifty each."""
+"""Counts what a reader of Recovery::run has to read: the lines of the definitions that its promises (the fields of Keeps) and its other clauses rest
+on, name by name, without imports, blanks and comments; and the lines of each promise that is read off events and answers alone, whole files."""
 import pathlib
 import re
 import sys
 
 ROOT = pathlib.Path(__file__).resolve().parent.parent
 DRIVER = ROOT / "crates" / "quic_recovery" / "src" / "driver.rt"
+PAST = ROOT / "crates" / "quic_recovery" / "specs" / "Past.antt"
 PROMISES = ROOT / "crates" / "quic_recovery" / "specs" / "Promises"
 LONGEST = 50
-MOST_EACH = 78  # lines that run rests on, for each of its clauses
+MOST_EACH = 78  # lines that run rests on, for each promise and clause
 DEFINITION = re.compile(r" *(?:(?:unfoldable )?(?:abbrev )?pub |abbrev |pub )(?:record |data )?([^\s(:{]+)")
 RECORD = re.compile(r" *pub (?:record|data) ")
 USE = re.compile(r"\s*(?:ghost )?use ([\w.]+)\.\{(.*)\};?$")
@@ -70,14 +71,24 @@ def rests_on(words, every):
     return seen
 
 
+def promises():
+    """The words of each field of Keeps, which are what run ensures at each event."""
+    text = PAST.read_text()
+    names = imports(text.split("\n"))
+    fields = re.search(r"^  pub record Keeps .*?\n\n", text, re.M | re.S).group(0)
+    for name, said in re.findall(r"^    pub (\w+) : (.*(?:\n      .*)*)", fields, re.M):
+        yield name, [names[word] for word in WORD.findall(said) if word in names]
+
+
 def clauses():
-    """The words of each clause of run."""
+    """The words of each promise, and of each clause of run that is of the run as a whole."""
+    yield from promises()
     text = DRIVER.read_text()
     names = imports(text.split("\n"))
     contract = text[text.index("    pub fn run("):]
     contract = contract[:contract.index("\n    {\n")]
     for clause in re.split(r"\n\s+ensures ", contract)[1:]:
-        yield clause.split()[0], [names[word] for word in WORD.findall(clause) if word in names]
+        yield clause.split()[0], [names[word] for word in WORD.findall(clause) if word in names and word != "Keeps"]
 
 
 def main():
@@ -98,7 +109,7 @@ def main():
     most = MOST_EACH * len(told)
     if whole > most:
         failed += 1
-        print(f"definitions: run rests on {whole} lines, and not on at most {most} ({MOST_EACH} a clause): say a definition over words that are "
+        print(f"definitions: run rests on {whole} lines, and not on at most {most} ({MOST_EACH} a promise): say a definition over words that are "
               "there, or drop one that a clause can do without", file=sys.stderr)
     print(f"definitions: {len(direct) + 1 - failed} passed, {failed} failed")
     return 1 if failed else 0

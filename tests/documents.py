@@ -35,7 +35,7 @@ def words_of_sources(files):
     """All words of the sources, and of the names of files."""
     words = {word for file in files for word in NAME.findall(str(file))}
     for file in files:
-        if file.parts[0] not in ("docs", "README.md") and (ROOT / file).is_file():
+        if file.parts[0] not in ("docs", "README.md", "CONTRIBUTING.md") and (ROOT / file).is_file():
             words.update(NAME.findall((ROOT / file).read_text(errors="ignore")))
     return words
 
@@ -59,9 +59,12 @@ def faults_in(file, text, words):
 
 
 def clauses_of_run():
+    """The promises, which are the fields of Keeps, and the clauses that are of the run as a whole."""
     text = (ROOT / "crates" / "quic_recovery" / "src" / "driver.rt").read_text()
     contract = text[text.index("    pub fn run("):]
-    return re.findall(r"\n\s+ensures (\w+)", contract[:contract.index("\n    {\n")])
+    keeps = re.search(r"^  pub record Keeps .*?\n\n", (ROOT / "crates" / "quic_recovery" / "specs" / "Past.antt").read_text(), re.M | re.S).group(0)
+    promises = re.findall(r"^    pub (\w+) :", keeps, re.M)
+    return promises + re.findall(r"\n\s+ensures (\w+)", contract[:contract.index("\n    {\n")])
 
 
 def examples_in(file, text):
@@ -100,7 +103,7 @@ def misplaced():
 def main():
     files = files_here()
     words = words_of_sources(files)
-    documents = [it for it in files if it.suffix == ".md" and it.parts[0] in ("docs", "README.md")]
+    documents = [it for it in files if it.suffix == ".md" and it.parts[0] in ("docs", "README.md", "CONTRIBUTING.md")]
     clauses, checks = clauses_of_run(), [list(misplaced())]
     for file in documents:
         text = (ROOT / file).read_text()

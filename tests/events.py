@@ -1,7 +1,8 @@
 #!/usr/bin/env python3
 """Counts in how many files of the library each event is named: in its code and definitions, in the promises that speak of it, and in its
 proofs. Tests, rows and the example are apart, and so is the file that declares it. What does not speak of an event should not name it:
-the means have a bound with room for a tenth more, and no event may be named in far more files than the others."""
+the means have a bound with room for a tenth more, and no event may be named in far more files than the others. And each event stands in
+every list of events that is written by hand."""
 import pathlib
 import re
 import sys
@@ -19,6 +20,32 @@ MOST = (6, 12, 20)
 DO = ("what is the same for many events is a last line of a table (specs/Table.antt) or of a match",
       "a promise names the events that it speaks of, and has a last line for the others",
       "a law by events has a last line by search, or goes by kinds of entries (EntryKinds)")
+
+# the lists of events that are written by hand, and how an event stands in one: by its variant, its line (set-timer) or its export (set_timer)
+LISTS = {
+    "crates/recovery_lines/src/lines.rt": r'"{line}"',
+    "crates/recovery_trace/src/faults.rt": r'"{line}[ "]',
+    "crates/recovery_ffi/src/*.rt": r"fn recovery_ffi_{export}\(",
+    "rust/quic-recovery/src/event.rs": r"^    {name}\b",
+    "rust/quic-recovery/src/recovery.rs": r"\bEvent::{name}\b",
+    "rust/quic-recovery/tests/common/mod.rs": r'"{line}" =>',
+    "rust/c/recovery_ffi.h": r"\brecovery_ffi_{export}\(",
+    "bench/careful/lines.rs": r'"{line}"',
+    "tests/alike.py": r"""['"]{line}[ "']""",
+    "docs/SCRIPTS.md": r"^\| `{line}[ `]",
+    "docs/EMBEDDING.md": r"`{name}`",
+}
+LINES = {"AckFrequencyIn": "ack-frequency", "DiscardSpace": "discard"}  # whose lines are not their names
+
+
+def missing(events):
+    """The lists that an event is missing from."""
+    for place, form in LISTS.items():
+        text = "\n".join(it.read_text() for it in sorted(ROOT.glob(place)))
+        for name in events:
+            line = LINES.get(name) or re.sub(r"(?<!^)(?=[A-Z])", "-", name).lower()
+            if not re.search(form.format(name=name, line=line, export=line.replace("-", "_")), text, re.M):
+                yield f"{name} is not in {place}, where each event has its place"
 
 
 def room_of(path):
@@ -63,12 +90,13 @@ def main():
              for name, found in counts.items() for room in range(3) if found[room] > MOST[room]]
     wrong += [f"on the mean an event is named in {means[room]:.2f} {told[room]}, and not in at most {MEANS[room]}: {DO[room]}"
               for room in range(3) if means[room] > MEANS[room]]
+    wrong += missing(events)
     for fault in wrong:
         print(f"events: {fault}", file=sys.stderr)
     most = [max(counts, key=lambda name: counts[name][room]) for room in range(3)]
     said = [f"{mean:.1f} {what} (most {name}, {counts[name][room]})" for room, (mean, what, name) in enumerate(zip(means, told, most))]
     print(f"events: on the mean one is named in {said[0]}, {said[1]} and {said[2]}")
-    checks = 3 * (len(events) + 1)
+    checks = 3 * (len(events) + 1) + len(LISTS) * len(events)
     print(f"events: {checks - len(wrong)} passed, {len(wrong)} failed")
     return 1 if wrong else 0
 

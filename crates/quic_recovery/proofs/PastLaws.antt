@@ -1,12 +1,13 @@
 -- A past goes on by one event: what `run` promises of a list of events, `apply` promises of the event behind a past.
-use Rattle.std.proofs.Common.{ℕ, ◌∷◌}
+use Rattle.std.proofs.Common.{ℕ, ◌<◌, ◌^◌, List, [], ◌∷◌, None, if◌then◌else◌}
+use Rattle.std.specs.Option.{ForSome}
 use mathlib.Core.Logic.{∥∥₁_map}
 use Rattle.recovery_congestion.specs.Controllers.{ControllerWords}
 use Rattle.recovery_paths.specs.Balance.{AreBalanced}
 use Rattle.recovery_events.specs.declared.event.Event.{Event}
-use Rattle.quic_recovery.specs.History.{AtEach, Beginning, History, QueueMeaning, Reply}
+use Rattle.quic_recovery.specs.History.{AtEach, Beginning, History, QueueMeaning, Reply, Throughout, history}
 use Rattle.quic_recovery.specs.Parts.{Parts}
-use Rattle.quic_recovery.specs.Past.{Came, CameSomehow, GoesOn, GoesOnFrom, StaysOn, WentOn}
+use Rattle.quic_recovery.specs.Past.{Came, CameSomehow, GoesOn, GoesOnFrom, Keeps, StaysOn, WentOn}
 use Rattle.quic_recovery.specs.State.{Changes}
 use Rattle.quic_recovery.specs.Told.{Told}
 use Rattle.quic_recovery.proofs.AcknowledgedLaws.{keeps_to_acknowledge}
@@ -25,6 +26,7 @@ use Rattle.quic_recovery.proofs.OwnIdsLaws.{issues_ids}
 use Rattle.quic_recovery.proofs.PacingLaws.{delayed, rate, soon, named}
 use Rattle.quic_recovery.proofs.PeerIdsLaws.{accepts_ids}
 use Rattle.quic_recovery.proofs.RefusedLaws.{refuses_rightly}
+use Rattle.quic_recovery.proofs.Runs.{throughout_each}
 use Rattle.quic_recovery.proofs.SizesLaws.{sizes_told}
 use Rattle.quic_recovery.proofs.ThreefoldLaws.{sends_threefold}
 use Rattle.quic_recovery.proofs.PlainLaws.{timers_told}
@@ -33,6 +35,60 @@ use Rattle.quic_recovery.proofs.TrackedLaws.{keeps_rising}
 use Rattle.quic_recovery.proofs.TurnsLaws.{turns_told}
 
 module _ {F K Q S M P : Type 0} (beginning : Beginning F K Q S M P) where
+  -- the upper bound of a search, where paths are searched
+  abbrev pub UpperFits : Type 0
+  UpperFits = ForSome (if beginning.config.allow_mtud then beginning.config.transport.mtu_discovery_config else None)
+      (λ settings. settings.upper_bound < 2 ^ 16)
+
+  -- all that is promised of an event follows from what it and those before it were told
+  pub keeps : UpperFits → (before : History Q S M P) (event : Event Q S M P) (reply : Reply Q)
+      → AtEach (Told beginning) ((event, reply) ∷ before) → Keeps beginning before event reply
+  keeps small before event reply all =
+      let now = (event, reply) ∷ before in
+      let one = have_one_fate beginning now all in
+      record {
+        told = all.0;
+        new = numbers_told beginning before event reply all.0;
+        timers = timers_told beginning before event reply all.0;
+        peer_ids = (accepts_ids beginning now all).0;
+        own_ids = (issues_ids beginning now all).0;
+        refused = (refuses_rightly beginning now all).0;
+        counted = (counts_in_flight beginning now all).0;
+        threefold = (sends_threefold beginning now all).0;
+        blocked = (blocks_exactly beginning now all).0;
+        delayed = (delayed beginning now all).0;
+        rate = (rate beginning now all).0;
+        soon = (soon beginning now all).0;
+        named = (named beginning now all).0;
+        mtu = (mtu_told beginning small now all).0;
+        turns = (turns_told beginning small now all).0;
+        sizes = (sizes_told beginning small now all).0;
+        few = (few_told beginning small now all).0;
+        near = (near_told beginning small now all).0;
+        holes = (holes_told beginning now all).0;
+        fates = one;
+        rising = (keeps_rising beginning now all).0;
+        once = leave_once now one;
+        contents = loses_nothing beginning now all;
+        duty = (keeps_duty beginning now all).0;
+        to_acknowledge = keeps_to_acknowledge beginning now all;
+      }
+
+  pub keeps_along : UpperFits → (history : History Q S M P) → AtEach (Told beginning) history
+      → AtEach (Keeps beginning) history
+  keeps_along small [] all = tt
+  keeps_along small (happened ∷ before) all =
+      (keeps small before happened.0 happened.1 all, keeps_along small before all.1)
+
+  -- what is promised says what was told
+  pub told_along : (events : List (Event Q S M P)) (replies : List (Reply Q))
+      → Throughout (Keeps beginning) events replies → Throughout (Told beginning) events replies
+  told_along events replies kept = (
+    kept.0,
+    throughout_each (Keeps beginning) (Told beginning)
+        (λ before event reply keeps. keeps.told) (history events replies) kept.1,
+  )
+
   -- from every past by which it came here it goes on: each clause of whole runs, at the event that is put behind it
   pub goes_on : (past : History Q S M P) (old : Parts K P M) (event : Event Q S M P) (reply : Reply Q)
       (new : Parts K P M)
@@ -43,35 +99,8 @@ module _ {F K Q S M P : Type 0} (beginning : Beginning F K Q S M P) where
       let here = told_by_logs beginning past old came.left event reply by.told in
       let now = (event, reply) ∷ past in
       let all : AtEach (Told beginning) now = (here, came.told) in
-      let one = have_one_fate beginning now all in
       record {
-        keeps = record {
-          told = here;
-          new = numbers_told beginning past event reply here;
-          timers = timers_told beginning past event reply here;
-          peer_ids = (accepts_ids beginning now all).0;
-          own_ids = (issues_ids beginning now all).0;
-          refused = (refuses_rightly beginning now all).0;
-          counted = (counts_in_flight beginning now all).0;
-          threefold = (sends_threefold beginning now all).0;
-          blocked = (blocks_exactly beginning now all).0;
-          delayed = (delayed beginning now all).0;
-          rate = (rate beginning now all).0;
-          soon = (soon beginning now all).0;
-          named = (named beginning now all).0;
-          mtu = (mtu_told beginning came.small now all).0;
-          turns = (turns_told beginning came.small now all).0;
-          sizes = (sizes_told beginning came.small now all).0;
-          few = (few_told beginning came.small now all).0;
-          near = (near_told beginning came.small now all).0;
-          holes = (holes_told beginning now all).0;
-          fates = one;
-          rising = (keeps_rising beginning now all).0;
-          once = leave_once now one;
-          contents = loses_nothing beginning now all;
-          duty = (keeps_duty beginning now all).0;
-          to_acknowledge = keeps_to_acknowledge beginning now all;
-        };
+        keeps = keeps came.small past event reply all;
         came = record {
           told = all;
           left = left_after beginning past event reply old new came.left by balanced;

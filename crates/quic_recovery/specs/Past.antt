@@ -44,30 +44,81 @@ module _ {F K Q S M P : Type 0} (beginning : Beginning F K Q S M P) where
 
   -- all that is promised of an event and its reply, by the history before it
   pub record Keeps (before : History Q S M P) (event : Event Q S M P) (reply : Reply Q) : Type 0 where
+    -- The reply is what the history before the event says.
     pub told : Told beginning before event reply
+    -- A packet is new exactly where its number exceeds all that came in its space, or is none of them and at most 128
+    -- below each (RFC 9000, 12.3).
     pub new : CallsNew before event reply
+    -- The next timeout is the least of the moments that timers were last set to and not stopped since (RFC 9002, 6.2).
     pub timers : TellsTimers before event reply
+    -- Ids of the peer are accepted, retired and refused as the frames and moves before say (RFC 9000, 5.1 and 19.15).
     pub peer_ids : AcceptsIds beginning.config.initial_cid before event reply
+    -- Ids of this end are issued in the order of their numbers, and retired where they were issued (RFC 9000, 5.1 and
+    -- 19.16).
     pub own_ids : IssuesIds beginning.config.issued beginning.config.cid_len before event reply
+    -- A discarded space, a packet that is not tracked, a path that does not live and a late initial id are refused,
+    -- each exactly (RFC 9000, 7.2 and 9.3; RFC 9002, 6.4 and A.7).
     pub refused : RefusesRightly before event reply
+    -- Bytes in flight on a path are the sum over the packets that went out on it and were not acknowledged, lost,
+    -- forgotten or discarded since (RFC 9002, B.2).
     pub counted : CountsInFlight before event reply
+    -- Until a path is validated, and while all its transmissions are checked, at most three times the bytes that came
+    -- in on it go out (RFC 9000, 8.1).
     pub threefold : KeepsThreefold beginning.config.validated before event reply
+    -- A checked datagram is blocked exactly where the path in use is not validated and these bytes more would pass
+    -- three times what came in on it; an unchecked one never is (RFC 9000, 8.1).
     pub blocked : BlocksExactly beginning.config.validated before event reply
+    -- As long as all transmissions since a pacer was made were checked, with windows within 32 bits and RTTs above
+    -- zero, a call is delayed exactly where the balance after its own refill is below the bytes asked (RFC 9002, 7.7).
     pub delayed : DelaysByBalance beginning before event reply
+    -- As long as that holds, what goes out from each point on at which a pacer was made, refilled or given another
+    -- capacity is at most the capacity there and five fourths of a window for each RTT since (RFC 9002, 7.7).
     pub rate : KeepsPace beginning before event reply
+    -- What was delayed until a moment, as the pacer was asked last, passes from 4 ns past it on, for the same bytes,
+    -- RTT, window and MTU (RFC 9002, 7.7).
     pub soon : PassesSoon beginning before event reply
+    -- It passes at that moment too, though others ask in between and nothing goes out, where the bucket has room for a
+    -- byte for each question and for what comes in four nanoseconds (RFC 9002, 7.7).
     pub named : PassesWhenNamed beginning before event reply
+    -- The MTU in use is the size of the probe that was acknowledged last, where neither a limit of the peer nor a
+    -- report of a black hole nor a reset lowered it since (RFC 9000, 14.3).
     pub mtu : UsesMtu beginning before event reply
+    -- A probe goes out where paths are searched, in a search alone, while none is in flight; a packet that leaves is
+    -- told to be a probe exactly where it is the one in flight; a limit above zero is taken exactly while no search
+    -- runs (RFC 8899, 5; RFC 9000, 14.4).
     pub turns : SearchesInTurn beginning before event reply
+    -- A probe is at most the size that the peer takes, and at most the configured upper bound, or the MTU in use as
+    -- the search began, where that is larger; with a least change of at least 3 it is above the MTU in use, and at
+    -- most that bound (RFC 8899, 5.1.2 and 5.3; RFC 9000, 14.3 and 18.2).
     pub sizes : ProbesWithin beginning before event reply
+    -- Where paths are searched with a least change of at least 3, a search takes at most 48 probes, of at most 16
+    -- sizes (RFC 8899, 5).
     pub few : ProbesFew beginning before event reply
+    -- A search that ends by a poll ends near the best size of an honest link: the MTU in use gets through, and lies
+    -- less than two least changes below that size (RFC 8899, 5.3).
     pub near : EndsNearBy beginning before event reply
+    -- A report of a black hole needs four bursts of losses, all their packets above the least MTU, that nothing
+    -- refuted; it comes at four that no larger packet answered, the first of which ends above every such packet
+    -- acknowledged (RFC 8899, 4.3).
     pub holes : ReportsAtFour beginning.config.transport.min_mtu before event reply
+    -- In each space a number is given out once at most, and one that was is exactly one of these: tracked,
+    -- acknowledged, lost, forgotten, discarded (RFC 9002, A.1, A.7, A.10 and 6.4).
     pub fates : HaveOneFate ((event, reply) ∷ before)
+    -- In each space a packet goes out under a number below 2^62, above all that were given out there before (RFC 9000,
+    -- 12.3).
     pub rising : GivesRising before event reply
+    -- In each space a number is acknowledged or lost once at most: none is both (RFC 9002, A.7 and A.10).
     pub once : LeaveOnceEach ((event, reply) ∷ before)
+    -- Nothing is lost or doubled: by every measure of contents that adds up, what was sent in a space is what its
+    -- packets carry and what waits to be sent again, with what was acknowledged, forgotten, handed out and discarded
+    -- (RFC 9000, 13.3).
     pub contents : LosesNothing beginning ((event, reply) ∷ before)
+    -- While an ack-eliciting packet waits, an ACK is required at once, or the timer for a late one runs (RFC 9000,
+    -- 13.2.1).
     pub duty : KeepsDuty beginning before event reply
+    -- To be acknowledged are the new numbers, but those up to the largest number in the ACK of a packet that was
+    -- acknowledged since they came, and those that came to lie below the 64 highest ranges (RFC 9000, 13.2.3 and
+    -- 13.2.4).
     pub to_acknowledge : KeepsToAcknowledge beginning ((event, reply) ∷ before)
 
   -- from a past to that past with one event more

@@ -3,6 +3,7 @@ use Rattle.std.proofs.lemmas.Result.{IfOk-weaker}
 use Rattle.rand_core.specs.Pcg32Seed.{pcg32_seed}
 use Rattle.rand_core.specs.Steps.{stream_of, steps_u32}
 use Rattle.rand_pcg.specs.Pcg.{pcg32, pcg32_of_seed}
+use Rattle.quic_recovery.proofs.PastLaws.{told_along}
 use Rattle.recovery_replay.specs.Replay.{settings}
 use Rattle.recovery_replay.proofs.SessionLaws.{words_of_seed}
 use Rattle.recovery_replay.proofs.replay.answers_over.Goals as goal
@@ -18,6 +19,6 @@ returns g c =
       said = refl;
       remote = c.peer_at.result;
       at = c.peer_at.ensures;
-      told = rw (is_config, c.from_nanos.ensures, is_random) at c.in_ok-replies.ensures.told;
+      told = told_along _ _ _ (rw (is_config, c.from_nanos.ensures, is_random) at c.in_ok-replies.ensures.keeps);
       written = rw c.deref.ensures.value at written;
     }) c.render.ensures.lines
